@@ -1,0 +1,28 @@
+//! The scheduler's plain data: rows, commands, replies and refusals, and lists of rows in the order of their keys.
+#![tactic(auto)]
+
+mod commands;
+mod fired;
+mod jobs;
+mod keys;
+mod limits;
+mod members;
+mod replies;
+mod sorted;
+mod steps;
+mod triggers;
+
+pub use commands::{Actor, Code, Command, Entry};
+pub use fired::{FiredRow, FiredState};
+pub use jobs::JobRow;
+pub use keys::Key;
+pub use limits::{
+    ACQUIRE_LIMIT, FIRED_LIMIT, FIRST_THRESHOLD, INTERVAL_LIMIT, JOB_LIMIT, MEMBER_LIMIT,
+    NAME_LIMIT, NODE_LIMIT, NUMBER_LIMIT, PAYLOAD_LIMIT, TIMES_LIMIT, TRIGGER_LIMIT,
+};
+pub use members::MemberRow;
+pub use qz_civil::{Failed, Kind, LAST, LONGEST, List, NoMemory, Text, Timing};
+pub use replies::{Refusal, Reply, Taken};
+pub use sorted::{Keyed, change, find, index, insert, place, remove};
+pub use steps::{Step, StepReply};
+pub use triggers::{TriggerRow, TriggerSpec, TriggerState};

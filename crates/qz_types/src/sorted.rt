@@ -1,0 +1,129 @@
+//! Lists of rows in the order of their ids: look-ups and edits, once for every kind of row.
+ghost use Rattle.std.specs.Prelude.{◌≡◌, OnOk, OnErr, option_copied};
+ghost use Rattle.qz_types.specs.Sorted.{place_of, row_of, put, index_of, changed, without};
+
+use crate::{FiredRow, JobRow, Key, MemberRow, TriggerRow};
+use qz_civil::Text;
+use std::alloc::AllocFailed;
+use std::cmp::Ordering;
+
+/// A row with an id of its own, by which its list is ordered: a key, a node's name or an entry number.
+pub trait Keyed {
+    type Id: Ord;
+
+    ghost id: { Self → Self.Id };
+
+    fn id(&self) -> &Self::Id
+        ensures { result.now ≡ id self.now };
+}
+
+impl Keyed for JobRow {
+    type Id = Key;
+
+    ghost id = { λ r. r.key };
+
+    fn id(&self) -> &Key {
+        &self.key
+    }
+}
+
+impl Keyed for MemberRow {
+    type Id = Text;
+
+    ghost id = { λ r. r.node };
+
+    fn id(&self) -> &Text {
+        &self.node
+    }
+}
+
+impl Keyed for TriggerRow {
+    type Id = Key;
+
+    ghost id = { λ r. r.spec.key };
+
+    fn id(&self) -> &Key {
+        &self.spec.key
+    }
+}
+
+impl Keyed for FiredRow {
+    type Id = u64;
+
+    ghost id = { λ r. r.entry };
+
+    fn id(&self) -> &u64 {
+        &self.entry
+    }
+}
+
+/// Where a row of this id stands, or would be put.
+pub fn place<R: Keyed>(rows: &[R], id: &R::Id) -> usize
+    ensures { result ≡ place_of R.Id.cmp R.id id.now rows.now }
+{
+    let mut at = 0;
+    for row in rows {
+        if id.cmp(row.id()) != Ordering::Greater {
+            return at;
+        }
+        at += 1;
+    }
+    at
+}
+
+/// The row of this id.
+pub fn find<'a, R: Keyed>(rows: &'a [R], id: &R::Id) -> Option<&'a R>
+    ensures { option_copied result ≡ row_of R.Id.cmp R.id id.now rows.now }
+{
+    for row in rows {
+        if id.cmp(row.id()) == Ordering::Equal {
+            return Some(row);
+        }
+    }
+    None
+}
+
+/// Where the row of this id stands, or the number of rows.
+pub fn index<R: Keyed>(rows: &[R], id: &R::Id) -> usize
+    ensures { result ≡ index_of R.Id.cmp R.id id.now rows.now }
+{
+    let mut at = 0;
+    for row in rows {
+        if id.cmp(row.id()) == Ordering::Equal {
+            return at;
+        }
+        at += 1;
+    }
+    at
+}
+
+/// Puts in a row at its place.
+///
+/// The row comes back where memory runs out.
+pub fn insert<R: Keyed>(rows: &mut Vec<R>, row: R) -> Result<(), AllocFailed<R>>
+    ensures ok { OnOk result (rows.new.items ≡ put R.Id.cmp R.id row rows.old.items) }
+    ensures err { OnErr result (rows.new.items ≡ rows.old.items) }
+{
+    let at = place(rows, row.id());
+    rows.insert(at, row)
+}
+
+/// Puts a row in place of the one of its id, if there is one.
+pub fn change<R: Keyed + Drop>(rows: &mut [R], row: R)
+    ensures { rows.new ≡ changed R.Id.cmp R.id row rows.old }
+{
+    let at = index(rows, row.id());
+    if at < rows.len() {
+        rows[at] = row;
+    }
+}
+
+/// Takes out the row of this id, if there is one.
+pub fn remove<R: Keyed + Drop>(rows: &mut Vec<R>, id: &R::Id)
+    ensures { rows.new.items ≡ without R.Id.cmp R.id id.now rows.old.items }
+{
+    let at = index(rows, id);
+    if at < rows.len() {
+        rows.remove(at);
+    }
+}

@@ -1,0 +1,23 @@
+//! Steps of a script.
+use crate::{Command, Refusal, Reply};
+use qz_civil::Text;
+
+/// What one script line asks for. A client's command is none that a node gives and no Join; a node's command is one
+/// that has a node as actor.
+#[derive(Clone, PartialEq, Eq, Debug, Drop)]
+pub enum Step {
+    Client(Command),
+    /// The node joins, and from then on holds the epoch that it got. It will check in each `interval` ms.
+    Join { node: Text, interval: i64 },
+    /// What a node does under the epoch that it holds.
+    Node { node: Text, command: Command },
+}
+
+/// What a script step answers.
+#[derive(Clone, PartialEq, Eq, Debug, Drop)]
+pub enum StepReply {
+    Ok(Reply),
+    Refused(Refusal),
+    /// The node holds no epoch: it didn't join, or it stopped.
+    Stopped,
+}

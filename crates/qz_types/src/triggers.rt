@@ -1,0 +1,72 @@
+//! Triggers.
+ghost use Rattle.std.specs.Prelude.{◌≡◌, IfOk};
+
+use crate::Key;
+use qz_civil::{Text, Timing};
+use std::alloc::AllocError;
+use std::marker::Model;
+
+/// A trigger as a client gives it.
+#[derive(Clone, PartialEq, Eq, Debug, Drop)]
+pub struct TriggerSpec {
+    pub key: Key,
+    pub job: Key,
+    /// Of triggers that are due at one time, the greater priority is acquired first.
+    pub priority: i32,
+    /// The calendar that excludes fire times.
+    pub calendar: Option<Text>,
+    pub timing: Timing,
+}
+
+/// Where a trigger stands, as Quartz's job store has it.
+#[derive(Clone, Copy, PartialEq, Eq, Debug)]
+pub enum TriggerState {
+    Waiting,
+    Acquired,
+    Complete,
+    Blocked,
+    Paused,
+    PausedBlocked,
+    Error,
+}
+
+/// A stored trigger.
+#[derive(Clone, PartialEq, Eq, Debug, Drop)]
+pub struct TriggerRow {
+    pub spec: TriggerSpec,
+    /// Its next fire time, in ms since 1970-01-01T00:00:00Z.
+    pub next: Option<i64>,
+    /// The fire time before, in ms since 1970-01-01T00:00:00Z.
+    pub prev: Option<i64>,
+    /// How often it fired.
+    pub times: u64,
+    pub state: TriggerState,
+}
+
+impl Model for TriggerRow {
+    ghost use Rattle.std.specs.Prelude.{IsTrue};
+    ghost use Rattle.qz_types.specs.Rows.{TriggerData, is_trigger};
+
+    ghost Value = { TriggerData };
+
+    ghost view = { λ a. record { spec = a.spec; next = a.next; prev = a.prev; times = a.times; state = a.state } };
+
+    ghost invariant = { λ a. IsTrue (is_trigger (record {
+      spec = a.spec;
+      next = a.next;
+      prev = a.prev;
+      times = a.times;
+      state = a.state;
+    })) };
+
+    ghost inverse = { λ d. record { spec = d.spec; next = d.next; prev = d.prev; times = d.times; state = d.state } };
+}
+
+impl TriggerRow {
+    /// The same trigger again.
+    pub fn copy(&self) -> Result<Self, AllocError>
+        ensures { IfOk result (λ row. row ≡ self.now) }
+    {
+        self.clone()
+    }
+}
