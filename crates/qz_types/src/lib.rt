@@ -23,6 +23,6 @@ pub use limits::{
 pub use members::MemberRow;
 pub use qz_civil::{Failed, Kind, LAST, LONGEST, List, NoMemory, Text, Timing};
 pub use replies::{Refusal, Reply, Taken};
-pub use sorted::{Keyed, change, find, index, insert, place, remove};
+pub use sorted::{Keyed, find, insert, place};
 pub use steps::{Step, StepReply};
 pub use triggers::{TriggerRow, TriggerSpec, TriggerState};

@@ -1,6 +1,6 @@
 //! Lists of rows in the order of their ids: look-ups and edits, once for every kind of row.
 ghost use Rattle.std.specs.Prelude.{◌≡◌, OnOk, OnErr, option_copied};
-ghost use Rattle.qz_types.specs.Sorted.{place_of, row_of, put, index_of, changed, without};
+ghost use Rattle.qz_types.specs.Sorted.{place_of, row_of, put};
 
 use crate::{FiredRow, JobRow, Key, MemberRow, TriggerRow};
 use qz_civil::Text;
@@ -83,20 +83,6 @@ pub fn find<'a, R: Keyed>(rows: &'a [R], id: &R::Id) -> Option<&'a R>
     None
 }
 
-/// Where the row of this id stands, or the number of rows.
-pub fn index<R: Keyed>(rows: &[R], id: &R::Id) -> usize
-    ensures { result ≡ index_of R.Id.cmp R.id id.now rows.now }
-{
-    let mut at = 0;
-    for row in rows {
-        if id.cmp(row.id()) == Ordering::Equal {
-            return at;
-        }
-        at += 1;
-    }
-    at
-}
-
 /// Puts in a row at its place.
 ///
 /// The row comes back where memory runs out.
@@ -106,24 +92,4 @@ pub fn insert<R: Keyed>(rows: &mut Vec<R>, row: R) -> Result<(), AllocFailed<R>>
 {
     let at = place(rows, row.id());
     rows.insert(at, row)
-}
-
-/// Puts a row in place of the one of its id, if there is one.
-pub fn change<R: Keyed + Drop>(rows: &mut [R], row: R)
-    ensures { rows.new ≡ changed R.Id.cmp R.id row rows.old }
-{
-    let at = index(rows, row.id());
-    if at < rows.len() {
-        rows[at] = row;
-    }
-}
-
-/// Takes out the row of this id, if there is one.
-pub fn remove<R: Keyed + Drop>(rows: &mut Vec<R>, id: &R::Id)
-    ensures { rows.new.items ≡ without R.Id.cmp R.id id.now rows.old.items }
-{
-    let at = index(rows, id);
-    if at < rows.len() {
-        rows.remove(at);
-    }
 }

@@ -1,0 +1,58 @@
+-- Which triggers are due, and in which order.
+use Rattle.std.specs.Prelude.{ℤ, negsuc, ◌-ℤ◌, List, [], ◌∷◌, Bool, true, false, not, ◌&&◌, int_le, int_lt, filter, Option, Some, None}
+use Rattle.std.specs.Ordering.{int_cmp, int_eq, ordering_then}
+use Rattle.std.specs.declared.cmp.Ordering.{Ordering}
+use Rattle.std.specs.declared.cmp.Ordering.TheVariants.{Less, Equal, Greater}
+use Rattle.qz_types.specs.Sorted.{put}
+use Rattle.qz_types.specs.Rows.{TriggerData}
+use Rattle.qz_types.specs.declared.triggers.TriggerState.{TriggerState}
+use Rattle.qz_types.specs.declared.triggers.TriggerState.TheVariants.{Waiting, Acquired, Complete, Blocked, Paused, PausedBlocked, Error}
+use Rattle.qz_model.specs.Tables.{SchedulerTables}
+use Rattle.qz_model.specs.Words.{key_cmp}
+
+abbrev pub is_waiting : TriggerState → Bool
+is_waiting Waiting = true
+is_waiting Acquired = false
+is_waiting Complete = false
+is_waiting Blocked = false
+is_waiting Paused = false
+is_waiting PausedBlocked = false
+is_waiting Error = false
+
+-- there is a next time, and it isn't past the limit
+abbrev pub is_upto : ℤ → Option ℤ → Bool
+is_upto limit None = false
+is_upto limit (Some next) = int_le next limit
+
+-- there is a next time, and it lies before this one
+abbrev pub is_before : ℤ → Option ℤ → Bool
+is_before time None = false
+is_before time (Some next) = int_lt next time
+
+-- its next time lies further back than the threshold, and it doesn't ignore that (Quartz's misfire threshold)
+unfoldable pub is_misfired : SchedulerTables → ℤ → TriggerData → Bool
+is_misfired T m t = not (int_eq t.spec.timing.misfire (negsuc 0)) && is_before (m -ℤ T.threshold) t.next
+
+-- it waits, its next time isn't past the limit, and it isn't misfired
+unfoldable pub is_due : SchedulerTables → ℤ → ℤ → TriggerData → Bool
+is_due T m limit t = is_waiting t.state && is_upto limit t.next && not (is_misfired T m t)
+
+-- none comes before each time
+abbrev pub next_cmp : Option ℤ → Option ℤ → Ordering
+next_cmp None None = Equal
+next_cmp None (Some b) = Less
+next_cmp (Some a) None = Greater
+next_cmp (Some a) (Some b) = int_cmp a b
+
+-- by next time, then the greater priority, then the key
+unfoldable pub due_cmp : TriggerData → TriggerData → Ordering
+due_cmp a b = ordering_then (next_cmp a.next b.next) (ordering_then (int_cmp b.spec.priority a.spec.priority) (key_cmp a.spec.key b.spec.key))
+
+-- these triggers in due order, each put in its place
+abbrev pub in_due_order : List TriggerData → List TriggerData
+in_due_order [] = []
+in_due_order (t ∷ ts) = put due_cmp (λ x. x) t (in_due_order ts)
+
+-- the triggers that a node may acquire at m, up to the limit
+unfoldable pub due_triggers : SchedulerTables → ℤ → ℤ → List TriggerData
+due_triggers T m limit = in_due_order (filter (is_due T m limit) T.triggers)

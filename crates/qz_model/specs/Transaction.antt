@@ -1,0 +1,30 @@
+-- One transaction of the trigger store, by cases on its command.
+use Rattle.std.specs.Prelude.{ℤ}
+use Rattle.qz_types.specs.Rows.{MemberData}
+use Rattle.qz_types.specs.Entries.{EntryData}
+use Rattle.qz_types.specs.declared.commands.Command.{Command}
+use Rattle.qz_types.specs.declared.commands.Command.TheVariants.{AddJob, AddTrigger, Join, Acquire, Fire, Complete}
+use Rattle.qz_types.specs.declared.commands.Actor.{Actor}
+use Rattle.qz_types.specs.declared.commands.Actor.TheVariants.{Client, Node}
+use Rattle.qz_types.specs.declared.replies.Refusal.TheVariants.{Unbuilt}
+use Rattle.qz_model.specs.Tables.{SchedulerTables, recorded_moment}
+use Rattle.qz_model.specs.Outcomes.{Outcome, refused}
+use Rattle.qz_model.specs.Scheduling.{add_job, add_trigger}
+use Rattle.qz_model.specs.Membership.{join}
+use Rattle.qz_model.specs.Firing.{acquire, fire, complete}
+
+-- what a node does under its epoch; a valid entry with such a command has a node as actor
+abbrev pub as_node : Actor → (MemberData → Outcome) → Outcome
+as_node Client does = refused Unbuilt
+as_node (Node me) does = does me
+
+abbrev pub by_command : SchedulerTables → ℤ → Actor → Command → Outcome
+by_command T m actor (AddJob job replace) = add_job T m job replace
+by_command T m actor (AddTrigger spec replace) = add_trigger T m spec replace
+by_command T m actor (Join node) = join T m node
+by_command T m actor (Acquire no_later window max) = as_node actor (λ me. acquire T m me no_later window max)
+by_command T m actor (Fire entry) = as_node actor (λ me. fire T m me entry)
+by_command T m actor (Complete entry code) = as_node actor (λ me. complete T m me entry code)
+
+abbrev pub transaction : SchedulerTables → EntryData → Outcome
+transaction T e = by_command T (recorded_moment T e.at) e.actor e.command

@@ -1,0 +1,70 @@
+-- Rows of each kind by their ids: look-ups, and edits as insertions, maps and filters. Proofs outside `rows` see
+-- these words closed.
+use Rattle.std.specs.Prelude.{ℕ, List, Bool, not, ◌==◌, Option, map, filter, if◌then◌else◌}
+use Rattle.std.specs.Ordering.{nat_cmp, ordering_then, is_eq}
+use Rattle.std.specs.Cmp.Lexicographic.{slice_cmp}
+use Rattle.std.specs.declared.cmp.Ordering.{Ordering}
+use Rattle.qz_types.specs.Sorted.{row_of, put}
+use Rattle.qz_types.specs.Rows.{JobData, TriggerData, MemberData, FiredData}
+use Rattle.qz_types.specs.declared.keys.Key.{Key}
+
+abbrev pub text_cmp : List ℕ → List ℕ → Ordering
+text_cmp = slice_cmp nat_cmp
+
+-- by the bytes of the group, then of the name
+abbrev pub key_cmp : Key → Key → Ordering
+key_cmp a b = ordering_then (text_cmp a.group b.group) (text_cmp a.name b.name)
+
+unfoldable pub same_text : List ℕ → List ℕ → Bool
+same_text a b = is_eq (text_cmp a b)
+
+unfoldable pub same_key : Key → Key → Bool
+same_key a b = is_eq (key_cmp a b)
+
+-- jobs
+unfoldable pub job_of : Key → List JobData → Option JobData
+job_of k rows = row_of key_cmp (λ r. r.key) k rows
+
+unfoldable pub put_job : JobData → List JobData → List JobData
+put_job row rows = put key_cmp (λ r. r.key) row rows
+
+unfoldable pub without_job : Key → List JobData → List JobData
+without_job k rows = filter (λ r. not (same_key k r.key)) rows
+
+-- triggers
+unfoldable pub trigger_of : Key → List TriggerData → Option TriggerData
+trigger_of k rows = row_of key_cmp (λ r. r.spec.key) k rows
+
+unfoldable pub put_trigger : TriggerData → List TriggerData → List TriggerData
+put_trigger row rows = put key_cmp (λ r. r.spec.key) row rows
+
+-- each trigger of this key is changed
+unfoldable pub with_trigger : Key → (TriggerData → TriggerData) → List TriggerData → List TriggerData
+with_trigger k change rows = map (λ r. if same_key k r.spec.key then change r else r) rows
+
+unfoldable pub without_trigger : Key → List TriggerData → List TriggerData
+without_trigger k rows = filter (λ r. not (same_key k r.spec.key)) rows
+
+-- members
+unfoldable pub member_of : List ℕ → List MemberData → Option MemberData
+member_of node rows = row_of text_cmp (λ r. r.node) node rows
+
+unfoldable pub put_member : MemberData → List MemberData → List MemberData
+put_member row rows = put text_cmp (λ r. r.node) row rows
+
+unfoldable pub without_member : List ℕ → List MemberData → List MemberData
+without_member node rows = filter (λ r. not (same_text node r.node)) rows
+
+-- fired rows
+unfoldable pub fired_of : ℕ → List FiredData → Option FiredData
+fired_of entry rows = row_of nat_cmp (λ r. r.entry) entry rows
+
+unfoldable pub put_fired : FiredData → List FiredData → List FiredData
+put_fired row rows = put nat_cmp (λ r. r.entry) row rows
+
+-- each row of this entry number is changed
+unfoldable pub with_fired : ℕ → (FiredData → FiredData) → List FiredData → List FiredData
+with_fired entry change rows = map (λ r. if entry == r.entry then change r else r) rows
+
+unfoldable pub without_fired : ℕ → List FiredData → List FiredData
+without_fired entry rows = filter (λ r. not (entry == r.entry)) rows
