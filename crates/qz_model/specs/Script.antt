@@ -12,6 +12,7 @@ use Rattle.qz_types.specs.declared.steps.Step.{Step}
 use Rattle.qz_types.specs.declared.steps.Step.TheVariants.{Client, Join, Node}
 use Rattle.qz_types.specs.declared.steps.StepReply.{StepReply}
 use Rattle.qz_types.specs.declared.steps.StepReply.TheVariants as step_reply
+use Rattle.qz_model.specs.Tables.{SchedulerTables}
 use Rattle.qz_model.specs.Outcomes.{Outcome, accepted, refused}
 use Rattle.qz_model.specs.Transaction.{transaction}
 use Rattle.qz_model.specs.History.{History, new_history, with_entry, replay, tables_left}
