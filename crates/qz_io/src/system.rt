@@ -1,0 +1,145 @@
+//! The real source, sinks and clock. Contracts tell nothing of what they give or take.
+ghost use Rattle.std.specs.Prelude.{◌≡◌, ◌<◌, ◌≤◌, None, Ok, Err, IfOk, IfErr, length};
+
+use crate::{Clock, Sink, Source};
+use qz_civil::Failed;
+use std::io::{ErrorKind, Read, Write};
+use std::rt::Clock as SystemClock;
+
+/// How often a call that a signal interrupted is made again before that counts as a failure.
+const RETRIES: u32 = 1000;
+
+/// A source over a reader of the system. For standard input give it `rt.reader()`, whose `read` is one `read(2)` into
+/// the caller's buffer, with nothing read ahead.
+#[derive(Drop)]
+pub struct StdSource<R> {
+    reader: R,
+    faults: u64,
+}
+
+impl<R: Read + Drop> StdSource<R> {
+    /// No memory.
+    pub fn new(reader: R) -> StdSource<R> {
+        StdSource { reader, faults: 0 }
+    }
+}
+
+impl<R: Read + Drop> Source for StdSource<R> {
+    ghost left = { λ _. None };
+
+    ghost faults = { λ s. s.faults };
+
+    fn read(&mut self, into: &mut [u8]) -> Result<usize, Failed> {
+        for _ in 0..RETRIES + 1 {
+            match self.reader.read(into) {
+                Ok(count) => return Ok(count),
+                Err(error) => {
+                    if error.kind() != ErrorKind::Interrupted {
+                        break;
+                    }
+                }
+            }
+        }
+        self.faults = self.faults.saturating_add(1);
+        Err(Failed)
+    }
+}
+
+/// A sink over a writer of the system. For standard output and error give it `rt.stdout()` and `rt.stderr()`: each
+/// `write` is one `write(2)` of the piece as it stands, with no buffer between, so a piece that was taken has left the
+/// program, and `flush` does nothing.
+#[derive(Drop)]
+pub struct StdSink<W> {
+    writer: W,
+    faults: u64,
+}
+
+impl<W: Write + Drop> StdSink<W> {
+    /// No memory.
+    pub fn new(writer: W) -> StdSink<W> {
+        StdSink { writer, faults: 0 }
+    }
+}
+
+impl<W: Write + Drop> Sink for StdSink<W> {
+    ghost held = { λ _. None };
+
+    ghost faults = { λ s. s.faults };
+
+    fn write(&mut self, from: &[u8]) -> Result<usize, Failed> {
+        for _ in 0..RETRIES + 1 {
+            match self.writer.write(from) {
+                Ok(count) => {
+                    if count > 0 || from.is_empty() {
+                        return Ok(count);
+                    }
+                    break;
+                }
+                Err(error) => {
+                    if error.kind() != ErrorKind::Interrupted {
+                        break;
+                    }
+                }
+            }
+        }
+        self.faults = self.faults.saturating_add(1);
+        Err(Failed)
+    }
+
+    fn flush(&mut self) -> Result<(), Failed> {
+        for _ in 0..RETRIES + 1 {
+            match self.writer.flush() {
+                Ok(()) => return Ok(()),
+                Err(error) => {
+                    if error.kind() != ErrorKind::Interrupted {
+                        break;
+                    }
+                }
+            }
+        }
+        self.faults = self.faults.saturating_add(1);
+        Err(Failed)
+    }
+}
+
+/// The system's clock, in ms since 1970-01-01T00:00:00Z. Where the system gives no reading, or one that is past the
+/// end of `i64`, it gives 0 and counts that.
+#[derive(Drop)]
+pub struct RealClock<C> {
+    system: C,
+    faults: u64,
+}
+
+impl<C: SystemClock + Drop> RealClock<C> {
+    /// A clock over the runtime, or over a reference to it. No memory.
+    pub fn new(system: C) -> RealClock<C>
+        ensures { result.faults ≡ 0 }
+    {
+        RealClock { system, faults: 0 }
+    }
+
+    /// How often the system gave no reading. The count stops at its type's end.
+    pub fn faults(&self) -> u64
+        ensures { result ≡ self.now.faults }
+    {
+        self.faults
+    }
+}
+
+impl<C: SystemClock + Drop> Clock for RealClock<C> {
+    ghost readings = { λ _. None };
+
+    fn now(&mut self) -> i64 {
+        let reading = match self.system.since_1970() {
+            Ok(time) => i64::try_from(time.as_millis()).ok(),
+            Err(_) => None,
+        };
+        match reading {
+            Some(millis) => millis,
+            None => {
+                self.faults = self.faults.saturating_add(1);
+                0
+            }
+        }
+    }
+}
