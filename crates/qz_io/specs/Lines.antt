@@ -1,6 +1,7 @@
 -- Lines, and how bytes are cut into them.
-use Rattle.std.specs.Prelude.{◌≡◌, ◌≢◌, ◌==◌, ◌<◌, ◌≤◌, if◌then◌else◌, ℕ, List, [], ◌∷◌, ◌++◌, length, take, slice_index}
+use Rattle.std.specs.Prelude.{◌≡◌, ◌≢◌, ◌==◌, ◌+◌, ◌<◌, ◌≤◌, if◌then◌else◌, ℕ, List, [], ◌∷◌, ◌++◌, length, take, slice_index, slice_range, Option}
 use Rattle.std.specs.List.{All, flat_map}
+use Rattle.std.specs.Io.KnownBytes.{Consumes, IsAtEnd}
 
 -- bytes without a line feed
 abbrev pub IsOneLine : List ℕ → Type 0
@@ -29,3 +30,9 @@ pub record IsBeforeFeed (bytes : List ℕ) (n : ℕ) : Type 0 where
   pub within : n ≤ length bytes
   pub one_line : IsOneLine (take n bytes)
   pub stops : n < length bytes → slice_index bytes n ≡ 10
+
+-- these many bytes went from a source to a place of a buffer: none only at the end
+pub record GetsAt (left left' : Option (List ℕ)) (buffer : List ℕ) (at count : ℕ) : Type 0 where
+  pub within : at + count ≤ length buffer
+  pub taken : Consumes left left' (slice_range buffer at (at + count))
+  pub ended : count ≡ 0 → IsAtEnd left'

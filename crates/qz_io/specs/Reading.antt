@@ -1,7 +1,7 @@
 -- What the line reader hands out, and what it keeps.
-use Rattle.std.specs.Prelude.{◌≡◌, ◌≢◌, ◌+◌, ◌<◌, ◌≤◌, ℕ, List, [], ◌∷◌, ◌++◌, take, length, Option, None, Some}
+use Rattle.std.specs.Prelude.{◌≡◌, ◌≢◌, ◌+◌, ◌<◌, ◌≤◌, ℕ, List, [], ◌++◌, take, length, slice_range, Option, None, Some}
 use Rattle.std.specs.Io.KnownBytes.{Consumes, IsAtEnd, prepend_known}
-use Rattle.qz_io.specs.declared.readers.TheConstants.{LINE_LIMIT}
+use Rattle.qz_io.specs.declared.readers.TheConstants.{LINE_LIMIT, BLOCK}
 use Rattle.qz_io.specs.declared.readers.Seen.{Seen}
 use Rattle.qz_io.specs.declared.readers.Seen.TheVariants.{Line, Rest, TooLong, End}
 use Rattle.qz_io.specs.Lines.{IsOneLine, with_feed}
@@ -10,6 +10,17 @@ use Rattle.qz_io.specs.Lines.{IsOneLine, with_feed}
 pub record ReaderData : Type 0 where
   pub line : List ℕ
   pub pending : List ℕ
+
+-- What the reader's buffer keeps: the last line and the pending bytes stand within it, and no pending byte before the
+-- place up to which they were looked at is a line feed.
+pub record IsBuffer (buffer : List ℕ) (line_start line_end start scanned end : ℕ) : Type 0 where
+  pub size : length buffer ≡ BLOCK
+  pub line_low : line_start ≤ line_end
+  pub line_high : line_end ≤ BLOCK
+  pub low : start ≤ scanned
+  pub middle : scanned ≤ end
+  pub high : end ≤ BLOCK
+  pub clean : IsOneLine (slice_range buffer start scanned)
 
 -- all bytes that weren't handed out yet, where the source tells
 abbrev pub ahead : List ℕ → Option (List ℕ) → Option (List ℕ)

@@ -36,6 +36,7 @@ impl Plan {
           calls = counted self.old.calls;
           faults = (if result then counted self.old.faults else self.old.faults);
         } }
+        ensures later { self.old.faults ≤ self.new.faults }
     {
         self.calls = self.calls.saturating_add(1);
         let number = self.calls;
@@ -46,8 +47,10 @@ impl Plan {
         fails
     }
 
+    /// Counts a failure.
     fn fail(&mut self)
-        ensures { self.new ≡ record self.old { faults = counted self.old.faults } }
+        ensures counts { self.new ≡ record self.old { faults = counted self.old.faults } }
+        ensures later { self.old.faults ≤ self.new.faults }
     {
         self.faults = self.faults.saturating_add(1);
     }
@@ -92,6 +95,7 @@ impl Source for FaultSource {
     ghost faults = { λ s. s.faults };
 
     fn read(&mut self, into: &mut [u8]) -> Result<usize, Failed>
+        requires { 0 < length into.old }
         ensures bound { ReadsAtMost result into.new }
         ensures bytes { ReadConsumes (Some self.old.left) (Some self.new.left) result into.new }
         ensures cause { HasCause self.old.faults self.new.faults result }

@@ -1,5 +1,8 @@
 //! A source and a sink in memory.
-ghost use Rattle.std.specs.Prelude.{◌≡◌, Some};
+ghost use Rattle.std.specs.Prelude.{◌≡◌, ◌<◌, ◌≤◌, if◌then◌else◌, Some, IfOk, is_err, length};
+ghost use Rattle.std.specs.Io.KnownBytes.{WriteAppends};
+ghost use Rattle.qz_civil.specs.Causes.{HasCause};
+ghost use Rattle.qz_io.specs.Memory.{counted};
 
 use crate::{Sink, Source};
 use qz_civil::{Failed, List};
@@ -94,7 +97,13 @@ impl Sink for MemSink {
 
     ghost faults = { λ s. s.starved };
 
-    fn write(&mut self, from: &[u8]) -> Result<usize, Failed> {
+    fn write(&mut self, from: &[u8]) -> Result<usize, Failed>
+        ensures bound { IfOk result (λ n. n ≤ length from.now) }
+        ensures some { 0 < length from.now → IfOk result (λ n. 0 < n) }
+        ensures bytes { WriteAppends (Some self.old.bytes) (Some self.new.bytes) result from.now }
+        ensures cause { HasCause self.old.starved self.new.starved result }
+        ensures starved { self.new.starved ≡ (if is_err result then counted self.old.starved else self.old.starved) }
+    {
         match self.bytes.extend_from_slice(from) {
             Ok(()) => Ok(from.len()),
             Err(_) => {

@@ -2,7 +2,7 @@
 ghost use Rattle.std.specs.Prelude.{◌≡◌, ◌-◌, ◌<◌, ◌≤◌, IfOk, OnErr, [], length, take, slice_range};
 ghost use Rattle.std.specs.Io.KnownBytes.{Keeps};
 ghost use Rattle.qz_civil.specs.Causes.{HasCause};
-ghost use Rattle.qz_io.specs.Lines.{IsBeforeFeed};
+ghost use Rattle.qz_io.specs.Lines.{IsBeforeFeed, GetsAt};
 
 use crate::Source;
 use memchr::memchr;
@@ -50,10 +50,8 @@ pub struct LineReader {
 }
 
 impl Model for LineReader {
-    ghost use Rattle.std.specs.Prelude.{◌≡◌, ◌≤◌, length, slice_range};
-    ghost use Rattle.qz_io.specs.declared.readers.TheConstants.{BLOCK};
-    ghost use Rattle.qz_io.specs.Lines.{IsOneLine};
-    ghost use Rattle.qz_io.specs.Reading.{ReaderData};
+    ghost use Rattle.std.specs.Prelude.{slice_range};
+    ghost use Rattle.qz_io.specs.Reading.{ReaderData, IsBuffer};
 
     ghost Value = { ReaderData };
 
@@ -62,9 +60,7 @@ impl Model for LineReader {
       pending = slice_range a.buffer.items a.start a.end;
     } };
 
-    ghost invariant = { λ a. (length a.buffer.items ≡ BLOCK) × (a.line_start ≤ a.line_end) × (a.line_end ≤ BLOCK)
-        × (a.start ≤ a.scanned) × (a.scanned ≤ a.end) × (a.end ≤ BLOCK)
-        × IsOneLine (slice_range a.buffer.items a.start a.scanned) };
+    ghost invariant = { λ a. IsBuffer a.buffer.items a.line_start a.line_end a.start a.scanned a.end };
 }
 
 /// How many bytes stand before the first line feed.
@@ -87,6 +83,18 @@ fn move_front(buffer: &mut Vec<u8>, start: usize, end: usize)
     if 0 < start {
         buffer.copy_within(start..end, 0);
     }
+}
+
+/// Reads into a buffer from a place on, and answers how many bytes came.
+fn read_behind<S: Source>(source: &mut S, buffer: &mut Vec<u8>, at: usize) -> Result<usize, Failed>
+    requires { at < length buffer.old.items }
+    ensures got { IfOk result (GetsAt (S.left source.old) (S.left source.new) buffer.new.items at) }
+    ensures err { OnErr result (Keeps (S.left source.old) (S.left source.new)) }
+    ensures front { take at buffer.new.items ≡ take at buffer.old.items }
+    ensures len { length buffer.new.items ≡ length buffer.old.items }
+    ensures cause { HasCause (S.faults source.old) (S.faults source.new) result }
+{
+    source.read(&mut buffer[at..])
 }
 
 impl LineReader {
@@ -165,9 +173,8 @@ impl LineReader {
         self.scanned -= self.start;
         self.end -= self.start;
         self.start = 0;
-        let end = self.end;
-        let count = source.read(&mut self.buffer[end..])?;
-        self.end = end + count;
+        let count = read_behind(source, &mut self.buffer, self.end)?;
+        self.end += count;
         Ok(count)
     }
 

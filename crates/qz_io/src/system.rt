@@ -1,5 +1,6 @@
 //! The real source, sinks and clock. Contracts tell nothing of what they give or take.
-ghost use Rattle.std.specs.Prelude.{◌≡◌, ◌<◌, ◌≤◌, None, Ok, Err, IfOk, IfErr, length};
+ghost use Rattle.std.specs.Prelude.{◌≡◌, ◌<◌, ◌≤◌, None, IfOk, length};
+ghost use Rattle.std.specs.Io.{ReadsAtMost};
 
 use crate::{Clock, Sink, Source};
 use qz_civil::Failed;
@@ -8,6 +9,61 @@ use std::rt::Clock as SystemClock;
 
 /// How often a call that a signal interrupted is made again before that counts as a failure.
 const RETRIES: u32 = 1000;
+
+/// Reads, and reads again where a signal interrupted the call.
+fn read_retrying<R: Read>(reader: &mut R, into: &mut [u8]) -> Result<usize, Failed>
+    ensures { ReadsAtMost result into.new }
+{
+    for _ in 0..RETRIES + 1 {
+        match reader.read(into) {
+            Ok(count) => return Ok(count),
+            Err(error) => {
+                if error.kind() != ErrorKind::Interrupted {
+                    break;
+                }
+            }
+        }
+    }
+    Err(Failed)
+}
+
+/// Writes, and writes again where a signal interrupted the call. A write that takes nothing of a piece has failed.
+fn write_retrying<W: Write>(writer: &mut W, from: &[u8]) -> Result<usize, Failed>
+    ensures bound { IfOk result (λ n. n ≤ length from.now) }
+    ensures some { 0 < length from.now → IfOk result (λ n. 0 < n) }
+{
+    for _ in 0..RETRIES + 1 {
+        match writer.write(from) {
+            Ok(count) => {
+                if count > 0 || from.is_empty() {
+                    return Ok(count);
+                }
+                break;
+            }
+            Err(error) => {
+                if error.kind() != ErrorKind::Interrupted {
+                    break;
+                }
+            }
+        }
+    }
+    Err(Failed)
+}
+
+/// Flushes, and flushes again where a signal interrupted the call.
+fn flush_retrying<W: Write>(writer: &mut W) -> Result<(), Failed> {
+    for _ in 0..RETRIES + 1 {
+        match writer.flush() {
+            Ok(()) => return Ok(()),
+            Err(error) => {
+                if error.kind() != ErrorKind::Interrupted {
+                    break;
+                }
+            }
+        }
+    }
+    Err(Failed)
+}
 
 /// A source over a reader of the system. For standard input give it `rt.reader()`, whose `read` is one `read(2)` into
 /// the caller's buffer, with nothing read ahead.
@@ -30,18 +86,11 @@ impl<R: Read + Drop> Source for StdSource<R> {
     ghost faults = { λ s. s.faults };
 
     fn read(&mut self, into: &mut [u8]) -> Result<usize, Failed> {
-        for _ in 0..RETRIES + 1 {
-            match self.reader.read(into) {
-                Ok(count) => return Ok(count),
-                Err(error) => {
-                    if error.kind() != ErrorKind::Interrupted {
-                        break;
-                    }
-                }
-            }
+        let result = read_retrying(&mut self.reader, into);
+        if result.is_err() {
+            self.faults = self.faults.saturating_add(1);
         }
-        self.faults = self.faults.saturating_add(1);
-        Err(Failed)
+        result
     }
 }
 
@@ -67,38 +116,19 @@ impl<W: Write + Drop> Sink for StdSink<W> {
     ghost faults = { λ s. s.faults };
 
     fn write(&mut self, from: &[u8]) -> Result<usize, Failed> {
-        for _ in 0..RETRIES + 1 {
-            match self.writer.write(from) {
-                Ok(count) => {
-                    if count > 0 || from.is_empty() {
-                        return Ok(count);
-                    }
-                    break;
-                }
-                Err(error) => {
-                    if error.kind() != ErrorKind::Interrupted {
-                        break;
-                    }
-                }
-            }
+        let result = write_retrying(&mut self.writer, from);
+        if result.is_err() {
+            self.faults = self.faults.saturating_add(1);
         }
-        self.faults = self.faults.saturating_add(1);
-        Err(Failed)
+        result
     }
 
     fn flush(&mut self) -> Result<(), Failed> {
-        for _ in 0..RETRIES + 1 {
-            match self.writer.flush() {
-                Ok(()) => return Ok(()),
-                Err(error) => {
-                    if error.kind() != ErrorKind::Interrupted {
-                        break;
-                    }
-                }
-            }
+        let result = flush_retrying(&mut self.writer);
+        if result.is_err() {
+            self.faults = self.faults.saturating_add(1);
         }
-        self.faults = self.faults.saturating_add(1);
-        Err(Failed)
+        result
     }
 }
 
