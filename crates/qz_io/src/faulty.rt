@@ -182,6 +182,7 @@ impl Sink for FaultSink {
         ensures bytes { Keeps (Some self.old.bytes) (Some self.new.bytes) }
         ensures cause { HasCause self.old.faults self.new.faults result }
         ensures plan { SinkFollowsPlan self.old self.new (is_err result) }
+        ensures exact { is_err result ≡ fails_next self.old.failing self.old.calls }
     {
         if self.plan.call() {
             return Err(Failed);

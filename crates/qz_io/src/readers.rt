@@ -14,7 +14,7 @@ use std::marker::Model;
 pub const LINE_LIMIT: usize = 65536;
 
 /// The size of a reader's buffer in bytes. A read asks for at least half of it.
-pub const BLOCK: usize = 131072;
+const BLOCK: usize = 131072;
 
 /// What a line reader met.
 #[derive(Clone, Copy, PartialEq, Eq, Debug)]
@@ -29,7 +29,7 @@ pub enum Seen {
     End,
 }
 
-/// Hands out the lines of a source. It reads in blocks into one buffer of `BLOCK` bytes, which is all the memory
+/// Hands out the lines of a source. It reads in blocks into one buffer of 128 KiB, which is all the memory
 /// that it takes, looks at each byte once, and hands a line out where it stands.
 ///
 /// Contracts see it as the line that it handed out last, and the bytes that it took from the source and hasn't handed

@@ -1,10 +1,12 @@
 //! The real source, sinks and clock. Contracts tell nothing of what they give or take.
-ghost use Rattle.std.specs.Prelude.{◌≡◌, ◌<◌, ◌≤◌, None, IfOk, length};
+ghost use Rattle.std.specs.Prelude.{◌≡◌, ◌<◌, ◌≤◌, ◌⊎◌, pos, None, IfOk, length};
 ghost use Rattle.std.specs.Io.{ReadsAtMost};
+ghost use Rattle.qz_io.specs.Memory.{counted};
 
 use crate::{Clock, Sink, Source};
 use qz_civil::Failed;
 use std::io::{ErrorKind, Read, Write};
+use std::marker::Model;
 use std::rt::Clock as SystemClock;
 
 /// How often a call that a signal interrupted is made again before that counts as a failure.
@@ -66,16 +68,27 @@ fn flush_retrying<W: Write>(writer: &mut W) -> Result<(), Failed> {
 }
 
 /// A source over a reader of the system. For standard input give it `rt.reader()`, whose `read` is one `read(2)` into
-/// the caller's buffer, with nothing read ahead.
+/// the caller's buffer, with nothing read ahead. Contracts see it as the number of its failures, and tell nothing of the
+/// bytes.
 #[derive(Drop)]
 pub struct StdSource<R> {
     reader: R,
     faults: u64,
 }
 
+impl<R> Model for StdSource<R> {
+    ghost use Rattle.std.specs.Prelude.{ℕ};
+
+    ghost Value = { ℕ };
+
+    ghost view = { λ a. a.faults };
+}
+
 impl<R: Read + Drop> StdSource<R> {
     /// No memory.
-    pub fn new(reader: R) -> StdSource<R> {
+    pub fn new(reader: R) -> StdSource<R>
+        ensures { result ≡ 0 }
+    {
         StdSource { reader, faults: 0 }
     }
 }
@@ -83,7 +96,7 @@ impl<R: Read + Drop> StdSource<R> {
 impl<R: Read + Drop> Source for StdSource<R> {
     ghost left = { λ _. None };
 
-    ghost faults = { λ s. s.faults };
+    ghost faults = { λ s. s };
 
     fn read(&mut self, into: &mut [u8]) -> Result<usize, Failed> {
         let result = read_retrying(&mut self.reader, into);
@@ -96,16 +109,26 @@ impl<R: Read + Drop> Source for StdSource<R> {
 
 /// A sink over a writer of the system. For standard output and error give it `rt.stdout()` and `rt.stderr()`: each
 /// `write` is one `write(2)` of the piece as it stands, with no buffer between, so a piece that was taken has left the
-/// program, and `flush` does nothing.
+/// program, and `flush` does nothing. Contracts see it as the number of its failures, and tell nothing of the bytes.
 #[derive(Drop)]
 pub struct StdSink<W> {
     writer: W,
     faults: u64,
 }
 
+impl<W> Model for StdSink<W> {
+    ghost use Rattle.std.specs.Prelude.{ℕ};
+
+    ghost Value = { ℕ };
+
+    ghost view = { λ a. a.faults };
+}
+
 impl<W: Write + Drop> StdSink<W> {
     /// No memory.
-    pub fn new(writer: W) -> StdSink<W> {
+    pub fn new(writer: W) -> StdSink<W>
+        ensures { result ≡ 0 }
+    {
         StdSink { writer, faults: 0 }
     }
 }
@@ -113,7 +136,7 @@ impl<W: Write + Drop> StdSink<W> {
 impl<W: Write + Drop> Sink for StdSink<W> {
     ghost held = { λ _. None };
 
-    ghost faults = { λ s. s.faults };
+    ghost faults = { λ s. s };
 
     fn write(&mut self, from: &[u8]) -> Result<usize, Failed> {
         let result = write_retrying(&mut self.writer, from);
@@ -133,24 +156,32 @@ impl<W: Write + Drop> Sink for StdSink<W> {
 }
 
 /// The system's clock, in ms since 1970-01-01T00:00:00Z. Where the system gives no reading, or one that is past the
-/// end of `i64`, it gives 0 and counts that.
+/// end of `i64`, it gives 0 and counts that. Contracts see it as that count, and tell nothing of its readings.
 #[derive(Drop)]
 pub struct RealClock<C> {
     system: C,
     faults: u64,
 }
 
+impl<C> Model for RealClock<C> {
+    ghost use Rattle.std.specs.Prelude.{ℕ};
+
+    ghost Value = { ℕ };
+
+    ghost view = { λ a. a.faults };
+}
+
 impl<C: SystemClock + Drop> RealClock<C> {
     /// A clock over the runtime, or over a reference to it. No memory.
     pub fn new(system: C) -> RealClock<C>
-        ensures { result.faults ≡ 0 }
+        ensures { result ≡ 0 }
     {
         RealClock { system, faults: 0 }
     }
 
     /// How often the system gave no reading. The count stops at its type's end.
     pub fn faults(&self) -> u64
-        ensures { result ≡ self.now.faults }
+        ensures { result ≡ self.now }
     {
         self.faults
     }
@@ -159,7 +190,9 @@ impl<C: SystemClock + Drop> RealClock<C> {
 impl<C: SystemClock + Drop> Clock for RealClock<C> {
     ghost readings = { λ _. None };
 
-    fn now(&mut self) -> i64 {
+    fn now(&mut self) -> i64
+        ensures counts { (self.new ≡ self.old) ⊎ ((self.new ≡ counted self.old) × (result ≡ pos 0)) }
+    {
         let reading = match self.system.since_1970() {
             Ok(time) => i64::try_from(time.as_millis()).ok(),
             Err(_) => None,
