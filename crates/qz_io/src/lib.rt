@@ -1,0 +1,23 @@
+//! Where bytes come from and go to, and what tells the time: sources, sinks and clocks, objects in memory that
+//! tell what they hold, and the real ones. On top of them whole writes and lines.
+#![tactic(auto)]
+
+mod clocks;
+mod faulty;
+mod logs;
+mod memory;
+mod pieces;
+mod readers;
+mod system;
+#[cfg(test)]
+mod tests;
+mod traits;
+
+pub use clocks::ListClock;
+pub use faulty::{FaultSink, FaultSource};
+pub use memory::{MemSink, MemSource};
+pub use pieces::write_all;
+pub use qz_civil::Failed;
+pub use readers::{LINE_LIMIT, LineReader, Seen};
+pub use system::{RealClock, StdSink, StdSource};
+pub use traits::{Clock, Sink, Source};
