@@ -10,8 +10,8 @@ mod file;
 mod images;
 mod memory;
 
-
-
+#[cfg(test)]
+mod tests;
 
 pub use calls::Call;
 pub use cut::CutDisk;
