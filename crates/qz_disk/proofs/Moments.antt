@@ -51,3 +51,7 @@ then_leaves old mid new P Q R first second p q = record {
 
 pub weaker : (old new : DiskState) (P Q : List ℕ → Type 0) → LeavesOnly old new P → ((b : List ℕ) → P b → Q b) → LeavesOnly old new Q
 weaker old new P Q leaves q = record { later = leaves.later; each = λ b since. q b (leaves.each b since); before = λ t b le since. ⊎_elim inl (λ x. inr (q b x)) (leaves.before t b le since) }
+
+-- the content is one of the images of this moment
+pub content_among : (old new : DiskState) (P : List ℕ → Type 0) → IsLawful new → LeavesOnly old new P → P new.content
+content_among old new P lawful leaves = leaves.each new.content (lawful.counts_now old.clock new.content leaves.later lawful.content)

@@ -32,7 +32,10 @@ pub struct FileDisk {
 
 impl FileDisk {
     /// A disk over the file with this path. It touches no file yet. No memory.
-    pub fn new(rt: HostRuntime, path: Text) -> Self {
+    pub fn new(rt: HostRuntime, path: Text) -> Self
+        ensures length { result.len ≡ 0 }
+        ensures failures { result.failures ≡ 0 }
+    {
         FileDisk {
             rt,
             path,

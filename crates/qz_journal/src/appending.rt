@@ -1,5 +1,5 @@
 //! One payload more.
-ghost use Rattle.std.specs.Prelude.{◌≡◌, ◌↔◌, ◌⊎◌, ◌+◌, ◌-◌, ◌^◌, ◌<◌, ◌≤◌, [], ◌∷◌, ◌++◌, List, ℕ, length, max, OnOk, OnErr, IfErr, Ok, Err, Some, None, ◌≢◌, vec_capacity};
+ghost use Rattle.std.specs.Prelude.{◌≡◌, ◌↔◌, ◌⊎◌, ◌+◌, ◌-◌, ◌^◌, ◌<◌, ◌≤◌, [], ◌∷◌, ◌++◌, List, ℕ, length, max, OnOk, OnErr, IfErr, IsOk, Ok, Err, Some, None, ◌≢◌, vec_capacity};
 ghost use Rattle.std.specs.Int.{w32, to_be_bytes};
 ghost use Rattle.qz_civil.specs.Causes.{Rose, HasCause};
 ghost use Rattle.qz_disk.specs.Disk.{Only, LeavesOnly};
@@ -77,6 +77,8 @@ impl<D: Disk> Journal<D> {
         ensures unchanged { result ≢ Err AppendError.Fault → OnErr result (self.new ≡ self.old) }
         ensures was_open { OnOk result (self.old.closed ≡ None) }
         ensures same_kind { self.new.kind ≡ self.old.kind }
+        ensures completes { self.old.closed ≡ None → need_of (length payload.now) ≤ room_of self.old.gate self.old.count
+            → (Rose (D.faults self.old.disk) (D.faults self.new.disk) → ⊥) → IsOk result }
         ensures ok { OnOk result ((self.new.closed ≡ None) × (self.new.gate ≡ self.old.gate + (5 + length payload.now))
             × (self.new.count ≡ self.old.count + 1)) }
         ensures same_place { OnErr result ((self.new.gate ≡ self.old.gate) × (self.new.count ≡ self.old.count)) }
@@ -86,6 +88,11 @@ impl<D: Disk> Journal<D> {
         ensures stands { D.honest → (payloads : List (List ℕ)) → Holds (D.state self.old.disk).content self.old.kind payloads
             → OnOk result (Holds (D.state self.new.disk).content self.old.kind (payloads ++ payload.now ∷ [])) }
         ensures durable { D.honest → OnOk result (Only (D.state self.new.disk).content (D.state self.new.disk)) }
+
+        // Whatever is answered, the content stands for the payloads without this one or with it.
+        ensures content { D.honest → self.old.closed ≡ None
+            → (payloads : List (List ℕ)) → Holds (D.state self.old.disk).content self.old.kind payloads
+            → IsBeforeOrAfter self.old.kind payloads payload.now (D.state self.new.disk).content }
 
         // A crash at any moment of the call leaves the payloads without this one or with it.
         ensures any_moment { D.honest → self.old.closed ≡ None
