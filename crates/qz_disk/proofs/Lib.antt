@@ -1,0 +1,4 @@
+pub mod Causes
+pub mod Choices
+pub mod MemoryCalls
+pub mod Moments

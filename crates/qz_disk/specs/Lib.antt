@@ -1,0 +1,6 @@
+pub mod Counts
+pub mod Disk
+pub mod Failing
+pub mod Memory
+pub mod MemoryLaws
+pub mod Recorded

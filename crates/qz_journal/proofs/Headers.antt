@@ -1,0 +1,30 @@
+-- The headers of the two kinds.
+use Rattle.std.proofs.Common.{◌≡◌, ◌≢◌, ℕ, ◌<◌, List, length, take, drop, replicate, get_or, refl, sym, ◌∙◌, ap, subst, arith, length-take, take-append-drop, ◌++◌}
+use Rattle.std.proofs.lemmas.Bool.Decides.{nat_tests}
+use Rattle.qz_journal.specs.Layout.{front_of, IsHeader, other_kind}
+
+-- one kind has one header
+pub one_header : (kind : ℕ) (a b : List ℕ) → IsHeader kind a → IsHeader kind b → a ≡ b
+one_header kind a b is_a is_b =
+    sym (take-append-drop 6 a)
+    ∙ ap (λ (l : List ℕ). l ++ drop 6 a) (is_a.front ∙ sym is_b.front)
+    ∙ ap (λ (l : List ℕ). take 6 b ++ l) (is_a.reserved ∙ sym is_b.reserved)
+    ∙ take-append-drop 6 b
+
+pub header_length : (kind : ℕ) (head : List ℕ) → IsHeader kind head → length head ≡ 16
+header_length kind head is = ap length (sym (take-append-drop 6 head) ∙ ap (λ (l : List ℕ). l ++ drop 6 head) is.front ∙ ap (λ (l : List ℕ). front_of kind ++ l) is.reserved)
+
+pub other_header : (kind : ℕ) (a b : List ℕ) → IsHeader kind b → a ≢ b → IsHeader kind a → ⊥
+other_header kind a b is_b differ is_a = differ (one_header kind a b is_a is_b)
+
+-- fewer bytes are none
+pub too_short : (kind : ℕ) (bytes : List ℕ) → length bytes < 16 → IsHeader kind (take 16 bytes) → ⊥
+too_short kind bytes short is = omega (arith, header_length kind (take 16 bytes) is, length-take 16 bytes)
+
+pub ruleset of_headers = (other_header, too_short)
+
+pub one_kind : (head : List ℕ) (kind : ℕ) → IsHeader kind head → IsHeader (other_kind kind) head → ⊥
+one_kind head kind is other = differ kind (ap (λ (l : List ℕ). get_or l 5 0) (sym is.front ∙ other.front))
+  where
+    differ : (kind : ℕ) → kind ≡ other_kind kind → ⊥
+    differ kind same = grind (arith, nat_tests)

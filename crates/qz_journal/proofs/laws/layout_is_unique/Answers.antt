@@ -1,0 +1,12 @@
+use Rattle.qz_journal.proofs.Headers.{one_kind}
+use Rattle.qz_journal.proofs.Once.{holds_once, not_damaged, damaged_once}
+use Rattle.qz_journal.proofs.laws.layout_is_unique.Goals as goal
+
+pub returns-clause-one_list : goal.returns-clause-one_list
+returns-clause-one_list c = holds_once
+
+pub returns-clause-one_place : goal.returns-clause-one_place
+returns-clause-one_place c = damaged_once
+
+pub returns-clause-not_both : goal.returns-clause-not_both
+returns-clause-not_both c bytes kind at ps = not_damaged bytes kind at ps

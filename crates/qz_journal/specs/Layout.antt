@@ -1,0 +1,55 @@
+-- The bytes of a store file: a header of 16 bytes, a block for each payload, and one byte that ends them.
+use Rattle.std.specs.Prelude.{◌≡◌, ◌≢◌, ◌⊎◌, ℕ, ◌+◌, ◌<◌, ◌≤◌, List, [], ◌∷◌, ◌++◌, length, take, drop, replicate, slice_index, All, if◌then◌else◌, ◌==◌}
+use Rattle.std.specs.Int.{w32, to_be_bytes}
+
+-- the format that is written, and the only one that is read
+abbrev pub version : ℕ
+version = 1
+
+-- `QZ23`, the version and the kind
+abbrev pub front_of : ℕ → List ℕ
+front_of kind = 81 ∷ 90 ∷ 50 ∷ 51 ∷ version ∷ kind ∷ []
+
+-- The first 16 bytes of a store of this kind. Ten of them are kept for later versions.
+pub record IsHeader (kind : ℕ) (head : List ℕ) : Type 0 where
+  pub front : take 6 head ≡ front_of kind
+  pub reserved : drop 6 head ≡ replicate 10 0
+
+-- the kind of the other store: `T` of triggers, `S` of states
+abbrev pub other_kind : ℕ → ℕ
+other_kind kind = if kind == 84 then 83 else 84
+
+-- the byte of an open gate; any other closes the file
+abbrev pub open_gate : ℕ
+open_gate = 165
+
+abbrev pub IsPayload : List ℕ → Type 0
+IsPayload payload = (1 ≤ length payload) × (length payload ≤ 32768)
+
+-- what follows an open gate: the length of the payload, and the payload
+abbrev pub body_of : List ℕ → List ℕ
+body_of payload = to_be_bytes w32 (length payload) ++ payload
+
+-- for each payload an open gate, its length and its bytes
+abbrev pub blocks : List (List ℕ) → List ℕ
+blocks [] = []
+blocks (p ∷ ps) = open_gate ∷ (body_of p ++ blocks ps)
+
+-- the offset behind them
+abbrev pub end_of : List (List ℕ) → ℕ
+end_of ps = 16 + length (blocks ps)
+
+abbrev pub BeginsWith : List ℕ → List ℕ → Type 0
+BeginsWith front bytes = take (length front) bytes ≡ front
+
+-- The bytes stand for these payloads: the header, a block for each, one byte that is no open gate, and then any bytes.
+pub record Holds (bytes : List ℕ) (kind : ℕ) (payloads : List (List ℕ)) : Type 0 where
+  pub sizes : All IsPayload payloads
+  pub header : IsHeader kind (take 16 bytes)
+  pub blocks_stand : BeginsWith (blocks payloads) (drop 16 bytes)
+  pub gate : end_of payloads < length bytes
+  pub shut : slice_index bytes (end_of payloads) ≢ open_gate
+
+-- without this further payload, or with it
+abbrev pub IsBeforeOrAfter : ℕ → List (List ℕ) → List ℕ → List ℕ → Type 0
+IsBeforeOrAfter kind payloads payload bytes = Holds bytes kind payloads ⊎ Holds bytes kind (payloads ++ payload ∷ [])

@@ -1,0 +1,41 @@
+-- What an opening or a creation finds in the bytes of a disk.
+use Rattle.std.specs.Prelude.{⊤, ◌≡◌, ◌≢◌, ◌⊎◌, ℕ, List, [], ◌∷◌, ◌++◌, take, drop, All, Ok, Err}
+use Rattle.std.specs.declared.result.Result.{Result}
+use Rattle.qz_journal.specs.declared.errors.CreateError.{CreateError}
+use Rattle.qz_journal.specs.declared.errors.CreateError.TheVariants as create
+use Rattle.qz_journal.specs.declared.errors.MountError.{MountError}
+use Rattle.qz_journal.specs.declared.errors.MountError.TheVariants as mount
+use Rattle.qz_journal.specs.Layout.{IsHeader, IsPayload, other_kind, open_gate, body_of, blocks, end_of}
+
+-- no length and payload stand here: the length is out of range, or it or the payload passes the end
+abbrev pub IsCut : List ℕ → Type 0
+IsCut bytes = (payload rest : List ℕ) → IsPayload payload → bytes ≢ body_of payload ++ rest
+
+-- the gate is missing, or it is open and what follows it is cut
+abbrev pub IsBad : List ℕ → Type 0
+IsBad tail = (tail ≡ []) ⊎ ((rest : List ℕ) × (tail ≡ open_gate ∷ rest) × IsCut rest)
+
+-- At this offset, behind the blocks of some payloads, the gate is missing, or it is open and what follows it is cut.
+-- Since all before it is whole, it is the least such place.
+pub record IsDamaged (bytes : List ℕ) (kind at : ℕ) : Type 0 where
+  pub payloads : List (List ℕ)
+  pub sizes : All IsPayload payloads
+  pub tail : List ℕ
+  pub header : IsHeader kind (take 16 bytes)
+  pub whole : drop 16 bytes ≡ blocks payloads ++ tail
+  pub at_is : at ≡ end_of payloads
+  pub bad : IsBad tail
+
+-- why an opening of these bytes is refused; that the disk or memory failed isn't seen in them
+abbrev pub IsRefused : List ℕ → ℕ → MountError → Type 0
+IsRefused bytes kind mount.NotAStore = IsHeader kind (take 16 bytes) → ⊥
+IsRefused bytes kind (mount.Damaged at) = IsDamaged bytes kind at
+IsRefused bytes kind mount.Fault = ⊤
+IsRefused bytes kind mount.NoMemory = ⊤
+
+-- What a creation finds: neither header, this kind's or the other's. That the disk failed isn't seen in the bytes.
+abbrev pub IsFound : List ℕ → ℕ → Result (Unit {0}) CreateError → Type 0
+IsFound bytes kind (Ok _) = (IsHeader kind (take 16 bytes) → ⊥) × (IsHeader (other_kind kind) (take 16 bytes) → ⊥)
+IsFound bytes kind (Err create.Exists) = IsHeader kind (take 16 bytes)
+IsFound bytes kind (Err create.OtherKind) = IsHeader (other_kind kind) (take 16 bytes)
+IsFound bytes kind (Err create.Fault) = ⊤

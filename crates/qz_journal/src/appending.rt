@@ -1,0 +1,124 @@
+//! One payload more.
+ghost use Rattle.std.specs.Prelude.{◌≡◌, ◌↔◌, ◌⊎◌, ◌+◌, ◌-◌, ◌^◌, ◌<◌, ◌≤◌, [], ◌∷◌, ◌++◌, List, ℕ, length, max, OnOk, OnErr, IfErr, IsOk, Ok, Err, Some, None, ◌≢◌, vec_capacity};
+ghost use Rattle.std.specs.Int.{w32, to_be_bytes};
+ghost use Rattle.qz_civil.specs.Causes.{Rose, HasCause};
+ghost use Rattle.qz_disk.specs.Disk.{Only, LeavesOnly};
+ghost use Rattle.qz_journal.specs.Layout.{IsPayload, body_of, Holds, IsBeforeOrAfter};
+ghost use Rattle.qz_journal.specs.Commits.{IsFull, need_of, room_of};
+ghost use Rattle.qz_journal.specs.Through.{PutsThrough};
+
+use crate::layout::{CLOSED_GATE, OPEN_GATE};
+use crate::{AppendError, Journal, JournalFull};
+use qz_civil::Failed;
+use qz_disk::Disk;
+
+/// The most bytes that a store has, header included.
+const MAX_BYTES: u64 = 1 << 28;
+
+/// The most payloads that a store has.
+const MAX_PAYLOADS: u64 = 1 << 22;
+
+/// Whether a payload of this length, in bytes, has room behind the closed gate at this offset, with so many payloads
+/// before it. No memory.
+pub fn fits(offset: u64, count: u64, length: u32) -> Result<(), JournalFull>
+    ensures full { IfErr result (λ f. IsFull offset count length f.need f.room) }
+    ensures ok { OnOk result (need_of length ≤ room_of offset count) }
+{
+    let need = 5 + u64::from(length);
+    let room = if count < MAX_PAYLOADS {
+        (MAX_BYTES - 1).saturating_sub(offset)
+    } else {
+        0
+    };
+    if need > room {
+        return Err(JournalFull { need, room });
+    }
+    Ok(())
+}
+
+// Writes, and syncs.
+pub(crate) fn put_through<D: Disk>(disk: &mut D, at: u64, bytes: &[u8]) -> Result<(), Failed>
+    requires { at ≤ D.len disk.old }
+    ensures length { OnOk result (D.len disk.new ≡ max (D.len disk.old) (at + length bytes.now)) }
+    ensures cause { HasCause (D.faults disk.old) (D.faults disk.new) result }
+    ensures told { D.honest → PutsThrough at bytes.now result (D.state disk.old) (D.state disk.new) }
+{
+    disk.write_at(at, bytes)?;
+    disk.sync()
+}
+
+// The length, the payload and a closed gate, in a buffer that has the room for them.
+fn fill(commit: &mut Vec<u8>, payload: &[u8])
+    requires room { 32773 ≤ vec_capacity commit.old }
+    requires payload { IsPayload payload.now }
+    ensures bytes { commit.new.items ≡ body_of payload.now ++ 0 ∷ [] }
+    ensures room { 32773 ≤ vec_capacity commit.new }
+{
+    commit.clear();
+    let length = payload.len() as u32;
+    // None of these takes memory, so none fails.
+    let _ = commit.extend_from_slice(&length.to_be_bytes());
+    let _ = commit.extend_from_slice(payload);
+    let _ = commit.push(CLOSED_GATE);
+}
+
+impl<D: Disk> Journal<D> {
+    /// Adds a payload, in four device calls: the body behind the gate and a sync, the open gate and a sync. Nothing is
+    /// read. After `Fault` the journal is closed, and it isn't known whether the payload is there. No memory.
+    pub fn append(&mut self, payload: &[u8]) -> Result<(), AppendError>
+        requires { IsPayload payload.now }
+
+        ensures closed { (at : ℕ) → (result ≡ Err (AppendError.Closed at)) ↔ (self.old.closed ≡ Some at) }
+        ensures full { (need room : ℕ) → (result ≡ Err (AppendError.JournalFull need room))
+            ↔ ((self.old.closed ≡ None) × IsFull self.old.gate self.old.count (length payload.now) need room) }
+        ensures fault { result ≡ Err AppendError.Fault
+            → Rose (D.faults self.old.disk) (D.faults self.new.disk) × (self.old.closed ≡ None) × (self.new.closed ≡ Some self.old.gate) }
+        ensures later { D.faults self.old.disk ≤ D.faults self.new.disk }
+        ensures unchanged { result ≢ Err AppendError.Fault → OnErr result (self.new ≡ self.old) }
+        ensures was_open { OnOk result (self.old.closed ≡ None) }
+        ensures same_kind { self.new.kind ≡ self.old.kind }
+        ensures completes { self.old.closed ≡ None → need_of (length payload.now) ≤ room_of self.old.gate self.old.count
+            → (Rose (D.faults self.old.disk) (D.faults self.new.disk) → ⊥) → IsOk result }
+        ensures ok { OnOk result ((self.new.closed ≡ None) × (self.new.gate ≡ self.old.gate + (5 + length payload.now))
+            × (self.new.count ≡ self.old.count + 1)) }
+        ensures same_place { OnErr result ((self.new.gate ≡ self.old.gate) × (self.new.count ≡ self.old.count)) }
+        ensures reads_nothing { D.honest → (D.state self.new.disk).bytes_read ≡ (D.state self.old.disk).bytes_read }
+
+        // At `Ok` the bytes stand for the payloads and this one behind them, and so does what a crash leaves.
+        ensures stands { D.honest → (payloads : List (List ℕ)) → Holds (D.state self.old.disk).content self.old.kind payloads
+            → OnOk result (Holds (D.state self.new.disk).content self.old.kind (payloads ++ payload.now ∷ [])) }
+        ensures durable { D.honest → OnOk result (Only (D.state self.new.disk).content (D.state self.new.disk)) }
+
+        // Whatever is answered, the content stands for the payloads without this one or with it.
+        ensures content { D.honest → self.old.closed ≡ None
+            → (payloads : List (List ℕ)) → Holds (D.state self.old.disk).content self.old.kind payloads
+            → IsBeforeOrAfter self.old.kind payloads payload.now (D.state self.new.disk).content }
+
+        // A crash at any moment of the call leaves the payloads without this one or with it.
+        ensures any_moment { D.honest → self.old.closed ≡ None
+            → (payloads : List (List ℕ)) → Holds (D.state self.old.disk).content self.old.kind payloads
+            → LeavesOnly (D.state self.old.disk) (D.state self.new.disk) (IsBeforeOrAfter self.old.kind payloads payload.now) }
+    {
+        if let Some(at) = self.closed {
+            return Err(AppendError::Closed { at });
+        }
+        if let Err(full) = fits(self.gate, self.count, payload.len() as u32) {
+            return Err(AppendError::JournalFull {
+                need: full.need,
+                room: full.room,
+            });
+        }
+        fill(&mut self.commit, payload);
+        self.closed = Some(self.gate);
+        if put_through(&mut self.disk, self.gate + 1, &self.commit).is_err() {
+            return Err(AppendError::Fault);
+        }
+        if put_through(&mut self.disk, self.gate, &[OPEN_GATE]).is_err() {
+            return Err(AppendError::Fault);
+        }
+        self.gate += 5 + payload.len() as u64;
+        self.count += 1;
+        self.closed = None;
+        Ok(())
+    }
+}

@@ -1,0 +1,68 @@
+//! The parts of a store file.
+ghost use Rattle.std.specs.Prelude.{◌≡◌, ◌↔◌, ◌++◌, ◌∷◌, [], ◌≤◌, length, true, false, vec_capacity, IsTrue, IfSome, IfNone};
+ghost use Rattle.qz_journal.specs.Layout.{IsHeader, IsPayload, body_of, open_gate, other_kind};
+ghost use Rattle.qz_journal.specs.Opening.{IsCut};
+
+/// The kind of a store of triggers, as the header has it.
+pub const TRIGGERS: u8 = b'T';
+
+/// The kind of a store of states, as the header has it.
+pub const STATES: u8 = b'S';
+
+/// The length of the longest payload, in bytes.
+pub const MAX_PAYLOAD: usize = 32768;
+
+pub(crate) const HEADER_LENGTH: usize = 16;
+
+pub(crate) const OPEN_GATE: u8 = 0xa5;
+
+pub(crate) const CLOSED_GATE: u8 = 0;
+
+const VERSION: u8 = 1;
+
+// The header of a store of this kind, as it is written.
+pub(crate) fn header(kind: u8) -> [u8; 16]
+    ensures { IsHeader kind result }
+{
+    [
+        b'Q', b'Z', b'2', b'3', VERSION, kind, 0, 0, 0, 0, 0, 0, 0, 0, 0, 0,
+    ]
+}
+
+// Whether these first 16 bytes are the header of a store of this kind.
+#[tactic(auto, using(crate::proofs::Headers::of_headers))]
+pub(crate) fn is_header(kind: u8, front: &[u8]) -> bool
+    ensures yes { result ≡ true → IsHeader kind front.now }
+    ensures no { result ≡ false → IsHeader kind front.now → ⊥ }
+{
+    let wanted = header(kind);
+    front == wanted.as_slice()
+}
+
+pub(crate) fn other_kind(kind: u8) -> u8
+    ensures { result ≡ other_kind kind }
+{
+    if kind == TRIGGERS { STATES } else { TRIGGERS }
+}
+
+pub(crate) fn is_open(gate: u8) -> bool
+    ensures { IsTrue result ↔ (gate ≡ open_gate) }
+{
+    gate == OPEN_GATE
+}
+
+// The payload behind an open gate, and what stands behind it.
+pub(crate) fn split_block(bytes: &[u8]) -> Option<(&[u8], &[u8])>
+    ensures some { IfSome result (λ p. IsPayload p.0.now × (bytes.now ≡ body_of p.0.now ++ p.1.now)) }
+    ensures none { IfNone result (IsCut bytes.now) }
+{
+    if bytes.len() < 4 {
+        return None;
+    }
+    let (head, rest) = bytes.split_at(4);
+    let length = u32::from_be_bytes([head[0], head[1], head[2], head[3]]) as usize;
+    if length < 1 || length > MAX_PAYLOAD || rest.len() < length {
+        return None;
+    }
+    Some(rest.split_at(length))
+}

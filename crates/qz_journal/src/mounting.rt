@@ -1,0 +1,128 @@
+//! Opening what stands on a disk.
+ghost use Rattle.std.specs.Prelude.{◌≡◌, ◌+◌, ◌<◌, ◌≤◌, ℕ, List, [], length, IfOk, IfErr, MatchResult, OnOk, OnErr, Some, None, Ok, Err, ◌⊎◌, vec_len, vec_capacity};
+ghost use Rattle.qz_civil.specs.Causes.{Rose, HasCause};
+ghost use Rattle.qz_disk.specs.Disk.{Only, LeavesOnly, Restarts};
+ghost use Rattle.qz_journal.specs.Layout.{Holds, end_of};
+ghost use Rattle.qz_journal.specs.Opening.{IsDamaged, IsRefused};
+ghost use Rattle.qz_journal.specs.Through.{OnlyReads};
+
+use crate::parsing::parse;
+use crate::{Journal, MountError};
+use qz_civil::{Failed, List};
+use qz_disk::Disk;
+use std::alloc::Global;
+
+/// The length of the longest commit: four bytes of length, a payload and a gate.
+const MAX_COMMIT: usize = crate::MAX_PAYLOAD + 5;
+
+// Syncs, and reads all in one call.
+fn read_all<D: Disk>(alloc: Global, disk: &mut D) -> Result<Vec<u8>, MountError>
+    ensures bytes { D.honest → IfOk result (λ bytes. bytes.items ≡ (D.state disk.old).content) }
+    ensures length { IfOk result (λ bytes. length bytes.items ≡ D.len disk.new) }
+    ensures durable { D.honest → OnOk result (Only (D.state disk.new).content (D.state disk.new)) }
+    ensures reads { D.honest → OnlyReads (D.state disk.old) (D.state disk.new) }
+    ensures later { D.faults disk.old ≤ D.faults disk.new }
+    ensures fault { IfErr result (λ e. (e ≡ MountError.NoMemory) ⊎ ((e ≡ MountError.Fault) × Rose (D.faults disk.old) (D.faults disk.new))) }
+{
+    if disk.sync().is_err() {
+        return Err(MountError::Fault);
+    }
+    let Ok(len) = disk.len() else {
+        return Err(MountError::Fault);
+    };
+    let Ok(mut bytes) = vec![in alloc; 0; len as usize] else {
+        return Err(MountError::NoMemory);
+    };
+    if disk.read(0, &mut bytes).is_err() {
+        return Err(MountError::Fault);
+    }
+    Ok(bytes)
+}
+
+impl<D: Disk> Journal<D> {
+    /// Opens the journal of this kind, `TRIGGERS` or `STATES`, that stands on a disk, and gives its payloads. It syncs
+    /// first, so that what it reads is what a crash leaves, and writes nothing. An `Err` hands the disk back.
+    pub fn mount(
+        alloc: Global,
+        mut disk: D,
+        kind: u8,
+    ) -> Result<(Journal<D>, List<List<u8>>), (MountError, D)>
+        ensures stands { D.honest → IfOk result (λ r. Holds (D.state r.0.disk).content kind r.1) }
+        ensures ground { IfOk result (λ r. (r.0.kind ≡ kind) × (r.0.closed ≡ None)
+            × (r.0.gate ≡ end_of r.1) × (r.0.count ≡ length r.1)) }
+        ensures reads { D.honest → IfOk result (λ r. OnlyReads (D.state disk) (D.state r.0.disk)) }
+        ensures reads_err { D.honest → IfErr result (λ e. OnlyReads (D.state disk) (D.state e.1)) }
+        ensures refused { D.honest → IfErr result (λ e. IsRefused (D.state disk).content kind e.0) }
+        // Where the bytes stand for a list, it comes to that list, or memory or the disk fails.
+        ensures whole { D.honest → (payloads : List (List ℕ)) → Holds (D.state disk).content kind payloads
+            → MatchResult result (λ r. r.1 ≡ payloads) (λ e. (e.0 ≡ MountError.Fault) ⊎ (e.0 ≡ MountError.NoMemory)) }
+        ensures later { IfOk result (λ r. D.faults disk ≤ D.faults r.0.disk) }
+        ensures fault { IfErr result (λ e. (D.faults disk ≤ D.faults e.1)
+            × (e.0 ≡ MountError.Fault → Rose (D.faults disk) (D.faults e.1))) }
+    {
+        let bytes = match read_all(alloc, &mut disk) {
+            Ok(bytes) => bytes,
+            Err(error) => return Err((error, disk)),
+        };
+        let (payloads, gate) = match parse(alloc, &bytes, kind) {
+            Ok(parsed) => parsed,
+            Err(error) => return Err((error, disk)),
+        };
+        let Ok(commit) = Vec::with_capacity(alloc, MAX_COMMIT) else {
+            return Err((MountError::NoMemory, disk));
+        };
+        let count = payloads.len() as u64;
+        let journal = Journal {
+            disk,
+            kind,
+            gate,
+            count,
+            closed: None,
+            commit,
+        };
+        Ok((journal, payloads))
+    }
+
+    /// A crash of the disk: the first half of a restart. The journal is closed until `remount`, so that several disks
+    /// can crash before anything on them is read. No memory.
+    pub fn crash(&mut self) -> Result<(), Failed>
+        ensures closed { self.new.closed ≡ Some self.old.gate }
+        ensures same { (self.new.kind ≡ self.old.kind) × (self.new.gate ≡ self.old.gate) × (self.new.count ≡ self.old.count) }
+        ensures cause { HasCause (D.faults self.old.disk) (D.faults self.new.disk) result }
+        ensures told { D.honest → Restarts result (D.state self.old.disk) (D.state self.new.disk) }
+        ensures images { D.honest → (b : List ℕ) → (D.state self.new.disk).IsImage b → (D.state self.old.disk).IsImage b }
+        ensures any_moment { D.honest → LeavesOnly (D.state self.old.disk) (D.state self.new.disk) (D.state self.old.disk).IsImage }
+    {
+        self.closed = Some(self.gate);
+        self.disk.restart()
+    }
+
+    /// Opens what stands on the disk, as `mount` does: the second half of a restart. After an `Err` the journal is
+    /// closed.
+    pub fn remount(&mut self, alloc: Global) -> Result<List<List<u8>>, MountError>
+        ensures stands { D.honest → IfOk result (λ payloads. Holds (D.state self.new.disk).content self.old.kind payloads) }
+        ensures ground { IfOk result (λ payloads. (self.new.closed ≡ None)
+            × (self.new.gate ≡ end_of payloads) × (self.new.count ≡ length payloads)) }
+        ensures closed { OnErr result ((self.new.closed ≡ Some self.old.gate)
+            × (self.new.gate ≡ self.old.gate) × (self.new.count ≡ self.old.count)) }
+        ensures same_kind { self.new.kind ≡ self.old.kind }
+        ensures reads { D.honest → OnlyReads (D.state self.old.disk) (D.state self.new.disk) }
+        ensures refused { D.honest → IfErr result (λ e. IsRefused (D.state self.old.disk).content self.old.kind e) }
+        ensures whole { D.honest → (payloads : List (List ℕ)) → Holds (D.state self.old.disk).content self.old.kind payloads
+            → MatchResult result (λ found. found ≡ payloads) (λ e. (e ≡ MountError.Fault) ⊎ (e ≡ MountError.NoMemory)) }
+        ensures later { D.faults self.old.disk ≤ D.faults self.new.disk }
+        ensures fault { result ≡ Err MountError.Fault → Rose (D.faults self.old.disk) (D.faults self.new.disk) }
+    {
+        self.closed = Some(self.gate);
+        let bytes = read_all(alloc, &mut self.disk)?;
+        match parse(alloc, &bytes, self.kind) {
+            Ok((payloads, gate)) => {
+                self.gate = gate;
+                self.count = payloads.len() as u64;
+                self.closed = None;
+                Ok(payloads)
+            }
+            Err(error) => Err(error),
+        }
+    }
+}

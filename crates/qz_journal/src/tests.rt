@@ -1,0 +1,189 @@
+//! Worked examples: stores that are whole, damaged or of another kind, the room that is left, and a commit that is cut.
+use crate::{
+    AppendError, CreateError, Journal, JournalFull, MountError, STATES, TRIGGERS, create, fits,
+};
+use qz_civil::List;
+use qz_disk::{Call, CutDisk, Disk, FaultDisk, MemDisk};
+use std::alloc::{AllocError, Global};
+use std::test::Fail;
+
+const HEADER: [u8; 16] = [b'Q', b'Z', b'2', b'3', 1, b'T', 0, 0, 0, 0, 0, 0, 0, 0, 0, 0];
+
+fn list(alloc: Global, bytes: &[u8]) -> Result<List<u8>, AllocError> {
+    Ok(List::from_vec(Vec::from_slice(alloc, bytes)?))
+}
+
+// A disk with these two pieces.
+fn disk_of(alloc: Global, front: &[u8], behind: &[u8]) -> Result<MemDisk, AllocError> {
+    let mut bytes = Vec::from_slice(alloc, front)?;
+    bytes.extend_from_slice(behind)?;
+    Ok(MemDisk::with_bytes(alloc, List::from_vec(bytes)))
+}
+
+// The lengths of the payloads that an opening finds, or why there are none.
+fn opened(alloc: Global, disk: MemDisk, kind: u8) -> Result<List<usize>, MountError> {
+    match Journal::mount(alloc, disk, kind) {
+        Ok((_, payloads)) => lengths(alloc, &payloads),
+        Err((error, _)) => Err(error),
+    }
+}
+
+fn lengths(alloc: Global, payloads: &List<List<u8>>) -> Result<List<usize>, MountError> {
+    let mut found = List::new(alloc);
+    for payload in payloads.as_slice() {
+        found.push(payload.len())?;
+    }
+    Ok(found)
+}
+
+#[test]
+fn the_header_decides_whether_it_is_a_store(rt: HostRuntime) -> Result<(), Fail> {
+    let states = [b'Q', b'Z', b'2', b'3', 1, b'S', 0, 0, 0, 0, 0, 0, 0, 0, 0, 0];
+    let version_2 = [b'Q', b'Z', b'2', b'3', 2, b'T', 0, 0, 0, 0, 0, 0, 0, 0, 0, 0];
+    let reserved = [b'Q', b'Z', b'2', b'3', 1, b'T', 0, 0, 0, 0, 0, 0, 0, 0, 0, 1];
+    let table: [(&[u8], Option<MountError>); 6] = [
+        (b"", Some(MountError::NotAStore)),
+        (b"QZ23\x01", Some(MountError::NotAStore)),
+        (&states, Some(MountError::NotAStore)),
+        (&version_2, Some(MountError::NotAStore)),
+        (&reserved, Some(MountError::NotAStore)),
+        (&HEADER, None),
+    ];
+    for (front, want) in table {
+        let disk = disk_of(rt.alloc(), front, b"\0and any bytes")?;
+        let found = opened(rt.alloc(), disk, TRIGGERS);
+        assert_eq!(rt; found.err(), want, "at {front:?}");
+    }
+    Ok(())
+}
+
+#[test]
+fn the_least_bad_place_is_answered(rt: HostRuntime) -> Result<(), Fail> {
+    let at_16 = Err(MountError::Damaged { at: 16 });
+    let at_22 = Err(MountError::Damaged { at: 22 });
+    let table: [(&[u8], Result<&[usize], MountError>); 12] = [
+        (b"", at_16),
+        (b"\xa5\0\0\0\x10\x01\x02\x03", at_16),
+        (b"\0any bytes", Ok(&[])),
+        (b"\x5a", Ok(&[])),
+        (b"\xff", Ok(&[])),
+        (b"\xa5\0\0\0\x01\x07", at_22),
+        (b"\xa5\0\0\0\x01\x07\xa5", at_22),
+        (b"\xa5\0\0\0\x01\x07\xa5\0\0", at_22),
+        (b"\xa5\0\0\0\x01\x07\xa5\0\0\0\0\0", at_22),
+        (b"\xa5\0\0\0\x01\x07\xa5\0\0\x80\x01", at_22),
+        (b"\xa5\0\0\0\x01\x07\x5a\xa5", Ok(&[1])),
+        (b"\xa5\0\0\0\x01\x07\xa5\0\0\0\x02\x08\x09\0", Ok(&[1, 2])),
+    ];
+    for (behind, want) in table {
+        let disk = disk_of(rt.alloc(), &HEADER, behind)?;
+        let found = opened(rt.alloc(), disk, TRIGGERS);
+        let found = found.as_ref().map(|lengths| lengths.as_slice());
+        assert!(rt; found == want.as_ref().map(|lengths| *lengths), "at {behind:?}");
+    }
+    Ok(())
+}
+
+#[test]
+fn the_room_ends_at_the_limits(rt: HostRuntime) {
+    let full = |need, room| Err(JournalFull { need, room });
+    assert_eq!(rt; fits(268435450, 3, 34), full(39, 5));
+    assert_eq!(rt; fits(16, 4194304, 34), full(39, 0));
+    assert_eq!(rt; fits(268435416, 3, 34), Ok(()));
+    assert_eq!(rt; fits(268435417, 3, 34), full(39, 38));
+    assert_eq!(rt; fits(1 << 63, 3, 1), full(6, 0));
+}
+
+#[test]
+fn a_store_is_created_once(rt: HostRuntime) -> Result<(), Fail> {
+    let mut disk = disk_of(rt.alloc(), b"some other file, which is longer", b"")?;
+    assert_eq!(rt; create(&mut disk, STATES), Ok(()));
+    assert_eq!(rt; create(&mut disk, STATES), Err(CreateError::Exists));
+    assert_eq!(rt; create(&mut disk, TRIGGERS), Err(CreateError::OtherKind));
+    assert_eq!(rt; disk.len(), Ok(32));
+    let mut disk = FaultDisk::new(disk, List::from_vec(Vec::from_slice(rt.alloc(), &[1])?));
+    assert_eq!(rt; create(&mut disk, STATES), Err(CreateError::Fault));
+    assert_eq!(rt; create(&mut disk, STATES), Err(CreateError::Exists));
+    Ok(())
+}
+
+#[test]
+fn a_commit_makes_four_device_calls(rt: HostRuntime) -> Result<(), Fail> {
+    let alloc = rt.alloc();
+    let disk = disk_of(alloc, &HEADER, b"\0")?;
+    let Ok((mut journal, _)) = Journal::mount(alloc, disk, TRIGGERS) else {
+        return Err(Fail::from("no journal"));
+    };
+    assert_eq!(rt; journal.append(b"\x07"), Ok(()));
+    let disk = journal.into_disk();
+    let body = list(alloc, b"\0\0\0\x01\x07\0")?;
+    let gate = list(alloc, b"\xa5")?;
+    let want = [
+        Call::Sync,
+        Call::Len,
+        Call::Read { at: 0, count: 17 },
+        Call::Write {
+            at: 17,
+            bytes: body,
+        },
+        Call::Sync,
+        Call::Write {
+            at: 16,
+            bytes: gate,
+        },
+        Call::Sync,
+    ];
+    assert_eq!(rt; disk.calls(), want.as_slice());
+    Ok(())
+}
+
+// One commit of `\x07` on a disk that passes so many calls of it and then fails: what it answers, and the lengths of the
+// payloads that a restart finds where this image, the bytes behind the header, was chosen.
+fn cut_commit(
+    alloc: Global,
+    passes: u64,
+    image: &[u8],
+) -> Result<(Result<(), AppendError>, List<usize>), Fail> {
+    let mut disk = disk_of(alloc, &HEADER, b"\0")?;
+    let mut chosen = Vec::from_slice(alloc, &HEADER)?;
+    chosen.extend_from_slice(image)?;
+    let mut images = List::new(alloc);
+    images.push(List::from_vec(chosen))?;
+    disk.choose(images);
+    // The opening takes three calls.
+    let Ok((mut journal, _)) = Journal::mount(alloc, CutDisk::new(disk, 3 + passes), TRIGGERS)
+    else {
+        return Err(Fail::from("no journal"));
+    };
+    let answer = journal.append(b"\x07");
+    if answer.is_err() && journal.append(b"\x08") != Err(AppendError::Closed { at: 16 }) {
+        return Err(Fail::from("not closed"));
+    }
+    journal.crash()?;
+    let payloads = journal.remount(alloc)?;
+    Ok((answer, lengths(alloc, &payloads)?))
+}
+
+#[test]
+fn a_commit_that_is_cut_is_there_or_not(rt: HostRuntime) -> Result<(), Fail> {
+    let fault = Err(AppendError::Fault);
+    // What is no image is passed over, and the bytes come up as they were written.
+    let no_image: &[u8] = b"";
+    let table: [(u64, &[u8], Result<(), AppendError>, &[usize]); 10] = [
+        (0, no_image, fault, &[]),
+        (1, no_image, fault, &[]),
+        (1, b"\0\xa5\xa5\xa5", fault, &[]),
+        (2, no_image, fault, &[]),
+        (2, b"\xa5\0\0\0\x01\x07\0", fault, &[]),
+        (3, no_image, fault, &[1]),
+        (3, b"\0\0\0\0\x01\x07\0", fault, &[]),
+        (3, b"\x25\0\0\0\x01\x07\0", fault, &[]),
+        (4, no_image, Ok(()), &[1]),
+        (4, b"\0\0\0\0\x01\x07\0", Ok(()), &[1]),
+    ];
+    for (passes, image, answer, found) in table {
+        let (answered, lengths) = cut_commit(rt.alloc(), passes, image)?;
+        assert!(rt; answered == answer && lengths.as_slice() == found, "at {passes} {image:?}");
+    }
+    Ok(())
+}
