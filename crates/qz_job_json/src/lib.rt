@@ -6,5 +6,7 @@ mod lines;
 mod members;
 mod objects;
 mod steps;
+#[cfg(test)]
+mod tests;
 
 pub use lines::{Given, LINE_LIMIT, LineFault, read_step};

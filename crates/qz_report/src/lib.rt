@@ -3,5 +3,7 @@
 
 mod names;
 mod replies;
+#[cfg(test)]
+mod tests;
 
 pub use replies::reply_line;
