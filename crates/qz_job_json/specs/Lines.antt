@@ -1,12 +1,13 @@
 -- What a line of a script says, and which fault it has. Of several faults the first in the order TooLong, NotJson,
 -- NotHere, Shape is meant.
-use Rattle.std.specs.Prelude.{ℕ, pos, List, length, Bool, false, ◌==◌, ◌||◌, nat_lt, if◌then◌else◌, Option, Some, None, Result, Ok, Err, option_map, option_and_then, codes}
+use Rattle.std.specs.Prelude.{ℕ, ℤ, pos, List, length, Bool, false, ◌==◌, ◌||◌, nat_lt, if◌then◌else◌, Option, Some, None, Result, Ok, Err, option_map, option_and_then, codes}
 use Rattle.std.specs.List.{list_all}
 use Rattle.std.specs.Str.{is_utf8}
 use Rattle.serde_json.specs.Data.{Data}
 use Rattle.serde_json.specs.Find.{get}
 use Rattle.serde_json.specs.Read.{read}
 use Rattle.qz_types.specs.declared.commands.Code.TheVariants.{Noop}
+use Rattle.qz_types.specs.declared.commands.Command.{Command}
 use Rattle.qz_types.specs.declared.commands.Command.TheVariants as command
 use Rattle.qz_types.specs.declared.steps.Step.{Step}
 use Rattle.qz_types.specs.declared.steps.Step.TheVariants as step
@@ -18,7 +19,7 @@ use Rattle.qz_job_json.specs.declared.lines.Given.{Given}
 use Rattle.qz_job_json.specs.declared.lines.LineFault.{LineFault}
 use Rattle.qz_job_json.specs.declared.lines.LineFault.TheVariants.{TooLong, NotJson, NotHere, Shape}
 use Rattle.qz_job_json.specs.Forms.{built, unbuilt, unbuilt_kinds, unbuilt_words, word_of}
-use Rattle.qz_job_json.specs.Members.{is_among, has_any, has_only, text_at, number_at, node_at, span_at, optional_integer_at}
+use Rattle.qz_job_json.specs.Members.{is_among, has_any, has_only, both, text_at, number_at, node_at, span_at, optional_integer_at}
 use Rattle.qz_job_json.specs.Objects.{job_of, trigger_of}
 
 abbrev pub is_unbuilt_kind : Option (List ℕ) → Bool
@@ -46,6 +47,15 @@ has_unbuilt_part Complete d = false
 unfoldable pub is_unbuilt : Word → Data → Bool
 is_unbuilt word d = has_any (unbuilt (Line word)) d || has_unbuilt_part word d
 
+abbrev pub acquire_of : Data → Option Command
+acquire_of d = option_map (λ no_later. command.Acquire no_later (pos 0) 1) (span_at (codes "no_later") d)
+
+abbrev pub fire_of : Data → Option Command
+fire_of d = option_map (λ entry. command.Fire entry) (number_at (codes "entry") d)
+
+abbrev pub complete_of : Data → Option Command
+complete_of d = option_map (λ entry. command.Complete entry Noop) (number_at (codes "entry") d)
+
 -- the step of a line by its own members
 unfoldable pub step_of : Word → Data → Option Step
 step_of AddJob d =
@@ -54,22 +64,18 @@ step_of AddTrigger d =
     option_map (λ spec. step.Client (command.AddTrigger spec false)) (option_and_then trigger_of (get (codes "trigger") d))
 step_of Join d =
     option_map (λ node. step.Join node (pos 15000)) (node_at (codes "node") d)
-step_of Acquire d =
-    option_and_then (λ node. option_map (λ no_later. step.Node node (command.Acquire no_later (pos 0) 1))
-    (span_at (codes "no_later") d)) (node_at (codes "node") d)
-step_of Fire d =
-    option_and_then (λ node. option_map (λ entry. step.Node node (command.Fire entry))
-    (number_at (codes "entry") d)) (node_at (codes "node") d)
-step_of Complete d =
-    option_and_then (λ node. option_map (λ entry. step.Node node (command.Complete entry Noop))
-    (number_at (codes "entry") d)) (node_at (codes "node") d)
+step_of Acquire d = both step.Node (node_at (codes "node") d) (acquire_of d)
+step_of Fire d = both step.Node (node_at (codes "node") d) (fire_of d)
+step_of Complete d = both step.Node (node_at (codes "node") d) (complete_of d)
+
+abbrev pub make_given : Option ℤ → Step → Given
+make_given at step = record { at = at; step = step }
 
 -- the step with its reading; None is a line that isn't a step
 unfoldable pub given_of : Word → Data → Option Given
 given_of word d =
     if has_only (built (Line word)) d
-    then option_and_then (λ at. option_map (λ step. record { at = at; step = step }) (step_of word d))
-    (optional_integer_at (codes "at") d)
+    then both make_given (optional_integer_at (codes "at") d) (step_of word d)
     else None
 
 abbrev pub shaped : Option Given → Result (Option Given) LineFault

@@ -37,6 +37,11 @@ abbrev pub kept : {T : Type 0} → (T → Bool) → Option T → Option T
 kept test None = None
 kept test (Some x) = if test x then Some x else None
 
+-- both values, where both are there
+abbrev pub both : {A B T : Type 0} → (A → B → T) → Option A → Option B → Option T
+both make None b = None
+both make (Some a) b = option_map (make a) b
+
 abbrev pub text_at : List ℕ → Data → Option (List ℕ)
 text_at name d = option_and_then as_str (get name d)
 

@@ -1,5 +1,5 @@
 -- The jobs and triggers in lines. None is an object of another shape.
-use Rattle.std.specs.Prelude.{ℕ, ℤ, pos, List, [], Bool, false, ◌&&◌, if◌then◌else◌, Option, Some, None, option_map, option_and_then, codes}
+use Rattle.std.specs.Prelude.{ℕ, ℤ, pos, List, [], Bool, false, ◌&&◌, if◌then◌else◌, Option, Some, None, option_and_then, codes}
 use Rattle.serde_json.specs.Data.{Data}
 use Rattle.qz_civil.specs.declared.timings.Kind.TheVariants.{Simple}
 use Rattle.qz_types.specs.declared.keys.Key.{Key}
@@ -7,12 +7,14 @@ use Rattle.qz_types.specs.declared.triggers.TriggerSpec.{TriggerSpec}
 use Rattle.qz_types.specs.Rows.{JobData}
 use Rattle.qz_job_json.specs.declared.forms.Form.TheVariants.{Job, Trigger}
 use Rattle.qz_job_json.specs.Forms.{built}
-use Rattle.qz_job_json.specs.Members.{is_text, has_only, text_at, name_at, group_at, span_at}
+use Rattle.qz_job_json.specs.Members.{is_text, has_only, both, text_at, name_at, group_at, span_at}
+
+abbrev pub make_key : List ℕ → List ℕ → Key
+make_key group name = record { group = group; name = name }
 
 -- the key of the members under these names
 unfoldable pub key_at : List ℕ → List ℕ → Data → Option Key
-key_at group name d =
-    option_and_then (λ g. option_map (λ n. record { group = g; name = n }) (name_at name d)) (group_at group d)
+key_at group name d = both make_key (group_at group d) (name_at name d)
 
 -- a job without flags and payload
 abbrev pub plain_job : Key → List ℕ → JobData
@@ -28,7 +30,7 @@ plain_job key class = record {
 unfoldable pub job_of : Data → Option JobData
 job_of d =
     if has_only (built Job) d
-    then option_and_then (λ key. option_map (plain_job key) (name_at (codes "class") d)) (key_at (codes "group") (codes "name") d)
+    then both plain_job (key_at (codes "group") (codes "name") d) (name_at (codes "class") d)
     else None
 
 -- a trigger that fires once, at its start
@@ -45,13 +47,14 @@ abbrev pub is_simple : Option (List ℕ) → Bool
 is_simple None = false
 is_simple (Some kind) = is_text kind (codes "simple")
 
+abbrev pub trigger_key : Data → Option Key
+trigger_key d = key_at (codes "group") (codes "name") d
+
+abbrev pub job_key : Data → Option Key
+job_key d = key_at (codes "job_group") (codes "job") d
+
 unfoldable pub trigger_of : Data → Option TriggerSpec
 trigger_of d =
     if has_only (built Trigger) d && is_simple (text_at (codes "kind") d)
-    then option_and_then (λ start.
-    option_and_then (λ key.
-    option_map (one_shot start key)
-    (key_at (codes "job_group") (codes "job") d))
-    (key_at (codes "group") (codes "name") d))
-    (span_at (codes "start") d)
+    then option_and_then (λ start. both (one_shot start) (trigger_key d) (job_key d)) (span_at (codes "start") d)
     else None

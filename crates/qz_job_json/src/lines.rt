@@ -11,6 +11,7 @@ use crate::steps::step_of;
 use qz_types::{NoMemory, Step};
 use serde_json::Value;
 use std::alloc::Global;
+use thiserror::Error;
 
 /// Bytes of a line, its line feed not counted.
 pub const LINE_LIMIT: u64 = 65536;
@@ -24,17 +25,22 @@ pub struct Given {
 }
 
 /// What is wrong with a line. Of several faults the first in this order is reported.
-#[derive(Clone, Copy, PartialEq, Eq, Debug)]
+#[derive(Clone, Copy, PartialEq, Eq, Debug, Error)]
 pub enum LineFault {
     /// More than `LINE_LIMIT` bytes, even if all are blank.
+    #[error("too long")]
     TooLong,
     /// The bytes aren't UTF-8, or they aren't one JSON value.
+    #[error("not JSON")]
     NotJson,
     /// The format has this line or this member of it, and the scheduler doesn't read it yet.
+    #[error("not here")]
     NotHere,
     /// An unknown or missing member, a value of another type, `null`, or a value out of its range.
+    #[error("not a step")]
     Shape,
     /// Memory ran out. Nothing is known of the line.
+    #[error("no memory")]
     NoMemory,
 }
 

@@ -24,8 +24,8 @@ fn map_has_unbuilt(map: &Map<String, Value>, form: Form) -> bool
     map.keys().any(|name| form.is_unbuilt(name.as_str()))
 }
 
-#[tactic(auto, using(crate::proofs::Names::all_names))]
 /// Whether each member of the object is one that is read.
+#[tactic(auto, using(crate::proofs::Names::all_names))]
 pub(crate) fn has_only(value: &Value, form: Form) -> bool
     ensures { result ≡ has_only (built form) (view value.now) }
 {
@@ -35,8 +35,8 @@ pub(crate) fn has_only(value: &Value, form: Form) -> bool
     }
 }
 
-#[tactic(auto, using(crate::proofs::Names::any_names))]
 /// Whether the object has a member that isn't built yet.
+#[tactic(auto, using(crate::proofs::Names::any_names))]
 pub(crate) fn has_unbuilt(value: &Value, form: Form) -> bool
     ensures { result ≡ has_any (unbuilt form) (view value.now) }
 {
