@@ -1,0 +1,57 @@
+-- The table of the format: which members each object has. An object is a line, named by the word of its member
+-- `do`, or the job or the trigger in one.
+use Rattle.std.specs.Prelude.{ℕ, List, [], ◌∷◌, if◌then◌else◌, Option, Some, None, codes}
+use Rattle.qz_job_json.specs.Members.{is_text}
+use Rattle.qz_job_json.specs.declared.forms.Word.{Word}
+use Rattle.qz_job_json.specs.declared.forms.Word.TheVariants.{AddJob, AddTrigger, Join, Acquire, Fire, Complete}
+use Rattle.qz_job_json.specs.declared.forms.Form.{Form}
+use Rattle.qz_job_json.specs.declared.forms.Form.TheVariants.{Line, Job, Trigger}
+
+-- the members that are read
+abbrev pub built : Form → List (List ℕ)
+built (Line AddJob) = codes "do" ∷ codes "at" ∷ codes "job" ∷ []
+built (Line AddTrigger) = codes "do" ∷ codes "at" ∷ codes "trigger" ∷ []
+built (Line Join) = codes "do" ∷ codes "at" ∷ codes "node" ∷ []
+built (Line Acquire) = codes "do" ∷ codes "at" ∷ codes "node" ∷ codes "no_later" ∷ []
+built (Line Fire) = codes "do" ∷ codes "at" ∷ codes "node" ∷ codes "entry" ∷ []
+built (Line Complete) = codes "do" ∷ codes "at" ∷ codes "node" ∷ codes "entry" ∷ []
+built Job = codes "name" ∷ codes "group" ∷ codes "class" ∷ []
+built Trigger =
+    codes "name" ∷ codes "group" ∷ codes "job" ∷ codes "job_group" ∷ codes "start" ∷ codes "kind" ∷ []
+
+-- the members of the format that aren't built yet
+abbrev pub unbuilt : Form → List (List ℕ)
+unbuilt (Line AddJob) = codes "replace" ∷ []
+unbuilt (Line AddTrigger) = codes "replace" ∷ []
+unbuilt (Line Join) = codes "interval" ∷ []
+unbuilt (Line Acquire) = codes "window" ∷ codes "max" ∷ []
+unbuilt (Line Fire) = []
+unbuilt (Line Complete) = codes "code" ∷ []
+unbuilt Job = codes "durable" ∷ codes "no_concurrent" ∷ codes "requests_recovery" ∷ codes "data" ∷ []
+unbuilt Trigger =
+    codes "priority" ∷ codes "calendar" ∷ codes "misfire" ∷ codes "end" ∷ codes "interval" ∷ codes "count"
+    ∷ codes "cron" ∷ codes "zone" ∷ codes "unit" ∷ codes "every" ∷ codes "from" ∷ codes "to" ∷ codes "days" ∷ []
+
+-- the kinds of triggers that aren't built yet
+abbrev pub unbuilt_kinds : List (List ℕ)
+unbuilt_kinds = codes "cron" ∷ codes "interval" ∷ codes "daily" ∷ []
+
+-- the words of lines that aren't built yet
+abbrev pub unbuilt_words : List (List ℕ)
+unbuilt_words =
+    codes "add_calendar" ∷ codes "add_zone" ∷ codes "delete_job" ∷ codes "delete_trigger"
+    ∷ codes "pause_trigger" ∷ codes "resume_trigger" ∷ codes "trigger_now" ∷ codes "pause_group"
+    ∷ codes "resume_group" ∷ codes "delete_calendar" ∷ codes "delete_zone" ∷ codes "threshold"
+    ∷ codes "check_in" ∷ codes "leave" ∷ codes "misfires" ∷ codes "stop" ∷ codes "release"
+    ∷ codes "recover" ∷ codes "forget" ∷ codes "restart" ∷ []
+
+-- the line that a text names, where it is built
+unfoldable pub word_of : List ℕ → Option Word
+word_of text =
+    if is_text text (codes "add_job") then Some AddJob
+    else if is_text text (codes "add_trigger") then Some AddTrigger
+    else if is_text text (codes "join") then Some Join
+    else if is_text text (codes "acquire") then Some Acquire
+    else if is_text text (codes "fire") then Some Fire
+    else if is_text text (codes "complete") then Some Complete
+    else None

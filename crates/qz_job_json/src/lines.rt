@@ -1,0 +1,169 @@
+//! Lines of a script.
+ghost use Rattle.std.specs.Prelude.{◌≡◌, ◌⊎◌, Err, IsTrue, IfOk, IfSome, option_map};
+ghost use Rattle.std.specs.List.{list_all};
+ghost use Rattle.serde_json.specs.View.{view};
+ghost use Rattle.qz_types.specs.Steps.{is_step};
+ghost use Rattle.qz_job_json.specs.Lines.{is_blank, value_of, is_unbuilt, is_unbuilt_trigger, given_of, meaning_of, meaning_of_line, meaning_of_value};
+
+use crate::forms::{Form, Word, is_unbuilt_kind, is_unbuilt_word};
+use crate::members::{has_only, has_unbuilt, optional_integer_at, text_at};
+use crate::steps::step_of;
+use qz_types::{NoMemory, Step};
+use serde_json::Value;
+use std::alloc::Global;
+use thiserror::Error;
+
+/// Bytes of a line, its line feed not counted.
+pub const LINE_LIMIT: u64 = 65536;
+
+/// What a line asks for.
+#[derive(Clone, PartialEq, Eq, Debug, Drop)]
+pub struct Given {
+    /// The line's own reading in place of one of the clock, in ms since 1970-01-01T00:00:00Z. Any number.
+    pub at: Option<i64>,
+    pub step: Step,
+}
+
+/// What is wrong with a line. Of several faults the first in this order is reported.
+#[derive(Clone, Copy, PartialEq, Eq, Debug, Error)]
+pub enum LineFault {
+    /// More than `LINE_LIMIT` bytes, even if all are blank.
+    #[error("too long")]
+    TooLong,
+    /// The bytes aren't UTF-8, or they aren't one JSON value.
+    #[error("not JSON")]
+    NotJson,
+    /// The format has this line or this member of it, and the scheduler doesn't read it yet.
+    #[error("not here")]
+    NotHere,
+    /// An unknown or missing member, a value of another type, `null`, or a value out of its range.
+    #[error("not a step")]
+    Shape,
+    /// Memory ran out. Nothing is known of the line.
+    #[error("no memory")]
+    NoMemory,
+}
+
+/// Reads a line, which has no line feed. None is a blank line: it has only spaces, tabs and carriage returns.
+pub fn read_step(alloc: Global, line: &[u8]) -> Result<Option<Given>, LineFault>
+    ensures meaning { (result ≡ Err LineFault.NoMemory) ⊎ (result ≡ meaning_of line.now) }
+    ensures valid { IfOk result (λ given. IfSome given (λ g. IsTrue (is_step g.step))) }
+{
+    if line.len() as u64 > LINE_LIMIT {
+        return Err(LineFault::TooLong);
+    }
+    if is_blank(line) {
+        return Ok(None);
+    }
+    match value_of(alloc, line) {
+        Ok(value) => read_value(alloc, value),
+        Err(NoMemory) => Err(LineFault::NoMemory),
+    }
+}
+
+fn is_blank(line: &[u8]) -> bool
+    ensures { result ≡ list_all is_blank line.now }
+{
+    line.iter()
+        .all(|byte| matches!(*byte, b' ' | b'\t' | b'\r'))
+}
+
+/// The JSON value that the bytes are.
+fn value_of(alloc: Global, line: &[u8]) -> Result<Option<Value>, NoMemory>
+    ensures { IfOk result (λ value. option_map view value ≡ value_of line.now) }
+{
+    match Value::from_slice(alloc, line) {
+        Ok(value) => Ok(Some(value)),
+        Err(error) => {
+            if error.is_memory() {
+                Err(NoMemory)
+            } else {
+                Ok(None)
+            }
+        }
+    }
+}
+
+fn read_value(alloc: Global, value: Option<Value>) -> Result<Option<Given>, LineFault>
+    ensures meaning { (result ≡ Err LineFault.NoMemory) ⊎ (result ≡ meaning_of_value (option_map view value)) }
+    ensures valid { IfOk result (λ given. IfSome given (λ g. IsTrue (is_step g.step))) }
+{
+    let Some(value) = value else {
+        return Err(LineFault::NotJson);
+    };
+    let Some(text) = text_at(&value, "do") else {
+        return Err(LineFault::Shape);
+    };
+    if is_unbuilt_word(text) {
+        return Err(LineFault::NotHere);
+    }
+    read_line(alloc, Word::of(text), &value)
+}
+
+fn read_line(alloc: Global, word: Option<Word>, value: &Value) -> Result<Option<Given>, LineFault>
+    ensures meaning { (result ≡ Err LineFault.NoMemory) ⊎ (result ≡ meaning_of_line word (view value.now)) }
+    ensures valid { IfOk result (λ given. IfSome given (λ g. IsTrue (is_step g.step))) }
+{
+    let Some(word) = word else {
+        return Err(LineFault::Shape);
+    };
+    if is_unbuilt(word, value) {
+        return Err(LineFault::NotHere);
+    }
+    match given_of(alloc, word, value) {
+        Ok(Some(given)) => Ok(Some(given)),
+        Ok(None) => Err(LineFault::Shape),
+        Err(NoMemory) => Err(LineFault::NoMemory),
+    }
+}
+
+/// Whether the line has a member that isn't built yet, or its job or trigger has, or the trigger's kind isn't built.
+#[tactic(auto, unfolding(crate::specs::Lines::is_unbuilt))]
+fn is_unbuilt(word: Word, value: &Value) -> bool
+    ensures { result ≡ is_unbuilt word (view value.now) }
+{
+    if has_unbuilt(value, Form::Line(word)) {
+        return true;
+    }
+    match word {
+        Word::AddJob => match value.get("job") {
+            Some(job) => has_unbuilt(job, Form::Job),
+            None => false,
+        },
+        Word::AddTrigger => match value.get("trigger") {
+            Some(trigger) => is_unbuilt_trigger(trigger),
+            None => false,
+        },
+        Word::Join | Word::Acquire | Word::Fire | Word::Complete => false,
+    }
+}
+
+fn is_unbuilt_trigger(value: &Value) -> bool
+    ensures { result ≡ is_unbuilt_trigger (view value.now) }
+{
+    if has_unbuilt(value, Form::Trigger) {
+        return true;
+    }
+    match text_at(value, "kind") {
+        Some(kind) => is_unbuilt_kind(kind),
+        None => false,
+    }
+}
+
+/// The step with its reading; None is a line that isn't a step.
+#[tactic(auto, unfolding(crate::specs::Lines::given_of))]
+fn given_of(alloc: Global, word: Word, value: &Value) -> Result<Option<Given>, NoMemory>
+    ensures value { IfOk result (λ given. given ≡ given_of word (view value.now)) }
+    ensures valid { IfOk result (λ given. IfSome given (λ g. IsTrue (is_step g.step))) }
+{
+    if !has_only(value, Form::Line(word)) {
+        return Ok(None);
+    }
+    let Some(at) = optional_integer_at(value, "at") else {
+        return Ok(None);
+    };
+    let Some(step) = step_of(alloc, word, value)? else {
+        return Ok(None);
+    };
+    Ok(Some(Given { at, step }))
+}

@@ -1,0 +1,72 @@
+-- The line that a reply is printed as.
+use Rattle.std.specs.Prelude.{ℕ, ℤ, List, [], ◌∷◌, ◌++◌, Option, Some, None, codes}
+use Rattle.std.specs.List.{flat_map}
+use Rattle.std.specs.Fmt.{decimal, signed_decimal}
+use Rattle.qz_types.specs.Refusals.{number_of}
+use Rattle.qz_types.specs.declared.replies.Taken.{Taken}
+use Rattle.qz_types.specs.declared.replies.Refusal.{Refusal}
+use Rattle.qz_types.specs.declared.replies.Refusal.TheVariants.{Unbuilt, Fenced, UnknownJob, UnknownEntry, Early}
+use Rattle.qz_types.specs.declared.replies.Reply.{Reply}
+use Rattle.qz_types.specs.declared.replies.Reply.TheVariants.{Done, Added, Joined, Acquired, Fired, Completed}
+use Rattle.qz_types.specs.declared.steps.StepReply.{StepReply}
+use Rattle.qz_types.specs.declared.steps.StepReply.TheVariants.{Ok, Refused, Stopped}
+use Rattle.qz_report.specs.Names.{key_text}
+
+-- a next time, if there is one
+abbrev pub next_text : Option ℤ → List ℕ
+next_text None = codes "none"
+next_text (Some next) = signed_decimal next
+
+-- an epoch, if there is one
+abbrev pub live_text : Option ℕ → List ℕ
+live_text None = codes "none"
+live_text (Some epoch) = decimal epoch
+
+abbrev pub taken_text : Taken → List ℕ
+taken_text t = 32 ∷ decimal t.entry ++ 32 ∷ key_text t.trigger ++ 32 ∷ signed_decimal t.next
+
+-- all that were taken, in their order
+abbrev pub all_taken_text : List Taken → List ℕ
+all_taken_text [] = codes " none"
+all_taken_text (t ∷ ts) = flat_map taken_text (t ∷ ts)
+
+-- the executions that were ended with their node, and the recovery triggers added for them
+abbrev pub recovery_text : ℕ → ℕ → List ℕ
+recovery_text executions triggers =
+    codes " executions " ++ decimal executions ++ codes " triggers " ++ decimal triggers
+
+abbrev pub joined_text : ℕ → ℕ → ℕ → List ℕ
+joined_text epoch executions triggers = codes "joined " ++ decimal epoch ++ recovery_text executions triggers
+
+abbrev pub fired_text : ℕ → ℤ → ℤ → Option ℤ → List ℕ
+fired_text entry scheduled fired next =
+    codes "fired " ++ decimal entry ++ codes " scheduled " ++ signed_decimal scheduled
+    ++ codes " at " ++ signed_decimal fired ++ codes " next " ++ next_text next
+
+abbrev pub ok_text : Reply → List ℕ
+ok_text Done = codes "ok"
+ok_text (Added next) = codes "ok next " ++ signed_decimal next
+ok_text (Joined epoch executions triggers) = joined_text epoch executions triggers
+ok_text (Acquired taken) = codes "acquired" ++ all_taken_text taken
+ok_text (Fired entry scheduled fired next trigger job) = fired_text entry scheduled fired next
+ok_text (Completed entry) = codes "completed " ++ decimal entry
+
+-- what a refusal has beside its number
+abbrev pub refusal_field : Refusal → List ℕ
+refusal_field Unbuilt = []
+refusal_field (Fenced live) = codes " live " ++ live_text live
+refusal_field UnknownJob = []
+refusal_field UnknownEntry = []
+refusal_field (Early next) = codes " next " ++ signed_decimal next
+
+abbrev pub refusal_text : Refusal → List ℕ
+refusal_text refusal = codes "refused " ++ decimal (number_of refusal) ++ refusal_field refusal
+
+abbrev pub step_text : StepReply → List ℕ
+step_text (Ok reply) = ok_text reply
+step_text (Refused refusal) = refusal_text refusal
+step_text Stopped = codes "stopped"
+
+-- the text with its line feed
+abbrev pub reply_text : StepReply → List ℕ
+reply_text reply = step_text reply ++ 10 ∷ []

@@ -1,0 +1,154 @@
+//! Reply lines.
+ghost use Rattle.std.specs.Prelude.{◌≡◌, ◌++◌, IfOk, OnOk, Some, string_bytes};
+ghost use Rattle.std.specs.List.{flat_map};
+ghost use Rattle.qz_report.specs.Replies.{next_text, taken_text, all_taken_text, ok_text, joined_text, recovery_text, fired_text, refusal_field, refusal_text, step_text, reply_text};
+
+use crate::names::push_key;
+use qz_types::{NoMemory, Refusal, Reply, StepReply, Taken, Text};
+use std::alloc::{AllocError, Global};
+use std::fmt;
+use std::fmt::Write;
+
+/// Room for most lines, so that they take memory once.
+const USUAL_LENGTH: usize = 64;
+
+/// The line that a reply is printed as, with its line feed.
+pub fn reply_line(alloc: Global, reply: &StepReply) -> Result<Text, NoMemory>
+    ensures { IfOk result (λ text. text ≡ reply_text reply.now) }
+{
+    let mut text = String::with_capacity(alloc, USUAL_LENGTH)?;
+    push_step(&mut text, reply)?;
+    text.push('\n')?;
+    Ok(Text::from_string(text))
+}
+
+fn push_step(text: &mut String, reply: &StepReply) -> Result<(), AllocError>
+    ensures { OnOk result (string_bytes text.new ≡ string_bytes text.old ++ step_text reply.now) }
+{
+    match reply {
+        StepReply::Ok(reply) => push_ok(text, reply),
+        StepReply::Refused(refusal) => push_refusal(text, refusal),
+        StepReply::Stopped => text.push_str("stopped"),
+    }
+}
+
+fn push_ok(text: &mut String, reply: &Reply) -> Result<(), AllocError>
+    ensures { OnOk result (string_bytes text.new ≡ string_bytes text.old ++ ok_text reply.now) }
+{
+    match reply {
+        Reply::Done => text.push_str("ok"),
+        Reply::Added { next } => write!(text, "ok next {next}"),
+        Reply::Joined {
+            epoch,
+            executions,
+            triggers,
+        } => push_joined(text, *epoch, *executions, *triggers),
+        Reply::Acquired(taken) => {
+            text.push_str("acquired")?;
+            push_all_taken(text, taken.as_slice())
+        }
+        Reply::Fired {
+            entry,
+            scheduled,
+            fired,
+            next,
+            trigger: _,
+            job: _,
+        } => push_fired(text, *entry, *scheduled, *fired, *next),
+        Reply::Completed { entry } => write!(text, "completed {entry}"),
+    }
+}
+
+/// What a join or a recovery did with the executions of the node that was.
+fn push_recovery(text: &mut String, executions: u64, triggers: u64) -> Result<(), AllocError>
+    ensures { OnOk result (string_bytes text.new ≡ string_bytes text.old ++ recovery_text executions triggers) }
+{
+    write!(text, " executions {executions} triggers {triggers}")
+}
+
+fn push_joined(
+    text: &mut String,
+    epoch: u64,
+    executions: u64,
+    triggers: u64,
+) -> Result<(), AllocError>
+    ensures { OnOk result (string_bytes text.new ≡ string_bytes text.old ++ joined_text epoch executions triggers) }
+{
+    write!(text, "joined {epoch}")?;
+    push_recovery(text, executions, triggers)
+}
+
+fn push_taken(text: &mut String, taken: &Taken) -> Result<(), AllocError>
+    ensures { OnOk result (string_bytes text.new ≡ string_bytes text.old ++ taken_text taken.now) }
+{
+    write!(text, " {} ", taken.entry)?;
+    push_key(text, &taken.trigger)?;
+    write!(text, " {}", taken.next)
+}
+
+fn push_each_taken(text: &mut String, taken: &[Taken]) -> Result<(), AllocError>
+    ensures { OnOk result (string_bytes text.new ≡ string_bytes text.old ++ flat_map taken_text taken.now) }
+{
+    for one in taken {
+        push_taken(text, one)?;
+    }
+    Ok(())
+}
+
+fn push_all_taken(text: &mut String, taken: &[Taken]) -> Result<(), AllocError>
+    ensures { OnOk result (string_bytes text.new ≡ string_bytes text.old ++ all_taken_text taken.now) }
+{
+    if taken.is_empty() {
+        text.push_str(" none")
+    } else {
+        push_each_taken(text, taken)
+    }
+}
+
+/// A next time, or `none`.
+#[derive(Drop)]
+struct Next(Option<i64>);
+
+impl fmt::Display for Next {
+    ghost output = { λ next. Some (next_text next.0) };
+
+    fn fmt<W: fmt::Write>(&self, f: &mut fmt::Formatter<W>) -> fmt::Result {
+        match self.0 {
+            Some(next) => write!(f, "{next}"),
+            None => write!(f, "none"),
+        }
+    }
+}
+
+fn push_fired(
+    text: &mut String,
+    entry: u64,
+    scheduled: i64,
+    fired: i64,
+    next: Option<i64>,
+) -> Result<(), AllocError>
+    ensures { OnOk result (string_bytes text.new ≡ string_bytes text.old ++ fired_text entry scheduled fired next) }
+{
+    let next = Next(next);
+    write!(text, "fired {entry} scheduled {scheduled}")?;
+    write!(text, " at {fired} next {next}")
+}
+
+fn push_refusal(text: &mut String, refusal: &Refusal) -> Result<(), AllocError>
+    ensures { OnOk result (string_bytes text.new ≡ string_bytes text.old ++ refusal_text refusal.now) }
+{
+    let number = refusal.number();
+    write!(text, "refused {number}")?;
+    push_field(text, refusal)
+}
+
+fn push_field(text: &mut String, refusal: &Refusal) -> Result<(), AllocError>
+    ensures { OnOk result (string_bytes text.new ≡ string_bytes text.old ++ refusal_field refusal.now) }
+{
+    match refusal {
+        Refusal::Fenced { live: Some(epoch) } => write!(text, " live {epoch}"),
+        Refusal::Fenced { live: None } => text.push_str(" live none"),
+        Refusal::Early { next } => write!(text, " next {next}"),
+        Refusal::Unbuilt | Refusal::UnknownJob | Refusal::UnknownEntry => Ok(()),
+    }
+}
