@@ -3,5 +3,6 @@
 #![tactic(auto)]
 
 mod plain;
+mod rows;
 
 pub use plain::StepRefused;
