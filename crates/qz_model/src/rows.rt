@@ -70,8 +70,8 @@ pub fn remove_trigger(rows: &mut Vec<TriggerRow>, key: &Key)
 
 /// The trigger of this key is acquired.
 #[tactic(auto, unfolding(crate::specs::Words::with_trigger))]
-pub fn acquire_trigger(rows: &mut [TriggerRow], key: &Key)
-    ensures { rows.new ≡ with_trigger key.now acquired rows.old }
+pub fn acquire_trigger(rows: &mut Vec<TriggerRow>, key: &Key)
+    ensures { rows.new.items ≡ with_trigger key.now acquired rows.old.items }
 {
     for row in rows.iter_mut() {
         acquire_if(row, key);
@@ -89,8 +89,8 @@ fn acquire_if(row: &mut TriggerRow, key: &Key)
 
 /// The trigger of this key has fired for the last time.
 #[tactic(auto, unfolding(crate::specs::Words::with_trigger))]
-pub fn spend_trigger(rows: &mut [TriggerRow], key: &Key)
-    ensures { rows.new ≡ with_trigger key.now spent rows.old }
+pub fn spend_trigger(rows: &mut Vec<TriggerRow>, key: &Key)
+    ensures { rows.new.items ≡ with_trigger key.now spent rows.old.items }
 {
     for row in rows.iter_mut() {
         spend_if(row, key);
@@ -152,8 +152,8 @@ pub fn remove_fired(rows: &mut Vec<FiredRow>, entry: u64)
 
 /// The execution of this entry number's row begins.
 #[tactic(auto, unfolding(crate::specs::Words::with_fired))]
-pub fn execute_fired(rows: &mut [FiredRow], entry: u64, moment: i64, job: &JobRow)
-    ensures { rows.new ≡ with_fired entry (executing moment job.now) rows.old }
+pub fn execute_fired(rows: &mut Vec<FiredRow>, entry: u64, moment: i64, job: &JobRow)
+    ensures { rows.new.items ≡ with_fired entry (executing moment job.now) rows.old.items }
 {
     for row in rows.iter_mut() {
         execute_if(row, entry, moment, job);

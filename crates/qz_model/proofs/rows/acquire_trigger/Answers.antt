@@ -6,6 +6,6 @@ use Rattle.qz_model.proofs.rows.acquire_trigger.Goals as goal
 
 pub loop-row-preserved : goal.loop-row-preserved
 loop-row-preserved c =
-    let within : c.loop-row.row-index < length c.args.rows.now = omega arith in
-    let more = map_over_more (λ r. if same_key c.args.key.now r.spec.key then acquired r else r) c.args.rows.now c.loop-row.rows c.loop-row.row-index c.row-item.result within c.loop-row.invariant c.row-item.is in
+    let within : c.loop-row.row-index < length c.args.rows.now.items = omega arith in
+    let more = map_over_more (λ r. if same_key c.args.key.now r.spec.key then acquired r else r) c.args.rows.now.items c.loop-row.row-items c.loop-row.row-index c.row-item.result within c.loop-row.invariant c.row-item.is in
     cc

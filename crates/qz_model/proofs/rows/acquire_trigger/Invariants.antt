@@ -5,4 +5,4 @@ use Rattle.qz_model.proofs.rows.acquire_trigger.Given as goal
 
 abbrev pub invariant-loop-row : goal.invariant-loop-row
 invariant-loop-row l =
-    l.rows ≡ map (λ r. if same_key l.key r.spec.key then acquired r else r) (take l.row-index l.initial.rows) ++ drop l.row-index l.initial.rows
+    l.row-items ≡ map (λ r. if same_key l.key r.spec.key then acquired r else r) (take l.row-index l.fn.rows.items) ++ drop l.row-index l.fn.rows.items
