@@ -1,6 +1,5 @@
 //! The plain store.
-ghost use Rattle.std.specs.Prelude.{◌≡◌, IfOk, IfErr, OnErr, IsTrue};
-ghost use Rattle.qz_types.specs.Entries.{is_entry};
+ghost use Rattle.std.specs.Prelude.{◌≡◌, ◌≤ℤ◌, pos, IfOk, IfErr, OnErr};
 ghost use Rattle.qz_model.specs.Tables.{empty, IsMoment, recorded_moment};
 ghost use Rattle.qz_model.specs.Outcomes.{accepted};
 ghost use Rattle.qz_model.specs.Transaction.{transaction};
@@ -153,7 +152,8 @@ impl PlainStore {
 
     /// The recorded moment of the last transaction, in ms since 1970-01-01T00:00:00Z; 0 before the first.
     pub fn last_moment(&self) -> i64
-        ensures { result ≡ self.now.last_moment }
+        ensures value { result ≡ self.now.last_moment }
+        ensures bound { pos 0 ≤ℤ result }
     {
         self.last_moment
     }
@@ -205,10 +205,17 @@ impl PlainStore {
         }
     }
 
+    fn horizon(&self) -> i64
+        ensures value { result ≡ self.now.horizon }
+        ensures bound { self.now.last_moment ≤ℤ result }
+    {
+        self.horizon
+    }
+
     fn recorded_moment(&self, at: i64) -> i64
         ensures value { result ≡ recorded_moment self.now at }
         ensures bound { IsMoment self.now.horizon result }
     {
-        at.max(0).min(self.horizon).max(self.last_moment)
+        at.max(0).min(self.horizon()).max(self.last_moment())
     }
 }

@@ -19,12 +19,7 @@ use qz_types::{
 use std::alloc::AllocError;
 
 impl PlainStore {
-    pub fn fire(
-        &mut self,
-        moment: i64,
-        me: &MemberRow,
-        entry: u64,
-    ) -> Result<Reply, StepRefused>
+    pub fn fire(&mut self, moment: i64, me: &MemberRow, entry: u64) -> Result<Reply, StepRefused>
         requires { IsMoment self.old.horizon moment }
         ensures ok { IfOk result (λ reply. fire self.old moment me.now entry ≡ accepted self.new reply) }
         ensures refused { IfErr result (IsCause (fire self.old moment me.now entry)) }
@@ -125,8 +120,8 @@ impl PlainStore {
     // A trigger, of which this is a copy, goes, and with it its job if that is an orphan then.
     fn remove_finished(&mut self, trigger: &TriggerRow) -> Result<(), AllocError>
         ensures { OnOk result (self.new ≡ record self.old {
-            triggers = without_trigger trigger.now.spec.key self.old.triggers;
-            jobs = without_orphan_of trigger.now.spec.job (without_trigger trigger.now.spec.key self.old.triggers) self.old.jobs;
+          triggers = without_trigger trigger.now.spec.key self.old.triggers;
+          jobs = without_orphan_of trigger.now.spec.job (without_trigger trigger.now.spec.key self.old.triggers) self.old.jobs;
         }) }
     {
         remove_trigger(&mut self.triggers, &trigger.spec.key);

@@ -14,12 +14,7 @@ use qz_types::{
 };
 
 impl PlainStore {
-    pub fn add_job(
-        &mut self,
-        moment: i64,
-        job: JobRow,
-        replace: bool,
-    ) -> Result<Reply, StepRefused>
+    pub fn add_job(&mut self, moment: i64, job: JobRow, replace: bool) -> Result<Reply, StepRefused>
         requires { IsMoment self.old.horizon moment }
         ensures ok { IfOk result (λ reply. add_job self.old moment job replace ≡ accepted self.new reply) }
         ensures refused { IfErr result (IsCause (add_job self.old moment job replace)) }

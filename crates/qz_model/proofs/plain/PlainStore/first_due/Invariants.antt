@@ -1,4 +1,4 @@
-use Rattle.std.proofs.Common.{◌≡◌, ℕ, ◌≤◌, length, drop, filter, option_copied}
+use Rattle.std.proofs.Common.{◌≡◌, ◌≤◌, length, drop, filter, option_copied}
 use Rattle.std.specs.List.{slice_get}
 use Rattle.qz_model.specs.Due.{is_due, in_due_order}
 use Rattle.qz_model.proofs.plain.PlainStore.first_due.Given as goal
