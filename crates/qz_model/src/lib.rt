@@ -6,3 +6,6 @@ mod plain;
 mod rows;
 
 pub use plain::{PlainStore, StepRefused};
+
+#[cfg(test)]
+mod tests;

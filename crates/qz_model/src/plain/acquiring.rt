@@ -16,7 +16,7 @@ use qz_types::{
 use std::alloc::{AllocError, Global};
 
 impl PlainStore {
-    pub fn acquire(
+    pub(super) fn acquire(
         &mut self,
         moment: i64,
         me: &MemberRow,

@@ -11,7 +11,7 @@ use std::cmp::Ordering;
 impl PlainStore {
     /// The first of the due triggers.
     #[tactic(auto, unfolding(crate::specs::Due::due_triggers))]
-    pub fn first_due(&self, moment: i64, limit: i64) -> Option<&TriggerRow>
+    pub(super) fn first_due(&self, moment: i64, limit: i64) -> Option<&TriggerRow>
         requires { IsMoment self.now.horizon moment }
         ensures { option_copied result ≡ slice_get (due_triggers self.now moment limit) 0 }
     {
@@ -76,7 +76,7 @@ fn is_upto(limit: i64, next: Option<i64>) -> bool
 }
 
 /// Whether there is a next time, and it lies before this one.
-pub fn is_before(time: i64, next: Option<i64>) -> bool
+pub(super) fn is_before(time: i64, next: Option<i64>) -> bool
     ensures { result ≡ is_before time next }
 {
     match next {

@@ -19,7 +19,12 @@ use qz_types::{
 use std::alloc::AllocError;
 
 impl PlainStore {
-    pub fn fire(&mut self, moment: i64, me: &MemberRow, entry: u64) -> Result<Reply, StepRefused>
+    pub(super) fn fire(
+        &mut self,
+        moment: i64,
+        me: &MemberRow,
+        entry: u64,
+    ) -> Result<Reply, StepRefused>
         requires { IsMoment self.old.horizon moment }
         ensures ok { IfOk result (λ reply. fire self.old moment me.now entry ≡ accepted self.new reply) }
         ensures refused { IfErr result (IsCause (fire self.old moment me.now entry)) }
@@ -74,7 +79,7 @@ impl PlainStore {
         Ok(fired_reply(moment, row, trigger, job))
     }
 
-    pub fn complete(
+    pub(super) fn complete(
         &mut self,
         moment: i64,
         me: &MemberRow,

@@ -11,7 +11,7 @@ use crate::rows::{member_of, put_member};
 use qz_types::{MEMBER_LIMIT, MemberRow, NUMBER_LIMIT, Refusal, Reply, Text};
 
 impl PlainStore {
-    pub fn join(&mut self, moment: i64, node: Text) -> Result<Reply, StepRefused>
+    pub(super) fn join(&mut self, moment: i64, node: Text) -> Result<Reply, StepRefused>
         requires moment { IsMoment self.old.horizon moment }
         requires node { IsTrue (is_node node) }
         ensures ok { IfOk result (λ reply. join self.old moment node ≡ accepted self.new reply) }
@@ -48,7 +48,7 @@ impl PlainStore {
     }
 
     #[tactic(auto, unfolding(crate::specs::Membership::node_refusal))]
-    pub fn node_refusal(&self, me: &MemberRow) -> Option<Refusal>
+    pub(super) fn node_refusal(&self, me: &MemberRow) -> Option<Refusal>
         ensures { result ≡ node_refusal self.now me.now }
     {
         let live = self.live_epoch(&me.node);

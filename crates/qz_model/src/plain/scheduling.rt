@@ -14,7 +14,12 @@ use qz_types::{
 };
 
 impl PlainStore {
-    pub fn add_job(&mut self, moment: i64, job: JobRow, replace: bool) -> Result<Reply, StepRefused>
+    pub(super) fn add_job(
+        &mut self,
+        moment: i64,
+        job: JobRow,
+        replace: bool,
+    ) -> Result<Reply, StepRefused>
         requires { IsMoment self.old.horizon moment }
         ensures ok { IfOk result (λ reply. add_job self.old moment job replace ≡ accepted self.new reply) }
         ensures refused { IfErr result (IsCause (add_job self.old moment job replace)) }
@@ -42,7 +47,7 @@ impl PlainStore {
         }
     }
 
-    pub fn add_trigger(
+    pub(super) fn add_trigger(
         &mut self,
         moment: i64,
         spec: TriggerSpec,
