@@ -1,6 +1,6 @@
 -- Which triggers are due, and in which order.
-use Rattle.std.specs.Prelude.{ℤ, negsuc, ◌-ℤ◌, List, [], ◌∷◌, Bool, true, false, not, ◌&&◌, int_le, int_lt, filter, Option, Some, None}
-use Rattle.std.specs.Ordering.{int_cmp, int_eq, ordering_then}
+use Rattle.std.specs.Prelude.{ℤ, negsuc, ◌-ℤ◌, List, [], ◌∷◌, Bool, true, false, not, ◌&&◌, int_le, int_lt, filter, if◌then◌else◌, Option, Some, None}
+use Rattle.std.specs.Ordering.{int_cmp, int_eq, ordering_then, is_gt}
 use Rattle.std.specs.declared.cmp.Ordering.{Ordering}
 use Rattle.std.specs.declared.cmp.Ordering.TheVariants.{Less, Equal, Greater}
 use Rattle.qz_types.specs.Sorted.{put}
@@ -56,3 +56,8 @@ in_due_order (t ∷ ts) = put due_cmp (λ x. x) t (in_due_order ts)
 -- the triggers that a node may acquire at m, up to the limit
 unfoldable pub due_triggers : SchedulerTables → ℤ → ℤ → List TriggerData
 due_triggers T m limit = in_due_order (filter (is_due T m limit) T.triggers)
+
+-- the earlier of two triggers in due order, where they tie the first; or the trigger alone
+abbrev pub earlier : TriggerData → Option TriggerData → TriggerData
+earlier t None = t
+earlier t (Some u) = if is_gt (due_cmp t u) then u else t

@@ -3,5 +3,9 @@
 #![tactic(auto)]
 
 mod plain;
+mod rows;
 
-pub use plain::StepRefused;
+pub use plain::{PlainStore, StepRefused};
+
+#[cfg(test)]
+mod tests;
