@@ -16,7 +16,7 @@ use Rattle.qz_model.specs.Scheduling.{is_plain_job, add_job_refusal, add_job, is
 use Rattle.qz_model.specs.Firing.{is_acquired}
 use Rattle.qz_model.specs.Invariant.{IsRowOf, TablesValid}
 use Rattle.qz_model.proofs.Rows.{All-weaker}
-use Rattle.qz_model.proofs.RowLaws.{ordered-put_job, job_of-put_job, length-put_job, ordered-put_trigger, trigger_of-put_trigger, All-put_trigger, length-put_trigger}
+use Rattle.qz_model.proofs.RowLaws.{no_row, some_row_not_none, ordered-put_job, job_of-put_job, length-put_job, ordered-put_trigger, trigger_of-put_trigger, All-put_trigger, length-put_trigger}
 use Rattle.qz_model.proofs.Changes.{Passes, passes, clear3, clear6, HasNumber, SharesNone, HasNumber-kept, valid-moment}
 
 pub valid-put_job : (T : SchedulerTables) (job : JobData) → TablesValid T → job_of job.key T.jobs ≡ None → length T.jobs + 1 ≤ JOB_LIMIT
@@ -42,14 +42,6 @@ valid-put_job T job valid absent room = record {
   };
   row_times = record { rows = valid.row_times.rows };
 }
-
-no_row : {R : Type 0} (o : Option R) → is_some o ≡ false → o ≡ None
-no_row None e = refl
-no_row (Some r) e = absurd (cc)
-
-a_job : {R : Type 0} (o : Option R) → is_none o ≡ false → IsSome o
-a_job None e = absurd (cc)
-a_job (Some r) e = refl
 
 pub kept-add_job : (T T' : SchedulerTables) (m : ℤ) (job : JobData) (replace : Bool) (r : Reply) → TablesValid T → IsMoment T.horizon m → add_job T m job replace ≡ accepted T' r → TablesValid T'
 unfolding add_job_refusal
@@ -120,4 +112,4 @@ kept-add_trigger T T' m s replace r good valid is e =
     subst TablesValid (cc)
       (valid-put_trigger (record T { last_moment = m }) (new_trigger s) (valid-moment T m valid is) refl
         (record { low = start_of s good; high = upto_horizon _ _ clear.4 }) clear.2
-        (a_job _ clear.0) (no_row _ clear.3) (omega (arith, leb-false _ _ clear.5)))
+        (some_row_not_none _ clear.0) (no_row _ clear.3) (omega (arith, leb-false _ _ clear.5)))

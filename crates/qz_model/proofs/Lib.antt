@@ -1,5 +1,7 @@
 pub mod Changes
+pub mod DueLaws
 pub mod Histories
+pub mod KeptMembership
 pub mod KeptScheduling
 pub mod LookUps
 pub mod RowLaws

@@ -1,5 +1,5 @@
 -- What the words on rows of each kind do.
-use Rattle.std.proofs.Common.{◌≡◌, ℕ, ◌+◌, ◌<◌, ◌≤◌, ◌==◌, Bool, true, false, not, cond, List, length, count_by, Option, Some, None, IsSome, is_some, option_map, refl, sym, ap, ◌∙◌, subst, arith, if◌then◌else◌}
+use Rattle.std.proofs.Common.{◌≡◌, ℕ, ◌+◌, ◌<◌, ◌≤◌, ◌==◌, Bool, true, false, not, cond, List, length, count_by, Option, Some, None, IsSome, is_some, is_none, option_map, refl, sym, ap, ◌∙◌, subst, arith, if◌then◌else◌}
 use Rattle.std.specs.List.{AllByRecursion}
 use Rattle.std.specs.Cmp.{IsTotalOrder, IsEquivalence}
 use Rattle.std.specs.Ordering.{nat_cmp, is_eq}
@@ -32,6 +32,14 @@ a_row (Some r) is goal = goal r refl
 
 some_row : {R : Type 0} (o : Option R) (r : R) → o ≡ Some r → IsSome o
 some_row o r is = ap is_some is
+
+pub no_row : {R : Type 0} (o : Option R) → is_some o ≡ false → o ≡ None
+no_row None e = refl
+no_row (Some r) e = absurd (cc)
+
+pub some_row_not_none : {R : Type 0} (o : Option R) → is_none o ≡ false → IsSome o
+some_row_not_none None e = absurd (cc)
+some_row_not_none (Some r) e = refl
 
 -- jobs
 pub ordered-put_job : (row : JobData) (rows : List JobData) → IsAscending key_cmp (λ r. r.key) rows → job_of row.key rows ≡ None → IsAscending key_cmp (λ r. r.key) (put_job row rows)
