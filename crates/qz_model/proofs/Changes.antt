@@ -1,5 +1,5 @@
 -- Changes of the tables: what each needs to keep them valid. Here are the cases of an outcome, and the moment.
-use Rattle.std.proofs.Common.{◌≡◌, ℕ, ◌<◌, ◌≤◌, ℤ, pos, ◌≤ℤ◌, Bool, true, false, List, Option, Some, None, refl, arith, if◌then◌else◌}
+use Rattle.std.proofs.Common.{◌≡◌, ℕ, ◌<◌, ◌≤◌, ℤ, pos, ◌≤ℤ◌, Bool, true, false, List, Option, Some, None, refl, sym, subst, arith, if◌then◌else◌}
 use Rattle.std.specs.List.{AllByRecursion}
 use Rattle.std.proofs.lemmas.Int.{ints, clamps}
 use Rattle.qz_types.specs.Rows.{TriggerData}
@@ -58,6 +58,18 @@ HasNumber-kept T U t later rows others has reserved =
     let own = has reserved in
     let was : IsNumbered T t own.0 = own.1 in
     (own.0, record { named = was.named; below = omega arith; no_row = rows own.0 was.below was.no_row; alone = others own.0 was.alone })
+
+-- it is the number of whatever trigger has this key
+pub HasNumber-alike : (T : SchedulerTables) (t u : TriggerData) → t.spec.key ≡ u.spec.key → HasNumber T t → HasNumber T u
+HasNumber-alike T t u same has reserved =
+    let own = has (subst (λ k. is_reserved k.group ≡ true) (sym same) reserved) in
+    let was : IsNumbered T t own.0 = own.1 in
+    (own.0, record {
+       named = subst (λ k. EndsIn k.name own.0) same was.named;
+       below = was.below;
+       no_row = was.no_row;
+       alone = subst (λ k. AllByRecursion (SharesNone k own.0) T.triggers) same was.alone;
+     })
 
 -- the moment of the transaction
 pub valid-moment : (T : SchedulerTables) (m : ℤ) → TablesValid T → IsMoment T.horizon m → TablesValid (record T { last_moment = m })

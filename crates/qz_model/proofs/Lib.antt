@@ -1,6 +1,10 @@
 pub mod Changes
 pub mod DueLaws
 pub mod Histories
+pub mod Kept
+pub mod KeptAcquiring
+pub mod KeptCompletion
+pub mod KeptFiring
 pub mod KeptMembership
 pub mod KeptScheduling
 pub mod LookUps

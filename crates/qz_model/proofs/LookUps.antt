@@ -119,7 +119,8 @@ module _ {R K : Type 0} (cmp : K → K → Ordering) (id : R → K) (order : IsT
          (λ y less found. rw (not_back (id x) (id y) less) found)
          (below (id x) xs ascending.0) (each_found xs ascending.1))
 
-  row_of-alike : (j k : K) (xs : List R) → cmp j k ≡ Equal → row_of cmp id j xs ≡ row_of cmp id k xs
+  -- ids that are the same find the same row
+  pub row_of-alike : (j k : K) (xs : List R) → cmp j k ≡ Equal → row_of cmp id j xs ≡ row_of cmp id k xs
   row_of-alike j k [] same = refl
   row_of-alike j k (x ∷ xs) same = rw (order.congr j k (id x) same, row_of-alike j k xs same) refl
 

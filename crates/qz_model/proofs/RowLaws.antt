@@ -13,7 +13,7 @@ use Rattle.qz_types.specs.declared.keys.Key.{Key}
 use Rattle.qz_types.proofs.Ascending.{IsAscending-put}
 use Rattle.qz_model.specs.Words.{text_cmp, key_cmp, same_key, job_of, put_job, without_job, trigger_of, put_trigger, with_trigger, without_trigger, member_of, put_member, fired_of, put_fired, with_fired, without_fired}
 use Rattle.qz_model.proofs.Rows.{All-from, All-weaker, All-put, All-changed, All-left, changed_keeps, count_by-put, count_by-changed, count_by-left, length-put, length-filter_le}
-use Rattle.qz_model.proofs.LookUps.{All-row_of, row_of-id, row_of_none, row_of-map, row_of-put, row_of-put_new, row_of-filter, row_of-filter_none, one_found, each_found, only_found, IsAscending-map, IsAscending-filter}
+use Rattle.qz_model.proofs.LookUps.{All-row_of, row_of-id, row_of_none, row_of-map, row_of-put, row_of-put_new, row_of-filter, row_of-filter_none, one_found, each_found, only_found, row_of-alike, equal_from, IsAscending-map, IsAscending-filter}
 
 pub key_total : IsTotalOrder key_cmp
 key_total = then_total (on_total (λ k. k.group) nat_list_cmp_total) (on_total (λ k. k.name) nat_list_cmp_total)
@@ -110,6 +110,20 @@ pub trigger_of-with_trigger : (j k : Key) (change : TriggerData → TriggerData)
     → trigger_of j (with_trigger k change rows) ≡ option_map (λ t. if same_key k t.spec.key then change t else t) (trigger_of j rows)
 unfolding trigger_of with_trigger
 trigger_of-with_trigger j k change rows keeps = row_of-map key_cmp (λ r. r.spec.key) j _ rows (changed_keeps (λ r. r.spec.key) change keeps (λ r. same_key k r.spec.key))
+
+pub trigger_of-alike : (j k : Key) (rows : List TriggerData) → same_key j k ≡ true → trigger_of j rows ≡ trigger_of k rows
+unfolding trigger_of same_key
+trigger_of-alike j k rows same = row_of-alike key_cmp (λ r. r.spec.key) key_total j k rows (equal_from (key_cmp j k) same)
+
+not_changed : (k : Key) (change : TriggerData → TriggerData) (o : Option TriggerData) → ((t : TriggerData) → o ≡ Some t → same_key k t.spec.key ≡ false) → option_map (λ t. if same_key k t.spec.key then change t else t) o ≡ o
+not_changed k change None others = refl
+not_changed k change (Some t) others = rw (others t refl) refl
+
+-- a trigger of another key is found as it was
+pub trigger_of-with_other : (j k : Key) (change : TriggerData → TriggerData) (rows : List TriggerData) → ((t : TriggerData) → (change t).spec.key ≡ t.spec.key)
+    → same_key k j ≡ false → trigger_of j (with_trigger k change rows) ≡ trigger_of j rows
+trigger_of-with_other j k change rows keeps differ =
+    trigger_of-with_trigger j k change rows keeps ∙ not_changed k change (trigger_of j rows) (λ t found. other_key k j t.spec.key differ (trigger_of-key j t rows found))
 
 pub trigger_of-without_trigger : (j k : Key) (rows : List TriggerData) → same_key j k ≡ false → trigger_of k (without_trigger j rows) ≡ trigger_of k rows
 unfolding trigger_of without_trigger same_key
