@@ -1,5 +1,5 @@
 -- Changes of the tables: what each needs to keep them valid. Here are the cases of an outcome, and the moment.
-use Rattle.std.proofs.Common.{◌≡◌, ℕ, ◌<◌, ◌≤◌, ℤ, pos, ◌≤ℤ◌, Bool, true, false, List, Option, Some, None, refl, sym, subst, arith, if◌then◌else◌}
+use Rattle.std.proofs.Common.{◌≡◌, ℕ, ◌<◌, ◌≤◌, ℤ, Bool, true, false, Option, Some, None, refl, sym, subst, arith, if◌then◌else◌}
 use Rattle.std.specs.List.{AllByRecursion}
 use Rattle.std.proofs.lemmas.Int.{ints, clamps}
 use Rattle.qz_types.specs.Rows.{TriggerData}
@@ -7,7 +7,7 @@ use Rattle.qz_types.specs.declared.keys.Key.{Key}
 use Rattle.qz_types.specs.declared.replies.Reply.{Reply}
 use Rattle.qz_types.specs.declared.replies.Refusal.{Refusal}
 use Rattle.qz_model.specs.Tables.{SchedulerTables, IsMoment, recorded_moment}
-use Rattle.qz_model.specs.Outcomes.{Outcome, accepted, refused, unless}
+use Rattle.qz_model.specs.Outcomes.{Outcome, accepted, unless}
 use Rattle.qz_model.specs.Words.{fired_of}
 use Rattle.qz_model.specs.Scheduling.{is_reserved}
 use Rattle.qz_model.specs.Invariant.{EndsIn, IsNumbered, TablesValid}
@@ -63,13 +63,15 @@ HasNumber-kept T U t later rows others has reserved =
 pub HasNumber-alike : (T : SchedulerTables) (t u : TriggerData) → t.spec.key ≡ u.spec.key → HasNumber T t → HasNumber T u
 HasNumber-alike T t u same has reserved =
     let own = has (subst (λ k. is_reserved k.group ≡ true) (sym same) reserved) in
-    let was : IsNumbered T t own.0 = own.1 in
-    (own.0, record {
-       named = subst (λ k. EndsIn k.name own.0) same was.named;
-       below = was.below;
-       no_row = was.no_row;
-       alone = subst (λ k. AllByRecursion (SharesNone k own.0) T.triggers) same was.alone;
-     })
+    let was : IsNumbered T t own.0 = own.1 in (
+      own.0,
+      record {
+        named = subst (λ k. EndsIn k.name own.0) same was.named;
+        below = was.below;
+        no_row = was.no_row;
+        alone = subst (λ k. AllByRecursion (SharesNone k own.0) T.triggers) same was.alone;
+      },
+    )
 
 -- the moment of the transaction
 pub valid-moment : (T : SchedulerTables) (m : ℤ) → TablesValid T → IsMoment T.horizon m → TablesValid (record T { last_moment = m })
@@ -90,7 +92,7 @@ valid-moment T m valid is = record {
   fresh = record {
     fired = valid.fresh.fired;
     added = All-weaker (HasNumber T) (HasNumber (record T { last_moment = m })) T.triggers
-      (λ t has. HasNumber-kept T (record T { last_moment = m }) t (omega arith) (λ n below none. none) (λ n all. all) has) valid.fresh.added;
+        (λ t has. HasNumber-kept T (record T { last_moment = m }) t (omega arith) (λ n below none. none) (λ n all. all) has) valid.fresh.added;
   };
   row_times = record { rows = valid.row_times.rows };
 }

@@ -1,5 +1,5 @@
 -- Each due trigger is stored and waits.
-use Rattle.std.proofs.Common.{◌≡◌, ℤ, Bool, true, false, not, ◌&&◌, List, [], ◌∷◌, filter, Option, Some, None, refl, arith}
+use Rattle.std.proofs.Common.{◌≡◌, ℤ, true, not, ◌&&◌, List, [], ◌∷◌, filter, Some, refl}
 use Rattle.std.specs.List.{AllByRecursion}
 use Rattle.std.proofs.lemmas.Bool.{and_parts}
 use Rattle.qz_types.specs.Sorted.{IsAscending}
@@ -38,6 +38,6 @@ pub each_due : (T : SchedulerTables) (m limit : ℤ) → IsAscending key_cmp (λ
 unfolding due_triggers
 each_due T m limit ordered =
     All-in_due_order (IsStoredWaiting T) (filter (is_due T m limit) T.triggers)
-      (All-filter (IsStoredWaiting T) (is_due T m limit) T.triggers
-        (All-weaker (λ t. trigger_of t.spec.key T.triggers ≡ Some t) (λ t. is_due T m limit t ≡ true → IsStoredWaiting T t) T.triggers
-          (λ t found due. record { stored = found; waits = due_waits T m limit t due }) (each_trigger T.triggers ordered)))
+    (All-filter (IsStoredWaiting T) (is_due T m limit) T.triggers
+    (All-weaker (λ t. trigger_of t.spec.key T.triggers ≡ Some t) (λ t. is_due T m limit t ≡ true → IsStoredWaiting T t) T.triggers
+    (λ t found due. record { stored = found; waits = due_waits T m limit t due }) (each_trigger T.triggers ordered)))

@@ -1,11 +1,14 @@
--- Histories that go on.
-use Rattle.std.proofs.Common.{◌≡◌, List, [], ◌∷◌, ◌++◌, refl, ap, ◌∙◌}
-use Rattle.qz_types.specs.Entries.{EntryData}
+-- Histories that go on, and that they leave valid tables.
+use Rattle.std.proofs.Common.{◌≡◌, List, [], ◌∷◌, ◌++◌, IsTrue, refl, ap, ◌∙◌}
+use Rattle.std.specs.List.{AllByRecursion}
+use Rattle.qz_types.specs.Entries.{EntryData, is_entry}
 use Rattle.qz_types.specs.declared.replies.Reply.{Reply}
 use Rattle.qz_model.specs.Tables.{SchedulerTables, recorded_moment}
 use Rattle.qz_model.specs.Outcomes.{Outcome, accepted, refused}
 use Rattle.qz_model.specs.Transaction.{transaction}
 use Rattle.qz_model.specs.History.{tables_left, onto_replies, IsAccepted, IsLegalFrom, replay_from, replies_from, moments_from}
+use Rattle.qz_model.specs.Invariant.{TablesValid}
+use Rattle.qz_model.proofs.Kept.{kept}
 
 pub replay_from-append : (T : SchedulerTables) (es fs : List EntryData) → replay_from T (es ++ fs) ≡ replay_from (replay_from T es) fs
 replay_from-append T [] fs = refl
@@ -31,3 +34,16 @@ replies_from-append T (e ∷ es) fs =
 pub moments_from-append : (T : SchedulerTables) (es fs : List EntryData) → moments_from T (es ++ fs) ≡ moments_from T es ++ moments_from (replay_from T es) fs
 moments_from-append T [] fs = refl
 moments_from-append T (e ∷ es) fs = ap (λ ms. recorded_moment T e.at ∷ ms) (moments_from-append (tables_left T (transaction T e)) es fs)
+
+left_valid : (T : SchedulerTables) (e : EntryData) (o : Outcome) → IsTrue (is_entry e) → TablesValid T → transaction T e ≡ o → TablesValid (tables_left T o)
+left_valid T e (accepted T' r) good valid is = kept T T' e r good valid is
+left_valid T e (refused x) good valid is = valid
+
+-- An entry leaves valid tables, accepted or not.
+pub valid-left : (T : SchedulerTables) (e : EntryData) → IsTrue (is_entry e) → TablesValid T → TablesValid (tables_left T (transaction T e))
+valid-left T e good valid = left_valid T e (transaction T e) good valid refl
+
+-- So does a history.
+pub valid-replay : (T : SchedulerTables) (es : List EntryData) → AllByRecursion (λ e. IsTrue (is_entry e)) es → TablesValid T → IsLegalFrom T es → TablesValid (replay_from T es)
+valid-replay T [] good valid legal = valid
+valid-replay T (e ∷ es) good valid legal = valid-replay (tables_left T (transaction T e)) es good.1 (valid-left T e good.0 valid) legal.1

@@ -1,6 +1,5 @@
--- The tables are valid after every transaction, and so after every history.
-use Rattle.std.proofs.Common.{◌≡◌, ℕ, ℤ, pos, Bool, true, ◌&&◌, List, [], ◌∷◌, IsTrue, refl, sym, subst, arith}
-use Rattle.std.specs.List.{AllByRecursion}
+-- The tables are valid after every transaction.
+use Rattle.std.proofs.Common.{◌≡◌, ℕ, ℤ, IsTrue, arith}
 use Rattle.std.proofs.lemmas.Bool.{and_parts}
 use Rattle.qz_types.specs.Entries.{EntryData, is_command, is_of_node, has_actor, is_entry}
 use Rattle.qz_types.specs.declared.commands.Command.{Command}
@@ -9,9 +8,8 @@ use Rattle.qz_types.specs.declared.commands.Actor.{Actor}
 use Rattle.qz_types.specs.declared.commands.Actor.TheVariants.{Client, Node}
 use Rattle.qz_types.specs.declared.replies.Reply.{Reply}
 use Rattle.qz_model.specs.Tables.{SchedulerTables, IsMoment, empty, recorded_moment}
-use Rattle.qz_model.specs.Outcomes.{Outcome, accepted, refused}
+use Rattle.qz_model.specs.Outcomes.{accepted}
 use Rattle.qz_model.specs.Transaction.{by_command, transaction}
-use Rattle.qz_model.specs.History.{tables_left, IsAccepted, IsLegalFrom, replay_from}
 use Rattle.qz_model.specs.Invariant.{TablesValid}
 use Rattle.qz_model.proofs.Changes.{moment_within}
 use Rattle.qz_model.proofs.KeptScheduling.{kept-add_job, kept-add_trigger}
@@ -61,16 +59,3 @@ valid-new version = record {
 
 pub valid-empty : TablesValid (empty 1)
 valid-empty = valid-new 1
-
-left_valid : (T : SchedulerTables) (e : EntryData) (o : Outcome) → IsTrue (is_entry e) → TablesValid T → transaction T e ≡ o → TablesValid (tables_left T o)
-left_valid T e (accepted T' r) good valid is = kept T T' e r good valid is
-left_valid T e (refused x) good valid is = valid
-
--- An entry leaves valid tables, accepted or not.
-pub valid-left : (T : SchedulerTables) (e : EntryData) → IsTrue (is_entry e) → TablesValid T → TablesValid (tables_left T (transaction T e))
-valid-left T e good valid = left_valid T e (transaction T e) good valid refl
-
--- So does a history.
-pub valid-replay : (T : SchedulerTables) (es : List EntryData) → AllByRecursion (λ e. IsTrue (is_entry e)) es → TablesValid T → IsLegalFrom T es → TablesValid (replay_from T es)
-valid-replay T [] good valid legal = valid
-valid-replay T (e ∷ es) good valid legal = valid-replay (tables_left T (transaction T e)) es good.1 (valid-left T e good.0 valid) legal.1

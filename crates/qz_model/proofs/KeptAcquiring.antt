@@ -1,17 +1,16 @@
 -- Acquiring a trigger keeps the tables valid.
-use Rattle.std.proofs.Common.{◌≡◌, ℕ, ◌+◌, ◌<◌, ◌≤◌, ◌==◌, ℤ, pos, ◌+ℤ◌, ◌≤ℤ◌, Bool, true, false, not, ◌||◌, ◌&&◌, cond, List, [], ◌∷◌, length, nat_lt, count_by, Option, Some, None, IsSome, IsSomeAnd, option_map, refl, sym, ap, ◌∙◌, subst, arith, if◌then◌else◌}
+use Rattle.std.proofs.Common.{◌≡◌, ℕ, ◌+◌, ◌<◌, ◌≤◌, ◌==◌, ℤ, pos, ◌+ℤ◌, true, false, not, ◌||◌, ◌&&◌, List, [], ◌∷◌, length, nat_lt, count_by, Option, Some, None, IsSome, IsSomeAnd, option_map, refl, sym, ap, ◌∙◌, subst, arith, if◌then◌else◌}
 use Rattle.std.specs.List.{AllByRecursion}
 use Rattle.std.specs.Ordering.{int_eq}
-use Rattle.std.proofs.lemmas.Bool.{or_parts, and_parts, and_from, and_right, not-false, eqb-true, ltb-false, false_from_ne_true}
-use Rattle.std.proofs.lemmas.Int.{ints}
+use Rattle.std.proofs.lemmas.Bool.{or_parts, and_parts, not-false, eqb-true, ltb-false, false_from_ne_true}
 use Rattle.qz_types.specs.Rows.{JobData, TriggerData, MemberData, FiredData}
 use Rattle.qz_types.specs.declared.limits.TheConstants.{TRIGGER_LIMIT, FIRED_LIMIT, NUMBER_LIMIT}
 use Rattle.qz_types.specs.declared.triggers.TriggerState.TheVariants as state
 use Rattle.qz_types.specs.declared.replies.Reply.{Reply}
 use Rattle.qz_model.specs.Tables.{SchedulerTables, IsMoment}
-use Rattle.qz_model.specs.Outcomes.{Outcome, accepted}
-use Rattle.qz_model.specs.Words.{same_key, job_of, trigger_of, with_trigger, fired_of, put_fired, with_fired}
-use Rattle.qz_model.specs.Due.{due_triggers, is_before}
+use Rattle.qz_model.specs.Outcomes.{accepted}
+use Rattle.qz_model.specs.Words.{same_key, job_of, trigger_of, with_trigger, put_fired}
+use Rattle.qz_model.specs.Due.{due_triggers}
 use Rattle.qz_model.specs.Membership.{node_refusal}
 use Rattle.qz_model.specs.Firing.{acquire_refusal, acquired, acquired_row, acquire_for, acquire_one, acquire_first, acquire, is_acquired}
 use Rattle.qz_model.specs.Invariant.{IsRowOf, is_acquired_for, AcquiredMatch, is_live_state, HasTimes, TablesValid}
@@ -28,10 +27,10 @@ no_row_of f t (Some u) found waits row = let taken = row.state in cc
 none_waiting : (T : SchedulerTables) (t : TriggerData) → AcquiredMatch T → trigger_of t.spec.key T.triggers ≡ Some t → t.state ≡ state.Waiting → AllByRecursion (λ f. is_acquired_for t.spec.key f ≡ false) T.fired
 none_waiting T t match found waits =
     All-weaker (λ f. is_acquired f.state ≡ true → IsSomeAnd (trigger_of f.trigger T.triggers) (IsRowOf f)) (λ f. is_acquired_for t.spec.key f ≡ false) T.fired
-      (λ f has. false_from_ne_true (is_acquired_for t.spec.key f) (λ is.
-        let parts = and_parts (is_acquired f.state) (same_key t.spec.key f.trigger) is in
-        no_row_of f t (trigger_of f.trigger T.triggers) (sym (trigger_of-alike t.spec.key f.trigger T.triggers parts.1) ∙ found) waits (has parts.0)))
-      match.a_trigger
+    (λ f has. false_from_ne_true (is_acquired_for t.spec.key f) (λ is.
+    let parts = and_parts (is_acquired f.state) (same_key t.spec.key f.trigger) is in
+    no_row_of f t (trigger_of f.trigger T.triggers) (sym (trigger_of-alike t.spec.key f.trigger T.triggers parts.1) ∙ found) waits (has parts.0)))
+    match.a_trigger
 
 found_mapped : (P : TriggerData → Type 0) (g : TriggerData → TriggerData) (o : Option TriggerData) → ((u : TriggerData) → P u → P (g u)) → IsSomeAnd o P → IsSomeAnd (option_map g o) P
 found_mapped P g None keeps is = is
@@ -46,41 +45,41 @@ module _ (T : SchedulerTables) (me : MemberData) (t : TriggerData) (next : ℤ) 
   unfolding acquired acquired_row
   one_row_acquired =
       All-with_trigger (λ u. u.state ≡ state.Acquired → count_by (is_acquired_for u.spec.key) T.fired ≡ 1) (λ u. u.state ≡ state.Acquired → count_by (is_acquired_for u.spec.key) (put_fired new_row T.fired) ≡ 1)
-        t.spec.key acquired T.triggers valid.acquired.one_row
-        (λ u same was taken.
-          let none : count_by (is_acquired_for u.spec.key) T.fired ≡ 0 =
-              count_by-none (is_acquired_for u.spec.key) T.fired (All-weaker (λ f. is_acquired_for t.spec.key f ≡ false) (λ f. is_acquired_for u.spec.key f ≡ false) T.fired
-                (λ f no. ap (λ b. is_acquired f.state && b) (sym (same_key_laws.congr t.spec.key u.spec.key f.trigger same)) ∙ no)
-                (none_waiting T t valid.acquired found waits)) in
-          count_by-put_fired (is_acquired_for u.spec.key) new_row T.fired ∙ rw (same_key_laws.symm u.spec.key t.spec.key ∙ same, none) refl)
-        (λ u differ was taken. count_by-put_fired (is_acquired_for u.spec.key) new_row T.fired ∙ rw (same_key_laws.symm u.spec.key t.spec.key ∙ differ, was taken) refl)
+      t.spec.key acquired T.triggers valid.acquired.one_row
+      (λ u same was taken.
+      let none : count_by (is_acquired_for u.spec.key) T.fired ≡ 0 =
+      count_by-none (is_acquired_for u.spec.key) T.fired (All-weaker (λ f. is_acquired_for t.spec.key f ≡ false) (λ f. is_acquired_for u.spec.key f ≡ false) T.fired
+      (λ f no. ap (λ b. is_acquired f.state && b) (sym (same_key_laws.congr t.spec.key u.spec.key f.trigger same)) ∙ no)
+      (none_waiting T t valid.acquired found waits)) in
+      count_by-put_fired (is_acquired_for u.spec.key) new_row T.fired ∙ rw (same_key_laws.symm u.spec.key t.spec.key ∙ same, none) refl)
+      (λ u differ was taken. count_by-put_fired (is_acquired_for u.spec.key) new_row T.fired ∙ rw (same_key_laws.symm u.spec.key t.spec.key ∙ differ, was taken) refl)
 
   a_trigger_acquired : AllByRecursion (λ f. is_acquired f.state ≡ true → IsSomeAnd (trigger_of f.trigger (with_trigger t.spec.key acquired T.triggers)) (IsRowOf f)) (put_fired new_row T.fired)
   unfolding acquired acquired_row
   a_trigger_acquired =
       All-put_fired (λ f. is_acquired f.state ≡ true → IsSomeAnd (trigger_of f.trigger (with_trigger t.spec.key acquired T.triggers)) (IsRowOf f)) new_row T.fired
-        (λ taken.
-          let now : trigger_of t.spec.key (with_trigger t.spec.key acquired T.triggers) ≡ Some (acquired t) =
-              trigger_of-with_trigger t.spec.key t.spec.key acquired T.triggers (λ u. refl) ∙ rw (found, same_key_laws.refl t.spec.key) refl in
-          subst (λ o. IsSomeAnd o (IsRowOf new_row)) (sym now) (record { state = refl; job = refl; next = due }))
-        (All-weaker (λ f. is_acquired f.state ≡ true → IsSomeAnd (trigger_of f.trigger T.triggers) (IsRowOf f))
-          (λ f. is_acquired f.state ≡ true → IsSomeAnd (trigger_of f.trigger (with_trigger t.spec.key acquired T.triggers)) (IsRowOf f)) T.fired
-          (λ f has taken. subst (λ o. IsSomeAnd o (IsRowOf f)) (sym (trigger_of-with_trigger f.trigger t.spec.key acquired T.triggers (λ u. refl)))
-            (found_mapped (IsRowOf f) _ (trigger_of f.trigger T.triggers)
-              (λ u row. elim (same_key t.spec.key u.spec.key) as (λ b. IsRowOf f (if b then acquired u else u)) [ true ↦ record { state = refl; job = row.job; next = row.next } | false ↦ row ])
-              (has taken)))
-          valid.acquired.a_trigger)
+      (λ taken.
+      let now : trigger_of t.spec.key (with_trigger t.spec.key acquired T.triggers) ≡ Some (acquired t) =
+      trigger_of-with_trigger t.spec.key t.spec.key acquired T.triggers (λ u. refl) ∙ rw (found, same_key_laws.refl t.spec.key) refl in
+      subst (λ o. IsSomeAnd o (IsRowOf new_row)) (sym now) (record { state = refl; job = refl; next = due }))
+      (All-weaker (λ f. is_acquired f.state ≡ true → IsSomeAnd (trigger_of f.trigger T.triggers) (IsRowOf f))
+      (λ f. is_acquired f.state ≡ true → IsSomeAnd (trigger_of f.trigger (with_trigger t.spec.key acquired T.triggers)) (IsRowOf f)) T.fired
+      (λ f has taken. subst (λ o. IsSomeAnd o (IsRowOf f)) (sym (trigger_of-with_trigger f.trigger t.spec.key acquired T.triggers (λ u. refl)))
+      (found_mapped (IsRowOf f) _ (trigger_of f.trigger T.triggers)
+      (λ u row. elim (same_key t.spec.key u.spec.key) as (λ b. IsRowOf f (if b then acquired u else u)) [ true ↦ record { state = refl; job = row.job; next = row.next } | false ↦ row ])
+      (has taken)))
+      valid.acquired.a_trigger)
 
   next_times_acquired : AllByRecursion (λ u. is_live_state u.state ≡ true → IsSomeAnd u.next (IsMoment T.horizon)) (with_trigger t.spec.key acquired T.triggers)
   unfolding acquired
   next_times_acquired =
       All-with_trigger (λ u. (is_live_state u.state ≡ true → IsSomeAnd u.next (IsMoment T.horizon)) × (same_key t.spec.key u.spec.key ≡ true → u ≡ t))
-        (λ u. is_live_state u.state ≡ true → IsSomeAnd u.next (IsMoment T.horizon)) t.spec.key acquired T.triggers
-        (All-both (λ u. is_live_state u.state ≡ true → IsSomeAnd u.next (IsMoment T.horizon)) (λ u. same_key t.spec.key u.spec.key ≡ true → u ≡ t)
-          (λ u. (is_live_state u.state ≡ true → IsSomeAnd u.next (IsMoment T.horizon)) × (same_key t.spec.key u.spec.key ≡ true → u ≡ t)) T.triggers
-          (λ u has only. (has, only)) valid.next_times.next (only_trigger t.spec.key t T.triggers valid.ordered.triggers found))
-        (λ u same is live. is.0 (ap (λ x. is_live_state x.state) (is.1 same) ∙ ap is_live_state waits))
-        (λ u differ is. is.0)
+      (λ u. is_live_state u.state ≡ true → IsSomeAnd u.next (IsMoment T.horizon)) t.spec.key acquired T.triggers
+      (All-both (λ u. is_live_state u.state ≡ true → IsSomeAnd u.next (IsMoment T.horizon)) (λ u. same_key t.spec.key u.spec.key ≡ true → u ≡ t)
+      (λ u. (is_live_state u.state ≡ true → IsSomeAnd u.next (IsMoment T.horizon)) × (same_key t.spec.key u.spec.key ≡ true → u ≡ t)) T.triggers
+      (λ u has only. (has, only)) valid.next_times.next (only_trigger t.spec.key t T.triggers valid.ordered.triggers found))
+      (λ u same is live. is.0 (ap (λ x. is_live_state x.state) (is.1 same) ∙ ap is_live_state waits))
+      (λ u differ is. is.0)
 
   abbrev after_acquire : SchedulerTables
   after_acquire = record T { triggers = with_trigger t.spec.key acquired T.triggers; fired = put_fired new_row T.fired; next_entry = T.next_entry + 1 }
@@ -89,12 +88,12 @@ module _ (T : SchedulerTables) (me : MemberData) (t : TriggerData) (next : ℤ) 
   unfolding acquired acquired_row
   numbers_acquired =
       All-with_trigger (HasNumber after_acquire) (HasNumber after_acquire) t.spec.key acquired T.triggers
-        (All-weaker (HasNumber T) (HasNumber after_acquire) T.triggers
-          (λ u has. HasNumber-kept T after_acquire u (omega arith) (λ n below none. fired_of-put_fired n new_row T.fired below none)
-            (λ n all. All-with_trigger (SharesNone u.spec.key n) (SharesNone u.spec.key n) t.spec.key acquired T.triggers all (λ x same is. is) (λ x differ is. is)) has)
-          valid.fresh.added)
-        (λ u same has. HasNumber-alike after_acquire u (acquired u) refl has)
-        (λ u differ has. has)
+      (All-weaker (HasNumber T) (HasNumber after_acquire) T.triggers
+      (λ u has. HasNumber-kept T after_acquire u (omega arith) (λ n below none. fired_of-put_fired n new_row T.fired below none)
+      (λ n all. All-with_trigger (SharesNone u.spec.key n) (SharesNone u.spec.key n) t.spec.key acquired T.triggers all (λ x same is. is) (λ x differ is. is)) has)
+      valid.fresh.added)
+      (λ u same has. HasNumber-alike after_acquire u (acquired u) refl has)
+      (λ u differ has. has)
 
   -- a trigger that waits is acquired, and gets a row
   pub valid-acquired : length T.fired + 1 ≤ FIRED_LIMIT → T.next_entry + 1 ≤ NUMBER_LIMIT → TablesValid after_acquire
@@ -146,4 +145,4 @@ kept-acquire T T' m me no_later window max r valid is e =
     let clear : ((not (int_eq window (pos 0)) || not (max == 1)) ≡ false) × (nat_lt FIRED_LIMIT (length T.fired + max) ≡ false) × (nat_lt NUMBER_LIMIT (T.next_entry + max) ≡ false) = clear3 _ _ _ _ _ _ way.clear in
     let one : max ≡ 1 = eqb-true max 1 (not-false (max == 1) (or_parts (not (int_eq window (pos 0))) (not (max == 1)) clear.0).1) in
     kept-acquire_first T T' m me (due_triggers T m (no_later +ℤ window)) r valid is (each_due T m (no_later +ℤ window) valid.ordered.triggers)
-      (omega (arith, ltb-false _ _ clear.1)) (omega (arith, ltb-false _ _ clear.2)) way.outcome
+    (omega (arith, ltb-false _ _ clear.1)) (omega (arith, ltb-false _ _ clear.2)) way.outcome

@@ -1,9 +1,8 @@
 -- Completing an execution keeps the tables valid.
-use Rattle.std.proofs.Common.{◌≡◌, ℕ, ◌<◌, ◌≤◌, ◌==◌, ℤ, Bool, true, false, not, ◌&&◌, List, length, count_by, Option, Some, None, IsSome, IsSomeAnd, is_none, refl, sym, ap, ◌∙◌, subst, arith, if◌then◌else◌}
+use Rattle.std.proofs.Common.{◌≡◌, ℕ, ◌<◌, ◌==◌, ℤ, true, false, not, ◌&&◌, List, count_by, Option, Some, None, IsSome, IsSomeAnd, is_none, refl, sym, ap, ◌∙◌, subst, arith, if◌then◌else◌}
 use Rattle.std.specs.List.{AllByRecursion, list_any}
 use Rattle.std.proofs.lemmas.Bool.{and_parts, and_left, not-true, false_from_ne_true}
 use Rattle.qz_types.specs.Rows.{JobData, TriggerData, MemberData, FiredData}
-use Rattle.qz_types.specs.declared.limits.TheConstants.{JOB_LIMIT, TRIGGER_LIMIT, FIRED_LIMIT}
 use Rattle.qz_types.specs.declared.keys.Key.{Key}
 use Rattle.qz_types.specs.declared.triggers.TriggerState.TheVariants as state
 use Rattle.qz_types.specs.declared.commands.Code.{Code}
@@ -11,13 +10,13 @@ use Rattle.qz_types.specs.declared.replies.Reply.{Reply}
 use Rattle.qz_types.specs.declared.replies.Reply.TheVariants as reply
 use Rattle.qz_types.specs.declared.replies.Refusal.TheVariants.{Unbuilt}
 use Rattle.qz_model.specs.Tables.{SchedulerTables, IsMoment}
-use Rattle.qz_model.specs.Outcomes.{Outcome, accepted, refused}
+use Rattle.qz_model.specs.Outcomes.{accepted, refused}
 use Rattle.qz_model.specs.Words.{same_key, job_of, without_job, trigger_of, without_trigger, fired_of, without_fired}
 use Rattle.qz_model.specs.Membership.{node_refusal}
 use Rattle.qz_model.specs.Firing.{is_acquired, is_of, is_noop, is_complete, is_finished, is_orphan, without_orphan, without_orphan_of, without_finished, completed, complete_row, complete}
 use Rattle.qz_model.specs.Invariant.{IsRowOf, is_acquired_for, is_live_state, HasTimes, TablesValid}
 use Rattle.qz_model.proofs.Rows.{All-weaker, All-both, All-none}
-use Rattle.qz_model.proofs.RowLaws.{same_key_laws, ordered-without_job, job_of-without_job, length-without_job, ordered-without_trigger, trigger_of-alike, trigger_of-without_trigger, All-without_trigger, length-without_trigger, each_trigger, trigger_of-key, ordered-without_fired, only_fired, fired_of-entry, fired_of-without_fired, All-without_fired, count_by-without_fired, length-without_fired}
+use Rattle.qz_model.proofs.RowLaws.{ordered-without_job, job_of-without_job, length-without_job, ordered-without_trigger, trigger_of-alike, trigger_of-without_trigger, All-without_trigger, length-without_trigger, trigger_of-key, ordered-without_fired, only_fired, fired_of-entry, fired_of-without_fired, All-without_fired, count_by-without_fired, length-without_fired}
 use Rattle.qz_model.proofs.Changes.{passes, HasNumber, SharesNone, HasNumber-kept, valid-moment}
 
 -- the row of an execution is deleted
@@ -29,9 +28,9 @@ module _ (T : SchedulerTables) (f : FiredData) (valid : TablesValid T) (row : fi
   same_counts : (key : Key) → count_by (is_acquired_for key) (without_fired f.entry T.fired) ≡ count_by (is_acquired_for key) T.fired
   same_counts key =
       count_by-without_fired (is_acquired_for key) f.entry T.fired
-        (All-weaker (λ g. (f.entry == g.entry) ≡ true → g ≡ f) (λ g. (f.entry == g.entry) ≡ true → is_acquired_for key g ≡ false) T.fired
-          (λ g is at. ap (is_acquired_for key) (is at) ∙ and_left (is_acquired f.state) (same_key key f.trigger) begun)
-          (only_fired f.entry f T.fired valid.ordered.fired row))
+      (All-weaker (λ g. (f.entry == g.entry) ≡ true → g ≡ f) (λ g. (f.entry == g.entry) ≡ true → is_acquired_for key g ≡ false) T.fired
+      (λ g is at. ap (is_acquired_for key) (is at) ∙ and_left (is_acquired f.state) (same_key key f.trigger) begun)
+      (only_fired f.entry f T.fired valid.ordered.fired row))
 
   pub valid-without_fired : TablesValid without_row
   valid-without_fired = record {
@@ -48,14 +47,14 @@ module _ (T : SchedulerTables) (f : FiredData) (valid : TablesValid T) (row : fi
     };
     acquired = record {
       one_row = All-weaker (λ t. t.state ≡ state.Acquired → count_by (is_acquired_for t.spec.key) T.fired ≡ 1) (λ t. t.state ≡ state.Acquired → count_by (is_acquired_for t.spec.key) (without_fired f.entry T.fired) ≡ 1) T.triggers
-        (λ t one taken. same_counts t.spec.key ∙ one taken) valid.acquired.one_row;
+          (λ t one taken. same_counts t.spec.key ∙ one taken) valid.acquired.one_row;
       a_trigger = All-without_fired _ _ f.entry T.fired valid.acquired.a_trigger (λ g away is. is);
     };
     next_times = record { next = valid.next_times.next; last_moment = valid.next_times.last_moment };
     fresh = record {
       fired = All-without_fired (λ g. g.entry < T.next_entry) (λ g. g.entry < T.next_entry) f.entry T.fired valid.fresh.fired (λ g away is. is);
       added = All-weaker (HasNumber T) (HasNumber without_row) T.triggers
-        (λ t has. HasNumber-kept T without_row t (omega arith) (λ n below none. fired_of-without_fired n f.entry T.fired none) (λ n all. all) has) valid.fresh.added;
+          (λ t has. HasNumber-kept T without_row t (omega arith) (λ n below none. fired_of-without_fired n f.entry T.fired none) (λ n all. all) has) valid.fresh.added;
     };
     row_times = record { rows = All-without_fired (λ g. HasTimes T.horizon g g.state) (λ g. HasTimes T.horizon g g.state) f.entry T.fired valid.row_times.rows (λ g away is. is) };
   }
@@ -78,7 +77,7 @@ module _ (T : SchedulerTables) (t : TriggerData) (valid : TablesValid T) (stored
   -- an acquired row is for another trigger
   other_trigger : (f : FiredData) → IsSomeAnd (trigger_of f.trigger T.triggers) (IsRowOf f) → same_key t.spec.key f.trigger ≡ false
   other_trigger f row = false_from_ne_true (same_key t.spec.key f.trigger)
-    (λ same. not_complete f (trigger_of f.trigger T.triggers) (sym (trigger_of-alike t.spec.key f.trigger T.triggers same) ∙ stored) row)
+      (λ same. not_complete f (trigger_of f.trigger T.triggers) (sym (trigger_of-alike t.spec.key f.trigger T.triggers same) ∙ stored) row)
 
   pub valid-without_trigger : TablesValid without_it
   valid-without_trigger = record {
@@ -95,9 +94,9 @@ module _ (T : SchedulerTables) (t : TriggerData) (valid : TablesValid T) (stored
     };
     acquired = record {
       one_row = All-without_trigger (λ u. u.state ≡ state.Acquired → count_by (is_acquired_for u.spec.key) T.fired ≡ 1) (λ u. u.state ≡ state.Acquired → count_by (is_acquired_for u.spec.key) T.fired ≡ 1)
-        t.spec.key T.triggers valid.acquired.one_row (λ u differ is. is);
+          t.spec.key T.triggers valid.acquired.one_row (λ u differ is. is);
       a_trigger = All-weaker (λ f. is_acquired f.state ≡ true → IsSomeAnd (trigger_of f.trigger T.triggers) (IsRowOf f)) (λ f. is_acquired f.state ≡ true → IsSomeAnd (trigger_of f.trigger triggers_left) (IsRowOf f)) T.fired
-        (λ f has taken. subst (λ o. IsSomeAnd o (IsRowOf f)) (sym (trigger_of-without_trigger t.spec.key f.trigger T.triggers (other_trigger f (has taken)))) (has taken)) valid.acquired.a_trigger;
+          (λ f has taken. subst (λ o. IsSomeAnd o (IsRowOf f)) (sym (trigger_of-without_trigger t.spec.key f.trigger T.triggers (other_trigger f (has taken)))) (has taken)) valid.acquired.a_trigger;
     };
     next_times = record {
       next = All-without_trigger (λ u. is_live_state u.state ≡ true → IsSomeAnd u.next (IsMoment T.horizon)) (λ u. is_live_state u.state ≡ true → IsSomeAnd u.next (IsMoment T.horizon)) t.spec.key T.triggers valid.next_times.next (λ u differ is. is);
@@ -106,7 +105,7 @@ module _ (T : SchedulerTables) (t : TriggerData) (valid : TablesValid T) (stored
     fresh = record {
       fired = valid.fresh.fired;
       added = All-without_trigger (HasNumber T) (HasNumber without_it) t.spec.key T.triggers valid.fresh.added
-        (λ u differ has. HasNumber-kept T without_it u (omega arith) (λ n below none. none)
+          (λ u differ has. HasNumber-kept T without_it u (omega arith) (λ n below none. none)
           (λ n all. All-without_trigger (SharesNone u.spec.key n) (SharesNone u.spec.key n) t.spec.key T.triggers all (λ x away is. is)) has);
     };
     row_times = record { rows = valid.row_times.rows };
@@ -122,7 +121,7 @@ module _ (T : SchedulerTables) (k : Key) (valid : TablesValid T) (unused : AllBy
     ordered = record { jobs = ordered-without_job k T.jobs valid.ordered.jobs; triggers = valid.ordered.triggers; members = valid.ordered.members; fired = valid.ordered.fired };
     limits = record {
       stored = All-both (λ t. same_key k t.spec.job ≡ false) (λ t. IsSome (job_of t.spec.job T.jobs)) (λ t. IsSome (job_of t.spec.job (without_job k T.jobs))) T.triggers
-        (λ t differ stored. subst IsSome (sym (job_of-without_job k t.spec.job T.jobs differ)) stored) unused valid.limits.stored;
+          (λ t differ stored. subst IsSome (sym (job_of-without_job k t.spec.job T.jobs differ)) stored) unused valid.limits.stored;
       jobs = omega (arith, length-without_job k T.jobs, valid.limits.jobs);
       triggers = valid.limits.triggers;
       members = valid.limits.members;
@@ -136,7 +135,7 @@ module _ (T : SchedulerTables) (k : Key) (valid : TablesValid T) (unused : AllBy
     fresh = record {
       fired = valid.fresh.fired;
       added = All-weaker (HasNumber T) (HasNumber without_its_job) T.triggers
-        (λ t has. HasNumber-kept T without_its_job t (omega arith) (λ n below none. none) (λ n all. all) has) valid.fresh.added;
+          (λ t has. HasNumber-kept T without_its_job t (omega arith) (λ n below none. none) (λ n all. all) has) valid.fresh.added;
     };
     row_times = record { rows = valid.row_times.rows };
   }
@@ -181,17 +180,17 @@ valid-completed : (T : SchedulerTables) (m : ℤ) (f : FiredData) → TablesVali
 unfolding completed
 valid-completed T m f valid is row begun =
     valid-without_finished (record T { fired = without_fired f.entry T.fired; last_moment = m }) f.trigger (trigger_of f.trigger T.triggers)
-      (valid-without_fired (record T { last_moment = m }) f (valid-moment T m valid is) row begun) refl
+    (valid-without_fired (record T { last_moment = m }) f (valid-moment T m valid is) row begun) refl
 
 kept-complete_row : (T T' : SchedulerTables) (m : ℤ) (me : MemberData) (entry : ℕ) (f : Option FiredData) (code : Code) (r : Reply) → TablesValid T → IsMoment T.horizon m
     → fired_of entry T.fired ≡ f → complete_row T m me f code ≡ accepted T' r → TablesValid T'
 kept-complete_row T T' m me entry None code r valid is found e = absurd (cc)
 kept-complete_row T T' m me entry (Some f) code r valid is found e =
     elim (is_of me f && not (is_acquired f.state) && is_noop code)
-      as (λ b. (is_of me f && not (is_acquired f.state) && is_noop code) ≡ b → (if b then accepted (completed T m f) (reply.Completed f.entry) else refused Unbuilt) ≡ accepted T' r → TablesValid T') [
+    as (λ b. (is_of me f && not (is_acquired f.state) && is_noop code) ≡ b → (if b then accepted (completed T m f) (reply.Completed f.entry) else refused Unbuilt) ≡ accepted T' r → TablesValid T') [
       | true ↦ λ yes way.
-        let begun = not-true (is_acquired f.state) (and_parts (is_of me f) (not (is_acquired f.state)) (and_parts (is_of me f && not (is_acquired f.state)) (is_noop code) yes).0).1 in
-        subst TablesValid (cc) (valid-completed T m f valid is (subst (λ n. fired_of n T.fired ≡ Some f) (fired_of-entry entry f T.fired found) found) begun)
+          let begun = not-true (is_acquired f.state) (and_parts (is_of me f) (not (is_acquired f.state)) (and_parts (is_of me f && not (is_acquired f.state)) (is_noop code) yes).0).1 in
+          subst TablesValid (cc) (valid-completed T m f valid is (subst (λ n. fired_of n T.fired ≡ Some f) (fired_of-entry entry f T.fired found) found) begun)
       | false ↦ λ no way. absurd (cc)
     ] refl e
 

@@ -1,5 +1,5 @@
 -- Firing a trigger keeps the tables valid.
-use Rattle.std.proofs.Common.{◌≡◌, ℕ, ◌<◌, ◌≤◌, ◌==◌, ℤ, ◌≤ℤ◌, int_lt, Bool, true, false, not, ◌&&◌, List, length, count_by, Option, Some, None, IsSome, IsSomeAnd, refl, sym, ap, ◌∙◌, subst, arith, if◌then◌else◌}
+use Rattle.std.proofs.Common.{◌≡◌, ℕ, ◌<◌, ◌≤◌, ◌==◌, ℤ, ◌≤ℤ◌, int_lt, true, false, ◌&&◌, List, count_by, Option, Some, None, IsSome, IsSomeAnd, refl, sym, ap, ◌∙◌, subst, arith, if◌then◌else◌}
 use Rattle.std.specs.List.{AllByRecursion}
 use Rattle.std.proofs.lemmas.Bool.{and_parts, and_from, and_right, false_from_ne_true}
 use Rattle.std.proofs.lemmas.Int.{ints}
@@ -10,14 +10,14 @@ use Rattle.qz_types.specs.declared.replies.Reply.{Reply}
 use Rattle.qz_types.specs.declared.replies.Refusal.{Refusal}
 use Rattle.qz_types.specs.declared.replies.Refusal.TheVariants.{Unbuilt}
 use Rattle.qz_model.specs.Tables.{SchedulerTables, IsMoment}
-use Rattle.qz_model.specs.Outcomes.{Outcome, accepted, refused}
+use Rattle.qz_model.specs.Outcomes.{accepted, refused}
 use Rattle.qz_model.specs.Words.{same_key, job_of, trigger_of, with_trigger, fired_of, with_fired}
 use Rattle.qz_model.specs.Membership.{node_refusal}
 use Rattle.qz_model.specs.Firing.{is_acquired, is_of, spent, executing, early, fire_for, fire_one, fire_row, fire}
 use Rattle.qz_model.specs.Invariant.{IsRowOf, is_acquired_for, is_live_state, HasTimes, TablesValid}
 use Rattle.qz_model.proofs.Rows.{All-weaker, All-both}
-use Rattle.qz_model.proofs.RowLaws.{same_key_laws, other_key, ordered-with_trigger, All-trigger_of, trigger_of-key, All-with_trigger, trigger_of-with_other, length-with_trigger, ordered-with_fired, All-fired_of, fired_of-entry, only_fired, one_fired, fired_of-with_fired, All-with_fired, count_by-with_fired, length-with_fired}
-use Rattle.qz_model.proofs.Changes.{Passes, passes, HasNumber, SharesNone, HasNumber-kept, HasNumber-alike, valid-moment}
+use Rattle.qz_model.proofs.RowLaws.{same_key_laws, ordered-with_trigger, All-trigger_of, trigger_of-key, All-with_trigger, trigger_of-with_other, length-with_trigger, ordered-with_fired, All-fired_of, fired_of-entry, only_fired, one_fired, fired_of-with_fired, All-with_fired, count_by-with_fired, length-with_fired}
+use Rattle.qz_model.proofs.Changes.{passes, HasNumber, SharesNone, HasNumber-kept, HasNumber-alike, valid-moment}
 
 -- what is known of the row and the trigger of an execution that begins
 pub record Begins (T : SchedulerTables) (m : ℤ) (f : FiredData) (t : TriggerData) : Type 0 where
@@ -45,7 +45,7 @@ module _ (T : SchedulerTables) (m : ℤ) (f : FiredData) (t : TriggerData) (job 
   row_of_trigger : IsRowOf f t
   row_of_trigger =
       subst (λ o. IsSomeAnd o (IsRowOf f)) begins.trigger
-        (All-fired_of (λ g. is_acquired g.state ≡ true → IsSomeAnd (trigger_of g.trigger T.triggers) (IsRowOf g)) f.entry f T.fired valid.acquired.a_trigger begins.row begins.taken)
+      (All-fired_of (λ g. is_acquired g.state ≡ true → IsSomeAnd (trigger_of g.trigger T.triggers) (IsRowOf g)) f.entry f T.fired valid.acquired.a_trigger begins.row begins.taken)
 
   own_key : same_key t.spec.key f.trigger ≡ true
   own_key = same_key_laws.symm t.spec.key f.trigger ∙ trigger_of-key f.trigger t T.triggers begins.trigger
@@ -54,7 +54,7 @@ module _ (T : SchedulerTables) (m : ℤ) (f : FiredData) (t : TriggerData) (job 
   only_row : AllByRecursion (λ g. is_acquired_for t.spec.key g ≡ true → (f.entry == g.entry) ≡ true) T.fired
   only_row =
       one_fired (is_acquired_for t.spec.key) f.entry f T.fired begins.row (and_from (is_acquired f.state) (same_key t.spec.key f.trigger) begins.taken own_key)
-        (All-trigger_of (λ u. u.state ≡ state.Acquired → count_by (is_acquired_for u.spec.key) T.fired ≡ 1) f.trigger t T.triggers valid.acquired.one_row begins.trigger row_of_trigger.state)
+      (All-trigger_of (λ u. u.state ≡ state.Acquired → count_by (is_acquired_for u.spec.key) T.fired ≡ 1) f.trigger t T.triggers valid.acquired.one_row begins.trigger row_of_trigger.state)
 
   same_row : AllByRecursion (λ g. (f.entry == g.entry) ≡ true → g ≡ f) T.fired
   same_row = only_fired f.entry f T.fired valid.ordered.fired begins.row
@@ -63,52 +63,52 @@ module _ (T : SchedulerTables) (m : ℤ) (f : FiredData) (t : TriggerData) (job 
   unfolding spent executing
   one_row_fired =
       All-with_trigger (λ u. u.state ≡ state.Acquired → count_by (is_acquired_for u.spec.key) T.fired ≡ 1) (λ u. u.state ≡ state.Acquired → count_by (is_acquired_for u.spec.key) fired_then ≡ 1)
-        t.spec.key spent T.triggers valid.acquired.one_row
-        (λ u same was taken. absurd (cc))
-        (λ u differ was taken.
-          let other : same_key u.spec.key f.trigger ≡ false =
-              same_key_laws.symm u.spec.key f.trigger ∙ (sym (same_key_laws.congr t.spec.key f.trigger u.spec.key own_key) ∙ differ) in
-          count_by-with_fired (is_acquired_for u.spec.key) f.entry (executing m job) T.fired
-            (All-weaker (λ g. (f.entry == g.entry) ≡ true → g ≡ f) (λ g. (f.entry == g.entry) ≡ true → false ≡ is_acquired_for u.spec.key g) T.fired
-              (λ g is at. sym (ap (is_acquired_for u.spec.key) (is at) ∙ and_right (is_acquired f.state) (same_key u.spec.key f.trigger) other)) same_row)
-          ∙ was taken)
+      t.spec.key spent T.triggers valid.acquired.one_row
+      (λ u same was taken. absurd (cc))
+      (λ u differ was taken.
+      let other : same_key u.spec.key f.trigger ≡ false =
+      same_key_laws.symm u.spec.key f.trigger ∙ (sym (same_key_laws.congr t.spec.key f.trigger u.spec.key own_key) ∙ differ) in
+      count_by-with_fired (is_acquired_for u.spec.key) f.entry (executing m job) T.fired
+      (All-weaker (λ g. (f.entry == g.entry) ≡ true → g ≡ f) (λ g. (f.entry == g.entry) ≡ true → false ≡ is_acquired_for u.spec.key g) T.fired
+      (λ g is at. sym (ap (is_acquired_for u.spec.key) (is at) ∙ and_right (is_acquired f.state) (same_key u.spec.key f.trigger) other)) same_row)
+      ∙ was taken)
 
   a_trigger_fired : AllByRecursion (λ g. is_acquired g.state ≡ true → IsSomeAnd (trigger_of g.trigger triggers_then) (IsRowOf g)) fired_then
   unfolding spent executing
   a_trigger_fired =
       All-with_fired (λ g. (is_acquired g.state ≡ true → IsSomeAnd (trigger_of g.trigger T.triggers) (IsRowOf g)) × (is_acquired_for t.spec.key g ≡ true → (f.entry == g.entry) ≡ true))
-        (λ g. is_acquired g.state ≡ true → IsSomeAnd (trigger_of g.trigger triggers_then) (IsRowOf g)) f.entry (executing m job) T.fired
-        (All-both (λ g. is_acquired g.state ≡ true → IsSomeAnd (trigger_of g.trigger T.triggers) (IsRowOf g)) (λ g. is_acquired_for t.spec.key g ≡ true → (f.entry == g.entry) ≡ true)
-          (λ g. (is_acquired g.state ≡ true → IsSomeAnd (trigger_of g.trigger T.triggers) (IsRowOf g)) × (is_acquired_for t.spec.key g ≡ true → (f.entry == g.entry) ≡ true)) T.fired
-          (λ g has only. (has, only)) valid.acquired.a_trigger only_row)
-        (λ g at is taken. absurd (cc))
-        (λ g away is taken.
-          let other : same_key t.spec.key g.trigger ≡ false =
-              false_from_ne_true (same_key t.spec.key g.trigger) (λ same. let at = is.1 (and_from (is_acquired g.state) (same_key t.spec.key g.trigger) taken same) in cc) in
-          subst (λ o. IsSomeAnd o (IsRowOf g)) (sym (trigger_of-with_other g.trigger t.spec.key spent T.triggers (λ u. refl) other)) (is.0 taken))
+      (λ g. is_acquired g.state ≡ true → IsSomeAnd (trigger_of g.trigger triggers_then) (IsRowOf g)) f.entry (executing m job) T.fired
+      (All-both (λ g. is_acquired g.state ≡ true → IsSomeAnd (trigger_of g.trigger T.triggers) (IsRowOf g)) (λ g. is_acquired_for t.spec.key g ≡ true → (f.entry == g.entry) ≡ true)
+      (λ g. (is_acquired g.state ≡ true → IsSomeAnd (trigger_of g.trigger T.triggers) (IsRowOf g)) × (is_acquired_for t.spec.key g ≡ true → (f.entry == g.entry) ≡ true)) T.fired
+      (λ g has only. (has, only)) valid.acquired.a_trigger only_row)
+      (λ g at is taken. absurd (cc))
+      (λ g away is taken.
+      let other : same_key t.spec.key g.trigger ≡ false =
+      false_from_ne_true (same_key t.spec.key g.trigger) (λ same. let at = is.1 (and_from (is_acquired g.state) (same_key t.spec.key g.trigger) taken same) in cc) in
+      subst (λ o. IsSomeAnd o (IsRowOf g)) (sym (trigger_of-with_other g.trigger t.spec.key spent T.triggers (λ u. refl) other)) (is.0 taken))
 
   next_times_fired : AllByRecursion (λ u. is_live_state u.state ≡ true → IsSomeAnd u.next (IsMoment T.horizon)) triggers_then
   unfolding spent
   next_times_fired =
       All-with_trigger (λ u. is_live_state u.state ≡ true → IsSomeAnd u.next (IsMoment T.horizon)) (λ u. is_live_state u.state ≡ true → IsSomeAnd u.next (IsMoment T.horizon))
-        t.spec.key spent T.triggers valid.next_times.next (λ u same is live. absurd (cc)) (λ u differ is. is)
+      t.spec.key spent T.triggers valid.next_times.next (λ u same is live. absurd (cc)) (λ u differ is. is)
 
   numbers_fired : AllByRecursion (HasNumber after_fire) triggers_then
   unfolding spent executing
   numbers_fired =
       All-with_trigger (HasNumber after_fire) (HasNumber after_fire) t.spec.key spent T.triggers
-        (All-weaker (HasNumber T) (HasNumber after_fire) T.triggers
-          (λ u has. HasNumber-kept T after_fire u (omega arith) (λ n below none. fired_of-with_fired n f.entry (executing m job) T.fired (λ g. refl) none)
-            (λ n all. All-with_trigger (SharesNone u.spec.key n) (SharesNone u.spec.key n) t.spec.key spent T.triggers all (λ x same is. is) (λ x differ is. is)) has)
-          valid.fresh.added)
-        (λ u same has. HasNumber-alike after_fire u (spent u) refl has)
-        (λ u differ has. has)
+      (All-weaker (HasNumber T) (HasNumber after_fire) T.triggers
+      (λ u has. HasNumber-kept T after_fire u (omega arith) (λ n below none. fired_of-with_fired n f.entry (executing m job) T.fired (λ g. refl) none)
+      (λ n all. All-with_trigger (SharesNone u.spec.key n) (SharesNone u.spec.key n) t.spec.key spent T.triggers all (λ x same is. is) (λ x differ is. is)) has)
+      valid.fresh.added)
+      (λ u same has. HasNumber-alike after_fire u (spent u) refl has)
+      (λ u differ has. has)
 
   -- the scheduled time of the row
   scheduled_within : IsMoment T.horizon f.scheduled
   scheduled_within =
       subst (λ o. IsSomeAnd o (IsMoment T.horizon)) row_of_trigger.next
-        (All-trigger_of (λ u. is_live_state u.state ≡ true → IsSomeAnd u.next (IsMoment T.horizon)) f.trigger t T.triggers valid.next_times.next begins.trigger (ap is_live_state row_of_trigger.state))
+      (All-trigger_of (λ u. is_live_state u.state ≡ true → IsSomeAnd u.next (IsMoment T.horizon)) f.trigger t T.triggers valid.next_times.next begins.trigger (ap is_live_state row_of_trigger.state))
 
   begun : f.scheduled ≤ℤ m
   begun = not_early m f.scheduled _ (subst (λ o. early m o ≡ None) row_of_trigger.next begins.in_time)
@@ -117,10 +117,10 @@ module _ (T : SchedulerTables) (m : ℤ) (f : FiredData) (t : TriggerData) (job 
   unfolding executing
   row_times_fired =
       All-with_fired (λ g. HasTimes T.horizon g g.state × ((f.entry == g.entry) ≡ true → g ≡ f)) (λ g. HasTimes T.horizon g g.state) f.entry (executing m job) T.fired
-        (All-both (λ g. HasTimes T.horizon g g.state) (λ g. (f.entry == g.entry) ≡ true → g ≡ f) (λ g. HasTimes T.horizon g g.state × ((f.entry == g.entry) ≡ true → g ≡ f)) T.fired
-          (λ g has only. (has, only)) valid.row_times.rows same_row)
-        (λ g at is. (subst (λ x. IsMoment T.horizon x.scheduled) (sym (is.1 at)) scheduled_within, subst (λ x. x.scheduled ≤ℤ m) (sym (is.1 at)) begun))
-        (λ g away is. is.0)
+      (All-both (λ g. HasTimes T.horizon g g.state) (λ g. (f.entry == g.entry) ≡ true → g ≡ f) (λ g. HasTimes T.horizon g g.state × ((f.entry == g.entry) ≡ true → g ≡ f)) T.fired
+      (λ g has only. (has, only)) valid.row_times.rows same_row)
+      (λ g at is. (subst (λ x. IsMoment T.horizon x.scheduled) (sym (is.1 at)) scheduled_within, subst (λ x. x.scheduled ≤ℤ m) (sym (is.1 at)) begun))
+      (λ g away is. is.0)
 
   -- an execution begins, and its trigger has fired for the last time
   pub valid-fired : TablesValid after_fire
@@ -159,7 +159,7 @@ kept-fire_for T T' m f (Some t) (Some job) r valid is row taken found e =
     let way = passes (early m t.next) _ T' r e in
     let same : accepted (record T { triggers = with_trigger t.spec.key spent T.triggers; fired = with_fired f.entry (executing m job) T.fired; last_moment = m }) _ ≡ accepted T' r = way.outcome in
     subst TablesValid (cc)
-      (valid-fired (record T { last_moment = m }) m f t job (valid-moment T m valid is) (record { row = row; taken = taken; trigger = found; in_time = way.clear }))
+    (valid-fired (record T { last_moment = m }) m f t job (valid-moment T m valid is) (record { row = row; taken = taken; trigger = found; in_time = way.clear }))
 
 kept-fire_row : (T T' : SchedulerTables) (m : ℤ) (me : MemberData) (entry : ℕ) (f : Option FiredData) (r : Reply) → TablesValid T → IsMoment T.horizon m
     → fired_of entry T.fired ≡ f → fire_row T m me f ≡ accepted T' r → TablesValid T'
@@ -168,7 +168,7 @@ kept-fire_row T T' m me entry None r valid is found e = absurd (cc)
 kept-fire_row T T' m me entry (Some f) r valid is found e =
     elim (is_of me f && is_acquired f.state) as (λ b. (is_of me f && is_acquired f.state) ≡ b → (if b then fire_one T m f else refused Unbuilt) ≡ accepted T' r → TablesValid T') [
       | true ↦ λ yes way.
-        kept-fire_for T T' m f (trigger_of f.trigger T.triggers) (job_of f.job T.jobs) r valid is (subst (λ n. fired_of n T.fired ≡ Some f) (fired_of-entry entry f T.fired found) found)
+          kept-fire_for T T' m f (trigger_of f.trigger T.triggers) (job_of f.job T.jobs) r valid is (subst (λ n. fired_of n T.fired ≡ Some f) (fired_of-entry entry f T.fired found) found)
           (and_parts (is_of me f) (is_acquired f.state) yes).1 refl way
       | false ↦ λ no way. absurd (cc)
     ] refl e

@@ -1,11 +1,11 @@
 -- A join keeps the tables valid.
-use Rattle.std.proofs.Common.{◌≡◌, ℕ, ◌+◌, ◌≤◌, ℤ, Bool, false, List, length, nat_le, nat_lt, Option, Some, None, is_some, refl, subst, arith}
+use Rattle.std.proofs.Common.{◌≡◌, ℕ, ◌+◌, ◌≤◌, ℤ, false, List, length, nat_le, nat_lt, None, is_some, subst, arith}
 use Rattle.std.proofs.lemmas.Bool.{leb-false, ltb-false}
 use Rattle.qz_types.specs.Rows.{MemberData}
 use Rattle.qz_types.specs.declared.limits.TheConstants.{MEMBER_LIMIT, NUMBER_LIMIT}
 use Rattle.qz_types.specs.declared.replies.Reply.{Reply}
 use Rattle.qz_model.specs.Tables.{SchedulerTables, IsMoment}
-use Rattle.qz_model.specs.Outcomes.{Outcome, accepted}
+use Rattle.qz_model.specs.Outcomes.{accepted}
 use Rattle.qz_model.specs.Words.{member_of, put_member}
 use Rattle.qz_model.specs.Membership.{join_refusal, join}
 use Rattle.qz_model.specs.Invariant.{TablesValid}
@@ -44,4 +44,4 @@ kept-join T T' m node r valid is e =
     let member : MemberData = record { node = node; epoch = T.next_epoch } in
     let same : accepted (record T { members = put_member member T.members; next_epoch = T.next_epoch + 1; last_moment = m }) _ ≡ accepted T' r = way.outcome in
     subst TablesValid (cc)
-      (valid-put_member (record T { last_moment = m }) member (valid-moment T m valid is) (no_row _ clear.0) (omega (arith, leb-false _ _ clear.1)) (omega (arith, ltb-false _ _ clear.2)))
+    (valid-put_member (record T { last_moment = m }) member (valid-moment T m valid is) (no_row _ clear.0) (omega (arith, leb-false _ _ clear.1)) (omega (arith, ltb-false _ _ clear.2)))

@@ -1,7 +1,6 @@
 -- Adding a job or a trigger keeps the tables valid.
-use Rattle.std.proofs.Common.{◌≡◌, ℕ, ◌+◌, ◌≤◌, ℤ, pos, ◌≤ℤ◌, Bool, true, false, not, ◌||◌, ◌&&◌, List, length, nat_le, int_le, Option, Some, None, IsSome, IsSomeAnd, is_some, is_none, IsTrue, refl, sym, ap, ◌∙◌, subst, arith}
-use Rattle.std.specs.List.{AllByRecursion}
-use Rattle.std.proofs.lemmas.Bool.{or_parts, and_parts, not-false, leb-false}
+use Rattle.std.proofs.Common.{◌≡◌, ◌+◌, ◌≤◌, ℤ, pos, ◌≤ℤ◌, Bool, true, false, not, ◌||◌, List, length, nat_le, int_le, Option, Some, None, IsSome, IsSomeAnd, is_some, is_none, IsTrue, refl, sym, subst, arith}
+use Rattle.std.proofs.lemmas.Bool.{and_parts, not-false, leb-false}
 use Rattle.std.proofs.lemmas.Int.{ints}
 use Rattle.qz_civil.specs.Timings.{is_timing, is_span, is_end}
 use Rattle.qz_types.specs.Rows.{JobData, TriggerData, FiredData, is_trigger_spec}
@@ -10,14 +9,14 @@ use Rattle.qz_types.specs.declared.triggers.TriggerSpec.{TriggerSpec}
 use Rattle.qz_types.specs.declared.triggers.TriggerState.TheVariants as state
 use Rattle.qz_types.specs.declared.replies.Reply.{Reply}
 use Rattle.qz_model.specs.Tables.{SchedulerTables, IsMoment}
-use Rattle.qz_model.specs.Outcomes.{Outcome, accepted}
+use Rattle.qz_model.specs.Outcomes.{accepted}
 use Rattle.qz_model.specs.Words.{job_of, put_job, trigger_of, put_trigger}
 use Rattle.qz_model.specs.Scheduling.{is_plain_job, add_job_refusal, add_job, is_plain_trigger, is_reserved, new_trigger, add_trigger_refusal, add_trigger}
 use Rattle.qz_model.specs.Firing.{is_acquired}
 use Rattle.qz_model.specs.Invariant.{IsRowOf, TablesValid}
 use Rattle.qz_model.proofs.Rows.{All-weaker}
 use Rattle.qz_model.proofs.RowLaws.{no_row, some_row_not_none, ordered-put_job, job_of-put_job, length-put_job, ordered-put_trigger, trigger_of-put_trigger, All-put_trigger, length-put_trigger}
-use Rattle.qz_model.proofs.Changes.{Passes, passes, clear3, clear6, HasNumber, SharesNone, HasNumber-kept, valid-moment}
+use Rattle.qz_model.proofs.Changes.{passes, clear3, clear6, HasNumber, SharesNone, HasNumber-kept, valid-moment}
 
 pub valid-put_job : (T : SchedulerTables) (job : JobData) → TablesValid T → job_of job.key T.jobs ≡ None → length T.jobs + 1 ≤ JOB_LIMIT
     → TablesValid (record T { jobs = put_job job T.jobs })
@@ -38,7 +37,7 @@ valid-put_job T job valid absent room = record {
   fresh = record {
     fired = valid.fresh.fired;
     added = All-weaker (HasNumber T) (HasNumber (record T { jobs = put_job job T.jobs })) T.triggers
-      (λ t has. HasNumber-kept T (record T { jobs = put_job job T.jobs }) t (omega arith) (λ n below none. none) (λ n all. all) has) valid.fresh.added;
+        (λ t has. HasNumber-kept T (record T { jobs = put_job job T.jobs }) t (omega arith) (λ n below none. none) (λ n all. all) has) valid.fresh.added;
   };
   row_times = record { rows = valid.row_times.rows };
 }
@@ -76,13 +75,13 @@ valid-put_trigger T t valid waits next client job absent room = let U : Schedule
   acquired = record {
     one_row = All-put_trigger _ t T.triggers (λ taken. absurd (cc)) valid.acquired.one_row;
     a_trigger = All-weaker (λ f. is_acquired f.state ≡ true → IsSomeAnd (trigger_of f.trigger T.triggers) (IsRowOf f)) (λ f. is_acquired f.state ≡ true → IsSomeAnd (trigger_of f.trigger (put_trigger t T.triggers)) (IsRowOf f)) T.fired
-      (λ f has taken. found_put f t T.triggers _ refl absent (has taken)) valid.acquired.a_trigger;
+        (λ f has taken. found_put f t T.triggers _ refl absent (has taken)) valid.acquired.a_trigger;
   };
   next_times = record { next = All-put_trigger _ t T.triggers (λ live. next) valid.next_times.next; last_moment = valid.next_times.last_moment };
   fresh = record {
     fired = valid.fresh.fired;
     added = All-put_trigger (HasNumber U) t T.triggers (λ reserved. absurd (cc))
-      (All-weaker (HasNumber T) (HasNumber U) T.triggers
+        (All-weaker (HasNumber T) (HasNumber U) T.triggers
         (λ u has. HasNumber-kept T U u (omega arith) (λ n below none. none) (λ n all. All-put_trigger (SharesNone u.spec.key n) t T.triggers (λ reserved. absurd (cc)) all) has) valid.fresh.added);
   };
   row_times = record { rows = valid.row_times.rows };
@@ -107,9 +106,9 @@ unfolding add_trigger_refusal new_trigger
 kept-add_trigger T T' m s replace r good valid is e =
     let way = passes (add_trigger_refusal T s replace) _ T' r e in
     let clear : (is_none (job_of s.job T.jobs) ≡ false) × (replace || not (is_plain_trigger s) ≡ false) × (is_reserved s.key.group ≡ false) × (is_some (trigger_of s.key T.triggers) ≡ false)
-        × (not (int_le s.timing.start T.horizon) ≡ false) × (nat_le TRIGGER_LIMIT (length T.triggers) ≡ false) = clear6 _ _ _ _ _ _ _ _ _ _ _ _ way.clear in
+    × (not (int_le s.timing.start T.horizon) ≡ false) × (nat_le TRIGGER_LIMIT (length T.triggers) ≡ false) = clear6 _ _ _ _ _ _ _ _ _ _ _ _ way.clear in
     let same : accepted (record T { triggers = put_trigger (new_trigger s) T.triggers; last_moment = m }) _ ≡ accepted T' r = way.outcome in
     subst TablesValid (cc)
-      (valid-put_trigger (record T { last_moment = m }) (new_trigger s) (valid-moment T m valid is) refl
-        (record { low = start_of s good; high = upto_horizon _ _ clear.4 }) clear.2
-        (some_row_not_none _ clear.0) (no_row _ clear.3) (omega (arith, leb-false _ _ clear.5)))
+    (valid-put_trigger (record T { last_moment = m }) (new_trigger s) (valid-moment T m valid is) refl
+    (record { low = start_of s good; high = upto_horizon _ _ clear.4 }) clear.2
+    (some_row_not_none _ clear.0) (no_row _ clear.3) (omega (arith, leb-false _ _ clear.5)))

@@ -1,13 +1,13 @@
 -- Look-ups in rows that are in the order of their ids, after edits.
-use Rattle.std.proofs.Common.{◌≡◌, ℕ, ◌+◌, ◌≤◌, Bool, true, false, not, cond, ◌&&◌, List, [], ◌∷◌, map, filter, count_by, Option, Some, None, IsSome, is_some, option_map, refl, sym, ap, ◌∙◌, subst, arith, if◌then◌else◌}
+use Rattle.std.proofs.Common.{◌≡◌, ◌+◌, ◌≤◌, Bool, true, false, cond, List, [], ◌∷◌, map, filter, count_by, Some, None, option_map, refl, sym, ap, ◌∙◌, subst, arith, if◌then◌else◌}
 use Rattle.std.specs.List.{AllByRecursion}
 use Rattle.std.specs.Cmp.{IsTotalOrder}
 use Rattle.std.specs.Ordering.{is_gt, is_eq, ordering_reverse}
 use Rattle.std.specs.declared.cmp.Ordering.{Ordering}
 use Rattle.std.specs.declared.cmp.Ordering.TheVariants.{Less, Equal, Greater}
-use Rattle.std.proofs.lemmas.Cmp.{tied_itself, tied_back, alike_right}
+use Rattle.std.proofs.lemmas.Cmp.{tied_itself}
 use Rattle.qz_types.specs.Sorted.{row_of, put, IsBefore, IsAscending}
-use Rattle.qz_model.proofs.Rows.{All-weaker, All-both, All-filter, count_by-cons, none_from_count, count_by-none}
+use Rattle.qz_model.proofs.Rows.{All-weaker, All-both, All-filter, count_by-cons, none_from_count}
 
 pub equal_from : (o : Ordering) → is_eq o ≡ true → o ≡ Equal
 equal_from Less e = absurd (cc)
@@ -89,16 +89,16 @@ module _ {R K : Type 0} (cmp : K → K → Ordering) (id : R → K) where
       let counted : cond (p x) 1 0 + count_by p xs ≡ 1 = sym (count_by-cons p x xs) ∙ one in
       elim (is_eq (cmp k (id x))) as (λ b. (if b then Some x else row_of cmp id k xs) ≡ Some r → (p x ≡ true → b ≡ true) × AllByRecursion (λ y. p y ≡ true → is_eq (cmp k (id y)) ≡ true) xs) [
         | true ↦ λ e.
-          let same : x ≡ r = cc in
-          let is : p x ≡ true = ap p same ∙ passes in
-          let rest : 1 + count_by p xs ≡ 1 = subst (λ b. cond b 1 0 + count_by p xs ≡ 1) is counted in
-          (λ _. refl, All-weaker (λ y. p y ≡ false) (λ y. p y ≡ true → is_eq (cmp k (id y)) ≡ true) xs (λ y no yes. absurd (cc)) (none_from_count p xs (omega arith)))
+            let same : x ≡ r = cc in
+            let is : p x ≡ true = ap p same ∙ passes in
+            let rest : 1 + count_by p xs ≡ 1 = subst (λ b. cond b 1 0 + count_by p xs ≡ 1) is counted in
+            (λ _. refl, All-weaker (λ y. p y ≡ false) (λ y. p y ≡ true → is_eq (cmp k (id y)) ≡ true) xs (λ y no yes. absurd (cc)) (none_from_count p xs (omega arith)))
         | false ↦ λ e.
-          let least : 1 ≤ count_by p xs = count_found p k r xs e passes in
-          elim (p x) as (λ b. cond b 1 0 + count_by p xs ≡ 1 → (b ≡ true → false ≡ true) × AllByRecursion (λ y. p y ≡ true → is_eq (cmp k (id y)) ≡ true) xs) [
-            | true ↦ λ c. absurd (omega arith)
-            | false ↦ λ c. (λ yes. yes, one_found p k r xs e passes (omega arith))
-          ] counted
+            let least : 1 ≤ count_by p xs = count_found p k r xs e passes in
+            elim (p x) as (λ b. cond b 1 0 + count_by p xs ≡ 1 → (b ≡ true → false ≡ true) × AllByRecursion (λ y. p y ≡ true → is_eq (cmp k (id y)) ≡ true) xs) [
+              | true ↦ λ c. absurd (omega arith)
+              | false ↦ λ c. (λ yes. yes, one_found p k r xs e passes (omega arith))
+            ] counted
       ] found
 
 module _ {R K : Type 0} (cmp : K → K → Ordering) (id : R → K) (order : IsTotalOrder cmp) where
@@ -113,11 +113,12 @@ module _ {R K : Type 0} (cmp : K → K → Ordering) (id : R → K) (order : IsT
   -- each row is found by its id
   pub each_found : (xs : List R) → IsAscending cmp id xs → AllByRecursion (λ x. row_of cmp id (id x) xs ≡ Some x) xs
   each_found [] ascending = tt
-  each_found (x ∷ xs) ascending =
-      (rw (tied_itself order (id x)) refl,
-       All-both (λ y. cmp (id x) (id y) ≡ Less) (λ y. row_of cmp id (id y) xs ≡ Some y) (λ y. row_of cmp id (id y) (x ∷ xs) ≡ Some y) xs
-         (λ y less found. rw (not_back (id x) (id y) less) found)
-         (below (id x) xs ascending.0) (each_found xs ascending.1))
+  each_found (x ∷ xs) ascending = (
+    rw (tied_itself order (id x)) refl,
+    All-both (λ y. cmp (id x) (id y) ≡ Less) (λ y. row_of cmp id (id y) xs ≡ Some y) (λ y. row_of cmp id (id y) (x ∷ xs) ≡ Some y) xs
+        (λ y less found. rw (not_back (id x) (id y) less) found)
+        (below (id x) xs ascending.0) (each_found xs ascending.1),
+  )
 
   -- ids that are the same find the same row
   pub row_of-alike : (j k : K) (xs : List R) → cmp j k ≡ Equal → row_of cmp id j xs ≡ row_of cmp id k xs
@@ -128,8 +129,8 @@ module _ {R K : Type 0} (cmp : K → K → Ordering) (id : R → K) (order : IsT
   pub only_found : (k : K) (r : R) (xs : List R) → IsAscending cmp id xs → row_of cmp id k xs ≡ Some r → AllByRecursion (λ x. is_eq (cmp k (id x)) ≡ true → x ≡ r) xs
   only_found k r xs ascending found =
       All-weaker (λ x. row_of cmp id (id x) xs ≡ Some x) (λ x. is_eq (cmp k (id x)) ≡ true → x ≡ r) xs
-        (λ x at same. let alike = row_of-alike k (id x) xs (equal_from (cmp k (id x)) same) in cc)
-        (each_found xs ascending)
+      (λ x at same. let alike = row_of-alike k (id x) xs (equal_from (cmp k (id x)) same) in cc)
+      (each_found xs ascending)
 
   -- a row that is found stays found where a row of a new id is put
   pub row_of-put_new : (k : K) (r t : R) (xs : List R) → row_of cmp id (id r) xs ≡ None → row_of cmp id k xs ≡ Some t → row_of cmp id k (put cmp id r xs) ≡ Some t

@@ -1,5 +1,5 @@
 -- What edits make of what holds of each row, of counts and of lengths.
-use Rattle.std.proofs.Common.{◌≡◌, ℕ, ◌+◌, ◌≤◌, Bool, true, false, not, cond, ◌||◌, List, [], ◌∷◌, length, map, filter, count_by, refl, sym, ap, ◌∙◌, subst, arith, if◌then◌else◌}
+use Rattle.std.proofs.Common.{◌≡◌, ◌+◌, ◌≤◌, Bool, true, false, not, cond, ◌||◌, List, [], ◌∷◌, length, map, filter, count_by, refl, sym, ◌∙◌, arith, if◌then◌else◌}
 use Rattle.std.specs.List.{AllByRecursion, list_any}
 use Rattle.std.specs.Ordering.{is_gt}
 use Rattle.std.specs.declared.cmp.Ordering.{Ordering}
@@ -83,8 +83,8 @@ module _ {R : Type 0} where
       → AllByRecursion Q (map (λ x. if p x then change x else x) xs)
   All-changed P Q p change xs all changed left =
       All-map Q (λ x. if p x then change x else x) xs
-        (All-weaker P (λ x. Q (if p x then change x else x)) xs
-          (λ x is. elim (p x) as (λ b. p x ≡ b → Q (if b then change x else x)) [ true ↦ λ e. changed x e is | false ↦ λ e. left x e is ] refl) all)
+      (All-weaker P (λ x. Q (if p x then change x else x)) xs
+      (λ x is. elim (p x) as (λ b. p x ≡ b → Q (if b then change x else x)) [ true ↦ λ e. changed x e is | false ↦ λ e. left x e is ] refl) all)
 
   -- what holds of the rows where those that pass are left out
   pub All-left : (P Q : R → Type 0) (p : R → Bool) (xs : List R) → AllByRecursion P xs → ((x : R) → p x ≡ false → P x → Q x) → AllByRecursion Q (filter (λ x. not (p x)) xs)
@@ -97,8 +97,8 @@ module _ {R : Type 0} where
   pub count_by-changed : (p q : R → Bool) (change : R → R) (xs : List R) → AllByRecursion (λ x. q x ≡ true → p (change x) ≡ p x) xs → count_by p (map (λ x. if q x then change x else x) xs) ≡ count_by p xs
   count_by-changed p q change xs same =
       count_by-map p (λ x. if q x then change x else x) xs
-        (All-weaker (λ x. q x ≡ true → p (change x) ≡ p x) (λ x. p (if q x then change x else x) ≡ p x) xs
-          (λ x is. elim (q x) as (λ b. q x ≡ b → p (if b then change x else x) ≡ p x) [ true ↦ λ e. is e | false ↦ λ e. refl ] refl) same)
+      (All-weaker (λ x. q x ≡ true → p (change x) ≡ p x) (λ x. p (if q x then change x else x) ≡ p x) xs
+      (λ x is. elim (q x) as (λ b. q x ≡ b → p (if b then change x else x) ≡ p x) [ true ↦ λ e. is e | false ↦ λ e. refl ] refl) same)
 
   pub count_by-left : (p q : R → Bool) (xs : List R) → AllByRecursion (λ x. q x ≡ true → p x ≡ false) xs → count_by p (filter (λ x. not (q x)) xs) ≡ count_by p xs
   count_by-left p q xs outside =
