@@ -1,5 +1,6 @@
 pub mod Changes
 pub mod DueLaws
+pub mod Found
 pub mod Histories
 pub mod Kept
 pub mod KeptAcquiring
@@ -11,3 +12,4 @@ pub mod LookUps
 pub mod RowLaws
 pub mod Rows
 pub mod Scripts
+pub mod ValidScripts
