@@ -1,16 +1,18 @@
 -- Changes of the tables: what each needs to keep them valid. Here are the cases of an outcome, and the moment.
-use Rattle.std.proofs.Common.{◌≡◌, ℕ, ◌<◌, ◌≤◌, ℤ, Bool, true, false, Option, Some, None, refl, sym, subst, arith, if◌then◌else◌}
+use Rattle.std.proofs.Common.{◌≡◌, ℕ, ◌<◌, ◌≤◌, ℤ, Bool, true, false, List, Option, Some, None, IsSome, IsSomeAnd, count_by, refl, sym, subst, arith, if◌then◌else◌}
 use Rattle.std.specs.List.{AllByRecursion}
 use Rattle.std.proofs.lemmas.Int.{ints, clamps}
-use Rattle.qz_types.specs.Rows.{TriggerData}
+use Rattle.qz_types.specs.Rows.{JobData, TriggerData, FiredData}
 use Rattle.qz_types.specs.declared.keys.Key.{Key}
+use Rattle.qz_types.specs.declared.triggers.TriggerState.TheVariants as state
 use Rattle.qz_types.specs.declared.replies.Reply.{Reply}
 use Rattle.qz_types.specs.declared.replies.Refusal.{Refusal}
 use Rattle.qz_model.specs.Tables.{SchedulerTables, IsMoment, recorded_moment}
 use Rattle.qz_model.specs.Outcomes.{Outcome, accepted, unless}
-use Rattle.qz_model.specs.Words.{fired_of}
+use Rattle.qz_model.specs.Words.{job_of, trigger_of, fired_of}
 use Rattle.qz_model.specs.Scheduling.{is_reserved}
-use Rattle.qz_model.specs.Invariant.{EndsIn, IsNumbered, TablesValid}
+use Rattle.qz_model.specs.Firing.{is_acquired}
+use Rattle.qz_model.specs.Invariant.{IsRowOf, is_acquired_for, is_live_state, EndsIn, IsNumbered, HasTimes, TablesValid}
 use Rattle.qz_model.proofs.Rows.{All-weaker}
 
 -- an accepted outcome had no refusal
@@ -40,6 +42,22 @@ clear6 false false false d f g x y z u v w e = let rest = clear3 d f g u v w e i
 -- the recorded moment lies within the horizon
 pub moment_within : (T : SchedulerTables) (at : ℤ) → IsMoment T.horizon T.last_moment → IsMoment T.horizon (recorded_moment T at)
 moment_within T at is = record { low = omega (arith, ints, clamps); high = omega (arith, ints, clamps) }
+
+-- What the points of the invariant say of one row.
+abbrev pub HasJob : List JobData → TriggerData → Type 0
+HasJob jobs t = IsSome (job_of t.spec.job jobs)
+
+abbrev pub HasOneRow : List FiredData → TriggerData → Type 0
+HasOneRow fired t = t.state ≡ state.Acquired → count_by (is_acquired_for t.spec.key) fired ≡ 1
+
+abbrev pub HasItsTrigger : List TriggerData → FiredData → Type 0
+HasItsTrigger triggers f = is_acquired f.state ≡ true → IsSomeAnd (trigger_of f.trigger triggers) (IsRowOf f)
+
+abbrev pub HasNextTime : ℤ → TriggerData → Type 0
+HasNextTime horizon t = is_live_state t.state ≡ true → IsSomeAnd t.next (IsMoment horizon)
+
+abbrev pub HasRowTimes : ℤ → FiredData → Type 0
+HasRowTimes horizon f = HasTimes horizon f f.state
 
 -- a trigger that the scheduler added has a number of its own
 abbrev pub HasNumber : SchedulerTables → TriggerData → Type 0

@@ -10,6 +10,7 @@ use Rattle.qz_model.specs.History.{IsAccepted}
 use Rattle.qz_model.specs.Firing.{is_acquired, acquire_for, acquire_one, spent, executing, early, fired_reply, fire_for, fire_one}
 use Rattle.qz_model.specs.Invariant.{IsRowOf, is_live_state, TablesValid}
 use Rattle.qz_model.proofs.RowLaws.{All-trigger_of, All-fired_of}
+use Rattle.qz_model.proofs.Changes.{HasItsTrigger, HasNextTime, HasJob}
 use Rattle.qz_model.proofs.DueLaws.{IsStoredWaiting}
 
 acquire_for_accepted : (T : SchedulerTables) (m : ℤ) (me : MemberData) (t : TriggerData) (next : Option ℤ) (job : Option JobData) → IsSomeAnd next (IsMoment T.horizon) → IsSome job → IsAccepted (acquire_for T m me t next job)
@@ -22,8 +23,8 @@ pub acquire_one_accepted : (T : SchedulerTables) (m : ℤ) (me : MemberData) (t 
 unfolding acquire_one
 acquire_one_accepted T m me t valid is =
     acquire_for_accepted T m me t t.next (job_of t.spec.job T.jobs)
-    (All-trigger_of (λ u. is_live_state u.state ≡ true → IsSomeAnd u.next (IsMoment T.horizon)) t.spec.key t T.triggers valid.next_times.next is.stored (ap is_live_state is.waits))
-    (All-trigger_of (λ u. IsSome (job_of u.spec.job T.jobs)) t.spec.key t T.triggers valid.limits.stored is.stored)
+    (All-trigger_of (HasNextTime T.horizon) t.spec.key t T.triggers valid.next_times.next is.stored (ap is_live_state is.waits))
+    (All-trigger_of (HasJob T.jobs) t.spec.key t T.triggers valid.limits.stored is.stored)
 
 -- the one refusal that is left
 only_refusal : (b : Bool) (x y : Refusal) (o : Outcome) → IsAccepted o → unless (if b then Some y else None) o ≡ refused x → x ≡ y
@@ -43,12 +44,12 @@ fire_for_early T m f (Some t) (Some job) x row stored e =
 
 job_found : (T : SchedulerTables) (f : FiredData) (o : Option TriggerData) → TablesValid T → trigger_of f.trigger T.triggers ≡ o → IsSomeAnd o (IsRowOf f) → IsSome (job_of f.job T.jobs)
 job_found T f None valid found row = absurd row
-job_found T f (Some t) valid found row = subst (λ k. IsSome (job_of k T.jobs)) row.job (All-trigger_of (λ u. IsSome (job_of u.spec.job T.jobs)) f.trigger t T.triggers valid.limits.stored found)
+job_found T f (Some t) valid found row = subst (λ k. IsSome (job_of k T.jobs)) row.job (All-trigger_of (HasJob T.jobs) f.trigger t T.triggers valid.limits.stored found)
 
 -- an acquired row can be fired, but for a moment before its scheduled time
 pub fire_one_early : (T : SchedulerTables) (m : ℤ) (f : FiredData) (x : Refusal) → TablesValid T → fired_of f.entry T.fired ≡ Some f → is_acquired f.state ≡ true → fire_one T m f ≡ refused x → x ≡ Early f.scheduled
 unfolding fire_one
 fire_one_early T m f x valid row taken e =
     let has : IsSomeAnd (trigger_of f.trigger T.triggers) (IsRowOf f) =
-    All-fired_of (λ g. is_acquired g.state ≡ true → IsSomeAnd (trigger_of g.trigger T.triggers) (IsRowOf g)) f.entry f T.fired valid.acquired.a_trigger row taken in
+    All-fired_of (HasItsTrigger T.triggers) f.entry f T.fired valid.acquired.a_trigger row taken in
     fire_for_early T m f (trigger_of f.trigger T.triggers) (job_of f.job T.jobs) x has (job_found T f (trigger_of f.trigger T.triggers) valid refl has) e

@@ -1,5 +1,5 @@
 -- Acquiring a trigger keeps the tables valid.
-use Rattle.std.proofs.Common.{◌≡◌, ℕ, ◌+◌, ◌<◌, ◌≤◌, ◌==◌, ℤ, pos, ◌+ℤ◌, true, false, not, ◌||◌, ◌&&◌, List, [], ◌∷◌, length, nat_lt, count_by, Option, Some, None, IsSome, IsSomeAnd, option_map, refl, sym, ap, ◌∙◌, subst, arith, if◌then◌else◌}
+use Rattle.std.proofs.Common.{◌≡◌, ℕ, ◌+◌, ◌<◌, ◌≤◌, ◌==◌, ℤ, pos, ◌+ℤ◌, true, false, not, ◌||◌, ◌&&◌, List, [], ◌∷◌, length, nat_lt, count_by, Option, Some, None, IsSomeAnd, option_map, refl, sym, ap, ◌∙◌, subst, arith, if◌then◌else◌}
 use Rattle.std.specs.List.{AllByRecursion}
 use Rattle.std.specs.Ordering.{int_eq}
 use Rattle.std.proofs.lemmas.Bool.{or_parts, and_parts, not-false, eqb-true, ltb-false, false_from_ne_true}
@@ -13,11 +13,11 @@ use Rattle.qz_model.specs.Words.{same_key, job_of, trigger_of, with_trigger, put
 use Rattle.qz_model.specs.Due.{due_triggers}
 use Rattle.qz_model.specs.Membership.{node_refusal}
 use Rattle.qz_model.specs.Firing.{acquire_refusal, acquired, acquired_row, acquire_for, acquire_one, acquire_first, acquire, is_acquired}
-use Rattle.qz_model.specs.Invariant.{IsRowOf, is_acquired_for, AcquiredMatch, is_live_state, HasTimes, TablesValid}
+use Rattle.qz_model.specs.Invariant.{IsRowOf, is_acquired_for, AcquiredMatch, is_live_state, TablesValid}
 use Rattle.qz_model.proofs.Rows.{All-weaker, All-both, count_by-none}
 use Rattle.qz_model.proofs.RowLaws.{same_key_laws, ordered-with_trigger, All-with_trigger, only_trigger, trigger_of-alike, trigger_of-with_trigger, length-with_trigger, ordered-put_fired, fired_of-above, fired_of-put_fired, All-put_fired, count_by-put_fired, length-put_fired}
 use Rattle.qz_model.proofs.DueLaws.{IsStoredWaiting, each_due}
-use Rattle.qz_model.proofs.Changes.{passes, clear3, HasNumber, SharesNone, HasNumber-kept, HasNumber-alike, valid-moment}
+use Rattle.qz_model.proofs.Changes.{HasOneRow, HasItsTrigger, HasNextTime, HasJob, HasRowTimes, passes, clear3, HasNumber, SharesNone, HasNumber-kept, HasNumber-alike, valid-moment}
 
 -- an acquired row is not for a trigger that waits
 no_row_of : (f : FiredData) (t : TriggerData) (o : Option TriggerData) → o ≡ Some t → t.state ≡ state.Waiting → IsSomeAnd o (IsRowOf f) → ⊥
@@ -26,7 +26,7 @@ no_row_of f t (Some u) found waits row = let taken = row.state in cc
 
 none_waiting : (T : SchedulerTables) (t : TriggerData) → AcquiredMatch T → trigger_of t.spec.key T.triggers ≡ Some t → t.state ≡ state.Waiting → AllByRecursion (λ f. is_acquired_for t.spec.key f ≡ false) T.fired
 none_waiting T t match found waits =
-    All-weaker (λ f. is_acquired f.state ≡ true → IsSomeAnd (trigger_of f.trigger T.triggers) (IsRowOf f)) (λ f. is_acquired_for t.spec.key f ≡ false) T.fired
+    All-weaker (HasItsTrigger T.triggers) (λ f. is_acquired_for t.spec.key f ≡ false) T.fired
     (λ f has. false_from_ne_true (is_acquired_for t.spec.key f) (λ is.
     let parts = and_parts (is_acquired f.state) (same_key t.spec.key f.trigger) is in
     no_row_of f t (trigger_of f.trigger T.triggers) (sym (trigger_of-alike t.spec.key f.trigger T.triggers parts.1) ∙ found) waits (has parts.0)))
@@ -41,10 +41,10 @@ module _ (T : SchedulerTables) (me : MemberData) (t : TriggerData) (next : ℤ) 
   abbrev new_row : FiredData
   new_row = acquired_row T.next_entry me t next job
 
-  one_row_acquired : AllByRecursion (λ u. u.state ≡ state.Acquired → count_by (is_acquired_for u.spec.key) (put_fired new_row T.fired) ≡ 1) (with_trigger t.spec.key acquired T.triggers)
+  one_row_acquired : AllByRecursion (HasOneRow (put_fired new_row T.fired)) (with_trigger t.spec.key acquired T.triggers)
   unfolding acquired acquired_row
   one_row_acquired =
-      All-with_trigger (λ u. u.state ≡ state.Acquired → count_by (is_acquired_for u.spec.key) T.fired ≡ 1) (λ u. u.state ≡ state.Acquired → count_by (is_acquired_for u.spec.key) (put_fired new_row T.fired) ≡ 1)
+      All-with_trigger (HasOneRow T.fired) (HasOneRow (put_fired new_row T.fired))
       t.spec.key acquired T.triggers valid.acquired.one_row
       (λ u same was taken.
       let none : count_by (is_acquired_for u.spec.key) T.fired ≡ 0 =
@@ -54,29 +54,29 @@ module _ (T : SchedulerTables) (me : MemberData) (t : TriggerData) (next : ℤ) 
       count_by-put_fired (is_acquired_for u.spec.key) new_row T.fired ∙ rw (same_key_laws.symm u.spec.key t.spec.key ∙ same, none) refl)
       (λ u differ was taken. count_by-put_fired (is_acquired_for u.spec.key) new_row T.fired ∙ rw (same_key_laws.symm u.spec.key t.spec.key ∙ differ, was taken) refl)
 
-  a_trigger_acquired : AllByRecursion (λ f. is_acquired f.state ≡ true → IsSomeAnd (trigger_of f.trigger (with_trigger t.spec.key acquired T.triggers)) (IsRowOf f)) (put_fired new_row T.fired)
+  a_trigger_acquired : AllByRecursion (HasItsTrigger (with_trigger t.spec.key acquired T.triggers)) (put_fired new_row T.fired)
   unfolding acquired acquired_row
   a_trigger_acquired =
-      All-put_fired (λ f. is_acquired f.state ≡ true → IsSomeAnd (trigger_of f.trigger (with_trigger t.spec.key acquired T.triggers)) (IsRowOf f)) new_row T.fired
+      All-put_fired (HasItsTrigger (with_trigger t.spec.key acquired T.triggers)) new_row T.fired
       (λ taken.
       let now : trigger_of t.spec.key (with_trigger t.spec.key acquired T.triggers) ≡ Some (acquired t) =
       trigger_of-with_trigger t.spec.key t.spec.key acquired T.triggers (λ u. refl) ∙ rw (found, same_key_laws.refl t.spec.key) refl in
       subst (λ o. IsSomeAnd o (IsRowOf new_row)) (sym now) (record { state = refl; job = refl; next = due }))
-      (All-weaker (λ f. is_acquired f.state ≡ true → IsSomeAnd (trigger_of f.trigger T.triggers) (IsRowOf f))
-      (λ f. is_acquired f.state ≡ true → IsSomeAnd (trigger_of f.trigger (with_trigger t.spec.key acquired T.triggers)) (IsRowOf f)) T.fired
+      (All-weaker (HasItsTrigger T.triggers)
+      (HasItsTrigger (with_trigger t.spec.key acquired T.triggers)) T.fired
       (λ f has taken. subst (λ o. IsSomeAnd o (IsRowOf f)) (sym (trigger_of-with_trigger f.trigger t.spec.key acquired T.triggers (λ u. refl)))
       (found_mapped (IsRowOf f) _ (trigger_of f.trigger T.triggers)
       (λ u row. elim (same_key t.spec.key u.spec.key) as (λ b. IsRowOf f (if b then acquired u else u)) [ true ↦ record { state = refl; job = row.job; next = row.next } | false ↦ row ])
       (has taken)))
       valid.acquired.a_trigger)
 
-  next_times_acquired : AllByRecursion (λ u. is_live_state u.state ≡ true → IsSomeAnd u.next (IsMoment T.horizon)) (with_trigger t.spec.key acquired T.triggers)
+  next_times_acquired : AllByRecursion (HasNextTime T.horizon) (with_trigger t.spec.key acquired T.triggers)
   unfolding acquired
   next_times_acquired =
-      All-with_trigger (λ u. (is_live_state u.state ≡ true → IsSomeAnd u.next (IsMoment T.horizon)) × (same_key t.spec.key u.spec.key ≡ true → u ≡ t))
-      (λ u. is_live_state u.state ≡ true → IsSomeAnd u.next (IsMoment T.horizon)) t.spec.key acquired T.triggers
-      (All-both (λ u. is_live_state u.state ≡ true → IsSomeAnd u.next (IsMoment T.horizon)) (λ u. same_key t.spec.key u.spec.key ≡ true → u ≡ t)
-      (λ u. (is_live_state u.state ≡ true → IsSomeAnd u.next (IsMoment T.horizon)) × (same_key t.spec.key u.spec.key ≡ true → u ≡ t)) T.triggers
+      All-with_trigger (λ u. HasNextTime T.horizon u × (same_key t.spec.key u.spec.key ≡ true → u ≡ t))
+      (HasNextTime T.horizon) t.spec.key acquired T.triggers
+      (All-both (HasNextTime T.horizon) (λ u. same_key t.spec.key u.spec.key ≡ true → u ≡ t)
+      (λ u. HasNextTime T.horizon u × (same_key t.spec.key u.spec.key ≡ true → u ≡ t)) T.triggers
       (λ u has only. (has, only)) valid.next_times.next (only_trigger t.spec.key t T.triggers valid.ordered.triggers found))
       (λ u same is live. is.0 (ap (λ x. is_live_state x.state) (is.1 same) ∙ ap is_live_state waits))
       (λ u differ is. is.0)
@@ -106,7 +106,7 @@ module _ (T : SchedulerTables) (me : MemberData) (t : TriggerData) (next : ℤ) 
       fired = ordered-put_fired new_row T.fired valid.ordered.fired (fired_of-above T.next_entry T.fired valid.fresh.fired);
     };
     limits = record {
-      stored = All-with_trigger (λ u. IsSome (job_of u.spec.job T.jobs)) (λ u. IsSome (job_of u.spec.job T.jobs)) t.spec.key acquired T.triggers valid.limits.stored (λ u same is. is) (λ u differ is. is);
+      stored = All-with_trigger (HasJob T.jobs) (HasJob T.jobs) t.spec.key acquired T.triggers valid.limits.stored (λ u same is. is) (λ u differ is. is);
       jobs = valid.limits.jobs;
       triggers = subst (λ n. n ≤ TRIGGER_LIMIT) (sym (length-with_trigger t.spec.key acquired T.triggers)) valid.limits.triggers;
       members = valid.limits.members;
@@ -121,7 +121,7 @@ module _ (T : SchedulerTables) (me : MemberData) (t : TriggerData) (next : ℤ) 
       fired = All-put_fired (λ f. f.entry < T.next_entry + 1) new_row T.fired (omega arith) (All-weaker (λ f. f.entry < T.next_entry) (λ f. f.entry < T.next_entry + 1) T.fired (λ f below. omega arith) valid.fresh.fired);
       added = numbers_acquired;
     };
-    row_times = record { rows = All-put_fired (λ f. HasTimes T.horizon f f.state) new_row T.fired refl valid.row_times.rows };
+    row_times = record { rows = All-put_fired (HasRowTimes T.horizon) new_row T.fired refl valid.row_times.rows };
   }
 
 kept-acquire_for : (T T' : SchedulerTables) (m : ℤ) (me : MemberData) (t : TriggerData) (next : Option ℤ) (job : Option JobData) (r : Reply) → TablesValid T → IsMoment T.horizon m → IsStoredWaiting T t

@@ -4,7 +4,6 @@ use Rattle.std.specs.List.{AllByRecursion, list_any}
 use Rattle.std.proofs.lemmas.Bool.{and_parts, and_left, not-true, false_from_ne_true}
 use Rattle.qz_types.specs.Rows.{JobData, TriggerData, MemberData, FiredData}
 use Rattle.qz_types.specs.declared.keys.Key.{Key}
-use Rattle.qz_types.specs.declared.triggers.TriggerState.TheVariants as state
 use Rattle.qz_types.specs.declared.commands.Code.{Code}
 use Rattle.qz_types.specs.declared.replies.Reply.{Reply}
 use Rattle.qz_types.specs.declared.replies.Reply.TheVariants as reply
@@ -14,10 +13,10 @@ use Rattle.qz_model.specs.Outcomes.{accepted, refused}
 use Rattle.qz_model.specs.Words.{same_key, job_of, without_job, trigger_of, without_trigger, fired_of, without_fired}
 use Rattle.qz_model.specs.Membership.{node_refusal}
 use Rattle.qz_model.specs.Firing.{is_acquired, is_of, is_noop, is_complete, is_finished, is_orphan, without_orphan, without_orphan_of, without_finished, completed, complete_row, complete}
-use Rattle.qz_model.specs.Invariant.{IsRowOf, is_acquired_for, is_live_state, HasTimes, TablesValid}
+use Rattle.qz_model.specs.Invariant.{IsRowOf, is_acquired_for, TablesValid}
 use Rattle.qz_model.proofs.Rows.{All-weaker, All-both, All-none}
 use Rattle.qz_model.proofs.RowLaws.{ordered-without_job, job_of-without_job, length-without_job, ordered-without_trigger, trigger_of-alike, trigger_of-without_trigger, All-without_trigger, length-without_trigger, trigger_of-key, ordered-without_fired, only_fired, fired_of-entry, fired_of-without_fired, All-without_fired, count_by-without_fired, length-without_fired}
-use Rattle.qz_model.proofs.Changes.{passes, HasNumber, SharesNone, HasNumber-kept, valid-moment}
+use Rattle.qz_model.proofs.Changes.{HasOneRow, HasItsTrigger, HasNextTime, HasJob, HasRowTimes, passes, HasNumber, SharesNone, HasNumber-kept, valid-moment}
 
 -- the row of an execution is deleted
 module _ (T : SchedulerTables) (f : FiredData) (valid : TablesValid T) (row : fired_of f.entry T.fired ≡ Some f) (begun : is_acquired f.state ≡ false) where
@@ -46,7 +45,7 @@ module _ (T : SchedulerTables) (f : FiredData) (valid : TablesValid T) (row : fi
       threshold = valid.limits.threshold;
     };
     acquired = record {
-      one_row = All-weaker (λ t. t.state ≡ state.Acquired → count_by (is_acquired_for t.spec.key) T.fired ≡ 1) (λ t. t.state ≡ state.Acquired → count_by (is_acquired_for t.spec.key) (without_fired f.entry T.fired) ≡ 1) T.triggers
+      one_row = All-weaker (HasOneRow T.fired) (HasOneRow (without_fired f.entry T.fired)) T.triggers
           (λ t one taken. same_counts t.spec.key ∙ one taken) valid.acquired.one_row;
       a_trigger = All-without_fired _ _ f.entry T.fired valid.acquired.a_trigger (λ g away is. is);
     };
@@ -56,7 +55,7 @@ module _ (T : SchedulerTables) (f : FiredData) (valid : TablesValid T) (row : fi
       added = All-weaker (HasNumber T) (HasNumber without_row) T.triggers
           (λ t has. HasNumber-kept T without_row t (omega arith) (λ n below none. fired_of-without_fired n f.entry T.fired none) (λ n all. all) has) valid.fresh.added;
     };
-    row_times = record { rows = All-without_fired (λ g. HasTimes T.horizon g g.state) (λ g. HasTimes T.horizon g g.state) f.entry T.fired valid.row_times.rows (λ g away is. is) };
+    row_times = record { rows = All-without_fired (HasRowTimes T.horizon) (HasRowTimes T.horizon) f.entry T.fired valid.row_times.rows (λ g away is. is) };
   }
 
 -- a trigger that isn't acquired is deleted
@@ -83,7 +82,7 @@ module _ (T : SchedulerTables) (t : TriggerData) (valid : TablesValid T) (stored
   valid-without_trigger = record {
     ordered = record { jobs = valid.ordered.jobs; triggers = ordered-without_trigger t.spec.key T.triggers valid.ordered.triggers; members = valid.ordered.members; fired = valid.ordered.fired };
     limits = record {
-      stored = All-without_trigger (λ u. IsSome (job_of u.spec.job T.jobs)) (λ u. IsSome (job_of u.spec.job T.jobs)) t.spec.key T.triggers valid.limits.stored (λ u differ is. is);
+      stored = All-without_trigger (HasJob T.jobs) (HasJob T.jobs) t.spec.key T.triggers valid.limits.stored (λ u differ is. is);
       jobs = valid.limits.jobs;
       triggers = omega (arith, length-without_trigger t.spec.key T.triggers, valid.limits.triggers);
       members = valid.limits.members;
@@ -93,13 +92,13 @@ module _ (T : SchedulerTables) (t : TriggerData) (valid : TablesValid T) (stored
       threshold = valid.limits.threshold;
     };
     acquired = record {
-      one_row = All-without_trigger (λ u. u.state ≡ state.Acquired → count_by (is_acquired_for u.spec.key) T.fired ≡ 1) (λ u. u.state ≡ state.Acquired → count_by (is_acquired_for u.spec.key) T.fired ≡ 1)
+      one_row = All-without_trigger (HasOneRow T.fired) (HasOneRow T.fired)
           t.spec.key T.triggers valid.acquired.one_row (λ u differ is. is);
-      a_trigger = All-weaker (λ f. is_acquired f.state ≡ true → IsSomeAnd (trigger_of f.trigger T.triggers) (IsRowOf f)) (λ f. is_acquired f.state ≡ true → IsSomeAnd (trigger_of f.trigger triggers_left) (IsRowOf f)) T.fired
+      a_trigger = All-weaker (HasItsTrigger T.triggers) (HasItsTrigger triggers_left) T.fired
           (λ f has taken. subst (λ o. IsSomeAnd o (IsRowOf f)) (sym (trigger_of-without_trigger t.spec.key f.trigger T.triggers (other_trigger f (has taken)))) (has taken)) valid.acquired.a_trigger;
     };
     next_times = record {
-      next = All-without_trigger (λ u. is_live_state u.state ≡ true → IsSomeAnd u.next (IsMoment T.horizon)) (λ u. is_live_state u.state ≡ true → IsSomeAnd u.next (IsMoment T.horizon)) t.spec.key T.triggers valid.next_times.next (λ u differ is. is);
+      next = All-without_trigger (HasNextTime T.horizon) (HasNextTime T.horizon) t.spec.key T.triggers valid.next_times.next (λ u differ is. is);
       last_moment = valid.next_times.last_moment;
     };
     fresh = record {
@@ -120,7 +119,7 @@ module _ (T : SchedulerTables) (k : Key) (valid : TablesValid T) (unused : AllBy
   valid-without_job = record {
     ordered = record { jobs = ordered-without_job k T.jobs valid.ordered.jobs; triggers = valid.ordered.triggers; members = valid.ordered.members; fired = valid.ordered.fired };
     limits = record {
-      stored = All-both (λ t. same_key k t.spec.job ≡ false) (λ t. IsSome (job_of t.spec.job T.jobs)) (λ t. IsSome (job_of t.spec.job (without_job k T.jobs))) T.triggers
+      stored = All-both (λ t. same_key k t.spec.job ≡ false) (HasJob T.jobs) (HasJob (without_job k T.jobs)) T.triggers
           (λ t differ stored. subst IsSome (sym (job_of-without_job k t.spec.job T.jobs differ)) stored) unused valid.limits.stored;
       jobs = omega (arith, length-without_job k T.jobs, valid.limits.jobs);
       triggers = valid.limits.triggers;

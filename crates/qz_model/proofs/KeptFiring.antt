@@ -1,11 +1,10 @@
 -- Firing a trigger keeps the tables valid.
-use Rattle.std.proofs.Common.{◌≡◌, ℕ, ◌<◌, ◌≤◌, ◌==◌, ℤ, ◌≤ℤ◌, int_lt, true, false, ◌&&◌, List, count_by, Option, Some, None, IsSome, IsSomeAnd, refl, sym, ap, ◌∙◌, subst, arith, if◌then◌else◌}
+use Rattle.std.proofs.Common.{◌≡◌, ℕ, ◌<◌, ◌≤◌, ◌==◌, ℤ, ◌≤ℤ◌, int_lt, true, false, ◌&&◌, List, Option, Some, None, IsSomeAnd, refl, sym, ap, ◌∙◌, subst, arith, if◌then◌else◌}
 use Rattle.std.specs.List.{AllByRecursion}
 use Rattle.std.proofs.lemmas.Bool.{and_parts, and_from, and_right, false_from_ne_true}
 use Rattle.std.proofs.lemmas.Int.{ints}
 use Rattle.qz_types.specs.Rows.{JobData, TriggerData, MemberData, FiredData}
 use Rattle.qz_types.specs.declared.limits.TheConstants.{TRIGGER_LIMIT, FIRED_LIMIT}
-use Rattle.qz_types.specs.declared.triggers.TriggerState.TheVariants as state
 use Rattle.qz_types.specs.declared.replies.Reply.{Reply}
 use Rattle.qz_types.specs.declared.replies.Refusal.{Refusal}
 use Rattle.qz_types.specs.declared.replies.Refusal.TheVariants.{Unbuilt}
@@ -14,10 +13,10 @@ use Rattle.qz_model.specs.Outcomes.{accepted, refused}
 use Rattle.qz_model.specs.Words.{same_key, job_of, trigger_of, with_trigger, fired_of, with_fired}
 use Rattle.qz_model.specs.Membership.{node_refusal}
 use Rattle.qz_model.specs.Firing.{is_acquired, is_of, spent, executing, early, fire_for, fire_one, fire_row, fire}
-use Rattle.qz_model.specs.Invariant.{IsRowOf, is_acquired_for, is_live_state, HasTimes, TablesValid}
+use Rattle.qz_model.specs.Invariant.{IsRowOf, is_acquired_for, is_live_state, TablesValid}
 use Rattle.qz_model.proofs.Rows.{All-weaker, All-both}
 use Rattle.qz_model.proofs.RowLaws.{same_key_laws, ordered-with_trigger, All-trigger_of, trigger_of-key, All-with_trigger, trigger_of-with_other, length-with_trigger, ordered-with_fired, All-fired_of, fired_of-entry, only_fired, one_fired, fired_of-with_fired, All-with_fired, count_by-with_fired, length-with_fired}
-use Rattle.qz_model.proofs.Changes.{passes, HasNumber, SharesNone, HasNumber-kept, HasNumber-alike, valid-moment}
+use Rattle.qz_model.proofs.Changes.{HasOneRow, HasItsTrigger, HasNextTime, HasJob, HasRowTimes, passes, HasNumber, SharesNone, HasNumber-kept, HasNumber-alike, valid-moment}
 
 -- what is known of the row and the trigger of an execution that begins
 pub record Begins (T : SchedulerTables) (m : ℤ) (f : FiredData) (t : TriggerData) : Type 0 where
@@ -45,7 +44,7 @@ module _ (T : SchedulerTables) (m : ℤ) (f : FiredData) (t : TriggerData) (job 
   row_of_trigger : IsRowOf f t
   row_of_trigger =
       subst (λ o. IsSomeAnd o (IsRowOf f)) begins.trigger
-      (All-fired_of (λ g. is_acquired g.state ≡ true → IsSomeAnd (trigger_of g.trigger T.triggers) (IsRowOf g)) f.entry f T.fired valid.acquired.a_trigger begins.row begins.taken)
+      (All-fired_of (HasItsTrigger T.triggers) f.entry f T.fired valid.acquired.a_trigger begins.row begins.taken)
 
   own_key : same_key t.spec.key f.trigger ≡ true
   own_key = same_key_laws.symm t.spec.key f.trigger ∙ trigger_of-key f.trigger t T.triggers begins.trigger
@@ -54,15 +53,15 @@ module _ (T : SchedulerTables) (m : ℤ) (f : FiredData) (t : TriggerData) (job 
   only_row : AllByRecursion (λ g. is_acquired_for t.spec.key g ≡ true → (f.entry == g.entry) ≡ true) T.fired
   only_row =
       one_fired (is_acquired_for t.spec.key) f.entry f T.fired begins.row (and_from (is_acquired f.state) (same_key t.spec.key f.trigger) begins.taken own_key)
-      (All-trigger_of (λ u. u.state ≡ state.Acquired → count_by (is_acquired_for u.spec.key) T.fired ≡ 1) f.trigger t T.triggers valid.acquired.one_row begins.trigger row_of_trigger.state)
+      (All-trigger_of (HasOneRow T.fired) f.trigger t T.triggers valid.acquired.one_row begins.trigger row_of_trigger.state)
 
   same_row : AllByRecursion (λ g. (f.entry == g.entry) ≡ true → g ≡ f) T.fired
   same_row = only_fired f.entry f T.fired valid.ordered.fired begins.row
 
-  one_row_fired : AllByRecursion (λ u. u.state ≡ state.Acquired → count_by (is_acquired_for u.spec.key) fired_then ≡ 1) triggers_then
+  one_row_fired : AllByRecursion (HasOneRow fired_then) triggers_then
   unfolding spent executing
   one_row_fired =
-      All-with_trigger (λ u. u.state ≡ state.Acquired → count_by (is_acquired_for u.spec.key) T.fired ≡ 1) (λ u. u.state ≡ state.Acquired → count_by (is_acquired_for u.spec.key) fired_then ≡ 1)
+      All-with_trigger (HasOneRow T.fired) (HasOneRow fired_then)
       t.spec.key spent T.triggers valid.acquired.one_row
       (λ u same was taken. absurd (cc))
       (λ u differ was taken.
@@ -73,13 +72,13 @@ module _ (T : SchedulerTables) (m : ℤ) (f : FiredData) (t : TriggerData) (job 
       (λ g is at. sym (ap (is_acquired_for u.spec.key) (is at) ∙ and_right (is_acquired f.state) (same_key u.spec.key f.trigger) other)) same_row)
       ∙ was taken)
 
-  a_trigger_fired : AllByRecursion (λ g. is_acquired g.state ≡ true → IsSomeAnd (trigger_of g.trigger triggers_then) (IsRowOf g)) fired_then
+  a_trigger_fired : AllByRecursion (HasItsTrigger triggers_then) fired_then
   unfolding spent executing
   a_trigger_fired =
-      All-with_fired (λ g. (is_acquired g.state ≡ true → IsSomeAnd (trigger_of g.trigger T.triggers) (IsRowOf g)) × (is_acquired_for t.spec.key g ≡ true → (f.entry == g.entry) ≡ true))
-      (λ g. is_acquired g.state ≡ true → IsSomeAnd (trigger_of g.trigger triggers_then) (IsRowOf g)) f.entry (executing m job) T.fired
-      (All-both (λ g. is_acquired g.state ≡ true → IsSomeAnd (trigger_of g.trigger T.triggers) (IsRowOf g)) (λ g. is_acquired_for t.spec.key g ≡ true → (f.entry == g.entry) ≡ true)
-      (λ g. (is_acquired g.state ≡ true → IsSomeAnd (trigger_of g.trigger T.triggers) (IsRowOf g)) × (is_acquired_for t.spec.key g ≡ true → (f.entry == g.entry) ≡ true)) T.fired
+      All-with_fired (λ g. HasItsTrigger T.triggers g × (is_acquired_for t.spec.key g ≡ true → (f.entry == g.entry) ≡ true))
+      (HasItsTrigger triggers_then) f.entry (executing m job) T.fired
+      (All-both (HasItsTrigger T.triggers) (λ g. is_acquired_for t.spec.key g ≡ true → (f.entry == g.entry) ≡ true)
+      (λ g. HasItsTrigger T.triggers g × (is_acquired_for t.spec.key g ≡ true → (f.entry == g.entry) ≡ true)) T.fired
       (λ g has only. (has, only)) valid.acquired.a_trigger only_row)
       (λ g at is taken. absurd (cc))
       (λ g away is taken.
@@ -87,10 +86,10 @@ module _ (T : SchedulerTables) (m : ℤ) (f : FiredData) (t : TriggerData) (job 
       false_from_ne_true (same_key t.spec.key g.trigger) (λ same. let at = is.1 (and_from (is_acquired g.state) (same_key t.spec.key g.trigger) taken same) in cc) in
       subst (λ o. IsSomeAnd o (IsRowOf g)) (sym (trigger_of-with_other g.trigger t.spec.key spent T.triggers (λ u. refl) other)) (is.0 taken))
 
-  next_times_fired : AllByRecursion (λ u. is_live_state u.state ≡ true → IsSomeAnd u.next (IsMoment T.horizon)) triggers_then
+  next_times_fired : AllByRecursion (HasNextTime T.horizon) triggers_then
   unfolding spent
   next_times_fired =
-      All-with_trigger (λ u. is_live_state u.state ≡ true → IsSomeAnd u.next (IsMoment T.horizon)) (λ u. is_live_state u.state ≡ true → IsSomeAnd u.next (IsMoment T.horizon))
+      All-with_trigger (HasNextTime T.horizon) (HasNextTime T.horizon)
       t.spec.key spent T.triggers valid.next_times.next (λ u same is live. absurd (cc)) (λ u differ is. is)
 
   numbers_fired : AllByRecursion (HasNumber after_fire) triggers_then
@@ -108,16 +107,16 @@ module _ (T : SchedulerTables) (m : ℤ) (f : FiredData) (t : TriggerData) (job 
   scheduled_within : IsMoment T.horizon f.scheduled
   scheduled_within =
       subst (λ o. IsSomeAnd o (IsMoment T.horizon)) row_of_trigger.next
-      (All-trigger_of (λ u. is_live_state u.state ≡ true → IsSomeAnd u.next (IsMoment T.horizon)) f.trigger t T.triggers valid.next_times.next begins.trigger (ap is_live_state row_of_trigger.state))
+      (All-trigger_of (HasNextTime T.horizon) f.trigger t T.triggers valid.next_times.next begins.trigger (ap is_live_state row_of_trigger.state))
 
   begun : f.scheduled ≤ℤ m
   begun = not_early m f.scheduled _ (subst (λ o. early m o ≡ None) row_of_trigger.next begins.in_time)
 
-  row_times_fired : AllByRecursion (λ g. HasTimes T.horizon g g.state) fired_then
+  row_times_fired : AllByRecursion (HasRowTimes T.horizon) fired_then
   unfolding executing
   row_times_fired =
-      All-with_fired (λ g. HasTimes T.horizon g g.state × ((f.entry == g.entry) ≡ true → g ≡ f)) (λ g. HasTimes T.horizon g g.state) f.entry (executing m job) T.fired
-      (All-both (λ g. HasTimes T.horizon g g.state) (λ g. (f.entry == g.entry) ≡ true → g ≡ f) (λ g. HasTimes T.horizon g g.state × ((f.entry == g.entry) ≡ true → g ≡ f)) T.fired
+      All-with_fired (λ g. HasRowTimes T.horizon g × ((f.entry == g.entry) ≡ true → g ≡ f)) (HasRowTimes T.horizon) f.entry (executing m job) T.fired
+      (All-both (HasRowTimes T.horizon) (λ g. (f.entry == g.entry) ≡ true → g ≡ f) (λ g. HasRowTimes T.horizon g × ((f.entry == g.entry) ≡ true → g ≡ f)) T.fired
       (λ g has only. (has, only)) valid.row_times.rows same_row)
       (λ g at is. (subst (λ x. IsMoment T.horizon x.scheduled) (sym (is.1 at)) scheduled_within, subst (λ x. x.scheduled ≤ℤ m) (sym (is.1 at)) begun))
       (λ g away is. is.0)
@@ -133,7 +132,7 @@ module _ (T : SchedulerTables) (m : ℤ) (f : FiredData) (t : TriggerData) (job 
       fired = ordered-with_fired f.entry (executing m job) T.fired (λ g. refl) valid.ordered.fired;
     };
     limits = record {
-      stored = All-with_trigger (λ u. IsSome (job_of u.spec.job T.jobs)) (λ u. IsSome (job_of u.spec.job T.jobs)) t.spec.key spent T.triggers valid.limits.stored (λ u same is. is) (λ u differ is. is);
+      stored = All-with_trigger (HasJob T.jobs) (HasJob T.jobs) t.spec.key spent T.triggers valid.limits.stored (λ u same is. is) (λ u differ is. is);
       jobs = valid.limits.jobs;
       triggers = subst (λ n. n ≤ TRIGGER_LIMIT) (sym (length-with_trigger t.spec.key spent T.triggers)) valid.limits.triggers;
       members = valid.limits.members;

@@ -12,18 +12,17 @@ use Rattle.qz_model.specs.Tables.{SchedulerTables, IsMoment}
 use Rattle.qz_model.specs.Outcomes.{accepted}
 use Rattle.qz_model.specs.Words.{job_of, put_job, trigger_of, put_trigger}
 use Rattle.qz_model.specs.Scheduling.{is_plain_job, add_job_refusal, add_job, is_plain_trigger, is_reserved, new_trigger, add_trigger_refusal, add_trigger}
-use Rattle.qz_model.specs.Firing.{is_acquired}
 use Rattle.qz_model.specs.Invariant.{IsRowOf, TablesValid}
 use Rattle.qz_model.proofs.Rows.{All-weaker}
 use Rattle.qz_model.proofs.RowLaws.{no_row, some_row_not_none, ordered-put_job, job_of-put_job, length-put_job, ordered-put_trigger, trigger_of-put_trigger, All-put_trigger, length-put_trigger}
-use Rattle.qz_model.proofs.Changes.{passes, clear3, clear6, HasNumber, SharesNone, HasNumber-kept, valid-moment}
+use Rattle.qz_model.proofs.Changes.{HasItsTrigger, HasJob, passes, clear3, clear6, HasNumber, SharesNone, HasNumber-kept, valid-moment}
 
 pub valid-put_job : (T : SchedulerTables) (job : JobData) → TablesValid T → job_of job.key T.jobs ≡ None → length T.jobs + 1 ≤ JOB_LIMIT
     → TablesValid (record T { jobs = put_job job T.jobs })
 valid-put_job T job valid absent room = record {
   ordered = record { jobs = ordered-put_job job T.jobs valid.ordered.jobs absent; triggers = valid.ordered.triggers; members = valid.ordered.members; fired = valid.ordered.fired };
   limits = record {
-    stored = All-weaker (λ t. IsSome (job_of t.spec.job T.jobs)) (λ t. IsSome (job_of t.spec.job (put_job job T.jobs))) T.triggers (λ t stored. job_of-put_job t.spec.job job T.jobs absent stored) valid.limits.stored;
+    stored = All-weaker (HasJob T.jobs) (HasJob (put_job job T.jobs)) T.triggers (λ t stored. job_of-put_job t.spec.job job T.jobs absent stored) valid.limits.stored;
     jobs = omega (arith, length-put_job job T.jobs);
     triggers = valid.limits.triggers;
     members = valid.limits.members;
@@ -74,7 +73,7 @@ valid-put_trigger T t valid waits next client job absent room = let U : Schedule
   };
   acquired = record {
     one_row = All-put_trigger _ t T.triggers (λ taken. absurd (cc)) valid.acquired.one_row;
-    a_trigger = All-weaker (λ f. is_acquired f.state ≡ true → IsSomeAnd (trigger_of f.trigger T.triggers) (IsRowOf f)) (λ f. is_acquired f.state ≡ true → IsSomeAnd (trigger_of f.trigger (put_trigger t T.triggers)) (IsRowOf f)) T.fired
+    a_trigger = All-weaker (HasItsTrigger T.triggers) (HasItsTrigger (put_trigger t T.triggers)) T.fired
         (λ f has taken. found_put f t T.triggers _ refl absent (has taken)) valid.acquired.a_trigger;
   };
   next_times = record { next = All-put_trigger _ t T.triggers (λ live. next) valid.next_times.next; last_moment = valid.next_times.last_moment };

@@ -59,10 +59,6 @@ pub job_of-without_job : (j k : Key) (rows : List JobData) → same_key j k ≡ 
 unfolding job_of without_job same_key
 job_of-without_job j k rows differ = row_of-filter key_cmp (λ r. r.key) k (λ r. not (same_key j r.key)) rows (All-from (λ r. same_key k r.key ≡ true → not (same_key j r.key) ≡ true) rows (λ r same. ap not (other_key j k r.key differ same)))
 
-pub job_of-key : (k : Key) (j : JobData) (rows : List JobData) → job_of k rows ≡ Some j → same_key k j.key ≡ true
-unfolding job_of same_key
-job_of-key k j rows found = row_of-id key_cmp (λ r. r.key) k j rows found
-
 pub length-put_job : (row : JobData) (rows : List JobData) → length (put_job row rows) ≡ length rows + 1
 unfolding put_job
 length-put_job row rows = length-put key_cmp (λ r. r.key) row rows
