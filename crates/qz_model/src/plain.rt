@@ -1,8 +1,9 @@
 //! The plain store.
-ghost use Rattle.std.specs.Prelude.{◌≡◌, ◌≤ℤ◌, pos, IfOk, IfErr, OnErr};
+ghost use Rattle.std.specs.Prelude.{◌≡◌, ◌≤ℤ◌, pos, IfOk, IfErr, OnOk, OnErr};
 ghost use Rattle.qz_model.specs.Tables.{empty, IsMoment, recorded_moment};
 ghost use Rattle.qz_model.specs.Outcomes.{accepted};
 ghost use Rattle.qz_model.specs.Transaction.{transaction};
+ghost use Rattle.qz_model.specs.Invariant.{TablesValid};
 ghost use Rattle.qz_model.specs.Causes.{IsCause};
 ghost use Rattle.qz_model.specs.declared.plain.StepRefused.TheVariants.{NoMemory as StepNoMemory};
 
@@ -163,6 +164,7 @@ impl PlainStore {
         ensures ok { IfOk result (λ reply. transaction self.old entry ≡ accepted self.new reply) }
         ensures refused { IfErr result (IsCause (transaction self.old entry)) }
         ensures err { OnErr result (self.new ≡ self.old) }
+        ensures kept { TablesValid self.old → OnOk result (TablesValid self.new) }
     {
         let mut next = self.copy()?;
         let reply = next.apply(entry)?;
