@@ -1,0 +1,12 @@
+//! The top call of the scheduler: one script, from the bytes that come in to the bytes that go out.
+#![tactic(auto)]
+
+mod scripts;
+mod sessions;
+mod statuses;
+mod turns;
+
+pub use scripts::script;
+pub use sessions::Session;
+pub use statuses::{BadKind, LINE_COUNT_LIMIT, Status, WordFault};
+pub use turns::{LineEnd, do_line};
