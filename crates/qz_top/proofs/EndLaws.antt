@@ -98,6 +98,7 @@ pub IsRun-finished : (s : Status) (lines : List (List ℕ)) (readings : List ℤ
 IsRun-finished status.Ok lines readings i j k pending S S' x y z w a b c m n upto went low flushed =
     let ran = Ran-more lines went.lines readings went.readings new_session S S' x y z a b c upto.ran went.ran in
     record {
+      called = tt;
       good = ran.did.good;
       reads = reads_all i j k lines pending S S' y z b c upto.one_line upto.taken went ran.did.good (simp length-append low);
       clocked = exact_readings status.Ok a c _ _ ran.did.count ran.did.told;
@@ -106,6 +107,7 @@ IsRun-finished status.Ok lines readings i j k pending S S' x y z w a b c m n upt
 IsRun-finished status.WriteFault lines readings i j k pending S S' x y z w a b c m n upto went low flushed =
     let ran = Ran-more lines went.lines readings went.readings new_session S S' x y z a b c upto.ran went.ran in
     record {
+      called = tt;
       good = ran.did.good;
       reads = reads_written i j k lines pending S S' y z b c upto.one_line upto.taken went;
       clocked = exact_readings status.WriteFault a c _ _ ran.did.count ran.did.told;

@@ -34,7 +34,7 @@ ahead-line left left' pending now sees = record {
   ahead = λ rest told. record {
     more = lines_of (now.pending ++ rest);
     lines = ap (λ bytes. lines_of (bytes ++ rest)) sees.hands.kept ∙ ap lines_of (append_assoc (with_feed now.line) now.pending rest ∙ append_assoc now.line (10 ∷ []) (now.pending ++ rest))
-      ∙ lines_of-line now.line (now.pending ++ rest) sees.line.one_line;
+        ∙ lines_of-line now.line (now.pending ++ rest) sees.line.one_line;
   };
 }
 
@@ -49,7 +49,7 @@ ahead-rest left left' pending now sees = record {
   ahead = λ rest told. record {
     more = [];
     lines = ap (λ bytes. lines_of ((pending ++ sees.hands.got) ++ bytes)) (at_end left' rest sees.ended told) ∙ ap lines_of (append-nil (pending ++ sees.hands.got) ∙ rest_bytes left left' pending now sees)
-      ∙ lines_of-rest now.line sees.some sees.line.one_line;
+        ∙ lines_of-rest now.line sees.some sees.line.one_line;
   };
 }
 
@@ -157,8 +157,8 @@ long_ahead left left' pending now sees = record {
   got = sees.waits.hands.got;
   taken = sees.waits.hands.taken;
   ahead = λ rest told.
-    let found = begins_too_long now.pending rest sees.too_long in
-    subst (λ bytes. BeginsSome (bytes ++ rest)) (sym sees.waits.hands.kept) (record { line = found.line; begins = found.begins });
+      let found = begins_too_long now.pending rest sees.too_long in
+      subst (λ bytes. BeginsSome (bytes ++ rest)) (sym sees.waits.hands.kept) (record { line = found.line; begins = found.begins });
 }
 
 nothing : (xs ys : List ℕ) → xs ++ ys ≡ [] → (xs ≡ []) × (ys ≡ [])

@@ -42,7 +42,7 @@ steps_of-append [] ys [] qs good len = refl
 steps_of-append [] ys (r ∷ rs) qs good len = absurd (omega arith)
 steps_of-append (x ∷ xs) ys rs qs good len =
     meaning_goes_on (line_meaning x) rs qs (readings_of xs) (steps_of xs) (steps_of ys qs) good.0 len (steps_of (xs ++ ys))
-      (λ ps here. steps_of-append xs ys ps qs good.1 here)
+    (λ ps here. steps_of-append xs ys ps qs good.1 here)
 
 pub readings_of-append : (xs ys : List (List ℕ)) → readings_of (xs ++ ys) ≡ readings_of xs + readings_of ys
 readings_of-append [] ys = omega arith
@@ -64,7 +64,7 @@ first_bad_from-append number (x ∷ xs) ys good low =
     let low' : number + 1 + length xs ≤ LINE_COUNT_LIMIT + 1 = omega arith in
     let same : number + 1 + length xs ≡ number + suc (length xs) = omega arith in
     rw here (bad_behind (line_meaning x) number (first_bad_from (number + 1) (xs ++ ys)) _ good.0
-      (first_bad_from-append (number + 1) xs ys good.1 low' ∙ ap (λ n. first_bad_from n ys) same))
+    (first_bad_from-append (number + 1) xs ys good.1 low' ∙ ap (λ n. first_bad_from n ys) same))
 
 bad_here : (m : Meaning) (fault : LineFault) (number : ℕ) (rest : Option Status) → m ≡ Err fault → bad_by_meaning m number rest ≡ Some (BadLine number (kind_of fault))
 bad_here m fault number rest e = rw e refl

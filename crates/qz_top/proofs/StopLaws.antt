@@ -52,7 +52,7 @@ bad_behind bytes lines more line kind all good low is_bad =
       begins = record { rest = line ∷ more; all = all };
       number = refl;
       bad = ap first_bad all ∙ first_bad_from-append 1 lines (line ∷ more) good (omega arith) ∙ found
-        ∙ ap (λ k. Some (status.BadLine (1 + length lines) k)) (sym is_bad.kind_is) ∙ ap (λ n. Some (status.BadLine n kind)) number;
+          ∙ ap (λ k. Some (status.BadLine (1 + length lines) k)) (sym is_bad.kind_is) ∙ ap (λ n. Some (status.BadLine n kind)) number;
     }
 
 reads_bad : (i j k : Option (List ℕ)) (lines : List (List ℕ)) (pending : List ℕ) (kind : BadKind) → AllByRecursion IsOneLine lines → AllByRecursion IsGood lines → length lines + 1 ≤ LINE_COUNT_LIMIT
@@ -91,7 +91,7 @@ wrote_part x y z a b c lines readings line S ran part =
     let text = texts_of S (line ∷ []) part.readings in
     let all = texts_of-append lines (line ∷ []) readings part.readings new_session S a b ran.did in
     let cut : texts_of new_session lines readings ++ text ≡ texts_of new_session lines readings ++ take part.count text ++ drop part.count text =
-        ap (λ t. texts_of new_session lines readings ++ t) (sym (take-append-drop part.count text)) ∙ sym (append_assoc (texts_of new_session lines readings) (take part.count text) (drop part.count text)) in
+    ap (λ t. texts_of new_session lines readings ++ t) (sym (take-append-drop part.count text)) ∙ sym (append_assoc (texts_of new_session lines readings) (take part.count text) (drop part.count text)) in
     record {
       kept = lines;
       last = line ∷ [];
@@ -110,38 +110,57 @@ wrote_part x y z a b c lines readings line S ran part =
 pub IsRun-at : (e : LineEnd) (lines : List (List ℕ)) (readings : List ℤ) (i j k : Option (List ℕ)) (pending pending' : List ℕ) (S S' : SessionData) (x y z : Option (List ℕ)) (a b c : Option (List ℤ))
     → Upto lines readings i j pending S x y a b → TurnDone (Err e) j k pending pending' S S' y z b c → length lines + 1 ≤ LINE_COUNT_LIMIT
     → (all : List (List ℕ)) × (taken : List ℤ) × IsRun (status_at e (length lines + 1)) i k x z a c all taken
-IsRun-at (ends.Bad kind) lines readings i j k pending pending' S S' x y z a b c upto done low = (lines, readings, record {
-  good = upto.ran.did.good;
-  reads = reads_bad i j k lines pending kind upto.one_line upto.ran.did.good low upto.taken done.ahead;
-  clocked = exact_readings _ a c lines readings upto.ran.did.count (told_nothing a b c readings upto.ran.did.told done.told);
-  writes = subst (Appends x z) (texts_are lines readings) (wrote_nothing x y z _ upto.ran.written done.kept);
-})
-IsRun-at ends.ReadFault lines readings i j k pending pending' S S' x y z a b c upto done low = (lines, readings, record {
-  good = upto.ran.did.good;
-  reads = reads_fault i j k lines pending pending' upto.taken done.hands done.one_line;
-  clocked = exact_readings _ a c lines readings upto.ran.did.count (told_nothing a b c readings upto.ran.did.told done.told);
-  writes = subst (Appends x z) (texts_are lines readings) (wrote_nothing x y z _ upto.ran.written done.kept);
-})
+IsRun-at (ends.Bad kind) lines readings i j k pending pending' S S' x y z a b c upto done low = (
+  lines,
+  readings,
+  record {
+    called = tt;
+    good = upto.ran.did.good;
+    reads = reads_bad i j k lines pending kind upto.one_line upto.ran.did.good low upto.taken done.ahead;
+    clocked = exact_readings _ a c lines readings upto.ran.did.count (told_nothing a b c readings upto.ran.did.told done.told);
+    writes = subst (Appends x z) (texts_are lines readings) (wrote_nothing x y z _ upto.ran.written done.kept);
+  },
+)
+IsRun-at ends.ReadFault lines readings i j k pending pending' S S' x y z a b c upto done low = (
+  lines,
+  readings,
+  record {
+    called = tt;
+    good = upto.ran.did.good;
+    reads = reads_fault i j k lines pending pending' upto.taken done.hands done.one_line;
+    clocked = exact_readings _ a c lines readings upto.ran.did.count (told_nothing a b c readings upto.ran.did.told done.told);
+    writes = subst (Appends x z) (texts_are lines readings) (wrote_nothing x y z _ upto.ran.written done.kept);
+  },
+)
 IsRun-at ends.WriteFault lines readings i j k pending pending' S S' x y z a b c upto done low =
-    let did = Did-more lines (done.line ∷ []) readings done.part.readings new_session S done.part.S' a b c upto.ran.did done.part.did in
-    (lines ++ done.line ∷ [], readings ++ done.part.readings, record {
-      good = did.good;
-      reads = reads_part i j k lines pending done.line upto.one_line upto.taken done.ahead;
-      clocked = exact_readings _ a c _ _ did.count did.told;
-      writes = wrote_part x y z a b c lines readings done.line S upto.ran done.part;
-    })
-IsRun-at ends.NoMemory lines readings i j k pending pending' S S' x y z a b c upto done low = (lines, readings, record {
-  good = upto.ran.did.good;
-  reads = reads_some i j k lines pending done.got upto.one_line upto.taken done.taken;
-  clocked = record {
-    count = upto.ran.did.count;
-    more = done.gave_up.readings;
-    told = Tells-trans a b c readings done.gave_up.readings upto.ran.did.told done.gave_up.told;
-    none = λ other. absurd (other refl);
-    one = done.gave_up.one;
-  };
-  writes = subst (Appends x z) (texts_are lines readings) (wrote_nothing x y z _ upto.ran.written done.gave_up.kept);
-})
+    let did = Did-more lines (done.line ∷ []) readings done.part.readings new_session S done.part.S' a b c upto.ran.did done.part.did in (
+      lines ++ done.line ∷ [],
+      readings ++ done.part.readings,
+      record {
+        called = tt;
+        good = did.good;
+        reads = reads_part i j k lines pending done.line upto.one_line upto.taken done.ahead;
+        clocked = exact_readings _ a c _ _ did.count did.told;
+        writes = wrote_part x y z a b c lines readings done.line S upto.ran done.part;
+      },
+    )
+IsRun-at ends.NoMemory lines readings i j k pending pending' S S' x y z a b c upto done low = (
+  lines,
+  readings,
+  record {
+    called = tt;
+    good = upto.ran.did.good;
+    reads = reads_some i j k lines pending done.got upto.one_line upto.taken done.taken;
+    clocked = record {
+      count = upto.ran.did.count;
+      more = done.gave_up.readings;
+      told = Tells-trans a b c readings done.gave_up.readings upto.ran.did.told done.gave_up.told;
+      none = λ other. absurd (other refl);
+      one = done.gave_up.one;
+    };
+    writes = subst (Appends x z) (texts_are lines readings) (wrote_nothing x y z _ upto.ran.written done.gave_up.kept);
+  },
+)
 
 reads_many : (i j k : Option (List ℕ)) (lines : List (List ℕ)) (pending : List ℕ) → AllByRecursion IsOneLine lines → AllByRecursion IsGood lines → length lines ≡ LINE_COUNT_LIMIT
     → Consumes i j (with_feeds lines ++ pending) → Ahead j k pending BeginsSome → Reads (status.BadLine (LINE_COUNT_LIMIT + 1) bad.TooManyLines) i k lines
@@ -154,7 +173,7 @@ reads_many (Some bytes) j k lines pending one good full taken ahead =
       begins = record { rest = told.is.line ∷ told.is.begins.more; all = all };
       number = omega arith;
       bad = ap first_bad all ∙ first_bad_from-append 1 lines (told.is.line ∷ told.is.begins.more) good (omega arith)
-        ∙ first_bad_from-many (1 + length lines) told.is.line told.is.begins.more (omega arith) ∙ ap (λ n. Some (status.BadLine n bad.TooManyLines)) number;
+          ∙ first_bad_from-many (1 + length lines) told.is.line told.is.begins.more (omega arith) ∙ ap (λ n. Some (status.BadLine n bad.TooManyLines)) number;
     }
 
 -- One line too many begins.
@@ -162,6 +181,7 @@ pub IsRun-many : (lines : List (List ℕ)) (readings : List ℤ) (i j k : Option
     → Upto lines readings i j pending S x y a b → Ahead j k pending BeginsSome → length lines ≡ LINE_COUNT_LIMIT
     → IsRun (status.BadLine (LINE_COUNT_LIMIT + 1) bad.TooManyLines) i k x y a b lines readings
 IsRun-many lines readings i j k pending S x y a b upto ahead full = record {
+  called = tt;
   good = upto.ran.did.good;
   reads = reads_many i j k lines pending upto.one_line upto.ran.did.good full upto.taken ahead;
   clocked = exact_readings _ a b lines readings upto.ran.did.count upto.ran.did.told;
@@ -173,6 +193,7 @@ pub IsRun-fault : (lines : List (List ℕ)) (readings : List ℤ) (i j k : Optio
     → Upto lines readings i j pending S x y a b → Hands j k pending pending' [] → IsOneLine pending'
     → IsRun status.ReadFault i k x y a b lines readings
 IsRun-fault lines readings i j k pending pending' S x y a b upto hands one = record {
+  called = tt;
   good = upto.ran.did.good;
   reads = reads_fault i j k lines pending pending' upto.taken hands one;
   clocked = exact_readings _ a b lines readings upto.ran.did.count upto.ran.did.told;
@@ -192,4 +213,4 @@ reads_nothing (Some bytes) = record { rest = lines_of bytes; all = refl }
 
 -- memory ran out before anything was read
 pub IsRun-nothing : (i x : Option (List ℕ)) (a : Option (List ℤ)) → IsRun status.NoMemory i i x x a a [] []
-IsRun-nothing i x a = record { good = tt; reads = reads_nothing i; clocked = exact_readings status.NoMemory a a [] [] refl (Tells-nil a); writes = Appends-nil x }
+IsRun-nothing i x a = record { called = tt; good = tt; reads = reads_nothing i; clocked = exact_readings status.NoMemory a a [] [] refl (Tells-nil a); writes = Appends-nil x }

@@ -125,11 +125,13 @@ gave_up held clock = record { readings = []; one = omega arith; told = Tells-nil
 pub LineDone-step : (r : Result (Unit {0}) LineEnd) (line : List ℕ) (given : Given) (S S' : SessionData) (x y : Option (List ℕ)) (a b : Option (List ℤ))
     → (Ok (Some given) ≡ Err line_fault.NoMemory) ⊎ (Ok (Some given) ≡ line_meaning line) → StepDone r given S S' x y a b → LineDone r line S S' x y a b
 LineDone-step (Ok u) line given S S' x y a b read done =
-    let e = read_meaning (Some given) (line_meaning line) read in
-    (taken_reading given.at done.0, record {
-      did = Did-one line given done.0 S S' a b e done.1;
-      written = subst (Appends x y) (sym (texts_of-one line given done.0 S e done.1.own)) done.2;
-    })
+    let e = read_meaning (Some given) (line_meaning line) read in (
+      taken_reading given.at done.0,
+      record {
+        did = Did-one line given done.0 S S' a b e done.1;
+        written = subst (Appends x y) (sym (texts_of-one line given done.0 S e done.1.own)) done.2;
+      },
+    )
 LineDone-step (Err (ends.Bad kind)) line given S S' x y a b read done = absurd done
 LineDone-step (Err ends.ReadFault) line given S S' x y a b read done = done
 LineDone-step (Err ends.WriteFault) line given S S' x y a b read done =

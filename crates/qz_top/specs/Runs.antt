@@ -76,8 +76,14 @@ pub record Clocked (s : Status) (clock clock' : Option (List ℤ)) (lines : List
   pub none : (s ≡ status.NoMemory → ⊥) → more ≡ []
   pub one : length more ≤ 1
 
+-- a script has no words that could be bad
+abbrev pub IsOfScript : Status → Type 0
+IsOfScript (status.BadWords fault) = ⊥
+IsOfScript s = ⊤
+
 -- A run of these lines, with these readings of the clock.
 pub record IsRun (s : Status) (left left' held held' : Option (List ℕ)) (clock clock' : Option (List ℤ)) (lines : List (List ℕ)) (readings : List ℤ) : Type 0 where
+  pub called : IsOfScript s
   pub good : AllByRecursion IsGood lines
   pub reads : Reads s left left' lines
   pub clocked : Clocked s clock clock' lines readings

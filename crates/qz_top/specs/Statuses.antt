@@ -1,5 +1,7 @@
 -- The exit status of the program, and the text on standard error, for each status.
-use Rattle.std.specs.Prelude.{ℕ, List, [], ◌∷◌, ◌++◌, codes}
+use Rattle.std.specs.Prelude.{◌⊎◌, ℕ, List, [], ◌∷◌, ◌++◌, codes, Option}
+use Rattle.std.specs.Io.KnownBytes.{Appends}
+use Rattle.qz_civil.specs.Causes.{Rose}
 use Rattle.std.specs.Fmt.{decimal}
 use Rattle.qz_top.specs.declared.statuses.WordFault.{WordFault}
 use Rattle.qz_top.specs.declared.statuses.BadKind.{BadKind}
@@ -39,3 +41,7 @@ status_at (ends.Bad kind) number = status.BadLine number kind
 status_at ends.ReadFault number = status.ReadFault
 status_at ends.WriteFault number = status.WriteFault
 status_at ends.NoMemory number = status.NoMemory
+
+-- the text was written, or the output failed
+abbrev pub Reported : List ℕ → Option (List ℕ) → Option (List ℕ) → ℕ → ℕ → Type 0
+Reported text held held' faults faults' = Appends held held' text ⊎ Rose faults faults'

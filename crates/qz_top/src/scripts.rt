@@ -2,7 +2,7 @@
 ghost use Rattle.std.specs.Prelude.{◌≡◌, ◌≤◌, ℕ, ℤ, List, Err, OnErr};
 ghost use Rattle.qz_civil.specs.Causes.{Rose};
 ghost use Rattle.qz_top.specs.Inputs.{TurnDone, BeyondDone, Finishes};
-ghost use Rattle.qz_top.specs.Runs.{IsRun};
+ghost use Rattle.qz_top.specs.Runs.{IsOfScript, IsRun};
 ghost use Rattle.qz_top.specs.Statuses.{status_at};
 
 use crate::{BadKind, LINE_COUNT_LIMIT, LineEnd, Session, Status, do_line};
@@ -18,7 +18,8 @@ pub fn script<S: Source, K: Sink, C: Clock>(
     clock: &mut C,
 ) -> Status
     ensures run { (lines : List (List ℕ)) × (readings : List ℤ)
-      × IsRun result (S.left input.old) (S.left input.new) (K.held out.old) (K.held out.new) (C.readings clock.old) (C.readings clock.new) lines readings }
+        × IsRun result (S.left input.old) (S.left input.new) (K.held out.old) (K.held out.new) (C.readings clock.old) (C.readings clock.new) lines readings }
+    ensures called { IsOfScript result }
     ensures read { result ≡ Status.ReadFault → Rose (S.faults input.old) (S.faults input.new) }
     ensures write { result ≡ Status.WriteFault → Rose (K.faults out.old) (K.faults out.new) }
 {

@@ -74,7 +74,12 @@ impl Session {
         ensures err { OnErr result (self.new ≡ self.old) }
     {
         let command = Command::Join { node: node.copy()? };
-        submit_join(&mut self.store, &mut self.held, node, client_entry(command, at))
+        submit_join(
+            &mut self.store,
+            &mut self.held,
+            node,
+            client_entry(command, at),
+        )
     }
 
     fn node(&mut self, node: &Text, command: Command, at: i64) -> Result<StepReply, NoMemory>

@@ -92,12 +92,7 @@ fn do_step<K: Sink, C: Clock>(
 
 /// Does a step, and gives its reply line.
 #[tactic(auto, unfolding(crate::specs::Sessions::effect_at, crate::specs::Sessions::session_after))]
-fn answer_text(
-    alloc: Global,
-    step: Step,
-    at: i64,
-    session: &mut Session,
-) -> Result<Text, NoMemory>
+fn answer_text(alloc: Global, step: Step, at: i64, session: &mut Session) -> Result<Text, NoMemory>
     requires { IsTrue (is_step step) }
     ensures text { IfOk result (λ text. text ≡ session_text session.old (record { step = step; at = at })) }
     ensures session { OnOk result (session.new ≡ session_after session.old (record { step = step; at = at })) }

@@ -7,5 +7,5 @@ invariant-loop-number g l = record {
   reads : g.S.Source.faults l.fn.input ≤ g.S.Source.faults l.input;
   writes : g.K.Sink.faults l.fn.out ≤ g.K.Sink.faults l.out;
   ran : (lines : List (List ℕ)) × (readings : List ℤ) × (length lines ≡ l.number)
-    × Upto lines readings (g.S.Source.left l.fn.input) (g.S.Source.left l.input) l.reader.pending l.session (g.K.Sink.held l.fn.out) (g.K.Sink.held l.out) (g.C.Clock.readings l.fn.clock) (g.C.Clock.readings l.clock);
+      × Upto lines readings (g.S.Source.left l.fn.input) (g.S.Source.left l.input) l.reader.pending l.session (g.K.Sink.held l.fn.out) (g.K.Sink.held l.out) (g.C.Clock.readings l.fn.clock) (g.C.Clock.readings l.clock);
 }
