@@ -1,5 +1,5 @@
-use Rattle.std.proofs.Common.{List, ℕ, Vec, ◌+◌, arith, refl, ap, ◌∙◌, ◌∷◌}
-use Rattle.qz_disk.specs.declared.calls.Call.TheVariants.{Len, Read, Write, Sync, Restart}
+use Rattle.std.proofs.Common.{ℕ, refl, ap, ◌∙◌, ◌∷◌}
+use Rattle.qz_disk.specs.declared.calls.Call.TheVariants.{Len, Sync}
 use Rattle.qz_disk.specs.Memory.{Standing}
 use Rattle.qz_disk.proofs.Replays.{at_call, split_as, split_same, split_write, split_rest}
 use Rattle.qz_disk.proofs.images.unsynced.Goals as goal
