@@ -1,29 +1,21 @@
 -- How a script ends: the run that its lines make, by the status.
-use Rattle.std.proofs.Common.{◌≡◌, ◌≤◌, ◌<◌, ℕ, suc, ◌+◌, ℤ, List, [], ◌∷◌, ◌++◌, length, take, drop, Bool, true, false, Option, Some, None, refl, sym, ap, ◌∙◌, subst, arith, append_assoc, length-append}
-use Rattle.std.specs.Prelude.{Result, Ok, Err}
+use Rattle.std.proofs.Common.{◌≡◌, ◌≤◌, ℕ, ◌+◌, ℤ, List, [], ◌++◌, length, Option, Some, None, refl, sym, ap, ◌∙◌, subst, arith, length-append}
 use Rattle.std.specs.List.{AllByRecursion}
 use Rattle.std.specs.Io.KnownBytes.{Consumes, Appends, IsAtEnd}
-use Rattle.std.proofs.KnownBytes.{Appends-nil, Appends-trans, Consumes-trans}
-use Rattle.std.proofs.lemmas.List.{append-nil, take-append-drop}
+use Rattle.std.proofs.KnownBytes.{Appends-trans}
+use Rattle.std.proofs.lemmas.List.{append-nil}
 use Rattle.qz_io.specs.Clocks.{Tells}
 use Rattle.qz_io.specs.Lines.{IsOneLine, lines_of, with_feeds}
-use Rattle.qz_io.specs.Reading.{Hands}
 use Rattle.qz_top.specs.declared.statuses.TheConstants.{LINE_COUNT_LIMIT}
-use Rattle.qz_top.specs.declared.statuses.BadKind.{BadKind}
-use Rattle.qz_top.specs.declared.statuses.BadKind.TheVariants as bad
 use Rattle.qz_top.specs.declared.statuses.Status.{Status}
 use Rattle.qz_top.specs.declared.statuses.Status.TheVariants as status
-use Rattle.qz_top.specs.declared.turns.LineEnd.{LineEnd}
-use Rattle.qz_top.specs.declared.turns.LineEnd.TheVariants as ends
-use Rattle.qz_top.specs.Statuses.{status_at}
-use Rattle.qz_top.specs.Lines.{IsGood, readings_of, steps_of, first_bad, first_bad_from}
+use Rattle.qz_top.specs.Lines.{IsGood, readings_of, first_bad, first_bad_from}
 use Rattle.qz_top.specs.Sessions.{SessionData, new_session}
-use Rattle.qz_top.specs.Turns.{Did, Ran, RanPart, GaveUp, IsBad, texts_of}
-use Rattle.qz_top.specs.Inputs.{Ahead, BeginsWith, BeginsSome, BeginsBad, WentToEnd, MetBad, MetFault, WrotePartOf, MetNoMemory, TurnDone, Upto, BeyondDone, Finishes}
-use Rattle.qz_top.specs.Runs.{script_texts, BeginWith, ReadAll, ReadToBad, ReadToFault, Reads, WrotePart, Writes, Clocked, IsRun}
-use Rattle.qz_top.proofs.LineLaws.{AllByRecursion-append, first_bad_from-append, first_bad_from-bad, first_bad_from-many}
+use Rattle.qz_top.specs.Inputs.{WentToEnd, Upto, Finishes}
+use Rattle.qz_top.specs.Runs.{script_texts, Reads, WrotePart, Clocked, IsRun}
+use Rattle.qz_top.proofs.LineLaws.{first_bad_from-append}
 use Rattle.qz_top.proofs.TurnLaws.{Tells-trans, Ran-none, Ran-more}
-use Rattle.qz_top.proofs.UptoLaws.{texts_are, taken_more, whole, told_rest}
+use Rattle.qz_top.proofs.UptoLaws.{texts_are, whole, told_rest}
 
 -- the readings of the lines, and no more
 pub exact_readings : (s : Status) (a b : Option (List ℤ)) (lines : List (List ℕ)) (readings : List ℤ) → length readings ≡ readings_of lines → Tells a b readings → Clocked s a b lines readings

@@ -1,14 +1,13 @@
 -- What the line reader saw, as lines of the bytes that are ahead.
-use Rattle.std.proofs.Common.{◌≡◌, ◌≢◌, ◌≤◌, ◌<◌, ℕ, suc, zero, ◌+◌, ℤ, List, [], ◌∷◌, ◌++◌, length, take, Bool, true, false, if◌then◌else◌, Option, Some, None, refl, sym, ap, ◌∙◌, subst, arith, append_assoc, length-append}
-use Rattle.std.specs.Prelude.{Result, Ok, Err, ◌==◌, nat_lt}
-use Rattle.std.specs.List.{All, AllByRecursion}
-use Rattle.std.specs.Io.KnownBytes.{Consumes, Appends, IsAtEnd}
+use Rattle.std.proofs.Common.{◌≡◌, ◌≢◌, ◌≤◌, ◌<◌, ℕ, suc, zero, ℤ, List, [], ◌∷◌, ◌++◌, length, take, true, Option, Some, None, refl, sym, ap, ◌∙◌, subst, arith, append_assoc, length-append}
+use Rattle.std.specs.Prelude.{Err, nat_lt}
+use Rattle.std.specs.Io.KnownBytes.{Consumes, IsAtEnd}
 use Rattle.std.proofs.KnownBytes.{Appends-nil}
 use Rattle.std.proofs.lemmas.List.{append-nil, take-append-le}
 use Rattle.std.proofs.lemmas.List.Elements.{All-head, All-tail}
 use Rattle.std.proofs.lemmas.Bool.Decides.{nat_tests}
 use Rattle.qz_io.specs.Lines.{IsOneLine, lines_of, onto, with_feed}
-use Rattle.qz_io.specs.Reading.{ReaderData, Hands, BeginsTooLong, SeesLine, SeesRest, SeesTooLong, SeesEnd, SeesFault}
+use Rattle.qz_io.specs.Reading.{ReaderData, BeginsTooLong, SeesLine, SeesRest, SeesTooLong, SeesEnd}
 use Rattle.qz_io.proofs.Cut.{lines_of-line, lines_of-rest}
 use Rattle.qz_job_json.specs.declared.lines.LineFault.TheVariants as line_fault
 use Rattle.qz_top.specs.Lines.{line_meaning}

@@ -1,28 +1,26 @@
 -- How a script stops before the end of its input: the run that its lines make, by what stopped it.
-use Rattle.std.proofs.Common.{◌≡◌, ◌≤◌, ◌<◌, ℕ, suc, ◌+◌, ℤ, List, [], ◌∷◌, ◌++◌, length, take, drop, Bool, true, false, Option, Some, None, refl, sym, ap, ◌∙◌, subst, arith, append_assoc, length-append}
-use Rattle.std.specs.Prelude.{Result, Ok, Err}
+use Rattle.std.proofs.Common.{◌≡◌, ◌≤◌, ℕ, ◌+◌, ℤ, List, [], ◌∷◌, ◌++◌, length, take, drop, Option, Some, None, refl, sym, ap, ◌∙◌, subst, arith, append_assoc}
+use Rattle.std.specs.Prelude.{Err}
 use Rattle.std.specs.List.{AllByRecursion}
-use Rattle.std.specs.Io.KnownBytes.{Consumes, Appends, IsAtEnd}
-use Rattle.std.proofs.KnownBytes.{Appends-nil, Appends-trans, Consumes-trans}
-use Rattle.std.proofs.lemmas.List.{append-nil, take-append-drop}
-use Rattle.qz_io.specs.Clocks.{Tells}
+use Rattle.std.specs.Io.KnownBytes.{Consumes, Appends}
+use Rattle.std.proofs.KnownBytes.{Appends-nil, Appends-trans}
+use Rattle.std.proofs.lemmas.List.{take-append-drop}
 use Rattle.qz_io.specs.Lines.{IsOneLine, lines_of, with_feeds}
 use Rattle.qz_io.specs.Reading.{Hands}
 use Rattle.qz_top.specs.declared.statuses.TheConstants.{LINE_COUNT_LIMIT}
 use Rattle.qz_top.specs.declared.statuses.BadKind.{BadKind}
 use Rattle.qz_top.specs.declared.statuses.BadKind.TheVariants as bad
-use Rattle.qz_top.specs.declared.statuses.Status.{Status}
 use Rattle.qz_top.specs.declared.statuses.Status.TheVariants as status
 use Rattle.qz_top.specs.declared.turns.LineEnd.{LineEnd}
 use Rattle.qz_top.specs.declared.turns.LineEnd.TheVariants as ends
 use Rattle.qz_top.specs.Statuses.{status_at}
-use Rattle.qz_top.specs.Lines.{IsGood, first_bad, first_bad_from}
+use Rattle.qz_top.specs.Lines.{IsGood, first_bad}
 use Rattle.qz_top.specs.Sessions.{SessionData, new_session}
-use Rattle.qz_top.specs.Turns.{Did, Ran, RanPart, GaveUp, IsBad, texts_of}
-use Rattle.qz_top.specs.Inputs.{Ahead, BeginsWith, BeginsSome, BeginsBad, WentToEnd, MetBad, MetFault, WrotePartOf, MetNoMemory, TurnDone, Upto, BeyondDone}
-use Rattle.qz_top.specs.Runs.{script_texts, BeginWith, ReadToBad, ReadToFault, Reads, WrotePart, Clocked, IsRun}
+use Rattle.qz_top.specs.Turns.{Ran, RanPart, IsBad, texts_of}
+use Rattle.qz_top.specs.Inputs.{Ahead, BeginsWith, BeginsSome, BeginsBad, TurnDone, Upto, BeyondDone}
+use Rattle.qz_top.specs.Runs.{ReadToBad, Reads, WrotePart, IsRun}
 use Rattle.qz_top.proofs.LineLaws.{first_bad_from-append, first_bad_from-bad, first_bad_from-many}
-use Rattle.qz_top.proofs.TurnLaws.{Tells-nil, Tells-trans, Ran-none, Did-more, texts_of-append}
+use Rattle.qz_top.proofs.TurnLaws.{Tells-nil, Tells-trans, Did-more, texts_of-append}
 use Rattle.qz_top.proofs.UptoLaws.{texts_are, taken_more, whole, told_rest}
 use Rattle.qz_top.proofs.EndLaws.{exact_readings, told_nothing, wrote_nothing}
 

@@ -4,11 +4,10 @@ use Rattle.std.proofs.lemmas.List.{append-nil}
 use Rattle.std.specs.Io.KnownBytes.{Appends}
 use Rattle.std.proofs.KnownBytes.{Appends-nil, Appends-trans}
 use Rattle.qz_io.specs.Clocks.{Tells}
-use Rattle.qz_model.specs.Script.{TimedStep}
 use Rattle.std.specs.Prelude.{Result, Ok, Err}
 use Rattle.qz_types.specs.declared.steps.Step.{Step}
 use Rattle.qz_job_json.specs.declared.lines.Given.{Given}
-use Rattle.qz_top.specs.Lines.{Meaning, line_meaning, kind_of, IsGoodMeaning, readings_of_at, readings_of_meaning, readings_of, timed, steps_by_meaning, steps_of}
+use Rattle.qz_top.specs.Lines.{Meaning, line_meaning, kind_of, IsGoodMeaning, readings_of_at, readings_of_meaning, timed, steps_by_meaning, steps_of}
 use Rattle.qz_top.specs.Sessions.{SessionData, session_after_all, session_text, session_texts}
 use Rattle.qz_top.specs.Turns.{Did, Ran, DidStep, IsOwn, taken_reading, step_at, texts_of, GaveUp, StepDone, LineDone, IsBad, line_end}
 use Rattle.qz_top.specs.declared.turns.LineEnd.{LineEnd}

@@ -1,35 +1,23 @@
 -- A script that goes on, and how it ends.
-use Rattle.std.proofs.Common.{◌≡◌, ◌≢◌, ◌≤◌, ◌<◌, ℕ, suc, ◌+◌, ℤ, List, [], ◌∷◌, ◌++◌, length, take, drop, Bool, true, false, Option, Some, None, refl, sym, ap, ◌∙◌, subst, arith, append_assoc, length-append}
-use Rattle.std.specs.Prelude.{Result, Ok, Err}
-use Rattle.std.specs.List.{All, AllByRecursion, flat_map}
-use Rattle.std.specs.Io.KnownBytes.{Consumes, Appends, IsAtEnd}
-use Rattle.std.proofs.KnownBytes.{Appends-nil, Appends-trans, Consumes-nil, Consumes-trans}
+use Rattle.std.proofs.Common.{◌≡◌, ℕ, ℤ, List, [], ◌∷◌, ◌++◌, Option, Some, None, refl, sym, ap, ◌∙◌, subst, append_assoc}
+use Rattle.std.specs.List.{AllByRecursion, flat_map}
+use Rattle.std.specs.Io.KnownBytes.{Consumes}
+use Rattle.std.proofs.KnownBytes.{Consumes-nil, Consumes-trans}
 use Rattle.std.proofs.lemmas.List.{append-nil}
 use Rattle.std.proofs.lemmas.List.Elements.{All-from_recursion}
 use Rattle.std.proofs.lemmas.Grind.{flat_map-append}
-use Rattle.qz_io.specs.Clocks.{Tells}
 use Rattle.qz_io.specs.Lines.{IsOneLine, lines_of, with_feed, with_feeds}
-use Rattle.qz_io.specs.Reading.{Hands}
 use Rattle.qz_io.proofs.Cut.{lines_of-append}
-use Rattle.qz_model.specs.Script.{ScriptState, TimedStep, new_script, after_step, effect_in, step_replies, with_optional, tables_after}
-use Rattle.qz_model.specs.History.{replay}
+use Rattle.qz_model.specs.Script.{ScriptState, TimedStep, new_script, after_step, effect_in, step_replies}
 use Rattle.qz_model.proofs.Scripts.{replay-with_optional}
 use Rattle.qz_report.specs.Replies.{reply_text}
-use Rattle.qz_top.specs.declared.statuses.TheConstants.{LINE_COUNT_LIMIT}
-use Rattle.qz_top.specs.declared.statuses.BadKind.{BadKind}
-use Rattle.qz_top.specs.declared.statuses.BadKind.TheVariants as bad
-use Rattle.qz_top.specs.declared.statuses.Status.{Status}
-use Rattle.qz_top.specs.declared.statuses.Status.TheVariants as status
-use Rattle.qz_top.specs.declared.turns.LineEnd.{LineEnd}
-use Rattle.qz_top.specs.declared.turns.LineEnd.TheVariants as ends
-use Rattle.qz_top.specs.Statuses.{status_at}
-use Rattle.qz_top.specs.Lines.{IsGood, readings_of, steps_of, first_bad, first_bad_from}
-use Rattle.qz_top.specs.Sessions.{SessionData, seen, new_session, effect_at, session_after, session_after_all, session_text, session_texts}
-use Rattle.qz_top.specs.Turns.{Did, Ran, RanPart, GaveUp, IsBad, texts_of}
-use Rattle.qz_top.specs.Inputs.{Ahead, BeginsWith, BeginsSome, BeginsBad, WentOn, WentToEnd, MetBad, MetFault, WrotePartOf, MetNoMemory, TurnDone, Upto, BeyondDone, Finishes}
-use Rattle.qz_top.specs.Runs.{script_texts, BeginWith, ReadAll, ReadToBad, ReadToFault, Reads, WrotePart, Writes, Clocked, IsRun}
-use Rattle.qz_top.proofs.LineLaws.{AllByRecursion-append, first_bad_from-append, first_bad_from-bad, first_bad_from-many}
-use Rattle.qz_top.proofs.TurnLaws.{Tells-nil, Tells-trans, Ran-none, Ran-more, Did-more, texts_of-append}
+use Rattle.qz_top.specs.Lines.{steps_of}
+use Rattle.qz_top.specs.Sessions.{SessionData, seen, new_session, effect_at, session_after, session_text, session_texts}
+use Rattle.qz_top.specs.Turns.{texts_of}
+use Rattle.qz_top.specs.Inputs.{WentOn, Upto}
+use Rattle.qz_top.specs.Runs.{script_texts}
+use Rattle.qz_top.proofs.LineLaws.{AllByRecursion-append}
+use Rattle.qz_top.proofs.TurnLaws.{Ran-none, Ran-more}
 
 -- Sessions as they show a script's states.
 

@@ -1,9 +1,8 @@
 -- The exit status of the program, and the text on standard error, for each status.
-use Rattle.std.specs.Prelude.{◌⊎◌, ℕ, List, [], ◌∷◌, ◌++◌, codes, Option}
+use Rattle.std.specs.Prelude.{◌⊎◌, ℕ, List, [], ◌++◌, codes, Option}
 use Rattle.std.specs.Io.KnownBytes.{Appends}
 use Rattle.qz_civil.specs.Causes.{Rose}
 use Rattle.std.specs.Fmt.{decimal}
-use Rattle.qz_top.specs.declared.statuses.WordFault.{WordFault}
 use Rattle.qz_top.specs.declared.statuses.BadKind.{BadKind}
 use Rattle.qz_top.specs.declared.statuses.BadKind.TheVariants.{TooLong, NotJson, Shape, TooManyLines, NotHere}
 use Rattle.qz_top.specs.declared.statuses.Status.{Status}

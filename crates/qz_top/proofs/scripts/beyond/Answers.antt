@@ -1,4 +1,3 @@
-use Rattle.std.proofs.Common.{◌≡◌}
 use Rattle.qz_top.proofs.InputLaws.{ahead-line, ahead-rest, some_ahead, long_ahead, end_ahead}
 use Rattle.qz_top.proofs.scripts.beyond.Goals as goal
 

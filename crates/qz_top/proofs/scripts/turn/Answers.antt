@@ -1,4 +1,3 @@
-use Rattle.std.proofs.Common.{◌≡◌}
 use Rattle.qz_top.proofs.InputLaws.{ahead-line, ahead-rest, MetBad-long, WentToEnd-rest, WentToEnd-end, TurnDone-line}
 use Rattle.qz_top.proofs.scripts.turn.Goals as goal
 

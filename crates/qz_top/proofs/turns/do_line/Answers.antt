@@ -1,5 +1,3 @@
-use Rattle.std.proofs.Common.{◌≡◌, ap}
-use Rattle.std.specs.Prelude.{Err}
 use Rattle.qz_top.proofs.TurnLaws.{LineDone-step, LineDone-fault, not_write}
 use Rattle.qz_top.proofs.turns.do_line.Goals as goal
 
