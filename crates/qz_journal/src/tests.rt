@@ -7,7 +7,9 @@ use qz_disk::{Call, CutDisk, Disk, FaultDisk, MemDisk};
 use std::alloc::{AllocError, Global};
 use std::test::Fail;
 
-const HEADER: [u8; 16] = [b'Q', b'Z', b'2', b'3', 1, b'T', 0, 0, 0, 0, 0, 0, 0, 0, 0, 0];
+const HEADER: [u8; 16] = [
+    b'Q', b'Z', b'2', b'3', 1, b'T', 0, 0, 0, 0, 0, 0, 0, 0, 0, 0,
+];
 
 fn list(alloc: Global, bytes: &[u8]) -> Result<List<u8>, AllocError> {
     Ok(List::from_vec(Vec::from_slice(alloc, bytes)?))
@@ -38,9 +40,15 @@ fn lengths(alloc: Global, payloads: &List<List<u8>>) -> Result<List<usize>, Moun
 
 #[test]
 fn the_header_decides_whether_it_is_a_store(rt: HostRuntime) -> Result<(), Fail> {
-    let states = [b'Q', b'Z', b'2', b'3', 1, b'S', 0, 0, 0, 0, 0, 0, 0, 0, 0, 0];
-    let version_2 = [b'Q', b'Z', b'2', b'3', 2, b'T', 0, 0, 0, 0, 0, 0, 0, 0, 0, 0];
-    let reserved = [b'Q', b'Z', b'2', b'3', 1, b'T', 0, 0, 0, 0, 0, 0, 0, 0, 0, 1];
+    let states = [
+        b'Q', b'Z', b'2', b'3', 1, b'S', 0, 0, 0, 0, 0, 0, 0, 0, 0, 0,
+    ];
+    let version_2 = [
+        b'Q', b'Z', b'2', b'3', 2, b'T', 0, 0, 0, 0, 0, 0, 0, 0, 0, 0,
+    ];
+    let reserved = [
+        b'Q', b'Z', b'2', b'3', 1, b'T', 0, 0, 0, 0, 0, 0, 0, 0, 0, 1,
+    ];
     let table: [(&[u8], Option<MountError>); 6] = [
         (b"", Some(MountError::NotAStore)),
         (b"QZ23\x01", Some(MountError::NotAStore)),
@@ -79,7 +87,10 @@ fn the_least_bad_place_is_answered(rt: HostRuntime) -> Result<(), Fail> {
         let disk = disk_of(rt.alloc(), &HEADER, behind)?;
         let found = opened(rt.alloc(), disk, TRIGGERS);
         let found = found.as_ref().map(|lengths| lengths.as_slice());
-        assert!(rt; found == want.as_ref().map(|lengths| *lengths), "at {behind:?}");
+        assert!(rt;
+            found == want.as_ref().map(|lengths| *lengths),
+            "at {behind:?}"
+        );
     }
     Ok(())
 }
@@ -183,7 +194,10 @@ fn a_commit_that_is_cut_is_there_or_not(rt: HostRuntime) -> Result<(), Fail> {
     ];
     for (passes, image, answer, found) in table {
         let (answered, lengths) = cut_commit(rt.alloc(), passes, image)?;
-        assert!(rt; answered == answer && lengths.as_slice() == found, "at {passes} {image:?}");
+        assert!(rt;
+            answered == answer && lengths.as_slice() == found,
+            "at {passes} {image:?}"
+        );
     }
     Ok(())
 }
