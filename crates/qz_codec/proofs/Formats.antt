@@ -32,6 +32,12 @@ pub bind_ok : {A B : Type 0} (r : Result A ℕ) (f : A → Result B ℕ) (y : B)
 bind_ok (Ok x) f y e = (x, refl, e)
 bind_ok (Err d) f y e = absurd cc
 
+abbrev pub wrong : {A : Type 0} → ℕ → Result A ℕ
+wrong left = Err left
+
+pub no_value : {A : Type 0} (left : ℕ) (x : A) → wrong left ≡ Ok x → ⊥
+no_value left x e = absurd cc
+
 abbrev pub done : {A : Type 0} → A → Result A ℕ
 done x = Ok x
 
@@ -48,8 +54,8 @@ further_all : {A : Type 0} (m n size middle : ℕ) (r : Read A) → IsNear m siz
 further_all m n size middle (Ok x) p q = further m n size middle (length x.1) p q
 further_all m n size middle (Err left) p q = further m n size middle left p q
 
-pub near_then : {A B : Type 0} (m n size : ℕ) (r : Read A) (f : A × List ℕ → Read B) → EndsNear m size r → ((x : A × List ℕ) → EndsNear n (length x.1) (f x)) → EndsNear (m + n) size (r >>= f)
-near_then m n size (Ok x) f p q = further_all m n size (length x.1) (f x) p (q x)
+pub near_then : {A B : Type 0} (m n size : ℕ) (r : Read A) (f : A × List ℕ → Read B) → EndsNear m size r → ((x : A × List ℕ) → r ≡ Ok x → EndsNear n (length x.1) (f x)) → EndsNear (m + n) size (r >>= f)
+near_then m n size (Ok x) f p q = further_all m n size (length x.1) (f x) p (q x refl)
 near_then m n size (Err left) f p q = record { within = p.within; near = omega (arith, p.near) }
 
 -- what is known of a row once a field of it was read
@@ -65,11 +71,11 @@ abbrev pub Any : {A : Type 0} → A → Type 0
 Any x = Unit {0}
 
 -- A field, and those behind it.
-pub field : {A B : Type 0} {write_b : B → List ℕ} {IsB : B → Type 0} {read_b : List ℕ → Read B} {m n : ℕ} {write : A → List ℕ} {Known Is : A → Type 0} {read : B → List ℕ → Read A}
+pub field : {A B : Type 0} {write_b : B → List ℕ} {IsB : B → Type 0} {read_b : List ℕ → Read B} {m n : ℕ} {write : A → List ℕ} {Is : A → Type 0} {read : B → List ℕ → Read A} → (Known : A → Type 0)
     → (get : A → B) → IsFormat write_b Any IsB read_b m
     → ((b : B) → IsFormat write (λ x. Also (Known x) (get x ≡ b)) Is (read b) n)
     → IsFormat (λ x. write_b (get x) ++ write x) Known (λ x. Both (IsB (get x)) (Is x)) (λ bytes. read_b bytes >>= λ b. read b.0 b.1) (m + n)
-field {A} {B} {write_b} {IsB} {read_b} {m} {n} {write} {Known} {Is} {read} get one others = record {
+field {A} {B} {write_b} {IsB} {read_b} {m} {n} {write} {Is} {read} Known get one others = record {
   again = λ x rest known is.
     let first : read_b (write_b (get x) ++ (write x ++ rest)) ≡ Ok (get x, write x ++ rest) = one.again (get x) (write x ++ rest) tt is.first in
     let second : read (get x) (write x ++ rest) ≡ Ok (x, rest) = (others (get x)).again x rest (record { before = known; now = refl }) is.others in
@@ -84,16 +90,29 @@ field {A} {B} {write_b} {IsB} {read_b} {m} {n} {write} {Known} {Is} {read} get o
       known = second.known.before;
       valid = record { first = subst IsB (sym second.known.now) first.valid; others = second.valid };
     };
-  near = λ bytes. near_then m n (length bytes) (read_b bytes) (λ b. read b.0 b.1) (one.near bytes) (λ b. (others b.0).near b.1);
+  near = λ bytes. near_then m n (length bytes) (read_b bytes) (λ b. read b.0 b.1) (one.near bytes) (λ b e. (others b.0).near b.1);
 }
 
--- The end of a row: its fields say all of it.
-pub end : {A : Type 0} {Known : A → Type 0} → (made : A) → Known made → ((x : A) → Known x → x ≡ made) → IsFormat (λ x. []) Known Any (λ bytes. Ok (made, bytes)) 0
-end {A} {Known} made known unique = record {
-  again = λ x rest k is. ap (λ (y : A). Ok (y, rest)) (sym (unique x k));
-  takes = λ bytes x fits e. subst (λ (y : A × List ℕ). Takes (λ x. []) Known Any bytes y) (ok_is (made, bytes) x e) (record { parts = refl; rest = fits; known = known; valid = tt });
-  near = λ bytes. nothing_near (length bytes);
-}
+-- The last field: the row is made of it and of what is known.
+pub last : {A B : Type 0} {write_b : B → List ℕ} {IsB : B → Type 0} {read_b : List ℕ → Read B} {m : ℕ} → (Known : A → Type 0)
+    → (get : A → B) → IsFormat write_b Any IsB read_b m → (made : B → A) → ((b : B) → Known (made b)) → ((b : B) → get (made b) ≡ b) → ((x : A) → Known x → made (get x) ≡ x)
+    → IsFormat (λ x. write_b (get x)) Known (λ x. IsB (get x)) (λ bytes. read_b bytes >>= λ b. Ok (made b.0, b.1)) m
+last {A} {B} {write_b} {IsB} {read_b} {m} Known get one made known got unique = record {
+  again = λ x rest k is. ap (λ (r : Read B). r >>= λ b. Ok (made b.0, b.1)) (one.again (get x) rest tt is) ∙ ap (λ (y : A). Ok (y, rest)) (unique x k);
+  takes = λ bytes x fits e.
+    let s = bind_ok (read_b bytes) (λ b. Ok (made b.0, b.1)) x e in
+    let t = one.takes bytes s.0 fits s.1 in
+    subst (λ (y : A × List ℕ). Takes (λ a. write_b (get a)) Known (λ a. IsB (get a)) bytes y) (ok_is (made s.0.0, s.0.1) x s.2) (record {
+      parts = t.parts ∙ ap (λ (b : B). write_b b ++ s.0.1) (sym (got s.0.0));
+      rest = t.rest;
+      known = known s.0.0;
+      valid = subst IsB (sym (got s.0.0)) t.valid;
+    });
+  near = λ bytes. ends (length bytes) (read_b bytes) (one.near bytes);
+} where
+  ends : (size : ℕ) (r : Read B) → EndsNear m size r → EndsNear m size (r >>= λ b. Ok (made b.0, b.1))
+  ends size (Ok x) p = p
+  ends size (Err left) p = p
 
 -- the same format under other words
 pub same : {A : Type 0} {write write' : A → List ℕ} {Known Is Is' : A → Type 0} {read : List ℕ → Read A} {m : ℕ} → IsFormat write Known Is read m

@@ -2,3 +2,6 @@ pub mod Texts
 pub mod Formats
 pub mod Signs
 pub mod SingleFields
+pub mod RowFormats
+pub mod CommandFormats
+pub mod EntryFormats

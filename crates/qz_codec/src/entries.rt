@@ -51,3 +51,28 @@ fn whole_of(alloc: Global, bytes: &[u8]) -> Result<Entry, Fault>
     }
     Ok(entry)
 }
+
+/// Reads an entry, and places a fault from the front.
+fn read(alloc: Global, bytes: &[u8]) -> Result<Entry, ReadError>
+    ensures { Answers result (reading bytes.now) }
+{
+    match whole_of(alloc, bytes) {
+        Ok(entry) => Ok(entry),
+        Err(Fault::NoMemory) => Err(ReadError::NoMemory),
+        Err(Fault::Wrong { left }) => Err(ReadError::BadRecord {
+            at: (bytes.len() - left) as u32,
+        }),
+    }
+}
+
+/// Reads a record. The bytes may be of any number: what stands behind a record's end is its fault, and isn't read.
+pub fn get_command(alloc: Global, bytes: &[u8]) -> Result<Entry, ReadError>
+    // What is read has these bytes as its record.
+    ensures found { IfOk result (λ e. IsEntry e × (bytes.now ≡ record_of e)) }
+    // The record of an entry is read as that entry, unless memory runs out.
+    ensures only { (e : EntryData) → IsEntry e → bytes.now ≡ record_of e → Answers result (Ok e) }
+    // Which place is the fault's.
+    ensures exact { Answers result (reading bytes.now) }
+{
+    read(alloc, bytes)
+}

@@ -9,5 +9,7 @@ mod limits;
 mod rows;
 mod writing;
 
+pub use entries::get_command;
 pub use errors::ReadError;
 pub use limits::RECORD_LIMIT;
+pub use writing::put_command;

@@ -4,7 +4,7 @@ ghost use Rattle.std.specs.Int.{w8, w16, w32, w64};
 ghost use Rattle.std.specs.Str.{IsUtf8};
 ghost use Rattle.qz_civil.specs.Timings.{is_span, is_kind, is_misfire, is_timing, is_end};
 ghost use Rattle.qz_types.specs.Rows.{is_name, is_node, is_key, is_job, is_trigger_spec, is_member, is_calendar};
-ghost use Rattle.qz_types.specs.Entries.{is_command, is_entry};
+ghost use Rattle.qz_types.specs.Entries.{EntryData, is_command, is_entry};
 ghost use Rattle.qz_codec.specs.declared.limits.TheConstants.{RECORD_LIMIT};
 ghost use Rattle.qz_codec.specs.Values.{is_long, IsText, IsName, IsNumber, IsSpan, IsKey, IsJob, IsKind, IsTiming, IsSpec, IsMember, IsActor, IsCommand, IsEntry};
 ghost use Rattle.qz_codec.specs.Layout.{number, integer, small, flag, text, optional, key, job, kind, timing, spec, member, actor, code_place, command, entry, record_of};
@@ -15,6 +15,9 @@ use qz_types::{
     TriggerSpec,
 };
 use std::alloc::{AllocError, Global};
+
+/// Bytes that most records have room in, so that few buffers grow.
+const USUAL_SIZE: usize = 256;
 
 fn put_u8(out: &mut Vec<u8>, n: u8) -> Result<(), AllocError>
     ensures { OnOk result (out.new.items ≡ out.old.items ++ n ∷ []) }
@@ -287,4 +290,19 @@ fn put_entry(out: &mut Vec<u8>, e: &Entry) -> Result<(), AllocError>
     put_actor(out, &e.actor)?;
     put_u32(out, e.seat)?;
     put_variant(out, &e.command)
+}
+
+/// The record of an entry.
+pub fn put_command(alloc: Global, entry: &Entry) -> Result<List<u8>, NoMemory>
+    ensures bytes { IfOk result (λ bytes. bytes ≡ record_of entry.now) }
+    ensures size { IfOk result (λ bytes. (1 ≤ length bytes) × (length bytes ≤ RECORD_LIMIT)) }
+    // So its record is read as this entry.
+    ensures valid { OnOk result (IsEntry entry.now) }
+    // No other entry has this record.
+    ensures unique { OnOk result ((e : EntryData) → IsEntry e → record_of e ≡ record_of entry.now → e ≡ entry.now) }
+{
+    let mut out = Vec::with_capacity(alloc, USUAL_SIZE)?;
+    put_u8(&mut out, VERSION)?;
+    put_entry(&mut out, entry)?;
+    Ok(List::from_vec(out))
 }
