@@ -59,17 +59,18 @@ code_is b c e =
                 | inr e6 ↦ elim (choice (b == 6) (Some code.SetAllJobTriggersError) _ (Some c) e6) [
                   | inl h ↦ named code.SetAllJobTriggersError h.0 h.1
                   | inr e7 ↦ absurd (nothing e7)
-                  ]
                 ]
               ]
             ]
           ]
         ]
-      ] where
-  named : (d : Code) → (b == code_place d) ≡ true → Some d ≡ Some c → code_place c ≡ b
-  named d t h = ap code_place (sym (some_is d c h)) ∙ sym (eqb-true b (code_place d) t)
-  nothing : None ≡ Some c → ⊥
-  nothing h = absurd cc
+      ]
+    ] where
+      named : (d : Code) → (b == code_place d) ≡ true → Some d ≡ Some c → code_place c ≡ b
+      named d t h = ap code_place (sym (some_is d c h)) ∙ sym (eqb-true b (code_place d) t)
+
+      nothing : None ≡ Some c → ⊥
+      nothing h = absurd cc
 
 chosen_takes : (b : ℕ) (bytes : List ℕ) (o : Option Code) (x : Code × List ℕ) → code_of b ≡ o → IsBytes bytes → chosen o (suc (length bytes)) bytes ≡ Ok x → Takes code_byte Any Any (b ∷ bytes) x
 chosen_takes b bytes None x o fits e = absurd (no_value (suc (length bytes)) x e)
@@ -85,6 +86,7 @@ code_format = record { again = λ c rest k is. ap (λ (o : Option Code). chosen 
   takes : (bytes : List ℕ) (x : Code × List ℕ) → IsBytes bytes → code_at bytes ≡ Ok x → Takes code_byte Any Any bytes x
   takes [] x fits e = absurd (no_value 0 x e)
   takes (b ∷ bytes) x fits e = chosen_takes b bytes (code_of b) x refl (IsBytes-rest b bytes fits) e
+
   near : (bytes : List ℕ) → EndsNear 1 (length bytes) (code_at bytes)
   near [] = record { within = omega arith; near = omega arith }
   near (b ∷ bytes) = chosen_near bytes (code_of b)
@@ -212,9 +214,9 @@ client_takes (b ∷ bytes) y fits e =
         | inr e2 ↦ elim (choice (b == 14) (join_at bytes) _ (Ok y) e2) [
           | inl h ↦ given false 14 b bytes y join (λ x. refl) (λ x is. record { actor = refl; valid = is }) inside h.0 h.1
           | inr e3 ↦ absurd (no_value (suc (length bytes)) y e3)
-          ]
         ]
       ]
+    ]
 
 node_takes : (bytes : List ℕ) (y : Command × List ℕ) → IsBytes bytes → node_command_at bytes ≡ Ok y → Takes command Any (IsGiven true) bytes y
 unfolding node_command_at byte_at command
@@ -228,9 +230,9 @@ node_takes (b ∷ bytes) y fits e =
         | inr e2 ↦ elim (choice (b == 19) (complete_at bytes) _ (Ok y) e2) [
           | inl h ↦ given true 19 b bytes y complete (λ x. refl) (λ x is. record { actor = refl; valid = is.first }) inside h.0 h.1
           | inr e3 ↦ absurd (no_value (suc (length bytes)) y e3)
-          ]
         ]
       ]
+    ]
 
 near_of : (m n size : ℕ) (r : Read Command) → m ≤ n → EndsNear m size r → EndsNear (1 + n) (suc size) r
 near_of m n size (Ok x) le p = record { within = omega (arith, p.within); near = omega (arith, p.near) }
@@ -246,9 +248,9 @@ client_near [] = record { within = omega arith; near = omega arith }
 client_near (b ∷ bytes) =
     let P = λ (r : Read Command). EndsNear 4709 (suc (length bytes)) r in
     chosen_one P (b == 0) _ _ (near_of 4708 4708 (length bytes) (add_job_at bytes) (omega arith) (add_job.near bytes))
-      (chosen_one P (b == 2) _ _ (near_of 1051 4708 (length bytes) (add_trigger_at bytes) (omega arith) (add_trigger.near bytes))
-        (chosen_one P (b == 14) _ _ (near_of 122 4708 (length bytes) (join_at bytes) (omega arith) (join.near bytes))
-          (record { within = omega arith; near = omega arith })))
+    (chosen_one P (b == 2) _ _ (near_of 1051 4708 (length bytes) (add_trigger_at bytes) (omega arith) (add_trigger.near bytes))
+    (chosen_one P (b == 14) _ _ (near_of 122 4708 (length bytes) (join_at bytes) (omega arith) (join.near bytes))
+    (record { within = omega arith; near = omega arith })))
 
 node_near : (bytes : List ℕ) → EndsNear 4709 (length bytes) (node_command_at bytes)
 unfolding node_command_at byte_at
@@ -256,9 +258,9 @@ node_near [] = record { within = omega arith; near = omega arith }
 node_near (b ∷ bytes) =
     let P = λ (r : Read Command). EndsNear 4709 (suc (length bytes)) r in
     chosen_one P (b == 16) _ _ (near_of 20 4708 (length bytes) (acquire_at bytes) (omega arith) (acquire.near bytes))
-      (chosen_one P (b == 18) _ _ (near_of 8 4708 (length bytes) (fire_at bytes) (omega arith) (fire.near bytes))
-        (chosen_one P (b == 19) _ _ (near_of 9 4708 (length bytes) (complete_at bytes) (omega arith) (complete.near bytes))
-          (record { within = omega arith; near = omega arith })))
+    (chosen_one P (b == 18) _ _ (near_of 8 4708 (length bytes) (fire_at bytes) (omega arith) (fire.near bytes))
+    (chosen_one P (b == 19) _ _ (near_of 9 4708 (length bytes) (complete_at bytes) (omega arith) (complete.near bytes))
+    (record { within = omega arith; near = omega arith })))
 
 pub client_format : IsFormat command Any (IsGiven false) client_command_at 4709
 client_format = record { again = client_again; takes = client_takes; near = client_near }

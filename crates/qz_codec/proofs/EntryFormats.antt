@@ -80,14 +80,14 @@ unfolding entry entry_at
 entry_format = same {write' = entry} {Is' = IsEntry}
     (field Free (λ (e : EntryData). e.at) (integer_format wide64 same64) (λ at.
     field (λ (e : EntryData). Also (Unit {0}) (e.at ≡ at)) (λ (e : EntryData). e.actor) actor_format (λ who. same {Is' = IsRestOfEntry}
-        (field (λ (e : EntryData). Also (Also (Unit {0}) (e.at ≡ at)) (e.actor ≡ who)) (λ (e : EntryData). e.seat) (number_format wide32) (λ seat.
-        last (λ (e : EntryData). Also (Also (Also (Unit {0}) (e.at ≡ at)) (e.actor ≡ who)) (e.seat ≡ seat)) (λ (e : EntryData). e.command) (command_format who)
-            (λ c. record { at = at; actor = who; seat = seat; command = c })
-            (λ c. record { before = record { before = record { before = tt; now = refl }; now = refl }; now = refl })
-            (λ c. refl) (λ e h. rw (← h.now, ← h.before.now, ← h.before.before.now) refl)))
-        (λ e h. refl)
-        (λ e h p. record { seat = p.first; command = p.others.valid; asked = subst (λ (a : Actor). has_actor (is_of_node e.command) a ≡ true) (sym h.now) p.others.asked })
-        (λ e h p. record { first = p.seat; others = record { asked = subst (λ (a : Actor). has_actor (is_of_node e.command) a ≡ true) h.now p.asked; valid = p.command } }))))
+    (field (λ (e : EntryData). Also (Also (Unit {0}) (e.at ≡ at)) (e.actor ≡ who)) (λ (e : EntryData). e.seat) (number_format wide32) (λ seat.
+    last (λ (e : EntryData). Also (Also (Also (Unit {0}) (e.at ≡ at)) (e.actor ≡ who)) (e.seat ≡ seat)) (λ (e : EntryData). e.command) (command_format who)
+    (λ c. record { at = at; actor = who; seat = seat; command = c })
+    (λ c. record { before = record { before = record { before = tt; now = refl }; now = refl }; now = refl })
+    (λ c. refl) (λ e h. rw (← h.now, ← h.before.now, ← h.before.before.now) refl)))
+    (λ e h. refl)
+    (λ e h p. record { seat = p.first; command = p.others.valid; asked = subst (λ (a : Actor). has_actor (is_of_node e.command) a ≡ true) (sym h.now) p.others.asked })
+    (λ e h p. record { first = p.seat; others = record { asked = subst (λ (a : Actor). has_actor (is_of_node e.command) a ≡ true) h.now p.asked; valid = p.command } }))))
     (λ e h. refl)
     (λ e h p. record { at = p.first; actor = p.others.first; seat = p.others.others.seat; command = p.others.others.command; asked = p.others.others.asked })
     (λ e h p. record { first = p.at; others = record { first = p.actor; others = record { seat = p.seat; command = p.command; asked = p.asked } } })

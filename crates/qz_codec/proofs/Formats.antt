@@ -77,19 +77,19 @@ pub field : {A B : Type 0} {write_b : B → List ℕ} {IsB : B → Type 0} {read
     → IsFormat (λ x. write_b (get x) ++ write x) Known (λ x. Both (IsB (get x)) (Is x)) (λ bytes. read_b bytes >>= λ b. read b.0 b.1) (m + n)
 field {A} {B} {write_b} {IsB} {read_b} {m} {n} {write} {Is} {read} Known get one others = record {
   again = λ x rest known is.
-    let first : read_b (write_b (get x) ++ (write x ++ rest)) ≡ Ok (get x, write x ++ rest) = one.again (get x) (write x ++ rest) tt is.first in
-    let second : read (get x) (write x ++ rest) ≡ Ok (x, rest) = (others (get x)).again x rest (record { before = known; now = refl }) is.others in
-    ap (λ (bytes : List ℕ). read_b bytes >>= λ b. read b.0 b.1) (append_assoc (write_b (get x)) (write x) rest) ∙ ap (λ (r : Read B). r >>= λ b. read b.0 b.1) first ∙ second;
+      let first : read_b (write_b (get x) ++ (write x ++ rest)) ≡ Ok (get x, write x ++ rest) = one.again (get x) (write x ++ rest) tt is.first in
+      let second : read (get x) (write x ++ rest) ≡ Ok (x, rest) = (others (get x)).again x rest (record { before = known; now = refl }) is.others in
+      ap (λ (bytes : List ℕ). read_b bytes >>= λ b. read b.0 b.1) (append_assoc (write_b (get x)) (write x) rest) ∙ ap (λ (r : Read B). r >>= λ b. read b.0 b.1) first ∙ second;
   takes = λ bytes x fits e.
-    let s = bind_ok (read_b bytes) (λ b. read b.0 b.1) x e in
-    let first = one.takes bytes s.0 fits s.1 in
-    let second = (others s.0.0).takes s.0.1 x first.rest s.2 in
-    record {
-      parts = first.parts ∙ ap (λ (t : List ℕ). write_b s.0.0 ++ t) second.parts ∙ sym (append_assoc (write_b s.0.0) (write x.0) x.1) ∙ ap (λ (b : B). (write_b b ++ write x.0) ++ x.1) (sym second.known.now);
-      rest = second.rest;
-      known = second.known.before;
-      valid = record { first = subst IsB (sym second.known.now) first.valid; others = second.valid };
-    };
+      let s = bind_ok (read_b bytes) (λ b. read b.0 b.1) x e in
+      let first = one.takes bytes s.0 fits s.1 in
+      let second = (others s.0.0).takes s.0.1 x first.rest s.2 in
+      record {
+        parts = first.parts ∙ ap (λ (t : List ℕ). write_b s.0.0 ++ t) second.parts ∙ sym (append_assoc (write_b s.0.0) (write x.0) x.1) ∙ ap (λ (b : B). (write_b b ++ write x.0) ++ x.1) (sym second.known.now);
+        rest = second.rest;
+        known = second.known.before;
+        valid = record { first = subst IsB (sym second.known.now) first.valid; others = second.valid };
+      };
   near = λ bytes. near_then m n (length bytes) (read_b bytes) (λ b. read b.0 b.1) (one.near bytes) (λ b e. (others b.0).near b.1);
 }
 
@@ -100,14 +100,14 @@ pub last : {A B : Type 0} {write_b : B → List ℕ} {IsB : B → Type 0} {read_
 last {A} {B} {write_b} {IsB} {read_b} {m} Known get one made known got unique = record {
   again = λ x rest k is. ap (λ (r : Read B). r >>= λ b. Ok (made b.0, b.1)) (one.again (get x) rest tt is) ∙ ap (λ (y : A). Ok (y, rest)) (unique x k);
   takes = λ bytes x fits e.
-    let s = bind_ok (read_b bytes) (λ b. Ok (made b.0, b.1)) x e in
-    let t = one.takes bytes s.0 fits s.1 in
-    subst (λ (y : A × List ℕ). Takes (λ a. write_b (get a)) Known (λ a. IsB (get a)) bytes y) (ok_is (made s.0.0, s.0.1) x s.2) (record {
-      parts = t.parts ∙ ap (λ (b : B). write_b b ++ s.0.1) (sym (got s.0.0));
-      rest = t.rest;
-      known = known s.0.0;
-      valid = subst IsB (sym (got s.0.0)) t.valid;
-    });
+      let s = bind_ok (read_b bytes) (λ b. Ok (made b.0, b.1)) x e in
+      let t = one.takes bytes s.0 fits s.1 in
+      subst (λ (y : A × List ℕ). Takes (λ a. write_b (get a)) Known (λ a. IsB (get a)) bytes y) (ok_is (made s.0.0, s.0.1) x s.2) (record {
+        parts = t.parts ∙ ap (λ (b : B). write_b b ++ s.0.1) (sym (got s.0.0));
+        rest = t.rest;
+        known = known s.0.0;
+        valid = subst IsB (sym (got s.0.0)) t.valid;
+      });
   near = λ bytes. ends (length bytes) (read_b bytes) (one.near bytes);
 } where
   ends : (size : ℕ) (r : Read B) → EndsNear m size r → EndsNear m size (r >>= λ b. Ok (made b.0, b.1))
@@ -120,8 +120,8 @@ pub same : {A : Type 0} {write write' : A → List ℕ} {Known Is Is' : A → Ty
 same {A} {write} {write'} {Known} {Is} {Is'} {read} {m} f w there back = record {
   again = λ x rest known is. ap (λ (t : List ℕ). read (t ++ rest)) (sym (w x known)) ∙ f.again x rest known (back x known is);
   takes = λ bytes x fits e.
-    let t = f.takes bytes x fits e in
-    record { parts = t.parts ∙ ap (λ (s : List ℕ). s ++ x.1) (w x.0 t.known); rest = t.rest; known = t.known; valid = there x.0 t.known t.valid };
+      let t = f.takes bytes x fits e in
+      record { parts = t.parts ∙ ap (λ (s : List ℕ). s ++ x.1) (w x.0 t.known); rest = t.rest; known = t.known; valid = there x.0 t.known t.valid };
   near = f.near;
 }
 
@@ -145,11 +145,11 @@ near_checked m size passes (Err left) p = p
 pub those : {A : Type 0} {write : A → List ℕ} {Is : A → Type 0} {read : List ℕ → Read A} {m : ℕ} → (passes : A → Bool) → IsFormat write Any Is read m → IsFormat write Any (Passes Is passes) (checked passes read) m
 those {A} {write} {Is} {read} {m} passes f = record {
   again = λ x rest known is.
-    ap (λ (r : Read A). r >>= λ y. cond (passes y.0) (Ok y) (Err (length (write x ++ rest)))) (f.again x rest tt is.fits) ∙ ap (λ (b : Bool). cond b (Ok (x, rest)) (Err (length (write x ++ rest)))) is.passed;
+      ap (λ (r : Read A). r >>= λ y. cond (passes y.0) (Ok y) (Err (length (write x ++ rest)))) (f.again x rest tt is.fits) ∙ ap (λ (b : Bool). cond b (Ok (x, rest)) (Err (length (write x ++ rest)))) is.passed;
   takes = λ bytes x fits e.
-    let s = bind_ok (read bytes) (λ y. cond (passes y.0) (Ok y) (Err (length bytes))) x e in
-    let g = guard_ok (passes s.0.0) s.0 x (length bytes) s.2 in
-    let t = f.takes bytes s.0 fits s.1 in
-    subst (λ (y : A × List ℕ). Takes write Any (Passes Is passes) bytes y) g.1 (record { parts = t.parts; rest = t.rest; known = tt; valid = record { fits = t.valid; passed = g.0 } });
+      let s = bind_ok (read bytes) (λ y. cond (passes y.0) (Ok y) (Err (length bytes))) x e in
+      let g = guard_ok (passes s.0.0) s.0 x (length bytes) s.2 in
+      let t = f.takes bytes s.0 fits s.1 in
+      subst (λ (y : A × List ℕ). Takes write Any (Passes Is passes) bytes y) g.1 (record { parts = t.parts; rest = t.rest; known = tt; valid = record { fits = t.valid; passed = g.0 } });
   near = λ bytes. near_checked m (length bytes) passes (read bytes) (f.near bytes);
 }

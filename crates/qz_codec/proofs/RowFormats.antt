@@ -42,14 +42,14 @@ pub key_format : IsFormat key Any IsKey key_at 404
 unfolding key key_at
 key_format = same {write' = key} {Is' = IsKey}
     (field Free (λ (k : Key). k.group) name_format (λ group.
-        last (λ (k : Key). Also (Unit {0}) (k.group ≡ group)) (λ (k : Key). k.name) name_format (λ name. record { group = group; name = name }) (λ name. record { before = tt; now = refl }) (λ name. refl) (λ k h. rw (← h.now) refl)))
+    last (λ (k : Key). Also (Unit {0}) (k.group ≡ group)) (λ (k : Key). k.name) name_format (λ name. record { group = group; name = name }) (λ name. record { before = tt; now = refl }) (λ name. refl) (λ k h. rw (← h.now) refl)))
     (λ k h. refl) (λ k h p. record { group = p.first; name = p.others }) (λ k h p. record { first = p.group; others = p.name })
 
 pub member_format : IsFormat member Any IsMember member_at 130
 unfolding member member_at
 member_format = same {write' = member} {Is' = IsMember}
     (field Free (λ (k : MemberData). k.node) node_format (λ node.
-        last (λ (k : MemberData). Also (Unit {0}) (k.node ≡ node)) (λ (k : MemberData). k.epoch) (number_format wide64) (λ epoch. record { node = node; epoch = epoch }) (λ epoch. record { before = tt; now = refl }) (λ epoch. refl) (λ k h. rw (← h.now) refl)))
+    last (λ (k : MemberData). Also (Unit {0}) (k.node ≡ node)) (λ (k : MemberData). k.epoch) (number_format wide64) (λ epoch. record { node = node; epoch = epoch }) (λ epoch. record { before = tt; now = refl }) (λ epoch. refl) (λ k h. rw (← h.now) refl)))
     (λ k h. refl) (λ k h p. record { node = p.first; epoch = p.others }) (λ k h p. record { first = p.node; others = p.epoch })
 
 pub job_format : IsFormat job Any IsJob job_at 4707
@@ -61,9 +61,9 @@ job_format = same {write' = job} {Is' = IsJob}
     field (λ (j : JobData). Also (Also (Also (Unit {0}) (j.key ≡ k)) (j.class ≡ class)) (j.durable ≡ durable)) (λ (j : JobData). j.no_concurrent) flag_format (λ alone.
     field (λ (j : JobData). Also (Also (Also (Also (Unit {0}) (j.key ≡ k)) (j.class ≡ class)) (j.durable ≡ durable)) (j.no_concurrent ≡ alone)) (λ (j : JobData). j.requests_recovery) flag_format (λ recovery.
     last (λ (j : JobData). Also (Also (Also (Also (Also (Unit {0}) (j.key ≡ k)) (j.class ≡ class)) (j.durable ≡ durable)) (j.no_concurrent ≡ alone)) (j.requests_recovery ≡ recovery)) (λ (j : JobData). j.payload) payload_format
-        (λ payload. record { key = k; class = class; durable = durable; no_concurrent = alone; requests_recovery = recovery; payload = payload })
-        (λ payload. record { before = record { before = record { before = record { before = record { before = tt; now = refl }; now = refl }; now = refl }; now = refl }; now = refl })
-        (λ payload. refl) (λ j h. rw (← h.now, ← h.before.now, ← h.before.before.now, ← h.before.before.before.now, ← h.before.before.before.before.now) refl)))))))
+    (λ payload. record { key = k; class = class; durable = durable; no_concurrent = alone; requests_recovery = recovery; payload = payload })
+    (λ payload. record { before = record { before = record { before = record { before = record { before = tt; now = refl }; now = refl }; now = refl }; now = refl }; now = refl })
+    (λ payload. refl) (λ j h. rw (← h.now, ← h.before.now, ← h.before.before.now, ← h.before.before.before.now, ← h.before.before.before.before.now) refl)))))))
     (λ j h. refl)
     (λ j h p. record { key = p.first; class = p.others.first; payload = p.others.others.others.others.others })
     (λ j h p. record { first = p.key; others = record { first = p.class; others = record { first = tt; others = record { first = tt; others = record { first = tt; others = p.payload } } } } })
@@ -87,8 +87,8 @@ pub variant : {A C : Type 0} {write : A → List ℕ} {Is : A → Type 0} {read 
 variant {A} {C} {write} {Is} {read} {m} make f = record {
   again = λ x rest is. ap (λ (r : Read A). as_variant make r) (f.again x rest tt is);
   takes = λ bytes y fits e.
-    let s = bind_ok (read bytes) (λ x. Ok (make x.0, x.1)) y e in
-    (s.0, f.takes bytes s.0 fits s.1, ok_is (make s.0.0, s.0.1) y s.2);
+      let s = bind_ok (read bytes) (λ x. Ok (make x.0, x.1)) y e in
+      (s.0, f.takes bytes s.0 fits s.1, ok_is (make s.0.0, s.0.1) y s.2);
   near = λ bytes. variant_near make m (length bytes) (read bytes) (f.near bytes);
 }
 
@@ -130,10 +130,10 @@ pub record IsSimple (x : ℤ × ℤ) : Type 0 where
 simple_format : IsFormat (λ (x : ℤ × ℤ). integer w64 x.0 ++ integer w64 x.1) Any IsSimple simple_at 16
 simple_format = same {Is' = IsSimple}
     (field Free (λ (x : ℤ × ℤ). x.0) span_format (λ interval. same {Is' = λ (x : ℤ × ℤ). IsNumber w64 (λ n. is_kind (Simple x.0 n)) x.1}
-        (last (λ (x : ℤ × ℤ). Also (Unit {0}) (x.0 ≡ interval)) (λ (x : ℤ × ℤ). x.1) (tested (λ n. is_kind (Simple interval n))) (λ count. (interval, count)) (λ count. record { before = tt; now = refl }) (λ count. refl) (λ x h. rw (← h.now) refl))
-        (λ x h. refl)
-        (λ x h p. subst (λ (i : ℤ). IsNumber w64 (λ n. is_kind (Simple i n)) x.1) (sym h.now) p)
-        (λ x h p. subst (λ (i : ℤ). IsNumber w64 (λ n. is_kind (Simple i n)) x.1) h.now p)))
+    (last (λ (x : ℤ × ℤ). Also (Unit {0}) (x.0 ≡ interval)) (λ (x : ℤ × ℤ). x.1) (tested (λ n. is_kind (Simple interval n))) (λ count. (interval, count)) (λ count. record { before = tt; now = refl }) (λ count. refl) (λ x h. rw (← h.now) refl))
+    (λ x h. refl)
+    (λ x h p. subst (λ (i : ℤ). IsNumber w64 (λ n. is_kind (Simple i n)) x.1) (sym h.now) p)
+    (λ x h p. subst (λ (i : ℤ). IsNumber w64 (λ n. is_kind (Simple i n)) x.1) h.now p)))
     (λ x h. refl) (λ x h p. record { interval = p.first; count = p.others }) (λ x h p. record { first = p.interval; others = p.count })
 
 pub simple_variant : IsVariant make_simple (λ (x : ℤ × ℤ). integer w64 x.0 ++ integer w64 x.1) IsSimple (λ bytes. as_variant make_simple (simple_at bytes)) 16
@@ -194,15 +194,15 @@ pub timing_format : IsFormat timing Any IsTiming timing_at 35
 unfolding timing timing_at
 timing_format = same {write' = timing} {Is' = IsTiming}
     (field Free (λ (t : Timing). t.kind) kind_format (λ k. same {Is' = IsRestOfTiming}
-        (field (λ (t : Timing). Also (Unit {0}) (t.kind ≡ k)) (λ (t : Timing). t.misfire) (misfire_format k) (λ misfire.
-        field (λ (t : Timing). Also (Also (Unit {0}) (t.kind ≡ k)) (t.misfire ≡ misfire)) (λ (t : Timing). t.start) span_format (λ start.
-        last (λ (t : Timing). Also (Also (Also (Unit {0}) (t.kind ≡ k)) (t.misfire ≡ misfire)) (t.start ≡ start)) (λ (t : Timing). t.end) (optional_format span_format)
-            (λ end. record { kind = k; misfire = misfire; start = start; end = end })
-            (λ end. record { before = record { before = record { before = tt; now = refl }; now = refl }; now = refl })
-            (λ end. refl) (λ t h. rw (← h.now, ← h.before.now, ← h.before.before.now) refl))))
-        (λ t h. refl)
-        (λ t h p. record { misfire = subst (λ (kind : Kind). IsNumber w8 (is_misfire kind) t.misfire) (sym h.now) p.first; start = p.others.first; end = p.others.others })
-        (λ t h p. record { first = subst (λ (kind : Kind). IsNumber w8 (is_misfire kind) t.misfire) h.now p.misfire; others = record { first = p.start; others = p.end } })))
+    (field (λ (t : Timing). Also (Unit {0}) (t.kind ≡ k)) (λ (t : Timing). t.misfire) (misfire_format k) (λ misfire.
+    field (λ (t : Timing). Also (Also (Unit {0}) (t.kind ≡ k)) (t.misfire ≡ misfire)) (λ (t : Timing). t.start) span_format (λ start.
+    last (λ (t : Timing). Also (Also (Also (Unit {0}) (t.kind ≡ k)) (t.misfire ≡ misfire)) (t.start ≡ start)) (λ (t : Timing). t.end) (optional_format span_format)
+    (λ end. record { kind = k; misfire = misfire; start = start; end = end })
+    (λ end. record { before = record { before = record { before = tt; now = refl }; now = refl }; now = refl })
+    (λ end. refl) (λ t h. rw (← h.now, ← h.before.now, ← h.before.before.now) refl))))
+    (λ t h. refl)
+    (λ t h p. record { misfire = subst (λ (kind : Kind). IsNumber w8 (is_misfire kind) t.misfire) (sym h.now) p.first; start = p.others.first; end = p.others.others })
+    (λ t h p. record { first = subst (λ (kind : Kind). IsNumber w8 (is_misfire kind) t.misfire) h.now p.misfire; others = record { first = p.start; others = p.end } })))
     (λ t h. refl)
     (λ t h p. record { kind = p.first; misfire = p.others.misfire; start = p.others.start; end = p.others.end })
     (λ t h p. record { first = p.kind; others = record { misfire = p.misfire; start = p.start; end = p.end } })
@@ -215,9 +215,9 @@ spec_format = same {write' = spec} {Is' = IsSpec}
     field (λ (s : TriggerSpec). Also (Also (Unit {0}) (s.key ≡ k)) (s.job ≡ j)) (λ (s : TriggerSpec). s.priority) (integer_format wide32 same32) (λ priority.
     field (λ (s : TriggerSpec). Also (Also (Also (Unit {0}) (s.key ≡ k)) (s.job ≡ j)) (s.priority ≡ priority)) (λ (s : TriggerSpec). s.calendar) (optional_format name_format) (λ calendar.
     last (λ (s : TriggerSpec). Also (Also (Also (Also (Unit {0}) (s.key ≡ k)) (s.job ≡ j)) (s.priority ≡ priority)) (s.calendar ≡ calendar)) (λ (s : TriggerSpec). s.timing) timing_format
-        (λ t. record { key = k; job = j; priority = priority; calendar = calendar; timing = t })
-        (λ t. record { before = record { before = record { before = record { before = tt; now = refl }; now = refl }; now = refl }; now = refl })
-        (λ t. refl) (λ s h. rw (← h.now, ← h.before.now, ← h.before.before.now, ← h.before.before.before.now) refl))))))
+    (λ t. record { key = k; job = j; priority = priority; calendar = calendar; timing = t })
+    (λ t. record { before = record { before = record { before = record { before = tt; now = refl }; now = refl }; now = refl }; now = refl })
+    (λ t. refl) (λ s h. rw (← h.now, ← h.before.now, ← h.before.before.now, ← h.before.before.before.now) refl))))))
     (λ s h. refl)
     (λ s h p. record { key = p.first; job = p.others.first; priority = p.others.others.first; calendar = p.others.others.others.first; timing = p.others.others.others.others })
     (λ s h p. record { first = p.key; others = record { first = p.job; others = record { first = p.priority; others = record { first = p.calendar; others = p.timing } } } })

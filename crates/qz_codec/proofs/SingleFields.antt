@@ -42,6 +42,7 @@ byte_format = record {
   byte_takes : (bytes : List ℕ) (x : ℕ × List ℕ) → IsBytes bytes → byte_at bytes ≡ Ok x → Takes one_byte Any (λ n. n < 256) bytes x
   byte_takes [] x fits e = absurd cc
   byte_takes (b ∷ bytes) x fits e = subst (λ (y : ℕ × List ℕ). Takes one_byte Any (λ n. n < 256) (b ∷ bytes) y) (ok_is (b, bytes) x e) (record { parts = refl; rest = IsBytes-rest b bytes fits; known = tt; valid = fits 0 })
+
   byte_near : (bytes : List ℕ) → EndsNear 1 (length bytes) (byte_at bytes)
   byte_near [] = record { within = omega arith; near = omega arith }
   byte_near (b ∷ bytes) = record { within = omega arith; near = omega arith }
@@ -123,14 +124,14 @@ pub mapped : {A B : Type 0} {write : B → List ℕ} {IsB : B → Type 0} {read 
 mapped {A} {B} {write} {IsB} {read} {m} {Is} there back f same_b is_a same_a is_b = record {
   again = λ a rest known is. ap (λ (r : Read B). r >>= λ b. Ok (there b.0, b.1)) (f.again (back a) rest tt (is_b a is)) ∙ ap (λ (y : A). Ok (y, rest)) (same_a a is);
   takes = λ bytes x fits e.
-    let s = bind_ok (read bytes) (λ b. Ok (there b.0, b.1)) x e in
-    let t = f.takes bytes s.0 fits s.1 in
-    subst (λ (y : A × List ℕ). Takes (λ a. write (back a)) Any Is bytes y) (ok_is (there s.0.0, s.0.1) x s.2) (record {
-      parts = t.parts ∙ ap (λ (b : B). write b ++ s.0.1) (sym (same_b s.0.0 t.valid));
-      rest = t.rest;
-      known = tt;
-      valid = is_a s.0.0 t.valid;
-    });
+      let s = bind_ok (read bytes) (λ b. Ok (there b.0, b.1)) x e in
+      let t = f.takes bytes s.0 fits s.1 in
+      subst (λ (y : A × List ℕ). Takes (λ a. write (back a)) Any Is bytes y) (ok_is (there s.0.0, s.0.1) x s.2) (record {
+        parts = t.parts ∙ ap (λ (b : B). write b ++ s.0.1) (sym (same_b s.0.0 t.valid));
+        rest = t.rest;
+        known = tt;
+        valid = is_a s.0.0 t.valid;
+      });
   near = λ bytes. ends (length bytes) (read bytes) (f.near bytes);
 } where
   ends : (size : ℕ) (r : Read B) → EndsNear m size r → EndsNear m size (r >>= λ b. Ok (there b.0, b.1))
@@ -178,11 +179,13 @@ flag_format = record { again = again; takes = takes; near = near } where
   again : (b : Bool) (rest : List ℕ) → Unit {0} → Unit {0} → flag_at (flag b ++ rest) ≡ Ok (b, rest)
   again false rest known is = refl
   again true rest known is = refl
+
   takes : (bytes : List ℕ) (x : Bool × List ℕ) → IsBytes bytes → flag_at bytes ≡ Ok x → Takes flag Any Any bytes x
   takes [] x fits e = absurd cc
   takes (zero ∷ bytes) x fits e = subst (λ (y : Bool × List ℕ). Takes flag Any Any (0 ∷ bytes) y) (ok_is (false, bytes) x e) (record { parts = refl; rest = IsBytes-rest 0 bytes fits; known = tt; valid = tt })
   takes (suc zero ∷ bytes) x fits e = subst (λ (y : Bool × List ℕ). Takes flag Any Any (1 ∷ bytes) y) (ok_is (true, bytes) x e) (record { parts = refl; rest = IsBytes-rest 1 bytes fits; known = tt; valid = tt })
   takes (suc (suc b) ∷ bytes) x fits e = absurd (no_value (suc (length bytes)) x (sym (other_flag b bytes) ∙ e))
+
   near : (bytes : List ℕ) → EndsNear 1 (length bytes) (flag_at bytes)
   near [] = record { within = omega arith; near = omega arith }
   near (zero ∷ bytes) = record { within = omega arith; near = omega arith }
@@ -235,9 +238,9 @@ text_near : (least most : ℕ) (bytes : List ℕ) → EndsNear (2 + most) (lengt
 unfolding text_at
 text_near least most bytes =
     near_then 2 most (length bytes) (checked (is_long least most) (number_at w16) bytes) (λ n. cond (leb n.0 (length n.1) && is_utf8 (take n.0 n.1)) (Ok (take n.0 n.1, drop n.0 n.1)) (Err (length n.1))) ((those (is_long least most) (number_format wide16)).near bytes) (λ n e.
-        let s = bind_ok (number_at w16 bytes) (λ y. cond (is_long least most y.0) (Ok y) (Err (length bytes))) n e in
-        let g = guard_ok (is_long least most s.0.0) s.0 n (length bytes) s.2 in
-        near_text most n.0 n.1 (leb n.0 (length n.1) && is_utf8 (take n.0 n.1)) (long_le least most n.0 (ap (λ (y : ℕ × List ℕ). is_long least most y.0) (sym g.1) ∙ g.0)))
+    let s = bind_ok (number_at w16 bytes) (λ y. cond (is_long least most y.0) (Ok y) (Err (length bytes))) n e in
+    let g = guard_ok (is_long least most s.0.0) s.0 n (length bytes) s.2 in
+    near_text most n.0 n.1 (leb n.0 (length n.1) && is_utf8 (take n.0 n.1)) (long_le least most n.0 (ap (λ (y : ℕ × List ℕ). is_long least most y.0) (sym g.1) ∙ g.0)))
 
 pub text_format : (least most : ℕ) → most < 2 ^ 16 → IsFormat text Any (IsText least most) (text_at least most) (2 + most)
 text_format least most lt = record {
@@ -258,16 +261,19 @@ optional_format {A} {write} {Is} {read} {m} f = record { again = again; takes = 
   again : (o : Option A) (rest : List ℕ) → Unit {0} → IfSome o Is → optional_at read (optional write o ++ rest) ≡ Ok (o, rest)
   again None rest known is = refl
   again (Some x) rest known is = ap (λ (r : Read A). r >>= λ y. Ok (Some y.0, y.1)) (f.again x rest tt is)
+
   takes : (bytes : List ℕ) (x : Option A × List ℕ) → IsBytes bytes → optional_at read bytes ≡ Ok x → Takes (optional write) Any (λ o. IfSome o Is) bytes x
   takes [] x fits e = absurd cc
   takes (zero ∷ bytes) x fits e = subst (λ (y : Option A × List ℕ). Takes (optional write) Any (λ o. IfSome o Is) (0 ∷ bytes) y) (ok_is (None, bytes) x e) (record { parts = refl; rest = IsBytes-rest 0 bytes fits; known = tt; valid = tt })
   takes (suc zero ∷ bytes) x fits e =
-    let s = bind_ok (read bytes) (λ y. Ok (Some y.0, y.1)) x e in
-    let t = f.takes bytes s.0 (IsBytes-rest 1 bytes fits) s.1 in
-    subst (λ (y : Option A × List ℕ). Takes (optional write) Any (λ o. IfSome o Is) (1 ∷ bytes) y) (ok_is (Some s.0.0, s.0.1) x s.2) (record { parts = ap (λ (w : List ℕ). 1 ∷ w) t.parts; rest = t.rest; known = tt; valid = t.valid })
+      let s = bind_ok (read bytes) (λ y. Ok (Some y.0, y.1)) x e in
+      let t = f.takes bytes s.0 (IsBytes-rest 1 bytes fits) s.1 in
+      subst (λ (y : Option A × List ℕ). Takes (optional write) Any (λ o. IfSome o Is) (1 ∷ bytes) y) (ok_is (Some s.0.0, s.0.1) x s.2) (record { parts = ap (λ (w : List ℕ). 1 ∷ w) t.parts; rest = t.rest; known = tt; valid = t.valid })
   takes (suc (suc b) ∷ bytes) x fits e = absurd (no_value (suc (length bytes)) x (sym (ap (λ (r : Read Bool). r >>= λ some. cond some.0 (read some.1 >>= λ y. Ok (Some y.0, y.1)) (Ok (None, some.1))) (other_flag b bytes)) ∙ e))
+
   both : (b : Bool) (bytes : List ℕ) → EndsNear m (length bytes) (cond b (read bytes >>= λ x. Ok (Some x.0, x.1)) (Ok (None, bytes)))
   both true bytes = some_near m (length bytes) (read bytes) (f.near bytes)
   both false bytes = record { within = omega arith; near = omega arith }
+
   near : (bytes : List ℕ) → EndsNear (1 + m) (length bytes) (optional_at read bytes)
   near bytes = near_then 1 m (length bytes) (flag_at bytes) (λ some. cond some.0 (read some.1 >>= λ x. Ok (Some x.0, x.1)) (Ok (None, some.1))) (flag_format.near bytes) (λ some e. both some.0 some.1)

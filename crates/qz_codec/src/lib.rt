@@ -7,6 +7,8 @@ mod errors;
 mod fields;
 mod limits;
 mod rows;
+#[cfg(test)]
+mod tests;
 mod writing;
 
 pub use entries::get_command;

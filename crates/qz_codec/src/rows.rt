@@ -7,10 +7,12 @@ ghost use Rattle.qz_types.specs.declared.commands.Actor.TheVariants.{Client, Nod
 ghost use Rattle.qz_codec.specs.Reading.{Gives, checked, byte_at, integer_at, small_at, name_at, node_at, optional_at, span_at, key_at, job_at, kind_at, timing_at, spec_at, member_at, actor_at};
 
 use crate::errors::Fault;
-use crate::fields::{bool_at, end_of, i8_at, i32_at, i64_at, is_between, span_of, str_at, u8_at, u64_at};
+use crate::fields::{
+    bool_at, end_of, i8_at, i32_at, i64_at, is_between, span_of, str_at, u8_at, u64_at,
+};
 use qz_types::{
-    Actor, JobRow, Key, Kind, LONGEST, MemberRow, NAME_LIMIT, NODE_LIMIT, PAYLOAD_LIMIT, Text, Timing,
-    TriggerSpec,
+    Actor, JobRow, Key, Kind, LONGEST, MemberRow, NAME_LIMIT, NODE_LIMIT, PAYLOAD_LIMIT, Text,
+    Timing, TriggerSpec,
 };
 use std::alloc::{AllocError, Global};
 

@@ -11,8 +11,8 @@ ghost use Rattle.qz_codec.specs.Layout.{number, integer, small, flag, text, opti
 
 use crate::limits::VERSION;
 use qz_types::{
-    Actor, Code, Command, Entry, JobRow, Key, Kind, List, MemberRow, NODE_LIMIT, NoMemory, Text, Timing,
-    TriggerSpec,
+    Actor, Code, Command, Entry, JobRow, Key, Kind, List, MemberRow, NODE_LIMIT, NoMemory, Text,
+    Timing, TriggerSpec,
 };
 use std::alloc::{AllocError, Global};
 
