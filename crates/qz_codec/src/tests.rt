@@ -1,5 +1,6 @@
 use super::*;
 use qz_types::{Actor, Command, Entry, MemberRow, Text};
+use std::alloc::{AllocError, Global};
 use std::test::*;
 
 /// Fire of entry 1 by the member A of epoch 1, at 2024-01-01T00:00:00Z.
@@ -97,52 +98,152 @@ fn cut_records(rt: HostRuntime) {
     assert_eq!(rt; size, FIRE.len());
 }
 
-/// Asserts that a record is wrong at `at` where the bytes from `from` on are these.
-fn assert_wrong(
-    rt: &HostRuntime,
-    record: &[u8],
+/// A record whose bytes from `from` on are these, and the place at which it is wrong then.
+#[derive(Drop)]
+struct Spoiled<'a> {
+    record: &'a [u8],
     from: usize,
-    bytes: &[u8],
+    bytes: &'a [u8],
     at: u32,
-) -> Result<(), Fail> {
-    let mut spoiled = Vec::from_slice(rt.alloc(), record)?;
-    spoiled.truncate(from);
-    spoiled.extend_from_slice(bytes)?;
-    if let Some(rest) = record.get(from.saturating_add(bytes.len())..) {
-        spoiled.extend_from_slice(rest)?;
+}
+
+/// The bytes of a spoiled record.
+fn spoil(alloc: Global, spoiled: &Spoiled) -> Result<Vec<u8>, AllocError> {
+    let mut bytes = Vec::from_slice(alloc, spoiled.record)?;
+    bytes.truncate(spoiled.from);
+    bytes.extend_from_slice(spoiled.bytes)?;
+    if let Some(rest) = spoiled.record.get(bytes.len()..) {
+        bytes.extend_from_slice(rest)?;
     }
-    let read = get_command(rt.alloc(), &spoiled);
-    assert!(rt;
-        matches!(read, Err(ReadError::BadRecord { at: found }) if found == at),
-        "at {at}"
-    );
-    Ok(())
+    Ok(bytes)
 }
 
 #[test]
 fn spoiled_records(rt: HostRuntime) -> Result<(), Fail> {
-    // Another version, a flag that is none, a name without bytes, one of 121 bytes, one that isn't UTF-8.
-    assert_wrong(&rt, &FIRE, 0, &[2], 0)?;
-    assert_wrong(&rt, &FIRE, 9, &[2], 9)?;
-    assert_wrong(&rt, &FIRE, 10, &[0, 0], 10)?;
-    assert_wrong(&rt, &FIRE, 10, &[0, 121], 10)?;
-    assert_wrong(&rt, &FIRE, 12, &[0xff], 12)?;
-    // Commands that aren't built or aren't there, one of a client by a node and one of a node by a client.
-    assert_wrong(&rt, &FIRE, 25, &[0x01], 25)?;
-    assert_wrong(&rt, &FIRE, 25, &[0xff], 25)?;
-    assert_wrong(&rt, &FIRE, 25, &[0x0e], 25)?;
-    assert_wrong(&rt, &CLIENT_FIRE, 0, &[1], 14)?;
-    // A byte behind the record, and a code that isn't there.
-    assert_wrong(&rt, &FIRE, 34, &[0], 34)?;
-    assert_wrong(&rt, &COMPLETE, 34, &[7], 34)?;
-    // A name of 201 bytes, and one that is longer than what is there.
-    assert_wrong(&rt, &ADD_JOB, 15, &[0, 201], 15)?;
-    assert_wrong(&rt, &ADD_JOB, 15, &[0, 200], 17)?;
-    // Another kind, an interval of 0 with a count of 5, a misfire instruction of none, a flag that is none.
-    assert_wrong(&rt, &ADD_TRIGGER, 35, &[1], 35)?;
-    assert_wrong(&rt, &ADD_TRIGGER, 42, &[0, 0, 0, 0, 0, 0, 0, 0, 0, 5], 44)?;
-    assert_wrong(&rt, &ADD_TRIGGER, 52, &[6], 52)?;
-    assert_wrong(&rt, &ADD_TRIGGER, 62, &[2], 62)?;
-    // No trigger is asked for.
-    assert_wrong(&rt, &ACQUIRE, 45, &[0], 42)
+    let table = [
+        // Another version, a flag that is none, a name without bytes, one of 121 bytes, one that isn't UTF-8.
+        Spoiled {
+            record: &FIRE,
+            from: 0,
+            bytes: &[2],
+            at: 0,
+        },
+        Spoiled {
+            record: &FIRE,
+            from: 9,
+            bytes: &[2],
+            at: 9,
+        },
+        Spoiled {
+            record: &FIRE,
+            from: 10,
+            bytes: &[0, 0],
+            at: 10,
+        },
+        Spoiled {
+            record: &FIRE,
+            from: 10,
+            bytes: &[0, 121],
+            at: 10,
+        },
+        Spoiled {
+            record: &FIRE,
+            from: 12,
+            bytes: &[0xff],
+            at: 12,
+        },
+        // A command that isn't built, one that isn't there, one of a client by a node, one of a node by a client.
+        Spoiled {
+            record: &FIRE,
+            from: 25,
+            bytes: &[0x01],
+            at: 25,
+        },
+        Spoiled {
+            record: &FIRE,
+            from: 25,
+            bytes: &[0xff],
+            at: 25,
+        },
+        Spoiled {
+            record: &FIRE,
+            from: 25,
+            bytes: &[0x0e],
+            at: 25,
+        },
+        Spoiled {
+            record: &CLIENT_FIRE,
+            from: 0,
+            bytes: &[1],
+            at: 14,
+        },
+        // A byte behind the record, and a code that isn't there.
+        Spoiled {
+            record: &FIRE,
+            from: 34,
+            bytes: &[0],
+            at: 34,
+        },
+        Spoiled {
+            record: &COMPLETE,
+            from: 34,
+            bytes: &[7],
+            at: 34,
+        },
+        // A name of 201 bytes, and one that is longer than what is there.
+        Spoiled {
+            record: &ADD_JOB,
+            from: 15,
+            bytes: &[0, 201],
+            at: 15,
+        },
+        Spoiled {
+            record: &ADD_JOB,
+            from: 15,
+            bytes: &[0, 200],
+            at: 17,
+        },
+        // Another kind, an interval of 0 with a count of 5, no misfire instruction, a flag that is none.
+        Spoiled {
+            record: &ADD_TRIGGER,
+            from: 35,
+            bytes: &[1],
+            at: 35,
+        },
+        Spoiled {
+            record: &ADD_TRIGGER,
+            from: 42,
+            bytes: &[0, 0, 0, 0, 0, 0, 0, 0, 0, 5],
+            at: 44,
+        },
+        Spoiled {
+            record: &ADD_TRIGGER,
+            from: 52,
+            bytes: &[6],
+            at: 52,
+        },
+        Spoiled {
+            record: &ADD_TRIGGER,
+            from: 62,
+            bytes: &[2],
+            at: 62,
+        },
+        // An Acquire of no trigger.
+        Spoiled {
+            record: &ACQUIRE,
+            from: 45,
+            bytes: &[0],
+            at: 42,
+        },
+    ];
+    for spoiled in &table {
+        let bytes = spoil(rt.alloc(), spoiled)?;
+        let at = spoiled.at;
+        let read = get_command(rt.alloc(), &bytes);
+        assert!(rt;
+            matches!(read, Err(ReadError::BadRecord { at: found }) if found == at),
+            "at {at}"
+        );
+    }
+    Ok(())
 }
