@@ -1,0 +1,13 @@
+//! The trigger store on a disk: a history of entries, kept in a journal, and the tables that they leave.
+#![tactic(auto)]
+
+mod accepted;
+mod errors;
+mod mounting;
+mod replaying;
+mod stores;
+mod submitting;
+
+pub use errors::SubmitError;
+pub use qz_journal::MountError;
+pub use stores::TriggerStore;
