@@ -53,8 +53,14 @@ taken_gate gate es fs e p fs_is p_is gate_is =
 -- no place passes the last one
 pub within : (payloads ps : List (List ℕ)) (p : List ℕ) (behind : List (List ℕ)) → payloads ≡ ps ++ p ∷ behind → end_of ps + (5 + length p) ≤ end_of payloads
 within payloads ps p behind whole =
-    omega (arith, ap end_of whole, ap (λ (l : List (List ℕ)). end_of l) (sym (append_assoc ps (p ∷ []) behind)),
-      ap length (blocks-append (ps ++ p ∷ []) behind), length-append (blocks (ps ++ p ∷ [])) (blocks behind), end_of-push ps p)
+    omega (
+      arith,
+      ap end_of whole,
+      ap (λ (l : List (List ℕ)). end_of l) (sym (append_assoc ps (p ∷ []) behind)),
+      ap length (blocks-append (ps ++ p ∷ []) behind),
+      length-append (blocks (ps ++ p ∷ [])) (blocks behind),
+      end_of-push ps p,
+    )
 
 pub All-pushed : {A : Type 0} (P : A → Type 0) (xs : List A) (x : A) → AllByRecursion P xs → P x → AllByRecursion P (xs ++ x ∷ [])
 All-pushed P [] x all is = (is, tt)
@@ -91,7 +97,7 @@ All-middle : (ps qs : List (List ℕ)) (p : List ℕ) → All IsPayload (ps ++ p
 All-middle ps qs p all =
     let none : length ps - length ps ≡ 0 = omega arith in
     let here : get_or (ps ++ p ∷ qs) (length ps) [] ≡ p =
-        get_or-append_right ps (p ∷ qs) (length ps) (length ps) [] refl (omega arith) ∙ ap (λ (n : ℕ). get_or (p ∷ qs) n []) none in
+    get_or-append_right ps (p ∷ qs) (length ps) (length ps) [] refl (omega arith) ∙ ap (λ (n : ℕ). get_or (p ∷ qs) n []) none in
     subst IsPayload here (all (length ps) [] (omega (arith, length-append ps (p ∷ qs))))
 
 -- the first unfit payload is the first bad place, whatever stands behind
@@ -103,10 +109,10 @@ bad_payload bytes at payloads tail sizes header whole has =
     let all = subst (All IsPayload) has.whole sizes in
     let behind = blocks has.more ++ tail in
     let split : blocks payloads ++ tail ≡ blocks ps ++ (165 ∷ (body_of q ++ behind)) =
-        ap (λ (l : List (List ℕ)). blocks l ++ tail) has.whole
-        ∙ ap (λ (l : List ℕ). l ++ tail) (blocks-append ps (q ∷ has.more))
-        ∙ append_assoc (blocks ps) (blocks (q ∷ has.more)) tail
-        ∙ ap (λ (l : List ℕ). blocks ps ++ (165 ∷ l)) (append_assoc (body_of q) (blocks has.more) tail) in
+    ap (λ (l : List (List ℕ)). blocks l ++ tail) has.whole
+    ∙ ap (λ (l : List ℕ). l ++ tail) (blocks-append ps (q ∷ has.more))
+    ∙ append_assoc (blocks ps) (blocks (q ∷ has.more)) tail
+    ∙ ap (λ (l : List ℕ). blocks ps ++ (165 ∷ l)) (append_assoc (body_of q) (blocks has.more) tail) in
     record {
       entries = has.entries;
       valid = has.valid;

@@ -1,6 +1,6 @@
 -- An accepted transaction makes its recorded moment the last one.
-use Rattle.std.proofs.Common.{◌≡◌, ⊤, ℕ, ℤ, List, [], ◌∷◌, Bool, true, false, ◌&&◌, not, refl, subst}
-use Rattle.std.specs.Prelude.{Option, Some, None}
+use Rattle.std.proofs.Common.{◌≡◌, ℕ, ℤ, List, [], ◌∷◌, Bool, true, false, ◌&&◌, not, refl, subst}
+use Rattle.std.specs.Prelude.{⊤, Option, Some, None, if◌then◌else◌}
 use Rattle.qz_types.specs.Rows.{TriggerData, FiredData, JobData, MemberData}
 use Rattle.qz_types.specs.Entries.{EntryData}
 use Rattle.qz_types.specs.declared.commands.Code.{Code}
@@ -9,7 +9,9 @@ use Rattle.qz_types.specs.declared.commands.Command.TheVariants.{AddJob, AddTrig
 use Rattle.qz_types.specs.declared.commands.Actor.{Actor}
 use Rattle.qz_types.specs.declared.commands.Actor.TheVariants.{Client, Node}
 use Rattle.qz_types.specs.declared.replies.Reply.{Reply}
+use Rattle.qz_types.specs.declared.replies.Reply.TheVariants.{Completed}
 use Rattle.qz_types.specs.declared.replies.Refusal.{Refusal}
+use Rattle.qz_types.specs.declared.replies.Refusal.TheVariants.{Unbuilt}
 use Rattle.qz_model.specs.Tables.{SchedulerTables, recorded_moment}
 use Rattle.qz_model.specs.Outcomes.{Outcome, accepted, refused, unless}
 use Rattle.qz_model.specs.Transaction.{by_command, transaction}
@@ -66,7 +68,8 @@ completed-moment T m f = without_finished-moment _ (trigger_of f.trigger T.trigg
 
 complete_row-records : (T : SchedulerTables) (m : ℤ) (me : MemberData) (f : Option FiredData) (code : Code) → Records m (Firing.complete_row T m me f code)
 complete_row-records T m me None code = tt
-complete_row-records T m me (Some f) code = either-records m _ _ _ (completed-moment T m f)
+complete_row-records T m me (Some f) code =
+    either-records m (Firing.is_of me f && not (Firing.is_acquired f.state) && Firing.is_noop code) (accepted (Firing.completed T m f) (Completed f.entry)) Unbuilt (completed-moment T m f)
 
 by_command-records : (T : SchedulerTables) (m : ℤ) (actor : Actor) (c : Command) → Records m (by_command T m actor c)
 by_command-records T m actor (AddJob job replace) = unless-records m (add_job_refusal T job replace) _ refl

@@ -49,7 +49,7 @@ only_memory h payloads mount.NotAStore is same stopped = absurd stopped
 only_memory h payloads mount.Fault is same stopped = absurd stopped
 only_memory h payloads (mount.Damaged at) is same stopped =
     absurd (none_unfit (empty 1) stopped.entries h.entries stopped.payload stopped.more stopped.valid is.valid
-      (subst (λ (x : History). IsLegalFrom x.base h.entries) is.begins is.legal) (sym same ∙ stopped.whole) stopped.unfit)
+    (subst (λ (x : History). IsLegalFrom x.base h.entries) is.begins is.legal) (sym same ∙ stopped.whole) stopped.unfit)
 
 -- the history of a store that was just opened
 pub opened_as : (h : History) (found added entries : List EntryData) → IsHistory h → found ≡ entries → added ≡ [] → entries ≡ h.entries → history_of (found ++ added) ≡ h

@@ -4,6 +4,7 @@
 mod accepted;
 mod errors;
 mod mounting;
+mod parts;
 mod replaying;
 mod stores;
 mod submitting;

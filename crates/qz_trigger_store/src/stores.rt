@@ -41,6 +41,5 @@ pub struct TriggerStore<D: Disk> {
     ghost moments: { accepted.moments ≡ moments_from (replay_from (empty 1) found) accepted.entries },
     ghost replies: { accepted.replies ≡ replies_from (replay_from (empty 1) found) accepted.entries },
     ghost stands: { D.honest → is_open ≡ true → Stands (D.state journal.disk).content (history_of (found ++ accepted.entries)) },
-    ghost images: { D.honest → (b : Entries ℕ) → (D.state journal.disk).IsImage b → MayBe (history_of (found ++ accepted.entries)) undecided b }
-        by { Prim.hlevel (props, MayBe-prop) },
+    ghost images: { D.honest → (b : Entries ℕ) → (D.state journal.disk).IsImage b → MayBe (history_of (found ++ accepted.entries)) undecided b } by { Prim.hlevel (props, MayBe-prop) },
 }

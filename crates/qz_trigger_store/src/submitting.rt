@@ -2,12 +2,13 @@
 ghost use Rattle.std.specs.Prelude.{◌≡◌, ◌≢◌, ◌++◌, ◌∷◌, ◌≤◌, [], length, IfOk, OnOk, OnErr, IfErr, Err, true};
 ghost use Rattle.qz_codec.specs.Layout.{record_of};
 ghost use Rattle.qz_codec.specs.Values.{IsEntry};
+ghost use Rattle.qz_journal.specs.Commits.{need_of, room_of};
 ghost use Rattle.qz_journal.specs.Layout.{IsPayload};
 ghost use Rattle.qz_model.specs.Invariant.{TablesValid};
 ghost use Rattle.qz_model.specs.Outcomes.{accepted};
 ghost use Rattle.qz_model.specs.Tables.{recorded_moment};
 ghost use Rattle.qz_model.specs.Transaction.{transaction};
-ghost use Rattle.qz_trigger_store.specs.Seen.{seen, LeavesEither};
+ghost use Rattle.qz_trigger_store.specs.Seen.{seen, IsAsBefore, LeavesEither};
 ghost use Rattle.qz_trigger_store.specs.Steps.{Submits, FitsAt, IsPrepareCause};
 
 use crate::replaying::copy_entry;
@@ -15,7 +16,7 @@ use crate::{SubmitError, TriggerStore};
 use qz_civil::List;
 use qz_codec::put_command;
 use qz_disk::Disk;
-use qz_journal::AppendError;
+use qz_journal::{JournalFull, fits};
 use qz_model::{PlainStore, StepRefused};
 use qz_types::{Entry, NoMemory, Reply};
 use std::alloc::Global;
@@ -39,7 +40,7 @@ struct Worked {
 }
 
 // Lets a value go. The cases of its drop are looked at here and nowhere else.
-fn let_go<T: Drop>(_value: T) {}
+pub(crate) fn let_go<T: Drop>(_value: T) {}
 
 fn copy_reply(reply: &Reply) -> Result<Reply, NoMemory>
     ensures { IfOk result (λ copy. copy ≡ reply.now) }
@@ -109,7 +110,7 @@ impl<D: Disk> TriggerStore<D> {
     pub fn submit(&mut self, entry: Entry) -> Result<Reply, SubmitError>
         ensures one { Submits entry result (seen self.old) (seen self.new) }
         ensures fits { FitsAt self.old.journal.gate self.old.journal.count entry result }
-        ensures unchanged { result ≢ Err SubmitError.Fault → OnErr result (self.new ≡ self.old) }
+        ensures unchanged { result ≢ Err SubmitError.Fault → OnErr result (IsAsBefore self.old self.new) }
         ensures found { self.new.found ≡ self.old.found }
         ensures entries { OnOk result (self.new.accepted.entries ≡ self.old.accepted.entries ++ entry ∷ []) }
         ensures moments { OnOk result (self.new.accepted.moments ≡ self.old.accepted.moments ++ recorded_moment self.old.tables entry.at ∷ []) }
@@ -122,11 +123,20 @@ impl<D: Disk> TriggerStore<D> {
                 at: self.journal.gate,
             });
         }
-        match prepare(self.alloc, &self.tables, &entry) {
-            Ok(prepared) => self.commit(entry, prepared),
+        let prepared = match prepare(self.alloc, &self.tables, &entry) {
+            Ok(prepared) => prepared,
             Err(error) => {
                 let_go(entry);
-                Err(error)
+                return Err(error);
+            }
+        };
+        let length = prepared.written.len() as u32;
+        match fits(self.journal.gate, self.journal.count, length) {
+            Ok(()) => self.commit(entry, prepared),
+            Err(JournalFull { need, room }) => {
+                let_go(entry);
+                let_go(prepared);
+                Err(SubmitError::JournalFull { need, room })
             }
         }
     }
@@ -138,10 +148,11 @@ impl<D: Disk> TriggerStore<D> {
         requires kept { p.kept ≡ p.reply }
         requires written { (p.written ≡ record_of entry) × IsPayload p.written }
         requires recorded { IsEntry entry }
+        requires fits { need_of (length p.written) ≤ room_of self.old.journal.gate self.old.journal.count }
         requires valid { ∥ TablesValid p.tables ∥₁ }
         ensures one { Submits entry result (seen self.old) (seen self.new) }
         ensures fits { FitsAt self.old.journal.gate self.old.journal.count entry result }
-        ensures unchanged { result ≢ Err SubmitError.Fault → OnErr result (self.new ≡ self.old) }
+        ensures unchanged { result ≢ Err SubmitError.Fault → OnErr result (IsAsBefore self.old self.new) }
         ensures found { self.new.found ≡ self.old.found }
         ensures entries { OnOk result (self.new.accepted.entries ≡ self.old.accepted.entries ++ entry ∷ []) }
         ensures moments { OnOk result (self.new.accepted.moments ≡ self.old.accepted.moments ++ recorded_moment self.old.tables entry.at ∷ []) }
@@ -169,25 +180,13 @@ impl<D: Disk> TriggerStore<D> {
                 self.tables = tables;
                 Ok(reply)
             }
-            Err(AppendError::Fault) => {
+            // A fault: the journal is open, and the record fits.
+            Err(_) => {
                 let_go(p);
                 self.accepted = room.shut();
                 self.is_open = false;
                 let_go(mem::replace(&mut self.undecided, Some(entry)));
                 Err(SubmitError::Fault)
-            }
-            Err(AppendError::JournalFull { need, room: left }) => {
-                let_go(entry);
-                let_go(p);
-                self.accepted = room.shut();
-                Err(SubmitError::JournalFull { need, room: left })
-            }
-            // Not here, since an open store has an open journal.
-            Err(AppendError::Closed { at }) => {
-                let_go(entry);
-                let_go(p);
-                self.accepted = room.shut();
-                Err(SubmitError::Closed { at })
             }
         }
     }
