@@ -1,5 +1,5 @@
 -- A history with one entry more.
-use Rattle.std.proofs.Common.{◌≡◌, ◌≢◌, ◌⊎◌, inl, inr, ℕ, ℤ, ◌<◌, ◌≤◌, List, [], ◌∷◌, ◌++◌, length, refl, sym, ◌∙◌, ap, subst, arith, append_assoc}
+use Rattle.std.proofs.Common.{◌≡◌, ◌≢◌, ◌⊎◌, inl, inr, ℕ, ℤ, ◌+◌, ◌<◌, ◌≤◌, List, [], ◌∷◌, ◌++◌, length, length-append, refl, sym, ◌∙◌, ap, subst, arith, append_assoc}
 use Rattle.std.proofs.Math.Logic.{∥∥₁_map}
 use Rattle.std.specs.Prelude.{Option, Some, None}
 use Rattle.std.specs.List.{AllByRecursion}
@@ -27,6 +27,9 @@ accepted_is o T r way = subst IsAccepted (sym way) tt
 -- the entries so far, with one more
 pub more : (found old new : List EntryData) (e : EntryData) → new ≡ old ++ e ∷ [] → found ++ new ≡ (found ++ old) ++ e ∷ []
 more found old new e is = ap (λ (l : List EntryData). found ++ l) is ∙ sym (append_assoc found old (e ∷ []))
+
+pub counted_with : (es fs : List EntryData) (e : EntryData) (n m : ℕ) → fs ≡ es ++ e ∷ [] → n ≡ length es → m ≡ n + 1 → m ≡ length fs
+counted_with es fs e n m is n_is m_is = omega (arith, ap (λ (l : List EntryData). length l) is, length-append es (e ∷ []), n_is, m_is)
 
 pub legal_with : (T : SchedulerTables) (es fs : List EntryData) (e : EntryData) (U : SchedulerTables) (r : Reply) → fs ≡ es ++ e ∷ [] → T ≡ replay_from (empty 1) es → IsLegalFrom (empty 1) es
     → transaction T e ≡ accepted U r → IsLegalFrom (empty 1) fs

@@ -1,5 +1,5 @@
 //! Opening what stands on a disk.
-ghost use Rattle.std.specs.Prelude.{◌≡◌, ◌⊎◌, ◌^◌, ◌<◌, ◌≤◌, [], None, true, IfOk, IfErr, MatchResult};
+ghost use Rattle.std.specs.Prelude.{◌≡◌, ◌⊎◌, ◌^◌, ◌<◌, ◌≤◌, [], length, None, true, IfOk, IfErr, MatchResult};
 ghost use Rattle.qz_civil.specs.Causes.{Rose};
 ghost use Rattle.qz_journal.specs.Layout.{end_of};
 ghost use Rattle.qz_journal.specs.declared.layout.TheConstants.{TRIGGERS as OF_TRIGGERS};
@@ -50,6 +50,7 @@ impl<D: Disk> TriggerStore<D> {
 fn begin<D: Disk>(alloc: Global, journal: Journal<D>, replayed: Replayed) -> TriggerStore<D>
     requires kind { journal.kind ≡ OF_TRIGGERS }
     requires open { journal.closed ≡ None }
+    requires counted { journal.count ≡ length replayed.entries }
     requires stands { D.honest → Stands (D.state journal.disk).content (history_of replayed.entries) }
     ensures journal { result.journal ≡ journal }
     ensures found { result.found ≡ replayed.entries }

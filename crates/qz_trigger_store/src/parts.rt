@@ -14,7 +14,7 @@ impl<D: Disk> TriggerStore<D> {
     pub fn history_len(&self) -> u64
         ensures { result ≡ length (self.now.found ++ self.now.accepted.entries) }
     {
-        self.found.len() as u64 + self.accepted.entries.len() as u64
+        self.journal.count
     }
 
     /// Whether a call of this store was answered `Fault`. No memory.

@@ -1,5 +1,5 @@
 //! An open trigger store.
-ghost use Rattle.std.specs.Prelude.{◌≡◌, ◌++◌, List as Entries, ℕ, None, true};
+ghost use Rattle.std.specs.Prelude.{◌≡◌, ◌++◌, List as Entries, ℕ, length, None, true};
 ghost use Rattle.std.proofs.Props.{props};
 ghost use Rattle.qz_model.specs.Tables.{empty};
 ghost use Rattle.qz_model.specs.History.{IsLegalFrom, replay_from, replies_from, moments_from};
@@ -34,6 +34,7 @@ pub struct TriggerStore<D: Disk> {
     ghost kind: { journal.kind ≡ OF_TRIGGERS },
     ghost ready: { is_open ≡ true → journal.closed ≡ None },
     ghost settled: { is_open ≡ true → undecided ≡ None },
+    ghost counted: { journal.count ≡ length (found ++ accepted.entries) },
     ghost legal: { IsLegalFrom (empty 1) (found ++ accepted.entries) } by { IsLegalFrom-prop (empty 1) (found ++ accepted.entries) },
     ghost replayed: { tables ≡ replay_from (empty 1) (found ++ accepted.entries) },
     ghost valid: { ∥ TablesValid tables ∥₁ },

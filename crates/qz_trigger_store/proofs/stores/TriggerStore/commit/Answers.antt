@@ -1,4 +1,4 @@
-use Rattle.std.proofs.Common.{◌≡◌, ◌∙◌, ℕ, ℤ, List, [], ◌∷◌, ◌++◌, refl, sym, ap, subst, w64, to_z, of_z, arith}
+use Rattle.std.proofs.Common.{◌≡◌, ◌∙◌, ℕ, ℤ, List, [], ◌∷◌, ◌++◌, length, refl, sym, ap, subst, w64, to_z, of_z, arith}
 use Rattle.std.proofs.lemmas.Grind.{common_steps}
 use Rattle.std.proofs.lemmas.Int.{to_z-of_z}
 use Rattle.std.specs.Prelude.{Some, None}
@@ -16,6 +16,12 @@ use Rattle.qz_trigger_store.proofs.Moments.{last_moment-accepted}
 use Rattle.qz_trigger_store.proofs.stores.TriggerStore.commit.Goals as goal
 
 -- where the record went to the disk
+
+pub invariant_of-self-in-Ok-append-clause-counted : goal.invariant_of-self-in-Ok-append-clause-counted
+invariant_of-self-in-Ok-append-clause-counted g c =
+    let s = c.args.self.now in
+    let is = c.push.ensures.entries ∙ ap (λ (l : List EntryData). l ++ c.args.entry ∷ []) c.in-Ok.ensures.ok.0 in
+    Appending.counted_with (s.found ++ s.accepted.entries) _ c.args.entry s.journal.count _ (Appending.more s.found s.accepted.entries _ c.args.entry is) s.counted c.in-Ok-append.ensures.ok.2
 
 pub invariant_of-self-in-Ok-append-clause-legal : goal.invariant_of-self-in-Ok-append-clause-legal
 invariant_of-self-in-Ok-append-clause-legal g c =
@@ -89,6 +95,11 @@ returns-in-Ok-append-clause-any_moment g c honest =
     (s.settled c.requires.open) (s.settled c.requires.open) leaves
 
 -- where the disk failed
+
+pub invariant_of-self-in-Err-append-clause-counted : goal.invariant_of-self-in-Err-append-clause-counted
+invariant_of-self-in-Err-append-clause-counted g c =
+    let s = c.args.self.now in
+    c.in-Err-append.ensures.same_place.1 ∙ s.counted ∙ ap (λ (l : List EntryData). length (s.found ++ l)) (sym (c.shut.ensures.entries ∙ c.in-Ok.ensures.ok.0))
 
 pub invariant_of-self-in-Err-append-clause-legal : goal.invariant_of-self-in-Err-append-clause-legal
 invariant_of-self-in-Err-append-clause-legal g c =
