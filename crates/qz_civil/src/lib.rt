@@ -5,6 +5,8 @@
 mod failures;
 mod limits;
 mod lists;
+#[cfg(test)]
+mod tests;
 mod texts;
 mod timings;
 

@@ -1,6 +1,6 @@
 -- What one call more does to a disk in memory.
-use Rattle.std.proofs.Common.{◌≡◌, ◌⊎◌, inl, inr, ⊎_elim, ℕ, ◌+◌, ◌-◌, ◌<◌, ◌≤◌, min, Bool, true, false, cond, ◌||◌, leb, List, [], ◌∷◌, ◌++◌, map, length, take, drop, get_or, sum_by, refl, sym, ◌∙◌, ap, subst, arith, length-append, length-take, length-drop, Result}
-use Rattle.std.specs.Prelude.{Ok, Err}
+use Rattle.std.proofs.Common.{◌≡◌, ◌⊎◌, inl, inr, ⊎_elim, ℕ, ◌+◌, ◌-◌, ◌<◌, ◌≤◌, min, Bool, true, false, cond, ◌||◌, leb, List, [], ◌∷◌, ◌++◌, map, length, take, drop, get_or, sum_by, refl, sym, ◌∙◌, ap, subst, arith, length-append, length-take, length-drop}
+use Rattle.std.specs.Prelude.{Ok}
 use Rattle.std.specs.List.{range_with_len}
 use Rattle.std.proofs.lemmas.List.{take_all, take-append-le, ext_get_or, get_or-take, get_or-drop}
 use Rattle.std.proofs.lemmas.List.FromFn.{length-map-range_with_len, get_or-map-range_with_len}
@@ -10,7 +10,7 @@ use Rattle.qz_disk.specs.declared.calls.Call.{Call}
 use Rattle.qz_disk.specs.declared.calls.Call.TheVariants.{Len, Read, Write, Sync, Restart}
 use Rattle.qz_disk.specs.Disk.{Torn, Stays, Elapses, Measured, Reads, Writes, Syncs, Restarts}
 use Rattle.qz_disk.specs.Memory.{Standing, at_rest, after_call, after_calls, is_within, is_touched, is_reached, reach, IsImageOf, read_count, standing_of, memory_state}
-use Rattle.qz_disk.specs.MemoryLaws.{or_parts, outside_parts, memory_lawful}
+use Rattle.qz_disk.specs.MemoryLaws.{or_parts, outside_parts}
 
 after_calls-push : (s : Standing) (calls : List Call) (call : Call) → after_calls s (calls ++ call ∷ []) ≡ after_call (after_calls s calls) call
 after_calls-push s [] call = refl

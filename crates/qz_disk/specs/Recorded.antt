@@ -6,7 +6,7 @@ use Rattle.qz_disk.specs.declared.calls.Call.TheVariants.{Restart}
 use Rattle.qz_disk.specs.declared.memory.MemDisk.{MemDisk}
 use Rattle.qz_disk.specs.Counts.{counted}
 use Rattle.qz_disk.specs.Disk.{DiskState}
-use Rattle.qz_disk.specs.Memory.{Standing, standing_of, memory_state, BringsUp}
+use Rattle.qz_disk.specs.Memory.{standing_of, memory_state, BringsUp}
 
 -- the bytes that it began with, its record of calls, the images chosen for the coming restarts, and how many calls
 -- found no memory

@@ -5,17 +5,9 @@ use qz_civil::List;
 #[derive(Drop, PartialEq, Eq, Debug)]
 pub enum Call {
     Len,
-    Read {
-        at: u64,
-        count: u64,
-    },
-    Write {
-        at: u64,
-        bytes: List<u8>,
-    },
+    Read { at: u64, count: u64 },
+    Write { at: u64, bytes: List<u8> },
     Sync,
     /// The image is what the restart brought up.
-    Restart {
-        image: List<u8>,
-    },
+    Restart { image: List<u8> },
 }

@@ -1,5 +1,5 @@
 //! Which bytes a crash of a disk in memory may leave, by its record of calls.
-ghost use Rattle.std.specs.Prelude.{◌≡◌, ◌+◌, ◌≤◌, ◌<◌, ℕ, length, drop, true, false, OnOk, OnErr, IfOk, IfSome, IfNone, slice_get, slice_index_or, Some, [], vec_len};
+ghost use Rattle.std.specs.Prelude.{◌≡◌, ◌+◌, ◌≤◌, ◌<◌, ℕ, List, length, take, true, false, OnOk, OnErr, IfOk, IfSome, IfNone, slice_get, slice_index_or, Some, [], vec_len};
 ghost use Rattle.qz_disk.specs.Disk.{written};
 ghost use Rattle.qz_disk.specs.Memory.{Standing, IsImageOf, is_reached, is_touched, standing_of};
 
@@ -61,38 +61,42 @@ fn is_image(synced: &[u8], ranges: &[(u64, u64)], bytes: &[u8]) -> bool
     true
 }
 
-// What the disk held at the last sync, and the ranges that were written since.
-fn replay(
-    alloc: Global,
-    first: &[u8],
-    calls: &[Call],
-) -> Result<(Vec<u8>, Vec<(u64, u64)>), NoMemory>
-    ensures synced { IfOk result (λ r. r.0.items ≡ (standing_of first.now calls.now).synced) }
-    ensures ranges { IfOk result (λ r. r.1.items ≡ (standing_of first.now calls.now).ranges) }
+// How many calls there are up to and with the last sync or restart, and the ranges that were written since, last first.
+fn unsynced(alloc: Global, calls: &[Call]) -> Result<(usize, Vec<(u64, u64)>), NoMemory>
+    ensures count { IfOk result (λ r. r.0 ≤ length calls.now) }
+    ensures synced { IfOk result (λ r. (first : List ℕ) → (standing_of first (take r.0 calls.now)).content ≡ (standing_of first calls.now).synced) }
+    ensures ranges { IfOk result (λ r. (first : List ℕ) → r.1.items ≡ (standing_of first calls.now).ranges) }
+{
+    let mut count = 0;
+    let mut ranges = Vec::new(alloc);
+    for (k, call) in calls.iter().enumerate() {
+        match call {
+            Call::Len => {}
+            Call::Read { .. } => {}
+            Call::Write { at, bytes } => ranges.insert(0, (*at, bytes.len() as u64))?,
+            Call::Sync => (count, ranges) = (k + 1, Vec::new(alloc)),
+            Call::Restart { .. } => (count, ranges) = (k + 1, Vec::new(alloc)),
+        }
+    }
+    Ok((count, ranges))
+}
+
+// The content to which these calls lead.
+fn replay(alloc: Global, first: &[u8], calls: &[Call]) -> Result<Vec<u8>, NoMemory>
+    ensures { IfOk result (λ content. content.items ≡ (standing_of first.now calls.now).content) }
 {
     let mut content = Vec::from_slice(alloc, first)?;
-    let mut synced = Vec::from_slice(alloc, first)?;
-    let mut ranges = Vec::new(alloc);
     for call in calls {
         match call {
-            Call::Len | Call::Read { .. } => {}
+            Call::Len | Call::Read { .. } | Call::Sync => {}
             Call::Write { at, bytes } => {
                 let start = (*at).min(content.len() as u64);
                 overwrite(&mut content, start as usize, bytes.as_slice())?;
-                ranges.insert(0, (*at, bytes.len() as u64))?;
             }
-            Call::Sync => {
-                synced = Vec::from_slice(alloc, &content)?;
-                ranges.clear();
-            }
-            Call::Restart { image } => {
-                content = Vec::from_slice(alloc, image.as_slice())?;
-                synced = Vec::from_slice(alloc, image.as_slice())?;
-                ranges.clear();
-            }
+            Call::Restart { image } => content = Vec::from_slice(alloc, image.as_slice())?,
         }
     }
-    Ok((synced, ranges))
+    Ok(content)
 }
 
 // The place of the first listed image that is one, if any.
@@ -112,7 +116,8 @@ pub(crate) fn first_image(
     if images.is_empty() {
         return Ok(None);
     }
-    let (synced, ranges) = replay(alloc, first, calls)?;
+    let (count, ranges) = unsynced(alloc, calls)?;
+    let synced = replay(alloc, first, &calls[..count])?;
     for (k, image) in images.iter().enumerate() {
         if is_image(&synced, &ranges, image.as_slice()) {
             return Ok(Some(k));

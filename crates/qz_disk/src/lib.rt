@@ -9,7 +9,6 @@ mod fault;
 mod file;
 mod images;
 mod memory;
-
 #[cfg(test)]
 mod tests;
 

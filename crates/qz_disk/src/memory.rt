@@ -105,9 +105,17 @@ impl MemDisk {
             (content_of (record_of self.new)) self.new.images) }
         ensures err { OnErr result (record_of self.new ≡ record_of self.old) }
     {
-        match first_image(self.alloc, self.first.as_slice(), &self.calls, self.images.as_slice())? {
+        match first_image(
+            self.alloc,
+            self.first.as_slice(),
+            &self.calls,
+            self.images.as_slice(),
+        )? {
             Some(place) => {
-                let content = Vec::from_slice(self.alloc, self.images.as_slice()[place].as_slice())?;
+                let content = Vec::from_slice(
+                    self.alloc,
+                    self.images.as_slice()[place].as_slice(),
+                )?;
                 let image = take_image(&mut self.images, place);
                 self.content = content;
                 self.calls.push_reserved(Call::Restart { image });

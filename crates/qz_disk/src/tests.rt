@@ -64,7 +64,11 @@ fn each_restart_takes_the_next_image(rt: HostRuntime) -> Result<(), Fail> {
     }
     disk.choose(images);
     // The second takes none: what was synced by the first can't become shorter or other.
-    for (bytes, want) in [(b"XY".as_slice(), b"a".as_slice()), (b"c", b"b"), (b"d", b"d")] {
+    for (bytes, want) in [
+        (b"XY".as_slice(), b"a".as_slice()),
+        (b"c", b"b"),
+        (b"d", b"d"),
+    ] {
         assert!(rt; put(&mut disk, 0, bytes));
         assert!(rt; disk.restart().is_ok());
         assert_eq!(rt; content(alloc, &mut disk).as_deref(), Some(want));
@@ -78,7 +82,10 @@ fn a_disk_in_memory_records_its_calls(rt: HostRuntime) -> Result<(), Fail> {
     let alloc = rt.alloc();
     let mut disk = MemDisk::with_bytes(alloc, list(alloc, b"abc")?);
     assert!(rt; put(&mut disk, 1, b"X") && disk.sync().is_ok());
-    assert_eq!(rt; content(alloc, &mut disk).as_deref(), Some(b"aXc".as_slice()));
+    assert_eq!(rt;
+        content(alloc, &mut disk).as_deref(),
+        Some(b"aXc".as_slice())
+    );
     let bytes = list(alloc, b"X")?;
     let want = [
         Call::Len,
@@ -99,7 +106,10 @@ fn a_cut_ends_with_a_restart(rt: HostRuntime) -> Result<(), Fail> {
     assert!(rt; put(&mut disk, 0, b"X"));
     assert!(rt; disk.sync().is_err() && disk.len().is_err());
     assert!(rt; disk.restart().is_ok());
-    assert_eq!(rt; content(alloc, &mut disk).as_deref(), Some(b"Xbc".as_slice()));
+    assert_eq!(rt;
+        content(alloc, &mut disk).as_deref(),
+        Some(b"Xbc".as_slice())
+    );
     Ok(())
 }
 
@@ -124,7 +134,10 @@ fn a_file_is_made_at_the_first_write(rt: HostRuntime) -> Result<(), Fail> {
     assert!(rt; disk.sync().is_ok() && !fs::exists(&rt, path.as_str())?);
     assert!(rt; put(&mut disk, 0, b"abcde") && disk.sync().is_ok());
     assert!(rt; put(&mut disk, 4, b"XYZ") && disk.restart().is_ok());
-    assert_eq!(rt; content(alloc, &mut disk).as_deref(), Some(b"abcdXYZ".as_slice()));
+    assert_eq!(rt;
+        content(alloc, &mut disk).as_deref(),
+        Some(b"abcdXYZ".as_slice())
+    );
 
     // Another program cuts the file: what was measured isn't there to be read.
     fs::write(&rt, path.as_str(), "abc")?;

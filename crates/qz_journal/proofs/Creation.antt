@@ -1,5 +1,5 @@
 -- A crash while a journal is made.
-use Rattle.std.proofs.Common.{◌≡◌, ℕ, ◌+◌, List, [], ◌∷◌, ◌++◌, length, take, sym, ap, subst, arith, length-append, Result}
+use Rattle.std.proofs.Common.{◌≡◌, ℕ, List, [], ◌∷◌, ◌++◌, length, take, sym, ap, subst, arith, length-append, Result}
 use Rattle.qz_disk.specs.Disk.{DiskState, Torn, Only, Stays, LeavesOnly}
 use Rattle.qz_disk.proofs.Moments.{then_leaves, torn_same}
 use Rattle.qz_journal.specs.Layout.{IsHeader}

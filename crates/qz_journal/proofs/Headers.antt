@@ -1,5 +1,5 @@
 -- The headers of the two kinds.
-use Rattle.std.proofs.Common.{◌≡◌, ◌≢◌, ℕ, ◌<◌, List, length, take, drop, replicate, get_or, refl, sym, ◌∙◌, ap, subst, arith, length-take, take-append-drop, ◌++◌}
+use Rattle.std.proofs.Common.{◌≡◌, ◌≢◌, ℕ, ◌<◌, List, length, take, drop, get_or, sym, ◌∙◌, ap, arith, length-take, take-append-drop, ◌++◌}
 use Rattle.std.proofs.lemmas.Bool.Decides.{nat_tests}
 use Rattle.qz_journal.specs.Layout.{front_of, IsHeader, other_kind}
 

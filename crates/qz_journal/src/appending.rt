@@ -2,8 +2,8 @@
 ghost use Rattle.std.specs.Prelude.{◌≡◌, ◌↔◌, ◌⊎◌, ◌+◌, ◌-◌, ◌^◌, ◌<◌, ◌≤◌, [], ◌∷◌, ◌++◌, List, ℕ, length, max, OnOk, OnErr, IfErr, IsOk, Ok, Err, Some, None, ◌≢◌, vec_capacity};
 ghost use Rattle.std.specs.Int.{w32, to_be_bytes};
 ghost use Rattle.qz_civil.specs.Causes.{Rose, HasCause};
-ghost use Rattle.qz_disk.specs.Disk.{Only, LeavesOnly};
-ghost use Rattle.qz_journal.specs.Layout.{IsPayload, body_of, Holds, IsBeforeOrAfter};
+ghost use Rattle.qz_disk.specs.Disk.{Only, LeavesOnly, written};
+ghost use Rattle.qz_journal.specs.Layout.{IsPayload, open_gate, body_of, Holds, IsBeforeOrAfter};
 ghost use Rattle.qz_journal.specs.Commits.{IsFull, need_of, room_of};
 ghost use Rattle.qz_journal.specs.Through.{PutsThrough};
 
@@ -83,6 +83,10 @@ impl<D: Disk> Journal<D> {
             × (self.new.count ≡ self.old.count + 1)) }
         ensures same_place { OnErr result ((self.new.gate ≡ self.old.gate) × (self.new.count ≡ self.old.count)) }
         ensures reads_nothing { D.honest → (D.state self.new.disk).bytes_read ≡ (D.state self.old.disk).bytes_read }
+
+        // At `Ok` these two pieces were written, and no other byte.
+        ensures bytes { D.honest → OnOk result ((D.state self.new.disk).content
+            ≡ written self.old.gate (open_gate ∷ []) (written (self.old.gate + 1) (body_of payload.now ++ 0 ∷ []) (D.state self.old.disk).content)) }
 
         // At `Ok` the bytes stand for the payloads and this one behind them, and so does what a crash leaves.
         ensures stands { D.honest → (payloads : List (List ℕ)) → Holds (D.state self.old.disk).content self.old.kind payloads

@@ -65,30 +65,36 @@ fn the_header_decides_whether_it_is_a_store(rt: HostRuntime) -> Result<(), Fail>
     Ok(())
 }
 
+// Where a store with these bytes behind its header is damaged, or the lengths of its payloads.
+fn found_behind(alloc: Global, behind: &[u8]) -> Result<(Option<u64>, List<usize>), Fail> {
+    let disk = disk_of(alloc, &HEADER, behind)?;
+    match opened(alloc, disk, TRIGGERS) {
+        Ok(lengths) => Ok((None, lengths)),
+        Err(MountError::Damaged { at }) => Ok((Some(at), List::new(alloc))),
+        Err(error) => Err(Fail::from(error)),
+    }
+}
+
 #[test]
 fn the_least_bad_place_is_answered(rt: HostRuntime) -> Result<(), Fail> {
-    let at_16 = Err(MountError::Damaged { at: 16 });
-    let at_22 = Err(MountError::Damaged { at: 22 });
-    let table: [(&[u8], Result<&[usize], MountError>); 12] = [
-        (b"", at_16),
-        (b"\xa5\0\0\0\x10\x01\x02\x03", at_16),
-        (b"\0any bytes", Ok(&[])),
-        (b"\x5a", Ok(&[])),
-        (b"\xff", Ok(&[])),
-        (b"\xa5\0\0\0\x01\x07", at_22),
-        (b"\xa5\0\0\0\x01\x07\xa5", at_22),
-        (b"\xa5\0\0\0\x01\x07\xa5\0\0", at_22),
-        (b"\xa5\0\0\0\x01\x07\xa5\0\0\0\0\0", at_22),
-        (b"\xa5\0\0\0\x01\x07\xa5\0\0\x80\x01", at_22),
-        (b"\xa5\0\0\0\x01\x07\x5a\xa5", Ok(&[1])),
-        (b"\xa5\0\0\0\x01\x07\xa5\0\0\0\x02\x08\x09\0", Ok(&[1, 2])),
+    let table: [(&[u8], Option<u64>, &[usize]); 12] = [
+        (b"", Some(16), &[]),
+        (b"\xa5\0\0\0\x10\x01\x02\x03", Some(16), &[]),
+        (b"\0any bytes", None, &[]),
+        (b"\x5a", None, &[]),
+        (b"\xff", None, &[]),
+        (b"\xa5\0\0\0\x01\x07", Some(22), &[]),
+        (b"\xa5\0\0\0\x01\x07\xa5", Some(22), &[]),
+        (b"\xa5\0\0\0\x01\x07\xa5\0\0", Some(22), &[]),
+        (b"\xa5\0\0\0\x01\x07\xa5\0\0\0\0\0", Some(22), &[]),
+        (b"\xa5\0\0\0\x01\x07\xa5\0\0\x80\x01", Some(22), &[]),
+        (b"\xa5\0\0\0\x01\x07\x5a\xa5", None, &[1]),
+        (b"\xa5\0\0\0\x01\x07\xa5\0\0\0\x02\x08\x09\0", None, &[1, 2]),
     ];
-    for (behind, want) in table {
-        let disk = disk_of(rt.alloc(), &HEADER, behind)?;
-        let found = opened(rt.alloc(), disk, TRIGGERS);
-        let found = found.as_ref().map(|lengths| lengths.as_slice());
+    for (behind, at, lengths) in table {
+        let found = found_behind(rt.alloc(), behind)?;
         assert!(rt;
-            found == want.as_ref().map(|lengths| *lengths),
+            found.0 == at && found.1.as_slice() == lengths,
             "at {behind:?}"
         );
     }
@@ -152,7 +158,7 @@ fn a_commit_makes_four_device_calls(rt: HostRuntime) -> Result<(), Fail> {
 // payloads that a restart finds where this image, the bytes behind the header, was chosen.
 fn cut_commit(
     alloc: Global,
-    passes: u64,
+    passes: u8,
     image: &[u8],
 ) -> Result<(Result<(), AppendError>, List<usize>), Fail> {
     let mut disk = disk_of(alloc, &HEADER, b"\0")?;
@@ -162,8 +168,8 @@ fn cut_commit(
     images.push(List::from_vec(chosen))?;
     disk.choose(images);
     // The opening takes three calls.
-    let Ok((mut journal, _)) = Journal::mount(alloc, CutDisk::new(disk, 3 + passes), TRIGGERS)
-    else {
+    let disk = CutDisk::new(disk, 3 + u64::from(passes));
+    let Ok((mut journal, _)) = Journal::mount(alloc, disk, TRIGGERS) else {
         return Err(Fail::from("no journal"));
     };
     let answer = journal.append(b"\x07");
@@ -180,7 +186,7 @@ fn a_commit_that_is_cut_is_there_or_not(rt: HostRuntime) -> Result<(), Fail> {
     let fault = Err(AppendError::Fault);
     // What is no image is passed over, and the bytes come up as they were written.
     let no_image: &[u8] = b"";
-    let table: [(u64, &[u8], Result<(), AppendError>, &[usize]); 10] = [
+    let table: [(u8, &[u8], Result<(), AppendError>, &[usize]); 10] = [
         (0, no_image, fault, &[]),
         (1, no_image, fault, &[]),
         (1, b"\0\xa5\xa5\xa5", fault, &[]),

@@ -8,7 +8,6 @@ use qz_types::{
     Timing, TriggerSpec,
 };
 use std::alloc::{AllocError, Global};
-use std::test::Fail;
 
 const T0: i64 = 1704067200000;
 
@@ -132,42 +131,8 @@ fn complete(alloc: Global, at: i64, entry: u64) -> Result<Entry, AllocError> {
     })
 }
 
-// The store in which the node has acquired the trigger.
-fn acquired(alloc: Global, at: i64) -> Result<PlainStore, StepRefused> {
-    let mut store = PlainStore::new(alloc);
-    store.step(add_job(alloc, at)?)?;
-    store.step(add_trigger(alloc, at)?)?;
-    store.step(join(alloc, at)?)?;
-    store.step(acquire(alloc, at)?)?;
-    Ok(store)
-}
-
-#[test]
-fn stores_a_job_and_its_trigger(rt: HostRuntime) -> Result<(), Fail> {
-    let alloc = rt.alloc();
-    let mut store = PlainStore::new(alloc);
-    assert_eq!(rt; store.step(add_job(alloc, T0)?), Ok(Reply::Done));
-    assert_eq!(rt;
-        store.step(add_trigger(alloc, T0)?),
-        Ok(Reply::Added { next: T0 })
-    );
-    assert_eq!(rt; store.jobs().len(), 1);
-    assert_eq!(rt; store.triggers().len(), 1);
-    Ok(())
-}
-
-#[test]
-fn acquires_the_trigger(rt: HostRuntime) -> Result<(), Fail> {
-    let alloc = rt.alloc();
-    let mut store = PlainStore::new(alloc);
-    store.step(add_job(alloc, T0)?)?;
-    store.step(add_trigger(alloc, T0)?)?;
-    let joined = Reply::Joined {
-        epoch: 1,
-        executions: 0,
-        triggers: 0,
-    };
-    assert_eq!(rt; store.step(join(alloc, T0)?), Ok(joined));
+// The reply to acquire.
+fn taken(alloc: Global) -> Result<Reply, AllocError> {
     let trigger = key(alloc, "t1")?;
     let mut taken = List::new(alloc);
     taken.push(Taken {
@@ -175,60 +140,132 @@ fn acquires_the_trigger(rt: HostRuntime) -> Result<(), Fail> {
         trigger,
         next: T0,
     })?;
-    assert_eq!(rt; store.step(acquire(alloc, T0)?), Ok(Reply::Acquired(taken)));
-    Ok(())
+    Ok(Reply::Acquired(taken))
 }
 
-#[test]
-fn fires_and_completes(rt: HostRuntime) -> Result<(), Fail> {
-    let alloc = rt.alloc();
-    let mut store = acquired(alloc, T0)?;
+// The reply to fire.
+fn fired(alloc: Global) -> Result<Reply, AllocError> {
     let trigger = key(alloc, "t1")?;
-    let fired = Reply::Fired {
+    let job = report(alloc)?;
+    Ok(Reply::Fired {
         entry: 1,
         scheduled: T0,
         fired: T0,
         next: None,
         trigger,
-        job: report(alloc)?,
-    };
-    assert_eq!(rt; store.step(fire(alloc, T0, 1)?), Ok(fired));
-    assert_eq!(rt;
-        store.step(complete(alloc, T0, 1)?),
-        Ok(Reply::Completed { entry: 1 })
+        job,
+    })
+}
+
+// Whether the store does what is asked, and answers so.
+fn answers(
+    store: &mut PlainStore,
+    entry: Result<Entry, AllocError>,
+    wanted: Result<Reply, AllocError>,
+) -> bool {
+    match entry {
+        Ok(entry) => is_reply(&store.step(entry), &wanted),
+        Err(_) => false,
+    }
+}
+
+fn is_reply(answer: &Result<Reply, StepRefused>, wanted: &Result<Reply, AllocError>) -> bool {
+    match (answer, wanted) {
+        (Ok(reply), Ok(wanted)) => *reply == *wanted,
+        _ => false,
+    }
+}
+
+// Whether the store refuses what is asked for this reason.
+fn refuses(store: &mut PlainStore, entry: Result<Entry, AllocError>, wanted: &Refusal) -> bool {
+    match entry {
+        Ok(entry) => is_refusal(&store.step(entry), wanted),
+        Err(_) => false,
+    }
+}
+
+fn is_refusal(answer: &Result<Reply, StepRefused>, wanted: &Refusal) -> bool {
+    match answer {
+        Err(StepRefused::Refused(refusal)) => *refusal == *wanted,
+        _ => false,
+    }
+}
+
+// The reply to join.
+fn joined() -> Reply {
+    Reply::Joined {
+        epoch: 1,
+        executions: 0,
+        triggers: 0,
+    }
+}
+
+#[test]
+fn six_commands(rt: HostRuntime) {
+    let alloc = rt.alloc();
+    let mut store = PlainStore::new(alloc);
+    assert!(rt; answers(&mut store, add_job(alloc, T0), Ok(Reply::Done)));
+    assert!(rt;
+        answers(
+            &mut store,
+            add_trigger(alloc, T0),
+            Ok(Reply::Added { next: T0 })
+        )
+    );
+    assert!(rt; answers(&mut store, join(alloc, T0), Ok(joined())));
+    assert!(rt; answers(&mut store, acquire(alloc, T0), taken(alloc)));
+    assert!(rt; answers(&mut store, fire(alloc, T0, 1), fired(alloc)));
+    assert!(rt;
+        answers(
+            &mut store,
+            complete(alloc, T0, 1),
+            Ok(Reply::Completed { entry: 1 })
+        )
     );
     assert!(rt; store.jobs().is_empty() && store.triggers().is_empty() && store.fired().is_empty());
     assert_eq!(rt; store.members().len(), 1);
-    assert_eq!(rt; store.last_moment(), T0);
-    Ok(())
 }
 
 #[test]
-fn fires_no_earlier_than_planned(rt: HostRuntime) -> Result<(), Fail> {
+fn fires_no_earlier_than_planned(rt: HostRuntime) {
     let alloc = rt.alloc();
-    let mut store = acquired(alloc, T0 - 10000)?;
-    let early = StepRefused::Refused(Refusal::Early { next: T0 });
-    assert_eq!(rt; store.step(fire(alloc, T0 - 1, 1)?), Err(early));
-    assert_eq!(rt; store.last_moment(), T0 - 10000);
-    let copy = store.copy()?;
-    assert_eq!(rt; copy.fired().len(), 1);
-    assert!(rt; store.step(fire(alloc, T0, 1)?).is_ok());
-    Ok(())
+    let at = T0 - 10000;
+    let mut store = PlainStore::new(alloc);
+    assert!(rt; answers(&mut store, add_job(alloc, at), Ok(Reply::Done)));
+    assert!(rt;
+        answers(
+            &mut store,
+            add_trigger(alloc, at),
+            Ok(Reply::Added { next: T0 })
+        )
+    );
+    assert!(rt; answers(&mut store, join(alloc, at), Ok(joined())));
+    assert!(rt; answers(&mut store, acquire(alloc, at), taken(alloc)));
+    assert!(rt;
+        refuses(
+            &mut store,
+            fire(alloc, T0 - 1, 1),
+            &Refusal::Early { next: T0 }
+        )
+    );
+    assert_eq!(rt; store.last_moment(), at);
+    assert!(rt; answers(&mut store, fire(alloc, T0, 1), fired(alloc)));
 }
 
 #[test]
-fn refuses(rt: HostRuntime) -> Result<(), Fail> {
+fn refusals(rt: HostRuntime) {
     let alloc = rt.alloc();
     let mut store = PlainStore::new(alloc);
-    let fenced = StepRefused::Refused(Refusal::Fenced { live: None });
-    assert_eq!(rt; store.step(fire(alloc, T0, 1)?), Err(fenced));
-    let unknown_job = StepRefused::Refused(Refusal::UnknownJob);
-    assert_eq!(rt; store.step(add_trigger(alloc, T0)?), Err(unknown_job));
-    store.step(add_job(alloc, T0)?)?;
-    let unbuilt = StepRefused::Refused(Refusal::Unbuilt);
-    assert_eq!(rt; store.step(add_job(alloc, T0)?), Err(unbuilt));
-    store.step(join(alloc, T0)?)?;
-    let unknown_entry = StepRefused::Refused(Refusal::UnknownEntry);
-    assert_eq!(rt; store.step(fire(alloc, T0, 1)?), Err(unknown_entry));
-    Ok(())
+    assert!(rt;
+        refuses(
+            &mut store,
+            fire(alloc, T0, 1),
+            &Refusal::Fenced { live: None }
+        )
+    );
+    assert!(rt; refuses(&mut store, add_trigger(alloc, T0), &Refusal::UnknownJob));
+    assert!(rt; answers(&mut store, add_job(alloc, T0), Ok(Reply::Done)));
+    assert!(rt; refuses(&mut store, add_job(alloc, T0), &Refusal::Unbuilt));
+    assert!(rt; answers(&mut store, join(alloc, T0), Ok(joined())));
+    assert!(rt; refuses(&mut store, fire(alloc, T0, 1), &Refusal::UnknownEntry));
 }

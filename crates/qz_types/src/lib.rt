@@ -10,6 +10,8 @@ mod members;
 mod replies;
 mod sorted;
 mod steps;
+#[cfg(test)]
+mod tests;
 mod triggers;
 
 pub use commands::{Actor, Code, Command, Entry};

@@ -1,4 +1,4 @@
-use Rattle.std.proofs.Common.{◌≡◌, ◌+◌, drop, List, ℕ, ap, ◌∙◌, drop-drop, arith}
+use Rattle.std.proofs.Common.{drop, List, ℕ, ap, ◌∙◌, drop-drop, arith}
 use Rattle.qz_disk.proofs.memory.take_image.Goals as goal
 
 pub loop-turn-preserved : goal.loop-turn-preserved

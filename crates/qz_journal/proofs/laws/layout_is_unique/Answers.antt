@@ -1,4 +1,3 @@
-use Rattle.qz_journal.proofs.Headers.{one_kind}
 use Rattle.qz_journal.proofs.Once.{holds_once, not_damaged, damaged_once}
 use Rattle.qz_journal.proofs.laws.layout_is_unique.Goals as goal
 

@@ -1,4 +1,4 @@
-use Rattle.std.proofs.Common.{◌≡◌, subst, List, ℕ, sym, rules, arith}
+use Rattle.std.proofs.Common.{subst, sym, rules, arith}
 use Rattle.qz_journal.specs.Layout.{IsHeader}
 use Rattle.qz_journal.proofs.Headers.{other_header}
 use Rattle.qz_journal.proofs.layout.is_header.Goals as goal

@@ -1,4 +1,4 @@
-use Rattle.std.proofs.Common.{arith, ℕ, ◌≡◌, ◌∷◌, ◌∙◌, ap, ◌++◌, [], List, false, subst}
+use Rattle.std.proofs.Common.{arith, ℕ, ◌≡◌, ◌∷◌, ◌∙◌, ap, ◌++◌, [], List}
 use Rattle.qz_journal.proofs.Walk.{walked, walked_end, all_payloads}
 use Rattle.qz_journal.proofs.parsing.parse.Goals as goal
 

@@ -1,5 +1,5 @@
-use Rattle.std.proofs.Common.{◌≡◌, List, [], ◌∷◌, ◌++◌, ◌∙◌, sym, ap, subst, slice_index_or}
-use Rattle.qz_disk.specs.Memory.{BringsUp, standing_of}
+use Rattle.std.proofs.Common.{◌≡◌, ◌∙◌, sym}
+use Rattle.qz_disk.specs.Memory.{standing_of}
 use Rattle.qz_disk.proofs.MemoryCalls.{not_fresh}
 use Rattle.qz_disk.proofs.Choices.{brought_up, same_item, brings_found, brings_written}
 use Rattle.qz_disk.proofs.memory.MemDisk.bring_up.Goals as goal

@@ -1,5 +1,4 @@
 use Rattle.std.proofs.Common.{ℕ, List, length, take, drop, ◌∙◌, refl, sym, ap, ◌≡◌, arith, true}
-use Rattle.qz_disk.specs.declared.calls.Call.{Call}
 use Rattle.qz_disk.specs.declared.calls.Call.TheVariants.{Read}
 use Rattle.qz_disk.specs.Memory.{standing_of}
 use Rattle.qz_disk.proofs.Causes.{on_ok}

@@ -1,5 +1,4 @@
-use Rattle.std.proofs.Common.{◌++◌, ◌∷◌, [], List, ℕ, ◌∙◌, sym, ap, ◌≡◌, true}
-use Rattle.qz_disk.specs.declared.calls.Call.{Call}
+use Rattle.std.proofs.Common.{◌++◌, ◌∷◌, [], List, ℕ, ◌∙◌, sym, ap}
 use Rattle.qz_disk.specs.declared.calls.Call.TheVariants.{Write}
 use Rattle.qz_disk.specs.Disk.{written}
 use Rattle.qz_disk.specs.Memory.{Standing}

@@ -1,4 +1,4 @@
-use Rattle.std.proofs.Common.{◌≡◌, IsTrue, subst}
+use Rattle.std.proofs.Common.{IsTrue, subst}
 use Rattle.qz_types.specs.Entries.{EntryData, is_entry}
 use Rattle.qz_model.proofs.Kept.{kept}
 use Rattle.qz_model.proofs.plain.PlainStore.step.Goals as goal

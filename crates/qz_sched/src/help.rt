@@ -1,0 +1,25 @@
+//! What the program tells of itself.
+
+pub const VERSION: &str = "qz_sched 0.1.0\n";
+
+pub const HELP: &str = "usage: qz_sched < LINES
+
+Runs a script on a new trigger store in memory: each line of standard input is one
+JSON object, and each step is answered by one line on standard output.
+
+  {\"do\":\"add_job\",\"job\":{\"name\":\"report\",\"class\":\"ok\"}}
+  {\"do\":\"add_trigger\",\"trigger\":{\"name\":\"t1\",\"job\":\"report\",\"kind\":\"simple\",\"start\":1704067200000}}
+  {\"do\":\"join\",\"node\":\"A\"}
+  {\"do\":\"acquire\",\"node\":\"A\",\"no_later\":1704067200000}
+  {\"do\":\"fire\",\"node\":\"A\",\"entry\":1}
+  {\"do\":\"complete\",\"node\":\"A\",\"entry\":1}
+
+Times are in milliseconds since 1970-01-01T00:00:00Z. A line may have its own clock
+reading as \"at\". What ends a script early is told on standard error:
+
+  status 1  bad words            status 4  write fault
+  status 2  a bad line           status 9  no memory
+  status 3  read fault
+
+--help and --version, as the only word, print this text and the version.
+";

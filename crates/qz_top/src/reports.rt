@@ -1,0 +1,54 @@
+//! The one line on standard error that tells why a call didn't end well.
+ghost use Rattle.std.specs.Prelude.{◌≡◌, OnOk};
+ghost use Rattle.std.specs.Io.KnownBytes.{Appends};
+ghost use Rattle.qz_civil.specs.Causes.{HasCause};
+ghost use Rattle.qz_top.specs.Statuses.{kind_text, error_text, Reported};
+
+use crate::{BadKind, Status};
+use itoa::Buffer;
+use qz_io::{Failed, Sink, write_all};
+
+/// Writes the line of a status, and nothing for `Ok`. Takes no memory. That the writing failed is passed over.
+pub fn report<E: Sink>(status: Status, err: &mut E)
+    ensures { Reported (error_text status) (E.held err.old) (E.held err.new) (E.faults err.old) (E.faults err.new) }
+{
+    let _ = write_error(status, err);
+}
+
+fn write_error<E: Sink>(status: Status, err: &mut E) -> Result<(), Failed>
+    ensures ok { OnOk result (Appends (E.held err.old) (E.held err.new) (error_text status)) }
+    ensures cause { HasCause (E.faults err.old) (E.faults err.new) result }
+{
+    match status {
+        Status::Ok => Ok(()),
+        Status::BadWords { fault: _ } => write_all(err, b"qz: bad words\n"),
+        Status::BadLine { line, fault } => write_bad_line(line, fault, err),
+        Status::ReadFault => write_all(err, b"qz: read fault\n"),
+        Status::WriteFault => write_all(err, b"qz: write fault\n"),
+        Status::NoMemory => write_all(err, b"qz: no memory\n"),
+    }
+}
+
+fn write_bad_line<E: Sink>(line: u64, kind: BadKind, err: &mut E) -> Result<(), Failed>
+    ensures ok { OnOk result (Appends (E.held err.old) (E.held err.new) (error_text (Status.BadLine line kind))) }
+    ensures cause { HasCause (E.faults err.old) (E.faults err.new) result }
+{
+    let mut buffer = Buffer::new();
+    write_all(err, b"qz: line ")?;
+    write_all(err, buffer.format(line).as_bytes())?;
+    write_all(err, b": ")?;
+    write_all(err, text_of(kind).as_bytes())?;
+    write_all(err, b"\n")
+}
+
+fn text_of(kind: BadKind) -> &'static str
+    ensures { result.now ≡ kind_text kind }
+{
+    match kind {
+        BadKind::TooLong => "too long",
+        BadKind::NotJson => "not JSON",
+        BadKind::Shape => "not a step",
+        BadKind::TooManyLines => "too many lines",
+        BadKind::NotHere => "not here",
+    }
+}

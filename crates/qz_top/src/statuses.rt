@@ -1,0 +1,61 @@
+//! How a call ends.
+ghost use Rattle.std.specs.Prelude.{◌≡◌};
+ghost use Rattle.qz_top.specs.Statuses.{exit_number};
+
+/// Lines of one script.
+pub const LINE_COUNT_LIMIT: u64 = 1048576;
+
+/// What is wrong with the words of the command line.
+#[derive(Clone, Copy, PartialEq, Eq, Debug)]
+pub enum WordFault {
+    /// No call begins with this word.
+    UnknownCommand,
+}
+
+/// What is wrong with a line of the input.
+#[derive(Clone, Copy, PartialEq, Eq, Debug)]
+pub enum BadKind {
+    /// More than 65536 bytes stand before the line's end.
+    TooLong,
+    /// The bytes aren't UTF-8, or they aren't one JSON value.
+    NotJson,
+    /// It isn't a step: an unknown or missing member, a value of another type, `null`, or a value out of its range.
+    Shape,
+    /// More lines begin than a script may have.
+    TooManyLines,
+    /// The format has this line or this member, and the scheduler doesn't read it yet.
+    NotHere,
+}
+
+/// How a call ends. The first cause that was met is answered, and want of memory may be at any time.
+#[derive(Clone, Copy, PartialEq, Eq, Debug)]
+pub enum Status {
+    /// The work was done, and the input read to its end.
+    Ok,
+    /// The words of the command line are none that a call has. Nothing was read or written.
+    BadWords { fault: WordFault },
+    /// The first bad line of the input, counted from 1. The lines before it were done and answered.
+    BadLine { line: u64, fault: BadKind },
+    /// A read of the input failed. Each line whose line feed was read was done and answered.
+    ReadFault,
+    /// A write of the output failed.
+    WriteFault,
+    /// Memory ran out.
+    NoMemory,
+}
+
+impl Status {
+    /// The program's exit status.
+    pub fn exit_number(self) -> u8
+        ensures { result ≡ exit_number self }
+    {
+        match self {
+            Status::Ok => 0,
+            Status::BadWords { fault: _ } => 1,
+            Status::BadLine { line: _, fault: _ } => 2,
+            Status::ReadFault => 3,
+            Status::WriteFault => 4,
+            Status::NoMemory => 9,
+        }
+    }
+}
