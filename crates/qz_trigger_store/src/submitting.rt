@@ -119,9 +119,8 @@ impl<D: Disk> TriggerStore<D> {
     {
         if !self.is_open {
             let_go(entry);
-            return Err(SubmitError::Closed {
-                at: self.journal.gate,
-            });
+            let at = self.journal.gate;
+            return Err(SubmitError::Closed { at });
         }
         let prepared = match prepare(self.alloc, &self.tables, &entry) {
             Ok(prepared) => prepared,
