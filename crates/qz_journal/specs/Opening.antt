@@ -15,10 +15,8 @@ IsCut bytes = (payload rest : List ℕ) → IsPayload payload → bytes ≢ body
 abbrev pub IsBad : List ℕ → Type 0
 IsBad tail = (tail ≡ []) ⊎ ((rest : List ℕ) × (tail ≡ open_gate ∷ rest) × IsCut rest)
 
--- At this offset, behind the blocks of some payloads, the gate is missing, or it is open and what follows it is cut.
--- Since all before it is whole, it is the least such place.
-pub record IsDamaged (bytes : List ℕ) (kind at : ℕ) : Type 0 where
-  pub payloads : List (List ℕ)
+-- Behind the blocks of these payloads, at this offset, the gate is missing, or it is open and what follows it is cut.
+pub record IsDamagedBehind (bytes : List ℕ) (kind : ℕ) (payloads : List (List ℕ)) (at : ℕ) : Type 0 where
   pub sizes : All IsPayload payloads
   pub tail : List ℕ
   pub header : IsHeader kind (take 16 bytes)
@@ -26,12 +24,25 @@ pub record IsDamaged (bytes : List ℕ) (kind at : ℕ) : Type 0 where
   pub at_is : at ≡ end_of payloads
   pub bad : IsBad tail
 
+-- Behind the blocks of some payloads the bytes are damaged, at this offset. Since all before it is whole, it is the
+-- least such place.
+pub record IsDamaged (bytes : List ℕ) (kind at : ℕ) : Type 0 where
+  pub payloads : List (List ℕ)
+  pub behind : IsDamagedBehind bytes kind payloads at
+
 -- why an opening of these bytes is refused; that the disk or memory failed isn't seen in them
 abbrev pub IsRefused : List ℕ → ℕ → MountError → Type 0
 IsRefused bytes kind mount.NotAStore = IsHeader kind (take 16 bytes) → ⊥
 IsRefused bytes kind (mount.Damaged at) = IsDamaged bytes kind at
 IsRefused bytes kind mount.Fault = ⊤
 IsRefused bytes kind mount.NoMemory = ⊤
+
+-- the same, with the payloads that stand before a bad place
+abbrev pub IsRefusedBehind : List ℕ → ℕ → List (List ℕ) → MountError → Type 0
+IsRefusedBehind bytes kind payloads mount.NotAStore = IsHeader kind (take 16 bytes) → ⊥
+IsRefusedBehind bytes kind payloads (mount.Damaged at) = IsDamagedBehind bytes kind payloads at
+IsRefusedBehind bytes kind payloads mount.Fault = ⊤
+IsRefusedBehind bytes kind payloads mount.NoMemory = ⊤
 
 -- What a creation finds: neither header, this kind's or the other's. That the disk failed isn't seen in the bytes.
 abbrev pub IsFound : List ℕ → ℕ → Result (Unit {0}) CreateError → Type 0

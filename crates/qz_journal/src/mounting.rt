@@ -1,12 +1,12 @@
 //! Opening what stands on a disk.
-ghost use Rattle.std.specs.Prelude.{◌≡◌, ◌+◌, ◌<◌, ◌≤◌, ℕ, List, [], length, IfOk, IfErr, MatchResult, OnOk, OnErr, Some, None, Ok, Err, ◌⊎◌, vec_len, vec_capacity};
+ghost use Rattle.std.specs.Prelude.{◌≡◌, ◌+◌, ◌^◌, ◌<◌, ◌≤◌, ℕ, List, [], length, IfOk, IfErr, MatchResult, OnOk, OnErr, Some, None, Ok, Err, ◌⊎◌, vec_len, vec_capacity};
 ghost use Rattle.qz_civil.specs.Causes.{Rose, HasCause};
 ghost use Rattle.qz_disk.specs.Disk.{Only, LeavesOnly, Restarts};
 ghost use Rattle.qz_journal.specs.Layout.{Holds, end_of};
-ghost use Rattle.qz_journal.specs.Opening.{IsDamaged, IsRefused};
+ghost use Rattle.qz_journal.specs.Opening.{IsRefused, IsRefusedBehind};
 ghost use Rattle.qz_journal.specs.Through.{OnlyReads};
 
-use crate::parsing::parse;
+use crate::parsing::{Parsed, parse};
 use crate::{Journal, MountError};
 use qz_civil::{Failed, List};
 use qz_disk::Disk;
@@ -44,7 +44,7 @@ impl<D: Disk> Journal<D> {
     /// first, so that what it reads is what a crash leaves, and writes nothing. An `Err` hands the disk back.
     pub fn mount(
         alloc: Global,
-        mut disk: D,
+        disk: D,
         kind: u8,
     ) -> Result<(Journal<D>, List<List<u8>>), (MountError, D)>
         ensures stands { D.honest → IfOk result (λ r. Holds (D.state r.0.disk).content kind r.1) }
@@ -60,16 +60,50 @@ impl<D: Disk> Journal<D> {
         ensures fault { IfErr result (λ e. (D.faults disk ≤ D.faults e.1)
             × (e.0 ≡ MountError.Fault → Rose (D.faults disk) (D.faults e.1))) }
     {
+        match Journal::mount_or_salvage(alloc, disk, kind) {
+            Ok(mounted) => Ok(mounted),
+            Err((error, _payloads, disk)) => Err((error, disk)),
+        }
+    }
+
+    /// Opens a journal as `mount` does. Where it is damaged, it also hands out the payloads before the bad place, for a
+    /// caller that has to see whether an earlier one of them is bad in its own way. All else that is refused comes
+    /// with no payloads.
+    pub fn mount_or_salvage(
+        alloc: Global,
+        mut disk: D,
+        kind: u8,
+    ) -> Result<(Journal<D>, List<List<u8>>), (MountError, List<List<u8>>, D)>
+        ensures stands { D.honest → IfOk result (λ r. Holds (D.state r.0.disk).content kind r.1) }
+        ensures ground { IfOk result (λ r. (r.0.kind ≡ kind) × (r.0.closed ≡ None)
+            × (r.0.gate ≡ end_of r.1) × (r.0.count ≡ length r.1)) }
+        ensures reads { D.honest → IfOk result (λ r. OnlyReads (D.state disk) (D.state r.0.disk)) }
+        ensures reads_err { D.honest → IfErr result (λ e. OnlyReads (D.state disk) (D.state e.2)) }
+        ensures refused { D.honest → IfErr result (λ e. IsRefusedBehind (D.state disk).content kind e.1 e.0) }
+        // the place behind the payloads is an offset
+        ensures place { IfErr result (λ e. end_of e.1 < 2 ^ 64) }
+        ensures later { IfOk result (λ r. D.faults disk ≤ D.faults r.0.disk) }
+        ensures fault { IfErr result (λ e. (D.faults disk ≤ D.faults e.2)
+            × (e.0 ≡ MountError.Fault → Rose (D.faults disk) (D.faults e.2))) }
+    {
         let bytes = match read_all(alloc, &mut disk) {
             Ok(bytes) => bytes,
-            Err(error) => return Err((error, disk)),
+            Err(error) => return Err((error, List::new(alloc), disk)),
         };
-        let (payloads, gate) = match parse(alloc, &bytes, kind) {
+        let parsed = match parse(alloc, &bytes, kind) {
             Ok(parsed) => parsed,
-            Err(error) => return Err((error, disk)),
+            Err(error) => return Err((error, List::new(alloc), disk)),
         };
+        let Parsed {
+            payloads,
+            gate,
+            is_whole,
+        } = parsed;
+        if !is_whole {
+            return Err((MountError::Damaged { at: gate }, payloads, disk));
+        }
         let Ok(commit) = Vec::with_capacity(alloc, MAX_COMMIT) else {
-            return Err((MountError::NoMemory, disk));
+            return Err((MountError::NoMemory, List::new(alloc), disk));
         };
         let count = payloads.len() as u64;
         let journal = Journal {
@@ -115,14 +149,17 @@ impl<D: Disk> Journal<D> {
     {
         self.closed = Some(self.gate);
         let bytes = read_all(alloc, &mut self.disk)?;
-        match parse(alloc, &bytes, self.kind) {
-            Ok((payloads, gate)) => {
-                self.gate = gate;
-                self.count = payloads.len() as u64;
-                self.closed = None;
-                Ok(payloads)
-            }
-            Err(error) => Err(error),
+        let Parsed {
+            payloads,
+            gate,
+            is_whole,
+        } = parse(alloc, &bytes, self.kind)?;
+        if !is_whole {
+            return Err(MountError::Damaged { at: gate });
         }
+        self.gate = gate;
+        self.count = payloads.len() as u64;
+        self.closed = None;
+        Ok(payloads)
     }
 }

@@ -1,22 +1,27 @@
 //! The bytes of a store file, read gate by gate.
-ghost use Rattle.std.specs.Prelude.{◌≡◌, ◌+◌, ◌≤◌, ℕ, length, IfOk, IfErr, Err};
-ghost use Rattle.qz_journal.specs.Layout.{Holds, end_of};
-ghost use Rattle.qz_journal.specs.Opening.{IsRefused, IsDamaged};
+ghost use Rattle.std.specs.Prelude.{◌≡◌, ◌⊎◌, ◌+◌, ◌≤◌, ℕ, length, take, IfOk, IfErr, true, false};
+ghost use Rattle.qz_journal.specs.Layout.{IsHeader, Holds, end_of};
+ghost use Rattle.qz_journal.specs.Opening.{IsDamagedBehind};
 
 use crate::MountError;
 use crate::layout::{HEADER_LENGTH, is_header, is_open, split_block};
 use qz_civil::List;
 use std::alloc::Global;
 
-// The payloads for which these bytes stand, and the offset of the closed gate behind them.
-pub(crate) fn parse(
-    alloc: Global,
-    bytes: &[u8],
-    kind: u8,
-) -> Result<(List<List<u8>>, u64), MountError>
-    ensures ok { IfOk result (λ r. Holds bytes.now kind r.0 × (r.1 ≡ end_of r.0)) }
-    ensures refused { IfErr result (λ e. IsRefused bytes.now kind e) }
-    ensures reads { result ≡ Err MountError.Fault → ⊥ }
+// What stands in the bytes of a store: payloads, and behind them a closed gate or a bad place, at the offset `gate`.
+#[derive(Drop)]
+pub(crate) struct Parsed {
+    pub(crate) payloads: List<List<u8>>,
+    pub(crate) gate: u64,
+    pub(crate) is_whole: bool,
+}
+
+// The payloads that stand in these bytes, up to a closed gate or to the first bad place.
+pub(crate) fn parse(alloc: Global, bytes: &[u8], kind: u8) -> Result<Parsed, MountError>
+    ensures whole { IfOk result (λ p. p.is_whole ≡ true → Holds bytes.now kind p.payloads) }
+    ensures damaged { IfOk result (λ p. p.is_whole ≡ false → IsDamagedBehind bytes.now kind p.payloads p.gate) }
+    ensures gate { IfOk result (λ p. p.gate ≡ end_of p.payloads) }
+    ensures err { IfErr result (λ e. (e ≡ MountError.NoMemory) ⊎ ((e ≡ MountError.NotAStore) × (IsHeader kind (take 16 bytes.now) → ⊥))) }
 {
     if bytes.len() < HEADER_LENGTH {
         return Err(MountError::NotAStore);
@@ -31,15 +36,27 @@ pub(crate) fn parse(
     'walk: while let Some((first, behind)) = rest.split_first() {
         let open = is_open(*first);
         if !open {
-            return Ok((payloads, gate));
+            return Ok(Parsed {
+                payloads,
+                gate,
+                is_whole: true,
+            });
         }
         let Some((payload, after)) = split_block(behind) else {
-            return Err(MountError::Damaged { at: gate });
+            return Ok(Parsed {
+                payloads,
+                gate,
+                is_whole: false,
+            });
         };
         let copy = Vec::from_slice(alloc, payload)?;
         payloads.push(List::from_vec(copy))?;
         gate += 5 + payload.len() as u64;
         rest = after;
     }
-    Err(MountError::Damaged { at: gate })
+    Ok(Parsed {
+        payloads,
+        gate,
+        is_whole: false,
+    })
 }

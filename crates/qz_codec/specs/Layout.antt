@@ -1,0 +1,94 @@
+-- The bytes of an entry's record, type by type. Numbers are big-endian of their type's width, and signed ones in two's
+-- complement.
+use Rattle.std.specs.Prelude.{ℕ, ℤ, List, [], ◌∷◌, ◌++◌, length, Bool, true, false, Option, Some, None}
+use Rattle.std.specs.Int.{Width, w8, w16, w32, w64, to_be_bytes, cast_unsigned}
+use Rattle.qz_civil.specs.declared.timings.Kind.{Kind}
+use Rattle.qz_civil.specs.declared.timings.Kind.TheVariants.{Simple}
+use Rattle.qz_civil.specs.declared.timings.Timing.{Timing}
+use Rattle.qz_types.specs.Rows.{JobData, MemberData}
+use Rattle.qz_types.specs.Entries.{EntryData}
+use Rattle.qz_types.specs.declared.keys.Key.{Key}
+use Rattle.qz_types.specs.declared.triggers.TriggerSpec.{TriggerSpec}
+use Rattle.qz_types.specs.declared.commands.Code.{Code}
+use Rattle.qz_types.specs.declared.commands.Code.TheVariants as code
+use Rattle.qz_types.specs.declared.commands.Command.{Command}
+use Rattle.qz_types.specs.declared.commands.Command.TheVariants.{AddJob, AddTrigger, Join, Acquire, Fire, Complete}
+use Rattle.qz_types.specs.declared.commands.Actor.{Actor}
+use Rattle.qz_types.specs.declared.commands.Actor.TheVariants.{Client, Node}
+
+-- an unsigned number
+unfoldable pub number : Width → ℕ → List ℕ
+number w n = to_be_bytes w n
+
+-- a signed number
+unfoldable pub integer : Width → ℤ → List ℕ
+integer w z = number w (cast_unsigned w z)
+
+-- a signed number of one byte
+unfoldable pub small : ℤ → List ℕ
+small z = cast_unsigned w8 z ∷ []
+
+abbrev pub flag : Bool → List ℕ
+flag false = 0 ∷ []
+flag true = 1 ∷ []
+
+-- the length in two bytes, and the bytes
+unfoldable pub text : List ℕ → List ℕ
+text s = number w16 (length s) ++ s
+
+-- a flag, and the value where there is one
+abbrev pub optional : {A : Type 0} → (A → List ℕ) → Option A → List ℕ
+optional value None = 0 ∷ []
+optional value (Some x) = 1 ∷ value x
+
+unfoldable pub key : Key → List ℕ
+key k = text k.group ++ text k.name
+
+unfoldable pub job : JobData → List ℕ
+job j = key j.key ++ (text j.class ++ (flag j.durable ++ (flag j.no_concurrent ++ (flag j.requests_recovery ++ text j.payload))))
+
+-- the variant's place, and its fields
+unfoldable pub kind : Kind → List ℕ
+kind (Simple interval count) = 0 ∷ (integer w64 interval ++ integer w64 count)
+
+unfoldable pub timing : Timing → List ℕ
+timing t = kind t.kind ++ (small t.misfire ++ (integer w64 t.start ++ optional (integer w64) t.end))
+
+unfoldable pub spec : TriggerSpec → List ℕ
+spec s = key s.key ++ (key s.job ++ (integer w32 s.priority ++ (optional text s.calendar ++ timing s.timing)))
+
+unfoldable pub member : MemberData → List ℕ
+member m = text m.node ++ number w64 m.epoch
+
+unfoldable pub actor : Actor → List ℕ
+actor Client = 0 ∷ []
+actor (Node m) = 1 ∷ member m
+
+-- the place of a code among all codes
+abbrev pub code_place : Code → ℕ
+code_place code.Noop = 0
+code_place code.ReExecuteJob = 1
+code_place code.SetTriggerComplete = 2
+code_place code.DeleteTrigger = 3
+code_place code.SetAllJobTriggersComplete = 4
+code_place code.SetTriggerError = 5
+code_place code.SetAllJobTriggersError = 6
+
+-- The place of the command among all twenty-two that the format has, and its fields.
+unfoldable pub command : Command → List ℕ
+command (AddJob row replace) = 0 ∷ (job row ++ flag replace)
+command (AddTrigger row replace) = 2 ∷ (spec row ++ flag replace)
+command (Join node) = 14 ∷ text node
+command (Acquire no_later window max) = 16 ∷ (integer w64 no_later ++ (integer w64 window ++ number w32 max))
+command (Fire entry) = 18 ∷ number w64 entry
+command (Complete entry c) = 19 ∷ (number w64 entry ++ code_place c ∷ [])
+
+unfoldable pub entry : EntryData → List ℕ
+entry e = integer w64 e.at ++ (actor e.actor ++ (number w32 e.seat ++ command e.command))
+
+-- the record of a version: its byte, and the entry
+abbrev pub record_in : ℕ → EntryData → List ℕ
+record_in version e = version ∷ entry e
+
+abbrev pub record_of : EntryData → List ℕ
+record_of e = record_in 1 e

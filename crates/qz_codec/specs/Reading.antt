@@ -1,0 +1,237 @@
+-- Reading a record from left to right. A reader answers the value and the bytes behind it, or how many bytes are left
+-- from the first byte of the first wrong field on. A field is wrong where it isn't whole, is out of its range or breaks a
+-- rule together with the fields before it.
+use Rattle.std.specs.Prelude.{◌≡◌, ℕ, ℤ, ◌-◌, List, [], ◌∷◌, length, take, drop, nat_lt, nat_le, ◌==◌, ◌&&◌, Bool, true, false, Option, Some, None, Result, Ok, Err, if◌then◌else◌}
+use Rattle.std.specs.Int.{Width, w8, w16, w32, w64, byte_len, from_be_bytes, cast_signed}
+use Rattle.std.specs.Str.{is_utf8}
+use Rattle.qz_civil.specs.Timings.{is_span, is_kind, is_misfire}
+use Rattle.qz_civil.specs.declared.timings.Kind.{Kind}
+use Rattle.qz_civil.specs.declared.timings.Kind.TheVariants.{Simple}
+use Rattle.qz_civil.specs.declared.timings.Timing.{Timing}
+use Rattle.qz_types.specs.Rows.{JobData, MemberData}
+use Rattle.qz_types.specs.Entries.{EntryData}
+use Rattle.qz_types.specs.declared.limits.TheConstants.{ACQUIRE_LIMIT, NAME_LIMIT, NODE_LIMIT, PAYLOAD_LIMIT}
+use Rattle.qz_types.specs.declared.keys.Key.{Key}
+use Rattle.qz_types.specs.declared.triggers.TriggerSpec.{TriggerSpec}
+use Rattle.qz_types.specs.declared.commands.Code.{Code}
+use Rattle.qz_types.specs.declared.commands.Code.TheVariants as code
+use Rattle.qz_types.specs.declared.commands.Command.{Command}
+use Rattle.qz_types.specs.declared.commands.Command.TheVariants.{AddJob, AddTrigger, Join, Acquire, Fire, Complete}
+use Rattle.qz_types.specs.declared.commands.Actor.{Actor}
+use Rattle.qz_types.specs.declared.commands.Actor.TheVariants.{Client, Node}
+use Rattle.qz_codec.specs.Values.{is_long}
+use Rattle.qz_codec.specs.declared.errors.ReadError.{ReadError}
+use Rattle.qz_codec.specs.declared.errors.ReadError.TheVariants as errors
+use Rattle.qz_codec.specs.declared.errors.Fault.{Fault}
+use Rattle.qz_codec.specs.declared.errors.Fault.TheVariants as faults
+
+infixl 10 ◌>>=◌
+abbrev pub ◌>>=◌ : {A B : Type 0} → Result A ℕ → (A → Result B ℕ) → Result B ℕ
+(Ok x) >>= f = f x
+(Err left) >>= f = Err left
+
+abbrev pub Read : Type 0 → Type 0
+Read A = Result (A × List ℕ) ℕ
+
+-- What a function answered is what reading gives, unless memory ran out.
+abbrev pub Fails : {Y : Type 0} → Fault → Result Y ℕ → Type 0
+Fails faults.NoMemory read = Unit {0}
+Fails (faults.Wrong left) read = read ≡ Err left
+
+abbrev pub Gives : {X Y : Type 0} → (X → Y) → Result X Fault → Result Y ℕ → Type 0
+Gives view (Ok x) read = read ≡ Ok (view x)
+Gives view (Err e) read = Fails e read
+
+-- a field, of which only the values that pass the test are right
+abbrev pub checked : {A : Type 0} → (A → Bool) → (List ℕ → Read A) → List ℕ → Read A
+checked passes read bytes = do
+  x ← read bytes
+  if passes x.0 then Ok x else Err (length bytes)
+
+unfoldable pub byte_at : List ℕ → Read ℕ
+byte_at [] = Err 0
+byte_at (b ∷ rest) = Ok (b, rest)
+
+unfoldable pub number_at : Width → List ℕ → Read ℕ
+number_at w bytes = if nat_lt (length bytes) (byte_len w) then Err (length bytes) else Ok (from_be_bytes w (take (byte_len w) bytes), drop (byte_len w) bytes)
+
+unfoldable pub integer_at : Width → List ℕ → Read ℤ
+integer_at w bytes = do
+  n ← number_at w bytes
+  Ok (cast_signed w n.0, n.1)
+
+unfoldable pub small_at : List ℕ → Read ℤ
+small_at bytes = do
+  n ← byte_at bytes
+  Ok (cast_signed w8 n.0, n.1)
+
+unfoldable pub flag_at : List ℕ → Read Bool
+flag_at bytes = do
+  n ← byte_at bytes
+  if n.0 == 0 then Ok (false, n.1) else if n.0 == 1 then Ok (true, n.1) else Err (length bytes)
+
+-- The length is the field that is wrong where it is out of its range, and the bytes where they are cut or no UTF-8.
+unfoldable pub text_at : ℕ → ℕ → List ℕ → Read (List ℕ)
+text_at least most bytes = do
+  n ← checked (is_long least most) (number_at w16) bytes
+  if nat_le n.0 (length n.1) && is_utf8 (take n.0 n.1) then Ok (take n.0 n.1, drop n.0 n.1) else Err (length n.1)
+
+abbrev pub name_at : List ℕ → Read (List ℕ)
+name_at bytes = text_at 1 NAME_LIMIT bytes
+
+abbrev pub node_at : List ℕ → Read (List ℕ)
+node_at bytes = text_at 1 NODE_LIMIT bytes
+
+abbrev pub span_at : List ℕ → Read ℤ
+span_at bytes = checked is_span (integer_at w64) bytes
+
+abbrev pub optional_at : {A : Type 0} → (List ℕ → Read A) → List ℕ → Read (Option A)
+optional_at read bytes = do
+  some ← flag_at bytes
+  if some.0 then (read some.1 >>= λ x. Ok (Some x.0, x.1)) else Ok (None, some.1)
+
+unfoldable pub key_at : List ℕ → Read Key
+key_at bytes = do
+  group ← name_at bytes
+  name ← name_at group.1
+  Ok (record { group = group.0; name = name.0 }, name.1)
+
+unfoldable pub job_at : List ℕ → Read JobData
+job_at bytes = do
+  key ← key_at bytes
+  class ← name_at key.1
+  durable ← flag_at class.1
+  no_concurrent ← flag_at durable.1
+  requests_recovery ← flag_at no_concurrent.1
+  payload ← text_at 0 PAYLOAD_LIMIT requests_recovery.1
+  Ok (record { key = key.0; class = class.0; durable = durable.0; no_concurrent = no_concurrent.0; requests_recovery = requests_recovery.0; payload = payload.0 }, payload.1)
+
+unfoldable pub kind_at : List ℕ → Read Kind
+kind_at bytes = do
+  place ← checked (λ n. n == 0) byte_at bytes
+  interval ← span_at place.1
+  count ← checked (λ n. is_kind (Simple interval.0 n)) (integer_at w64) interval.1
+  Ok (Simple interval.0 count.0, count.1)
+
+unfoldable pub timing_at : List ℕ → Read Timing
+timing_at bytes = do
+  kind ← kind_at bytes
+  misfire ← checked (is_misfire kind.0) small_at kind.1
+  start ← span_at misfire.1
+  end ← optional_at span_at start.1
+  Ok (record { kind = kind.0; misfire = misfire.0; start = start.0; end = end.0 }, end.1)
+
+unfoldable pub spec_at : List ℕ → Read TriggerSpec
+spec_at bytes = do
+  key ← key_at bytes
+  job ← key_at key.1
+  priority ← integer_at w32 job.1
+  calendar ← optional_at name_at priority.1
+  timing ← timing_at calendar.1
+  Ok (record { key = key.0; job = job.0; priority = priority.0; calendar = calendar.0; timing = timing.0 }, timing.1)
+
+unfoldable pub member_at : List ℕ → Read MemberData
+member_at bytes = do
+  node ← node_at bytes
+  epoch ← number_at w64 node.1
+  Ok (record { node = node.0; epoch = epoch.0 }, epoch.1)
+
+unfoldable pub actor_at : List ℕ → Read Actor
+actor_at bytes = do
+  some ← flag_at bytes
+  if some.0 then (member_at some.1 >>= λ m. Ok (Node m.0, m.1)) else Ok (Client, some.1)
+
+-- the code of a place
+abbrev pub code_of : ℕ → Option Code
+code_of n = if n == 0 then Some code.Noop else if n == 1 then Some code.ReExecuteJob else if n == 2 then Some code.SetTriggerComplete else if n == 3 then Some code.DeleteTrigger else if n == 4 then Some code.SetAllJobTriggersComplete else if n == 5 then Some code.SetTriggerError else if n == 6 then Some code.SetAllJobTriggersError else None
+
+-- where there is one
+abbrev pub chosen : {A : Type 0} → Option A → ℕ → List ℕ → Read A
+chosen None left rest = Err left
+chosen (Some x) left rest = Ok (x, rest)
+
+unfoldable pub code_at : List ℕ → Read Code
+code_at bytes = do
+  n ← byte_at bytes
+  chosen (code_of n.0) (length bytes) n.1
+
+unfoldable pub add_job_at : List ℕ → Read Command
+add_job_at bytes = do
+  job ← job_at bytes
+  replace ← flag_at job.1
+  Ok (AddJob job.0 replace.0, replace.1)
+
+unfoldable pub add_trigger_at : List ℕ → Read Command
+add_trigger_at bytes = do
+  spec ← spec_at bytes
+  replace ← flag_at spec.1
+  Ok (AddTrigger spec.0 replace.0, replace.1)
+
+unfoldable pub join_at : List ℕ → Read Command
+join_at bytes = do
+  node ← node_at bytes
+  Ok (Join node.0, node.1)
+
+unfoldable pub acquire_at : List ℕ → Read Command
+acquire_at bytes = do
+  no_later ← span_at bytes
+  window ← span_at no_later.1
+  max ← checked (is_long 1 ACQUIRE_LIMIT) (number_at w32) window.1
+  Ok (Acquire no_later.0 window.0 max.0, max.1)
+
+unfoldable pub fire_at : List ℕ → Read Command
+fire_at bytes = do
+  entry ← number_at w64 bytes
+  Ok (Fire entry.0, entry.1)
+
+unfoldable pub complete_at : List ℕ → Read Command
+complete_at bytes = do
+  entry ← number_at w64 bytes
+  code ← code_at entry.1
+  Ok (Complete entry.0 code.0, code.1)
+
+-- a command that a client gives
+unfoldable pub client_command_at : List ℕ → Read Command
+client_command_at bytes = do
+  place ← byte_at bytes
+  if place.0 == 0 then add_job_at place.1 else if place.0 == 2 then add_trigger_at place.1 else if place.0 == 14 then join_at place.1 else Err (length bytes)
+
+-- a command that a node gives under its epoch
+unfoldable pub node_command_at : List ℕ → Read Command
+node_command_at bytes = do
+  place ← byte_at bytes
+  if place.0 == 16 then acquire_at place.1 else if place.0 == 18 then fire_at place.1 else if place.0 == 19 then complete_at place.1 else Err (length bytes)
+
+abbrev pub command_at : Actor → List ℕ → Read Command
+command_at Client bytes = client_command_at bytes
+command_at (Node m) bytes = node_command_at bytes
+
+unfoldable pub entry_at : List ℕ → Read EntryData
+entry_at bytes = do
+  at ← integer_at w64 bytes
+  actor ← actor_at at.1
+  seat ← number_at w32 actor.1
+  command ← command_at actor.0 seat.1
+  Ok (record { at = at.0; actor = actor.0; seat = seat.0; command = command.0 }, command.1)
+
+-- a whole record: its version, the entry, and nothing behind it
+unfoldable pub whole_at : List ℕ → Result EntryData ℕ
+whole_at bytes = do
+  version ← checked (λ n. n == 1) byte_at bytes
+  entry ← entry_at version.1
+  if length entry.1 == 0 then Ok entry.0 else Err (length entry.1)
+
+-- the place of the fault, from the front
+abbrev pub placed : ℕ → Result EntryData ℕ → Result EntryData ℕ
+placed size (Ok e) = Ok e
+placed size (Err left) = Err (size - left)
+
+-- The entry whose record the bytes are, or the place of the first wrong field.
+abbrev pub reading : List ℕ → Result EntryData ℕ
+reading bytes = placed (length bytes) (whole_at bytes)
+
+-- What a call answered is what reading gives, unless memory ran out.
+abbrev pub Answers : Result EntryData ReadError → Result EntryData ℕ → Type 0
+Answers (Ok e) read = read ≡ Ok e
+Answers (Err (errors.BadRecord place)) read = read ≡ Err place
+Answers (Err errors.NoMemory) read = Unit {0}

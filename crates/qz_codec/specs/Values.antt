@@ -1,0 +1,85 @@
+-- Which entries have a record: numbers fit their types, texts are UTF-8, and everything is within its limits.
+use Rattle.std.specs.Prelude.{◌≡◌, ℕ, ℤ, ◌^◌, ◌<◌, List, length, nat_lt, nat_le, ◌&&◌, Bool, true, false, Option, Some, None, IfSome, IsTrue, FitsSigned}
+use Rattle.std.specs.Int.{Width, w8, w16, w32, w64}
+use Rattle.std.specs.Str.{IsUtf8}
+use Rattle.qz_civil.specs.Timings.{is_span, is_kind, is_misfire}
+use Rattle.qz_civil.specs.declared.timings.Kind.{Kind}
+use Rattle.qz_civil.specs.declared.timings.Kind.TheVariants.{Simple}
+use Rattle.qz_civil.specs.declared.timings.Timing.{Timing}
+use Rattle.qz_types.specs.Rows.{JobData, MemberData}
+use Rattle.qz_types.specs.Entries.{EntryData, has_actor, is_of_node}
+use Rattle.qz_types.specs.declared.limits.TheConstants.{ACQUIRE_LIMIT, NAME_LIMIT, NODE_LIMIT, PAYLOAD_LIMIT}
+use Rattle.qz_types.specs.declared.keys.Key.{Key}
+use Rattle.qz_types.specs.declared.triggers.TriggerSpec.{TriggerSpec}
+use Rattle.qz_types.specs.declared.commands.Command.{Command}
+use Rattle.qz_types.specs.declared.commands.Command.TheVariants.{AddJob, AddTrigger, Join, Acquire, Fire, Complete}
+use Rattle.qz_types.specs.declared.commands.Actor.{Actor}
+use Rattle.qz_types.specs.declared.commands.Actor.TheVariants.{Client, Node}
+
+-- a text of at least and at most so many bytes
+abbrev pub is_long : ℕ → ℕ → ℕ → Bool
+is_long least most n = nat_le least n && nat_le n most
+
+pub record IsText (least most : ℕ) (s : List ℕ) : Type 0 where
+  pub size : is_long least most (length s) ≡ true
+  pub utf8 : IsUtf8 s
+
+abbrev pub IsName : List ℕ → Type 0
+IsName s = IsText 1 NAME_LIMIT s
+
+-- a signed number of 64 bits that a test lets pass
+pub record IsNumber (w : Width) (passes : ℤ → Bool) (z : ℤ) : Type 0 where
+  pub fits : FitsSigned w z
+  pub passed : passes z ≡ true
+
+abbrev pub IsSpan : ℤ → Type 0
+IsSpan z = IsNumber w64 is_span z
+
+pub record IsKey (k : Key) : Type 0 where
+  pub group : IsName k.group
+  pub name : IsName k.name
+
+pub record IsJob (j : JobData) : Type 0 where
+  pub key : IsKey j.key
+  pub class : IsName j.class
+  pub payload : IsText 0 PAYLOAD_LIMIT j.payload
+
+abbrev pub IsKind : Kind → Type 0
+IsKind (Simple interval count) = IsSpan interval × IsNumber w64 (λ n. is_kind (Simple interval n)) count
+
+pub record IsTiming (t : Timing) : Type 0 where
+  pub kind : IsKind t.kind
+  pub misfire : IsNumber w8 (is_misfire t.kind) t.misfire
+  pub start : IsSpan t.start
+  pub end : IfSome t.end IsSpan
+
+pub record IsSpec (s : TriggerSpec) : Type 0 where
+  pub key : IsKey s.key
+  pub job : IsKey s.job
+  pub priority : FitsSigned w32 s.priority
+  pub calendar : IfSome s.calendar IsName
+  pub timing : IsTiming s.timing
+
+pub record IsMember (m : MemberData) : Type 0 where
+  pub node : IsText 1 NODE_LIMIT m.node
+  pub epoch : m.epoch < 2 ^ 64
+
+abbrev pub IsActor : Actor → Type 0
+IsActor Client = Unit {0}
+IsActor (Node m) = IsMember m
+
+abbrev pub IsCommand : Command → Type 0
+IsCommand (AddJob job replace) = IsJob job
+IsCommand (AddTrigger spec replace) = IsSpec spec
+IsCommand (Join node) = IsText 1 NODE_LIMIT node
+IsCommand (Acquire no_later window max) = IsSpan no_later × IsSpan window × (max < 2 ^ 32) × (is_long 1 ACQUIRE_LIMIT max ≡ true)
+IsCommand (Fire entry) = entry < 2 ^ 64
+IsCommand (Complete entry code) = entry < 2 ^ 64
+
+pub record IsEntry (e : EntryData) : Type 0 where
+  pub at : FitsSigned w64 e.at
+  pub actor : IsActor e.actor
+  pub seat : e.seat < 2 ^ 32
+  pub command : IsCommand e.command
+  -- the commands of a node have one as actor, and the others a client
+  pub asked : has_actor (is_of_node e.command) e.actor ≡ true

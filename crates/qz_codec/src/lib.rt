@@ -1,0 +1,17 @@
+//! Records: the bytes of an entry of the trigger store's history, both ways. `docs/specification/records.md` has the format.
+#![tactic(auto)]
+
+mod commands;
+mod entries;
+mod errors;
+mod fields;
+mod limits;
+mod rows;
+#[cfg(test)]
+mod tests;
+mod writing;
+
+pub use entries::get_command;
+pub use errors::ReadError;
+pub use limits::RECORD_LIMIT;
+pub use writing::put_command;

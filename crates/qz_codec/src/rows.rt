@@ -1,0 +1,205 @@
+//! Reading keys, jobs, triggers and members. A row's fields are read before memory is taken for its texts.
+ghost use Rattle.std.specs.Prelude.{◌≡◌, ℕ, ℤ, ◌==◌, IsTrue, IfOk, Some, None, option_map};
+ghost use Rattle.std.specs.Int.{w32, w64};
+ghost use Rattle.qz_civil.specs.Timings.{is_span, is_kind, is_misfire, is_timing, is_end};
+ghost use Rattle.qz_types.specs.Rows.{is_key, is_name, is_node, is_job, is_trigger_spec, is_member, is_calendar};
+ghost use Rattle.qz_types.specs.declared.commands.Actor.TheVariants.{Client, Node};
+ghost use Rattle.qz_codec.specs.Reading.{Gives, checked, byte_at, integer_at, small_at, name_at, node_at, optional_at, span_at, key_at, job_at, kind_at, timing_at, spec_at, member_at, actor_at};
+
+use crate::errors::Fault;
+use crate::fields::{
+    bool_at, end_of, i8_at, i32_at, i64_at, is_between, span_of, str_at, u8_at, u64_at,
+};
+use qz_types::{
+    Actor, JobRow, Key, Kind, LONGEST, MemberRow, NAME_LIMIT, NODE_LIMIT, PAYLOAD_LIMIT, Text,
+    Timing, TriggerSpec,
+};
+use std::alloc::{AllocError, Global};
+
+fn name_of(bytes: &[u8]) -> Result<(&str, &[u8]), Fault>
+    ensures exact { Gives (λ x. (x.0.now, x.1.now)) result (name_at bytes.now) }
+    ensures valid { IfOk result (λ x. IsTrue (is_name x.0.now)) }
+{
+    str_at(bytes, 1, NAME_LIMIT as u16)
+}
+
+pub(crate) fn node_of(bytes: &[u8]) -> Result<(&str, &[u8]), Fault>
+    ensures exact { Gives (λ x. (x.0.now, x.1.now)) result (node_at bytes.now) }
+    ensures valid { IfOk result (λ x. IsTrue (is_node x.0.now)) }
+{
+    str_at(bytes, 1, NODE_LIMIT as u16)
+}
+
+/// Memory for a key.
+fn make_key(alloc: Global, group: &str, name: &str) -> Result<Key, AllocError>
+    ensures { IfOk result (λ k. k ≡ record { group = group.now; name = name.now }) }
+{
+    Ok(Key {
+        group: Text::from_str(alloc, group)?,
+        name: Text::from_str(alloc, name)?,
+    })
+}
+
+#[tactic(auto, unfolding(crate::specs::Reading::key_at))]
+fn key_of(alloc: Global, bytes: &[u8]) -> Result<(Key, &[u8]), Fault>
+    ensures exact { Gives (λ x. (x.0, x.1.now)) result (key_at bytes.now) }
+    ensures valid { IfOk result (λ x. IsTrue (is_key x.0)) }
+{
+    let (group, rest) = name_of(bytes)?;
+    let (name, rest) = name_of(rest)?;
+    Ok((make_key(alloc, group, name)?, rest))
+}
+
+#[tactic(auto, unfolding(crate::specs::Reading::job_at))]
+pub(crate) fn job_of(alloc: Global, bytes: &[u8]) -> Result<(JobRow, &[u8]), Fault>
+    ensures { Gives (λ x. (x.0, x.1.now)) result (job_at bytes.now) }
+{
+    let (key, rest) = key_of(alloc, bytes)?;
+    let (class, rest) = name_of(rest)?;
+    let (durable, rest) = bool_at(rest)?;
+    let (no_concurrent, rest) = bool_at(rest)?;
+    let (requests_recovery, rest) = bool_at(rest)?;
+    let (payload, rest) = str_at(rest, 0, PAYLOAD_LIMIT as u16)?;
+    let job = JobRow {
+        key,
+        class: Text::from_str(alloc, class)?,
+        durable,
+        no_concurrent,
+        requests_recovery,
+        payload: Text::from_str(alloc, payload)?,
+    };
+    Ok((job, rest))
+}
+
+/// The place of the kind among all kinds. Only the first is built.
+fn kind_place_of(bytes: &[u8]) -> Result<(u8, &[u8]), Fault>
+    ensures { Gives (λ x. (x.0, x.1.now)) result (checked (λ n. n == 0) byte_at bytes.now) }
+{
+    let (place, rest) = u8_at(bytes)?;
+    if place != 0 {
+        return Err(Fault::at(bytes));
+    }
+    Ok((place, rest))
+}
+
+/// Once, or with an interval of at least 1 ms and a count from -1 to 2147483647.
+fn is_simple(interval: i64, count: i64) -> bool
+    ensures { result ≡ is_kind (Kind.Simple interval count) }
+{
+    (interval == 0 && count == 0)
+        || (is_between(1, LONGEST, interval) && is_between(-1, 2147483647, count))
+}
+
+/// The count of a trigger with this interval.
+fn count_of(interval: i64, bytes: &[u8]) -> Result<(i64, &[u8]), Fault>
+    ensures exact { Gives (λ x. (x.0, x.1.now)) result (checked (λ n. is_kind (Kind.Simple interval n)) (integer_at w64) bytes.now) }
+    ensures valid { IfOk result (λ x. IsTrue (is_kind (Kind.Simple interval x.0))) }
+{
+    let (count, rest) = i64_at(bytes)?;
+    if !is_simple(interval, count) {
+        return Err(Fault::at(bytes));
+    }
+    Ok((count, rest))
+}
+
+#[tactic(auto, unfolding(crate::specs::Reading::kind_at))]
+fn kind_of(bytes: &[u8]) -> Result<(Kind, &[u8]), Fault>
+    ensures exact { Gives (λ x. (x.0, x.1.now)) result (kind_at bytes.now) }
+    ensures valid { IfOk result (λ x. IsTrue (is_kind x.0)) }
+{
+    let (_, rest) = kind_place_of(bytes)?;
+    let (interval, rest) = span_of(rest)?;
+    let (count, rest) = count_of(interval, rest)?;
+    Ok((Kind::Simple { interval, count }, rest))
+}
+
+/// The misfire instruction of a trigger of this kind.
+fn misfire_of(kind: Kind, bytes: &[u8]) -> Result<(i8, &[u8]), Fault>
+    ensures exact { Gives (λ x. (x.0, x.1.now)) result (checked (is_misfire kind) small_at bytes.now) }
+    ensures valid { IfOk result (λ x. IsTrue (is_misfire kind x.0)) }
+{
+    let (code, rest) = i8_at(bytes)?;
+    let most = match kind {
+        Kind::Simple { .. } => 5,
+    };
+    if code < -1 || code > most {
+        return Err(Fault::at(bytes));
+    }
+    Ok((code, rest))
+}
+
+#[tactic(auto, unfolding(crate::specs::Reading::timing_at))]
+fn timing_of(bytes: &[u8]) -> Result<(Timing, &[u8]), Fault>
+    ensures exact { Gives (λ x. (x.0, x.1.now)) result (timing_at bytes.now) }
+    ensures valid { IfOk result (λ x. IsTrue (is_timing x.0)) }
+{
+    let (kind, rest) = kind_of(bytes)?;
+    let (misfire, rest) = misfire_of(kind, rest)?;
+    let (start, rest) = span_of(rest)?;
+    let (end, rest) = end_of(rest)?;
+    let timing = Timing {
+        kind,
+        misfire,
+        start,
+        end,
+    };
+    Ok((timing, rest))
+}
+
+/// The name of a calendar, where there is one.
+fn calendar_of(alloc: Global, bytes: &[u8]) -> Result<(Option<Text>, &[u8]), Fault>
+    ensures exact { Gives (λ x. (x.0, x.1.now)) result (optional_at name_at bytes.now) }
+    ensures valid { IfOk result (λ x. IsTrue (is_calendar x.0)) }
+{
+    let (some, rest) = bool_at(bytes)?;
+    if !some {
+        return Ok((None, rest));
+    }
+    let (name, rest) = name_of(rest)?;
+    Ok((Some(Text::from_str(alloc, name)?), rest))
+}
+
+#[tactic(auto, unfolding(crate::specs::Reading::spec_at))]
+pub(crate) fn spec_of(alloc: Global, bytes: &[u8]) -> Result<(TriggerSpec, &[u8]), Fault>
+    ensures exact { Gives (λ x. (x.0, x.1.now)) result (spec_at bytes.now) }
+    ensures valid { IfOk result (λ x. IsTrue (is_trigger_spec x.0)) }
+{
+    let (key, rest) = key_of(alloc, bytes)?;
+    let (job, rest) = key_of(alloc, rest)?;
+    let (priority, rest) = i32_at(rest)?;
+    let (calendar, rest) = calendar_of(alloc, rest)?;
+    let (timing, rest) = timing_of(rest)?;
+    let spec = TriggerSpec {
+        key,
+        job,
+        priority,
+        calendar,
+        timing,
+    };
+    Ok((spec, rest))
+}
+
+#[tactic(auto, unfolding(crate::specs::Reading::member_at))]
+fn member_of(alloc: Global, bytes: &[u8]) -> Result<(MemberRow, &[u8]), Fault>
+    ensures { Gives (λ x. (x.0, x.1.now)) result (member_at bytes.now) }
+{
+    let (node, rest) = node_of(bytes)?;
+    let (epoch, rest) = u64_at(rest)?;
+    let member = MemberRow {
+        node: Text::from_str(alloc, node)?,
+        epoch,
+    };
+    Ok((member, rest))
+}
+
+#[tactic(auto, unfolding(crate::specs::Reading::actor_at))]
+pub(crate) fn actor_of(alloc: Global, bytes: &[u8]) -> Result<(Actor, &[u8]), Fault>
+    ensures { Gives (λ x. (x.0, x.1.now)) result (actor_at bytes.now) }
+{
+    let (is_node, rest) = bool_at(bytes)?;
+    if !is_node {
+        return Ok((Actor::Client, rest));
+    }
+    let (member, rest) = member_of(alloc, rest)?;
+    Ok((Actor::Node(member), rest))
+}

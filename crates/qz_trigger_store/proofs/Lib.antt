@@ -1,0 +1,4 @@
+pub mod Appending
+pub mod Damage
+pub mod Moments
+pub mod Once

@@ -1,0 +1,29 @@
+use Rattle.std.proofs.Common.{◌≡◌, ◌∙◌, ◌+◌, ◌∷◌, ◌++◌, List, ℕ, sym, ap, subst, arith}
+use Rattle.qz_codec.specs.Layout.{record_of}
+use Rattle.qz_model.specs.Tables.{empty, SchedulerTables}
+use Rattle.qz_model.specs.Invariant.{TablesValid}
+use Rattle.qz_trigger_store.specs.Bytes.{records}
+use Rattle.qz_trigger_store.proofs.Damage.{within, taken_whole, taken_gate, taken_all, taken_legal, taken_tables}
+use Rattle.qz_trigger_store.proofs.replaying.replay.Goals as goal
+
+pub overflow_add-gate-in-Some : goal.overflow_add-gate-in-Some
+overflow_add-gate-in-Some c =
+    let w = c.replay.invariant in
+    let room = within c.args.payloads.now (records c.replay.entries) c.in-Some.payload.now c.in-Some.behind.now (w.whole ∙ ap (λ (l : List (List ℕ)). records c.replay.entries ++ l) c.in-Some.ensures.cases.0) in
+    omega (arith, room, w.gate_is, c.len.ensures, c.requires.offsets)
+
+pub replay-preserved : goal.replay-preserved
+replay-preserved c =
+    let w = c.replay.invariant in
+    let e = c.in-Ok.entry in
+    let more = c.in_ok-push-in-Ok.ensures.ok in
+    let is = c.in-Ok.ensures.is_record in
+    let p_is = sym c.as_slice.ensures ∙ is.bytes_are in
+    record {
+      whole = taken_whole _ c.replay.entries _ e _ _ _ more p_is c.in-Some.ensures.cases.0 w.whole;
+      legal = taken_legal (empty 1) c.replay.tables c.replay.entries _ e more w.replayed w.legal c.in-Ok.ensures.accepted;
+      replayed = taken_tables (empty 1) c.replay.tables _ c.replay.entries _ e more w.replayed c.in-Ok.ensures.tables;
+      valid = c.in-Ok.ensures.valid w.valid;
+      recorded = taken_all c.replay.entries _ e more w.recorded is.valid;
+      gate_is = ap (λ (n : ℕ). c.replay.gate + (5 + n)) c.len.ensures ∙ taken_gate c.replay.gate c.replay.entries _ e _ more p_is w.gate_is;
+    }

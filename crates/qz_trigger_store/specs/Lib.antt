@@ -1,0 +1,5 @@
+pub mod Bytes
+pub mod Facts
+pub mod Opening
+pub mod Seen
+pub mod Steps

@@ -1,0 +1,78 @@
+-- What an opening finds in the bytes of a disk.
+use Rattle.std.specs.Prelude.{⊤, ◌≡◌, ◌⊎◌, ℕ, List, [], ◌∷◌, ◌++◌, take, drop, All}
+use Rattle.std.specs.List.{AllByRecursion}
+use Rattle.qz_types.specs.Entries.{EntryData}
+use Rattle.qz_model.specs.Tables.{SchedulerTables, empty}
+use Rattle.qz_model.specs.Transaction.{transaction}
+use Rattle.qz_model.specs.History.{IsAccepted, IsLegalFrom, replay_from}
+use Rattle.qz_journal.specs.Layout.{IsHeader, IsPayload, open_gate, body_of, blocks, end_of}
+use Rattle.qz_journal.specs.Opening.{IsBad}
+use Rattle.qz_journal.specs.declared.layout.TheConstants.{TRIGGERS}
+use Rattle.qz_journal.specs.declared.errors.MountError.{MountError}
+use Rattle.qz_journal.specs.declared.errors.MountError.TheVariants as mount
+use Rattle.qz_codec.specs.Values.{IsEntry}
+use Rattle.qz_trigger_store.specs.Bytes.{records, IsRecord}
+
+-- It is the record of no entry that is accepted at these tables: it is no record at all, or its command is refused.
+abbrev pub IsUnfit : SchedulerTables → List ℕ → Type 0
+IsUnfit T payload = (e : EntryData) → IsRecord payload e → IsAccepted (transaction T e) → ⊥
+
+-- an open gate and a whole payload that is unfit
+pub record BeginsUnfit (T : SchedulerTables) (tail : List ℕ) : Type 0 where
+  pub payload : List ℕ
+  pub rest : List ℕ
+  pub size : IsPayload payload
+  pub whole : tail ≡ open_gate ∷ (body_of payload ++ rest)
+  pub unfit : IsUnfit T payload
+
+-- Behind the records of entries that are accepted one by one stands a bad gate, or a payload that is unfit. Since all
+-- before it is right, it is the least such place.
+pub record IsDamaged (bytes : List ℕ) (at : ℕ) : Type 0 where
+  pub entries : List EntryData
+  pub valid : AllByRecursion IsEntry entries
+  pub legal : IsLegalFrom (empty 1) entries
+  pub sizes : All IsPayload (records entries)
+  pub tail : List ℕ
+  pub header : IsHeader TRIGGERS (take 16 bytes)
+  pub whole : drop 16 bytes ≡ blocks (records entries) ++ tail
+  pub at_is : at ≡ end_of (records entries)
+  pub bad : IsBad tail ⊎ BeginsUnfit (replay_from (empty 1) entries) tail
+
+-- why an opening of these bytes is refused; that the disk or memory failed isn't seen in them
+abbrev pub IsRefused : List ℕ → MountError → Type 0
+IsRefused bytes mount.NotAStore = IsHeader TRIGGERS (take 16 bytes) → ⊥
+IsRefused bytes (mount.Damaged at) = IsDamaged bytes at
+IsRefused bytes mount.Fault = ⊤
+IsRefused bytes mount.NoMemory = ⊤
+
+-- payloads of which the first that is unfit stands behind this gate
+pub record HaveUnfit (payloads : List (List ℕ)) (at : ℕ) : Type 0 where
+  pub entries : List EntryData
+  pub valid : AllByRecursion IsEntry entries
+  pub legal : IsLegalFrom (empty 1) entries
+  pub payload : List ℕ
+  pub more : List (List ℕ)
+  pub whole : payloads ≡ records entries ++ payload ∷ more
+  pub at_is : at ≡ end_of (records entries)
+  pub unfit : IsUnfit (replay_from (empty 1) entries) payload
+
+-- payloads that are the records of a history from a new store on
+pub record AreReplayed (payloads : List (List ℕ)) : Type 0 where
+  pub entries : List EntryData
+  pub valid : AllByRecursion IsEntry entries
+  pub legal : IsLegalFrom (empty 1) entries
+  pub whole : payloads ≡ records entries
+
+-- the first bad place of a journal that is damaged behind these payloads, at this offset
+abbrev pub IsFirstBad : List (List ℕ) → ℕ → MountError → Type 0
+IsFirstBad payloads at (mount.Damaged place) = HaveUnfit payloads place ⊎ ((place ≡ at) × AreReplayed payloads)
+IsFirstBad payloads at mount.NoMemory = ⊤
+IsFirstBad payloads at mount.NotAStore = ⊥
+IsFirstBad payloads at mount.Fault = ⊥
+
+-- why payloads aren't replayed
+abbrev pub IsStopped : List (List ℕ) → MountError → Type 0
+IsStopped payloads (mount.Damaged at) = HaveUnfit payloads at
+IsStopped payloads mount.NoMemory = ⊤
+IsStopped payloads mount.NotAStore = ⊥
+IsStopped payloads mount.Fault = ⊥

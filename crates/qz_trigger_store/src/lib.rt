@@ -1,0 +1,16 @@
+//! The trigger store on a disk: a history of entries, kept in a journal, and the tables that they leave.
+#![tactic(auto)]
+
+mod accepted;
+mod errors;
+mod mounting;
+mod parts;
+mod replaying;
+mod stores;
+mod submitting;
+#[cfg(test)]
+mod tests;
+
+pub use errors::SubmitError;
+pub use qz_journal::MountError;
+pub use stores::TriggerStore;

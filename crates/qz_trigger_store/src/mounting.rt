@@ -1,0 +1,80 @@
+//! Opening what stands on a disk.
+ghost use Rattle.std.specs.Prelude.{◌≡◌, ◌⊎◌, ◌^◌, ◌<◌, ◌≤◌, [], length, None, true, IfOk, IfErr, MatchResult};
+ghost use Rattle.qz_civil.specs.Causes.{Rose};
+ghost use Rattle.qz_journal.specs.Layout.{end_of};
+ghost use Rattle.qz_journal.specs.declared.layout.TheConstants.{TRIGGERS as OF_TRIGGERS};
+ghost use Rattle.qz_journal.specs.Through.{OnlyReads};
+ghost use Rattle.qz_model.specs.History.{History};
+ghost use Rattle.qz_trigger_store.specs.Bytes.{history_of, Stands, IsHistory};
+ghost use Rattle.qz_trigger_store.specs.Opening.{IsRefused, IsFirstBad};
+ghost use Rattle.qz_trigger_store.specs.Seen.{seen, disk_of};
+
+use crate::TriggerStore;
+use crate::accepted::Accepted;
+use crate::replaying::{Replayed, replay};
+use qz_civil::List;
+use qz_disk::Disk;
+use qz_journal::{Journal, MountError, TRIGGERS};
+use std::alloc::Global;
+
+impl<D: Disk> TriggerStore<D> {
+    /// Opens the store that stands on a disk, and replays its history. It syncs first, so that what it reads is what a
+    /// crash leaves, and writes nothing. An `Err` hands the disk back.
+    pub fn mount(alloc: Global, disk: D) -> Result<TriggerStore<D>, (MountError, D)>
+        ensures opened { IfOk result (λ store. (store.is_open ≡ true) × (store.undecided ≡ None) × (store.accepted.entries ≡ [])) }
+        ensures stands { D.honest → IfOk result (λ store. Stands (D.state disk).content (seen store).history) }
+        ensures reads { D.honest → IfOk result (λ store. OnlyReads (D.state disk) (disk_of store)) }
+        ensures reads_err { D.honest → IfErr result (λ e. OnlyReads (D.state disk) (D.state e.1)) }
+        ensures refused { D.honest → IfErr result (λ e. IsRefused (D.state disk).content e.0) }
+        // Where the bytes stand for a history, it comes to that history, or memory or the disk fails.
+        ensures whole { D.honest → (h : History) → IsHistory h → Stands (D.state disk).content h
+            → MatchResult result (λ store. (seen store).history ≡ h) (λ e. (e.0 ≡ MountError.Fault) ⊎ (e.0 ≡ MountError.NoMemory)) }
+        ensures later { IfOk result (λ store. D.faults disk ≤ (seen store).faults) }
+        ensures fault { IfErr result (λ e. (D.faults disk ≤ D.faults e.1)
+            × (e.0 ≡ MountError.Fault → Rose (D.faults disk) (D.faults e.1))) }
+    {
+        match Journal::mount_or_salvage(alloc, disk, TRIGGERS) {
+            Ok((journal, payloads)) => match replay(alloc, &payloads) {
+                Ok(replayed) => Ok(begin(alloc, journal, replayed)),
+                Err(error) => Err((error, journal.into_disk())),
+            },
+            Err((MountError::Damaged { at }, payloads, disk)) => {
+                Err((first_bad(alloc, &payloads, at), disk))
+            }
+            Err((error, _payloads, disk)) => Err((error, disk)),
+        }
+    }
+}
+
+// An open store on a journal that holds the records of these entries.
+fn begin<D: Disk>(alloc: Global, journal: Journal<D>, replayed: Replayed) -> TriggerStore<D>
+    requires kind { journal.kind ≡ OF_TRIGGERS }
+    requires open { journal.closed ≡ None }
+    requires counted { journal.count ≡ length replayed.entries }
+    requires stands { D.honest → Stands (D.state journal.disk).content (history_of replayed.entries) }
+    ensures journal { result.journal ≡ journal }
+    ensures found { result.found ≡ replayed.entries }
+    ensures opened { (result.is_open ≡ true) × (result.undecided ≡ None) × (result.accepted.entries ≡ []) }
+{
+    let Replayed { entries, tables } = replayed;
+    TriggerStore {
+        alloc,
+        journal,
+        tables,
+        found: entries,
+        accepted: Accepted::new(alloc),
+        is_open: true,
+        undecided: None,
+    }
+}
+
+// The first bad place of a journal that is damaged behind these payloads, at this offset.
+fn first_bad(alloc: Global, payloads: &List<List<u8>>, at: u64) -> MountError
+    requires offsets { end_of payloads.now < 2 ^ 64 }
+    ensures { IsFirstBad payloads.now at result }
+{
+    match replay(alloc, payloads) {
+        Ok(_) => MountError::Damaged { at },
+        Err(error) => error,
+    }
+}
