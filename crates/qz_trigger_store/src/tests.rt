@@ -2,13 +2,13 @@
 ghost use Rattle.std.specs.Prelude.{IsTrue, IfOk};
 ghost use Rattle.qz_types.specs.Rows.{is_name, is_key};
 
+use crate::submitting::let_go;
 use crate::{MountError, SubmitError, TriggerStore};
 use qz_codec::put_command;
 use qz_disk::{Disk, FaultDisk, MemDisk};
 use qz_journal::{Journal, TRIGGERS, create};
 use qz_types::{
-    Actor, Command, Entry, JobRow, Key, Kind, List, MemberRow, Refusal, Reply, Text, Timing,
-    TriggerSpec,
+    Actor, Command, Entry, JobRow, Key, Kind, List, MemberRow, Text, Timing, TriggerSpec,
 };
 use std::alloc::{AllocError, Global};
 use std::test::Fail;
@@ -128,13 +128,6 @@ fn new_disk(alloc: Global) -> Result<MemDisk, Fail> {
     Ok(disk)
 }
 
-fn opened<D: Disk>(alloc: Global, disk: D) -> Result<TriggerStore<D>, Fail> {
-    match TriggerStore::mount(alloc, disk) {
-        Ok(store) => Ok(store),
-        Err((error, _)) => Err(Fail::from(error)),
-    }
-}
-
 // Why a disk isn't opened.
 fn refused(alloc: Global, disk: MemDisk) -> Option<MountError> {
     match TriggerStore::mount(alloc, disk) {
@@ -143,40 +136,95 @@ fn refused(alloc: Global, disk: MemDisk) -> Option<MountError> {
     }
 }
 
-// A job, its trigger and a node.
-fn begin(alloc: Global, store: &mut TriggerStore<MemDisk>) -> Result<(), Fail> {
-    store.submit(add_job(alloc, T0)?)?;
-    store.submit(add_trigger(alloc, T0)?)?;
-    store.submit(join(alloc, T0)?)?;
-    Ok(())
+/// What came of an entry.
+#[derive(Clone, Copy, PartialEq, Eq, Debug)]
+enum Came {
+    Accepted,
+    Refused,
+    Full,
+    Closed(u64),
+    Starved,
+    Failed,
+}
+
+fn reason(error: SubmitError) -> Came {
+    match error {
+        SubmitError::Closed { at } => Came::Closed(at),
+        SubmitError::Refused(refusal) => {
+            let_go(refusal);
+            Came::Refused
+        }
+        SubmitError::JournalFull { need: _, room: _ } => Came::Full,
+        SubmitError::NoMemory => Came::Starved,
+        SubmitError::Fault => Came::Failed,
+    }
+}
+
+fn submit<D: Disk>(store: &mut TriggerStore<D>, entry: Entry) -> Came {
+    match store.submit(entry) {
+        Ok(reply) => {
+            let_go(reply);
+            Came::Accepted
+        }
+        Err(error) => reason(error),
+    }
+}
+
+// Whether a job, its trigger and a node are accepted.
+fn takes_three<D: Disk>(alloc: Global, store: &mut TriggerStore<D>) -> Result<bool, AllocError> {
+    let job = submit(store, add_job(alloc, T0)?);
+    let trigger = submit(store, add_trigger(alloc, T0)?);
+    let node = submit(store, join(alloc, T0)?);
+    Ok(job == Came::Accepted && trigger == Came::Accepted && node == Came::Accepted)
+}
+
+// Whether the trigger is acquired and fired, and the job isn't added again.
+fn takes_two<D: Disk>(alloc: Global, store: &mut TriggerStore<D>) -> Result<bool, AllocError> {
+    let acquired = submit(store, acquire(alloc, T0)?);
+    let fired = submit(store, fire(alloc, T0 + 1, 1)?);
+    let again = submit(store, add_job(alloc, T0)?);
+    Ok(acquired == Came::Accepted && fired == Came::Accepted && again == Came::Refused)
+}
+
+// The disk of a store that took three entries.
+fn filled(alloc: Global, disk: MemDisk) -> Option<MemDisk> {
+    match TriggerStore::mount(alloc, disk) {
+        Ok(mut store) => {
+            let taken = matches!(takes_three(alloc, &mut store), Ok(true));
+            let is_right = taken && store.history_len() == 3 && store.added().len() == 3;
+            let disk = store.into_disk();
+            if is_right { Some(disk) } else { None }
+        }
+        Err(error) => {
+            let_go(error);
+            None
+        }
+    }
+}
+
+// Whether the store opens with these entries and takes two more.
+fn goes_on(alloc: Global, disk: MemDisk) -> bool {
+    match TriggerStore::mount(alloc, disk) {
+        Ok(mut store) => {
+            let found = store.history_len() == 3 && store.added().is_empty();
+            let taken = matches!(takes_two(alloc, &mut store), Ok(true));
+            let is_right = store.history_len() == 5 && store.replies().len() == 2;
+            let moments = store.moments().as_slice() == [T0, T0 + 1].as_slice();
+            let_go(store);
+            found && taken && is_right && moments
+        }
+        Err(error) => {
+            let_go(error);
+            false
+        }
+    }
 }
 
 #[test]
 fn a_store_goes_on_after_it_was_opened_again(rt: HostRuntime) -> Result<(), Fail> {
     let alloc = rt.alloc();
-    let mut store = opened(alloc, new_disk(alloc)?)?;
-    begin(alloc, &mut store)?;
-    assert_eq!(rt; store.history_len(), 3);
-    assert_eq!(rt; store.added().len(), 3);
-    let mut store = opened(alloc, store.into_disk())?;
-    assert_eq!(rt; store.history_len(), 3);
-    assert!(rt; store.added().is_empty() && !store.closed());
-    store.submit(acquire(alloc, T0)?)?;
-    store.submit(fire(alloc, T0 + 1, 1)?)?;
-    assert_eq!(rt; store.history_len(), 5);
-    assert_eq!(rt; store.moments().as_slice(), [T0, T0 + 1].as_slice());
-    assert_eq!(rt; store.replies().len(), 2);
-    Ok(())
-}
-
-#[test]
-fn what_is_refused_changes_nothing(rt: HostRuntime) -> Result<(), Fail> {
-    let alloc = rt.alloc();
-    let mut store = opened(alloc, new_disk(alloc)?)?;
-    assert_eq!(rt; store.submit(add_job(alloc, T0)?), Ok(Reply::Done));
-    let unbuilt = SubmitError::Refused(Refusal::Unbuilt);
-    assert_eq!(rt; store.submit(add_job(alloc, T0)?), Err(unbuilt));
-    assert_eq!(rt; store.history_len(), 1);
+    let disk = filled(alloc, new_disk(alloc)?).ok_or("three entries aren't taken")?;
+    assert!(rt; goes_on(alloc, disk));
     Ok(())
 }
 
@@ -189,8 +237,8 @@ fn a_payload_that_is_cut_is_damage(rt: HostRuntime) -> Result<(), Fail> {
     Ok(())
 }
 
-// A store whose journal has these payloads, whatever they are.
-fn with_payloads(alloc: Global, payloads: [&[u8]; 2]) -> Result<MemDisk, Fail> {
+// Why a store isn't opened whose journal has these payloads, whatever they are.
+fn damage_of(alloc: Global, payloads: [&[u8]; 2]) -> Result<Option<MountError>, Fail> {
     let Ok((mut journal, _)) = Journal::mount(alloc, new_disk(alloc)?, TRIGGERS) else {
         return Err(Fail::from("no journal"));
     };
@@ -200,25 +248,56 @@ fn with_payloads(alloc: Global, payloads: [&[u8]; 2]) -> Result<MemDisk, Fail> {
         }
         journal.append(payload)?;
     }
-    Ok(journal.into_disk())
+    Ok(refused(alloc, journal.into_disk()))
 }
 
 #[test]
 fn what_a_replay_refuses_is_damage_at_its_gate(rt: HostRuntime) -> Result<(), Fail> {
     let alloc = rt.alloc();
     let job = put_command(alloc, &add_job(alloc, T0)?)?;
-    let behind = 21 + job.len() as u64;
-    let twice = with_payloads(alloc, [job.as_slice(), job.as_slice()])?;
-    assert_eq!(rt;
-        refused(alloc, twice),
-        Some(MountError::Damaged { at: behind })
-    );
-    let no_record = with_payloads(alloc, [job.as_slice(), b"\x01"])?;
-    assert_eq!(rt;
-        refused(alloc, no_record),
-        Some(MountError::Damaged { at: behind })
-    );
+    let behind = Some(MountError::Damaged {
+        at: 21 + job.len() as u64,
+    });
+    assert_eq!(rt; damage_of(alloc, [job.as_slice(), job.as_slice()])?, behind);
+    assert_eq!(rt; damage_of(alloc, [job.as_slice(), b"\x01"])?, behind);
     Ok(())
+}
+
+// Whether an entry fails, and the next one finds the store closed.
+fn is_closed_by<D: Disk>(alloc: Global, store: &mut TriggerStore<D>) -> Result<bool, AllocError> {
+    let first = submit(store, add_job(alloc, T0)?);
+    let second = submit(store, add_job(alloc, T0)?);
+    Ok(first == Came::Failed && second == Came::Closed(16))
+}
+
+// The disk of a store that was closed by a fault.
+fn failed(alloc: Global, disk: FaultDisk<MemDisk>) -> Option<FaultDisk<MemDisk>> {
+    match TriggerStore::mount(alloc, disk) {
+        Ok(mut store) => {
+            let closed = matches!(is_closed_by(alloc, &mut store), Ok(true));
+            let is_right = closed && store.closed() && store.added().is_empty();
+            let disk = store.into_disk();
+            if is_right { Some(disk) } else { None }
+        }
+        Err(error) => {
+            let_go(error);
+            None
+        }
+    }
+}
+
+fn is_empty<D: Disk>(alloc: Global, disk: D) -> bool {
+    match TriggerStore::mount(alloc, disk) {
+        Ok(store) => {
+            let length = store.history_len();
+            let_go(store);
+            length == 0
+        }
+        Err(error) => {
+            let_go(error);
+            false
+        }
+    }
 }
 
 #[test]
@@ -226,12 +305,8 @@ fn a_fault_closes_the_store(rt: HostRuntime) -> Result<(), Fail> {
     let alloc = rt.alloc();
     // An opening takes three calls.
     let failing = List::from_vec(Vec::from_slice(alloc, &[4])?);
-    let mut store = opened(alloc, FaultDisk::new(new_disk(alloc)?, failing))?;
-    assert_eq!(rt; store.submit(add_job(alloc, T0)?), Err(SubmitError::Fault));
-    let closed = SubmitError::Closed { at: 16 };
-    assert_eq!(rt; store.submit(add_job(alloc, T0)?), Err(closed));
-    assert!(rt; store.closed() && store.added().is_empty());
-    let store = opened(alloc, store.into_disk())?;
-    assert_eq!(rt; store.history_len(), 0);
+    let disk = FaultDisk::new(new_disk(alloc)?, failing);
+    let disk = failed(alloc, disk).ok_or("the store isn't closed")?;
+    assert!(rt; is_empty(alloc, disk));
     Ok(())
 }
