@@ -1,6 +1,6 @@
 -- Which entries have a record: numbers fit their types, texts are UTF-8, and everything is within its limits.
-use Rattle.std.specs.Prelude.{◌≡◌, ℕ, ℤ, ◌^◌, ◌<◌, List, length, nat_lt, nat_le, ◌&&◌, Bool, true, false, Option, Some, None, IfSome, IsTrue, FitsSigned}
-use Rattle.std.specs.Int.{Width, w8, w16, w32, w64}
+use Rattle.std.specs.Prelude.{◌≡◌, ℕ, ℤ, ◌^◌, ◌<◌, List, length, nat_le, ◌&&◌, Bool, true, IfSome, FitsSigned}
+use Rattle.std.specs.Int.{Width, w8, w32, w64}
 use Rattle.std.specs.Str.{IsUtf8}
 use Rattle.qz_civil.specs.Timings.{is_span, is_kind, is_misfire}
 use Rattle.qz_civil.specs.declared.timings.Kind.{Kind}
