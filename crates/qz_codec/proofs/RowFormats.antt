@@ -163,7 +163,8 @@ kind_takes (b ∷ bytes) x fits e =
     let s = bind_ok (cond (b == 0) (Ok (b, bytes)) (Err (suc (length bytes)))) (λ place. behind place.1) x e in
     let g = guard_ok (b == 0) (b, bytes) s.0 (suc (length bytes)) s.1 in
     let rest-is : s.0.1 ≡ bytes = ap (λ (p : ℕ × List ℕ). p.1) (sym g.1) in
-    let t = behind_variant.takes bytes x (IsBytes-rest b bytes fits) (ap behind (sym rest-is) ∙ s.2) in
+    let from_here : behind bytes ≡ Ok x = subst (λ (rest : List ℕ). behind rest ≡ Ok x) rest-is s.2 in
+    let t = behind_variant.takes bytes x (IsBytes-rest b bytes fits) from_here in
     subst (λ (y : Kind × List ℕ). Takes kind Any IsKind (b ∷ bytes) y) t.2 (record {
       parts = ap (λ (n : ℕ). n ∷ bytes) (eqb-true b 0 g.0) ∙ ap (λ (r : List ℕ). 0 ∷ r) t.1.parts;
       rest = t.1.rest;
