@@ -1,5 +1,5 @@
 -- Commands: each is written and read so, where its actor may give it, and none else is read.
-use Rattle.std.proofs.Common.{◌≡◌, ℕ, suc, ◌^◌, ◌<◌, ◌≤◌, ◌+◌, ℤ, Bool, true, false, cond, eqb, List, [], ◌∷◌, ◌++◌, length, Option, Some, None, Result, Ok, Err, refl, sym, ap, subst, ◌∙◌, append_assoc, arith, ◌==◌, ◌⊎◌, inl, inr}
+use Rattle.std.proofs.Common.{◌≡◌, ℕ, suc, ◌^◌, ◌<◌, ◌≤◌, ◌+◌, ℤ, Bool, true, false, cond, List, [], ◌∷◌, ◌++◌, length, Option, Some, None, Ok, Err, refl, sym, ap, subst, ◌∙◌, arith, ◌==◌, ◌⊎◌, inl, inr}
 use Rattle.std.specs.Int.{w32, w64}
 use Rattle.std.proofs.lemmas.Bool.{eqb-true}
 use Rattle.qz_types.specs.Rows.{JobData}
@@ -12,9 +12,9 @@ use Rattle.qz_types.specs.declared.commands.Command.{Command}
 use Rattle.qz_types.specs.declared.commands.Command.TheVariants.{AddJob, AddTrigger, Join, Acquire, Fire, Complete}
 use Rattle.qz_codec.specs.Layout.{number, integer, flag, text, job, spec, code_place, command}
 use Rattle.qz_codec.specs.Values.{is_long, IsText, IsSpan, IsJob, IsSpec, IsCommand}
-use Rattle.qz_codec.specs.Reading.{◌>>=◌, Read, checked, byte_at, number_at, flag_at, node_at, span_at, job_at, spec_at, code_of, chosen, code_at, add_job_at, add_trigger_at, join_at, acquire_at, fire_at, complete_at, client_command_at, node_command_at}
-use Rattle.qz_codec.proofs.Formats.{IsBytes, IsNear, EndsNear, Takes, IsFormat, Any, Also, Both, Passes, bind_ok, done, ok_is, no_value, near_then, those}
-use Rattle.qz_codec.proofs.SingleFields.{one_byte, IsBytes-rest, byte_format, wide32, wide64, number_format, flag_format}
+use Rattle.qz_codec.specs.Reading.{◌>>=◌, Read, checked, byte_at, number_at, flag_at, span_at, job_at, spec_at, code_of, chosen, code_at, add_job_at, add_trigger_at, join_at, acquire_at, fire_at, complete_at, client_command_at, node_command_at}
+use Rattle.qz_codec.proofs.Formats.{IsBytes, EndsNear, Takes, IsFormat, Any, Both, Passes, ok_is, no_value, those}
+use Rattle.qz_codec.proofs.SingleFields.{IsBytes-rest, wide32, wide64, number_format, flag_format}
 use Rattle.qz_codec.proofs.RowFormats.{node_format, span_format, job_format, spec_format, IsVariant, as_variant, variant, read_so, pair, regroup}
 
 -- which way a choice went

@@ -1,7 +1,6 @@
 -- Entries and whole records.
-use Rattle.std.proofs.Common.{◌≡◌, ℕ, zero, suc, ◌^◌, ◌<◌, ◌≤◌, ◌+◌, ◌-◌, ℤ, Bool, true, false, cond, eqb, List, [], ◌∷◌, ◌++◌, length, Option, Some, None, Result, Ok, Err, refl, sym, ap, subst, ◌∙◌, append_assoc, arith, ◌==◌}
-use Rattle.std.specs.Prelude.{FitsSigned, IfOk}
-use Rattle.std.specs.Int.{w32, w64}
+use Rattle.std.proofs.Common.{◌≡◌, ℕ, zero, suc, ◌^◌, ◌<◌, ◌≤◌, ◌-◌, Bool, true, false, cond, List, [], ◌∷◌, ◌++◌, length, Result, Ok, Err, refl, sym, ap, subst, ◌∙◌, arith, ◌==◌}
+use Rattle.std.specs.Prelude.{IfOk}
 use Rattle.std.proofs.lemmas.Bool.{eqb-true}
 use Rattle.std.proofs.lemmas.List.{append-nil, nil_from_length}
 use Rattle.qz_types.specs.Rows.{MemberData}
@@ -9,14 +8,14 @@ use Rattle.qz_types.specs.Entries.{EntryData, is_of_node, has_actor}
 use Rattle.qz_types.specs.declared.commands.Command.{Command}
 use Rattle.qz_types.specs.declared.commands.Actor.{Actor}
 use Rattle.qz_types.specs.declared.commands.Actor.TheVariants.{Client, Node}
-use Rattle.qz_codec.specs.Layout.{number, integer, member, actor, command, entry, record_of}
-use Rattle.qz_codec.specs.Values.{IsMember, IsActor, IsCommand, IsEntry}
-use Rattle.qz_codec.specs.Reading.{◌>>=◌, Read, checked, byte_at, number_at, integer_at, flag_at, member_at, actor_at, client_command_at, node_command_at, command_at, entry_at, whole_at, placed, reading, Answers}
+use Rattle.qz_codec.specs.Layout.{actor, command, entry, record_of}
+use Rattle.qz_codec.specs.Values.{IsActor, IsCommand, IsEntry}
+use Rattle.qz_codec.specs.Reading.{◌>>=◌, Read, byte_at, flag_at, member_at, actor_at, command_at, entry_at, whole_at, placed, reading, Answers}
 use Rattle.qz_codec.specs.declared.errors.ReadError.{ReadError}
-use Rattle.qz_codec.proofs.Formats.{IsBytes, IsNear, EndsNear, Takes, IsFormat, Any, Also, Both, bind_ok, done, ok_is, no_value, guard_ok, near_then, field, last, same, those}
-use Rattle.qz_codec.proofs.SingleFields.{IsBytes-rest, byte_format, other_flag, flag_format, wide32, wide64, same64, number_format, integer_format}
-use Rattle.qz_codec.proofs.RowFormats.{member_format, IsVariant, as_variant, variant}
-use Rattle.qz_codec.proofs.CommandFormats.{IsGiven, client_format, node_command_format}
+use Rattle.qz_codec.proofs.Formats.{IsBytes, IsNear, EndsNear, Takes, IsFormat, Any, Also, bind_ok, done, ok_is, no_value, guard_ok, near_then, field, last, same}
+use Rattle.qz_codec.proofs.SingleFields.{IsBytes-rest, other_flag, flag_format, wide32, wide64, same64, number_format, integer_format}
+use Rattle.qz_codec.proofs.RowFormats.{member_format, as_variant, variant}
+use Rattle.qz_codec.proofs.CommandFormats.{client_format, node_command_format}
 
 -- ---- actors
 

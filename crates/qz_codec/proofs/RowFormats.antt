@@ -1,7 +1,7 @@
 -- Rows: each that is valid is written and read so, and none else is read.
-use Rattle.std.proofs.Common.{◌≡◌, ℕ, suc, ◌^◌, ◌<◌, ◌+◌, ℤ, Bool, true, false, cond, List, [], ◌∷◌, ◌++◌, length, Option, Some, None, Result, Ok, Err, refl, sym, ap, subst, ◌∙◌, append_assoc, arith, ◌==◌}
-use Rattle.std.specs.Prelude.{IfSome, FitsSigned}
-use Rattle.std.specs.Int.{w8, w16, w32, w64}
+use Rattle.std.proofs.Common.{◌≡◌, ℕ, suc, ◌+◌, ℤ, Bool, cond, List, [], ◌∷◌, ◌++◌, length, Ok, Err, refl, sym, ap, subst, ◌∙◌, arith, ◌==◌}
+use Rattle.std.specs.Prelude.{IfSome}
+use Rattle.std.specs.Int.{w8, w64}
 use Rattle.std.proofs.lemmas.Bool.{eqb-true}
 use Rattle.qz_civil.specs.Timings.{is_span, is_kind, is_misfire}
 use Rattle.qz_civil.specs.declared.timings.Kind.{Kind}
@@ -11,13 +11,11 @@ use Rattle.qz_types.specs.Rows.{JobData, MemberData}
 use Rattle.qz_types.specs.declared.limits.TheConstants.{NAME_LIMIT, NODE_LIMIT, PAYLOAD_LIMIT}
 use Rattle.qz_types.specs.declared.keys.Key.{Key}
 use Rattle.qz_types.specs.declared.triggers.TriggerSpec.{TriggerSpec}
-use Rattle.qz_types.specs.declared.commands.Actor.{Actor}
-use Rattle.qz_types.specs.declared.commands.Actor.TheVariants.{Client, Node}
-use Rattle.qz_codec.specs.Layout.{number, integer, small, flag, text, optional, key, job, kind, timing, spec, member, actor}
-use Rattle.qz_codec.specs.Values.{IsText, IsName, IsNumber, IsSpan, IsKey, IsJob, IsKind, IsTiming, IsSpec, IsMember, IsActor}
-use Rattle.qz_codec.specs.Reading.{◌>>=◌, Read, checked, byte_at, number_at, integer_at, small_at, flag_at, text_at, name_at, node_at, span_at, optional_at, key_at, job_at, kind_at, timing_at, spec_at, member_at, actor_at}
-use Rattle.qz_codec.proofs.Formats.{IsBytes, IsNear, EndsNear, Takes, IsFormat, Any, Also, Both, Passes, bind_ok, ok_is, no_value, guard_ok, near_then, field, last, same, those}
-use Rattle.qz_codec.proofs.SingleFields.{one_byte, IsBytes-rest, byte_format, wide16, wide32, wide64, same32, same64, number_format, integer_format, small_format, flag_format, text_format, optional_format}
+use Rattle.qz_codec.specs.Layout.{integer, small, text, key, job, kind, timing, spec, member}
+use Rattle.qz_codec.specs.Values.{IsText, IsName, IsNumber, IsSpan, IsKey, IsJob, IsKind, IsTiming, IsSpec, IsMember}
+use Rattle.qz_codec.specs.Reading.{◌>>=◌, Read, checked, byte_at, integer_at, small_at, text_at, name_at, node_at, span_at, key_at, job_at, kind_at, timing_at, spec_at, member_at}
+use Rattle.qz_codec.proofs.Formats.{IsBytes, EndsNear, Takes, IsFormat, Any, Also, Both, bind_ok, ok_is, guard_ok, near_then, field, last, same, those}
+use Rattle.qz_codec.proofs.SingleFields.{IsBytes-rest, byte_format, wide32, wide64, same32, same64, number_format, integer_format, small_format, flag_format, text_format, optional_format}
 
 abbrev Free : {A : Type 0} → A → Type 0
 Free x = Unit {0}
@@ -165,7 +163,8 @@ kind_takes (b ∷ bytes) x fits e =
     let s = bind_ok (cond (b == 0) (Ok (b, bytes)) (Err (suc (length bytes)))) (λ place. behind place.1) x e in
     let g = guard_ok (b == 0) (b, bytes) s.0 (suc (length bytes)) s.1 in
     let rest-is : s.0.1 ≡ bytes = ap (λ (p : ℕ × List ℕ). p.1) (sym g.1) in
-    let t = behind_variant.takes bytes x (IsBytes-rest b bytes fits) (ap behind (sym rest-is) ∙ s.2) in
+    let from_here : behind bytes ≡ Ok x = subst (λ (rest : List ℕ). behind rest ≡ Ok x) rest-is s.2 in
+    let t = behind_variant.takes bytes x (IsBytes-rest b bytes fits) from_here in
     subst (λ (y : Kind × List ℕ). Takes kind Any IsKind (b ∷ bytes) y) t.2 (record {
       parts = ap (λ (n : ℕ). n ∷ bytes) (eqb-true b 0 g.0) ∙ ap (λ (r : List ℕ). 0 ∷ r) t.1.parts;
       rest = t.1.rest;

@@ -68,13 +68,17 @@ small_at bytes = do
 unfoldable pub flag_at : List ℕ → Read Bool
 flag_at bytes = do
   n ← byte_at bytes
-  if n.0 == 0 then Ok (false, n.1) else if n.0 == 1 then Ok (true, n.1) else Err (length bytes)
+  if n.0 == 0 then Ok (false, n.1)
+      else if n.0 == 1 then Ok (true, n.1)
+      else Err (length bytes)
 
 -- The length is the field that is wrong where it is out of its range, and the bytes where they are cut or no UTF-8.
 unfoldable pub text_at : ℕ → ℕ → List ℕ → Read (List ℕ)
 text_at least most bytes = do
   n ← checked (is_long least most) (number_at w16) bytes
-  if nat_le n.0 (length n.1) && is_utf8 (take n.0 n.1) then Ok (take n.0 n.1, drop n.0 n.1) else Err (length n.1)
+  if nat_le n.0 (length n.1) && is_utf8 (take n.0 n.1)
+      then Ok (take n.0 n.1, drop n.0 n.1)
+      else Err (length n.1)
 
 abbrev pub name_at : List ℕ → Read (List ℕ)
 name_at bytes = text_at 1 NAME_LIMIT bytes
@@ -104,7 +108,17 @@ job_at bytes = do
   no_concurrent ← flag_at durable.1
   requests_recovery ← flag_at no_concurrent.1
   payload ← text_at 0 PAYLOAD_LIMIT requests_recovery.1
-  Ok (record { key = key.0; class = class.0; durable = durable.0; no_concurrent = no_concurrent.0; requests_recovery = requests_recovery.0; payload = payload.0 }, payload.1)
+  Ok (
+    record {
+      key = key.0;
+      class = class.0;
+      durable = durable.0;
+      no_concurrent = no_concurrent.0;
+      requests_recovery = requests_recovery.0;
+      payload = payload.0;
+    },
+    payload.1,
+  )
 
 unfoldable pub kind_at : List ℕ → Read Kind
 kind_at bytes = do
@@ -143,7 +157,15 @@ actor_at bytes = do
 
 -- the code of a place
 abbrev pub code_of : ℕ → Option Code
-code_of n = if n == 0 then Some code.Noop else if n == 1 then Some code.ReExecuteJob else if n == 2 then Some code.SetTriggerComplete else if n == 3 then Some code.DeleteTrigger else if n == 4 then Some code.SetAllJobTriggersComplete else if n == 5 then Some code.SetTriggerError else if n == 6 then Some code.SetAllJobTriggersError else None
+code_of n =
+    if n == 0 then Some code.Noop
+    else if n == 1 then Some code.ReExecuteJob
+    else if n == 2 then Some code.SetTriggerComplete
+    else if n == 3 then Some code.DeleteTrigger
+    else if n == 4 then Some code.SetAllJobTriggersComplete
+    else if n == 5 then Some code.SetTriggerError
+    else if n == 6 then Some code.SetAllJobTriggersError
+    else None
 
 -- where there is one
 abbrev pub chosen : {A : Type 0} → Option A → ℕ → List ℕ → Read A
@@ -194,13 +216,19 @@ complete_at bytes = do
 unfoldable pub client_command_at : List ℕ → Read Command
 client_command_at bytes = do
   place ← byte_at bytes
-  if place.0 == 0 then add_job_at place.1 else if place.0 == 2 then add_trigger_at place.1 else if place.0 == 14 then join_at place.1 else Err (length bytes)
+  if place.0 == 0 then add_job_at place.1
+      else if place.0 == 2 then add_trigger_at place.1
+      else if place.0 == 14 then join_at place.1
+      else Err (length bytes)
 
 -- a command that a node gives under its epoch
 unfoldable pub node_command_at : List ℕ → Read Command
 node_command_at bytes = do
   place ← byte_at bytes
-  if place.0 == 16 then acquire_at place.1 else if place.0 == 18 then fire_at place.1 else if place.0 == 19 then complete_at place.1 else Err (length bytes)
+  if place.0 == 16 then acquire_at place.1
+      else if place.0 == 18 then fire_at place.1
+      else if place.0 == 19 then complete_at place.1
+      else Err (length bytes)
 
 abbrev pub command_at : Actor → List ℕ → Read Command
 command_at Client bytes = client_command_at bytes

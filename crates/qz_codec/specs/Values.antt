@@ -1,6 +1,6 @@
 -- Which entries have a record: numbers fit their types, texts are UTF-8, and everything is within its limits.
-use Rattle.std.specs.Prelude.{◌≡◌, ℕ, ℤ, ◌^◌, ◌<◌, List, length, nat_lt, nat_le, ◌&&◌, Bool, true, false, Option, Some, None, IfSome, IsTrue, FitsSigned}
-use Rattle.std.specs.Int.{Width, w8, w16, w32, w64}
+use Rattle.std.specs.Prelude.{◌≡◌, ℕ, ℤ, ◌^◌, ◌<◌, List, length, nat_le, ◌&&◌, Bool, true, IfSome, FitsSigned}
+use Rattle.std.specs.Int.{Width, w8, w32, w64}
 use Rattle.std.specs.Str.{IsUtf8}
 use Rattle.qz_civil.specs.Timings.{is_span, is_kind, is_misfire}
 use Rattle.qz_civil.specs.declared.timings.Kind.{Kind}
@@ -24,14 +24,16 @@ pub record IsText (least most : ℕ) (s : List ℕ) : Type 0 where
   pub size : is_long least most (length s) ≡ true
   pub utf8 : IsUtf8 s
 
+-- a group, name, class or calendar
 abbrev pub IsName : List ℕ → Type 0
 IsName s = IsText 1 NAME_LIMIT s
 
--- a signed number of 64 bits that a test lets pass
+-- a signed number of this width that a test lets pass
 pub record IsNumber (w : Width) (passes : ℤ → Bool) (z : ℤ) : Type 0 where
   pub fits : FitsSigned w z
   pub passed : passes z ≡ true
 
+-- a start, an end or a span of time
 abbrev pub IsSpan : ℤ → Type 0
 IsSpan z = IsNumber w64 is_span z
 
