@@ -9,7 +9,7 @@ use Rattle.qz_types.specs.declared.replies.Refusal.TheVariants.{Unbuilt, Fenced,
 use Rattle.qz_types.specs.declared.replies.Reply.{Reply}
 use Rattle.qz_types.specs.declared.replies.Reply.TheVariants.{Done, Added, Joined, Acquired, Fired, Completed}
 use Rattle.qz_types.specs.declared.steps.StepReply.{StepReply}
-use Rattle.qz_types.specs.declared.steps.StepReply.TheVariants.{Ok, Refused, Stopped}
+use Rattle.qz_types.specs.declared.steps.StepReply.TheVariants.{Ok, Refused, Fault, Closed, Stopped}
 use Rattle.qz_report.specs.Names.{key_text}
 
 -- a next time, if there is one
@@ -65,6 +65,8 @@ refusal_text refusal = codes "refused " ++ decimal (number_of refusal) ++ refusa
 abbrev pub step_text : StepReply → List ℕ
 step_text (Ok reply) = ok_text reply
 step_text (Refused refusal) = refusal_text refusal
+step_text Fault = codes "fault"
+step_text Closed = codes "closed"
 step_text Stopped = codes "stopped"
 
 -- the text with its line feed

@@ -28,6 +28,8 @@ fn push_step(text: &mut String, reply: &StepReply) -> Result<(), AllocError>
     match reply {
         StepReply::Ok(reply) => push_ok(text, reply),
         StepReply::Refused(refusal) => push_refusal(text, refusal),
+        StepReply::Fault => text.push_str("fault"),
+        StepReply::Closed => text.push_str("closed"),
         StepReply::Stopped => text.push_str("stopped"),
     }
 }

@@ -11,14 +11,14 @@ use Rattle.qz_io.specs.Reading.{ReaderData, BeginsTooLong, SeesLine, SeesRest, S
 use Rattle.qz_io.proofs.Cut.{lines_of-line, lines_of-rest}
 use Rattle.qz_job_json.specs.declared.lines.LineFault.TheVariants as line_fault
 use Rattle.qz_top.specs.Lines.{line_meaning}
-use Rattle.qz_top.specs.Sessions.{SessionData}
+use Rattle.qz_top.specs.Trails.{RunState}
 use Rattle.qz_top.specs.Turns.{LineDone, Ran, IsBad}
 use Rattle.qz_top.specs.Inputs.{Ahead, BeginsWith, BeginsSome, BeginsBad, WentOn, WentToEnd, MetBad, TurnDone}
 use Rattle.qz_top.specs.declared.statuses.BadKind.{BadKind}
 use Rattle.qz_top.specs.declared.statuses.BadKind.TheVariants as bad
 use Rattle.qz_top.specs.declared.turns.LineEnd.{LineEnd}
 use Rattle.qz_top.specs.declared.turns.LineEnd.TheVariants as ends
-use Rattle.qz_top.proofs.TurnLaws.{Ran-none, Tells-nil}
+use Rattle.qz_top.proofs.TurnLaws.{Ran-none, untouched}
 
 -- a told end leaves nothing
 at_end : (left : Option (List ℕ)) (rest : List ℕ) → IsAtEnd left → left ≡ Some rest → rest ≡ []
@@ -87,25 +87,24 @@ begins_too_long pending rest long =
       bad = record { fault = line_fault.TooLong; meaning = too_long found.line (omega (arith, found.long)); kind_is = refl };
     }
 
-pub MetBad-long : (left left' : Option (List ℕ)) (pending : List ℕ) (now : ReaderData) (held : Option (List ℕ)) (clock : Option (List ℤ))
-    → SeesTooLong left left' pending now → MetBad left left' pending held held clock clock bad.TooLong
-MetBad-long left left' pending now held clock sees = record {
+pub MetBad-long : (left left' : Option (List ℕ)) (pending : List ℕ) (now : ReaderData) (R : RunState) (held : Option (List ℕ)) (clock : Option (List ℤ))
+    → SeesTooLong left left' pending now → MetBad left left' pending R R held held clock clock bad.TooLong
+MetBad-long left left' pending now R held clock sees = record {
   ahead = record {
     got = sees.waits.hands.got;
     taken = sees.waits.hands.taken;
     ahead = λ rest told. subst (λ bytes. BeginsBad bad.TooLong (bytes ++ rest)) (sym sees.waits.hands.kept) (begins_too_long now.pending rest sees.too_long);
   };
-  kept = Appends-nil held;
-  told = Tells-nil clock;
+  untouched = untouched R held clock;
 }
 
-pub WentOn-line : (left left' : Option (List ℕ)) (pending : List ℕ) (now : ReaderData) (S S' : SessionData) (x y : Option (List ℕ)) (a b : Option (List ℤ)) (readings : List ℤ)
-    → SeesLine left left' pending now → Ran (now.line ∷ []) readings S S' x y a b → WentOn left left' pending now.pending S S' x y a b
-WentOn-line left left' pending now S S' x y a b readings sees ran = record { line = now.line; one_line = sees.line.one_line; hands = sees.hands; readings = readings; ran = ran }
+pub WentOn-line : (left left' : Option (List ℕ)) (pending : List ℕ) (now : ReaderData) (R R' : RunState) (x y : Option (List ℕ)) (a b : Option (List ℤ)) (readings : List ℤ)
+    → SeesLine left left' pending now → Ran (now.line ∷ []) readings R R' x y a b → WentOn left left' pending now.pending R R' x y a b
+WentOn-line left left' pending now R R' x y a b readings sees ran = record { line = now.line; one_line = sees.line.one_line; hands = sees.hands; readings = readings; ran = ran }
 
-pub WentToEnd-rest : (left left' : Option (List ℕ)) (pending : List ℕ) (now : ReaderData) (S S' : SessionData) (x y : Option (List ℕ)) (a b : Option (List ℤ)) (readings : List ℤ)
-    → SeesRest left left' pending now → Ran (now.line ∷ []) readings S S' x y a b → WentToEnd left left' pending S S' x y a b
-WentToEnd-rest left left' pending now S S' x y a b readings sees ran = record {
+pub WentToEnd-rest : (left left' : Option (List ℕ)) (pending : List ℕ) (now : ReaderData) (R R' : RunState) (x y : Option (List ℕ)) (a b : Option (List ℤ)) (readings : List ℤ)
+    → SeesRest left left' pending now → Ran (now.line ∷ []) readings R R' x y a b → WentToEnd left left' pending R R' x y a b
+WentToEnd-rest left left' pending now R R' x y a b readings sees ran = record {
   got = sees.hands.got;
   taken = sees.hands.taken;
   ended = sees.ended;
@@ -116,9 +115,9 @@ WentToEnd-rest left left' pending now S S' x y a b readings sees ran = record {
   ran = ran;
 }
 
-pub WentToEnd-end : (left left' : Option (List ℕ)) (pending : List ℕ) (now : ReaderData) (S : SessionData) (x : Option (List ℕ)) (a : Option (List ℤ))
-    → SeesEnd left left' pending now → WentToEnd left left' pending S S x x a a
-WentToEnd-end left left' pending now S x a sees = record {
+pub WentToEnd-end : (left left' : Option (List ℕ)) (pending : List ℕ) (now : ReaderData) (R : RunState) (x : Option (List ℕ)) (a : Option (List ℤ))
+    → SeesEnd left left' pending now → WentToEnd left left' pending R R x x a a
+WentToEnd-end left left' pending now R x a sees = record {
   got = sees.waits.hands.got;
   taken = sees.waits.hands.taken;
   ended = sees.ended;
@@ -126,7 +125,7 @@ WentToEnd-end left left' pending now S x a sees = record {
   all = ap lines_of (sees.waits.hands.kept ∙ sees.all);
   one = omega arith;
   readings = [];
-  ran = Ran-none S x a;
+  ran = Ran-none R x a;
 }
 
 bad_ahead : (left left' : Option (List ℕ)) (pending line : List ℕ) (kind : BadKind) → Ahead left left' pending (BeginsWith line) → IsBad line kind → Ahead left left' pending (BeginsBad kind)
@@ -137,12 +136,14 @@ bad_ahead left left' pending line kind ahead is_bad = record {
 }
 
 -- what ended the script at a line ended the turn
-pub TurnDone-line : (e : LineEnd) (left left' : Option (List ℕ)) (pending line : List ℕ) (pending' : List ℕ) (S S' : SessionData) (x y : Option (List ℕ)) (a b : Option (List ℤ))
-    → Ahead left left' pending (BeginsWith line) → LineDone (Err e) line S S' x y a b → TurnDone (Err e) left left' pending pending' S S' x y a b
-TurnDone-line (ends.Bad kind) left left' pending line pending' S S' x y a b ahead done = record { ahead = bad_ahead left left' pending line kind ahead done.0; kept = done.1; told = done.2 }
-TurnDone-line ends.ReadFault left left' pending line pending' S S' x y a b ahead done = absurd done
-TurnDone-line ends.WriteFault left left' pending line pending' S S' x y a b ahead done = record { line = line; ahead = ahead; part = done }
-TurnDone-line ends.NoMemory left left' pending line pending' S S' x y a b ahead done = record { got = ahead.got; taken = ahead.taken; gave_up = done }
+pub TurnDone-line : (e : LineEnd) (left left' : Option (List ℕ)) (pending line : List ℕ) (pending' : List ℕ) (R R' : RunState) (x y : Option (List ℕ)) (a b : Option (List ℤ))
+    → Ahead left left' pending (BeginsWith line) → LineDone (Err e) line R R' x y a b → TurnDone (Err e) left left' pending pending' R R' x y a b
+TurnDone-line (ends.Bad kind) left left' pending line pending' R R' x y a b ahead done = record { ahead = bad_ahead left left' pending line kind ahead done.0; untouched = done.1 }
+TurnDone-line ends.ReadFault left left' pending line pending' R R' x y a b ahead done = absurd done
+TurnDone-line ends.WriteFault left left' pending line pending' R R' x y a b ahead done = record { line = line; ahead = ahead; part = done }
+TurnDone-line ends.Unanswered left left' pending line pending' R R' x y a b ahead done = record { line = line; ahead = ahead; part = done }
+TurnDone-line ends.NoMemory left left' pending line pending' R R' x y a b ahead done = record { got = ahead.got; taken = ahead.taken; gave_up = done }
+TurnDone-line (ends.JournalFull need room) left left' pending line pending' R R' x y a b ahead done = record { line = line; ahead = ahead; full = done }
 
 pub some_ahead : (left left' : Option (List ℕ)) (pending line : List ℕ) → Ahead left left' pending (BeginsWith line) → Ahead left left' pending BeginsSome
 some_ahead left left' pending line ahead = record {

@@ -1,7 +1,7 @@
-pub mod LineLaws
-pub mod SessionLaws
-pub mod TurnLaws
-pub mod InputLaws
-pub mod UptoLaws
 pub mod EndLaws
+pub mod InputLaws
+pub mod LineLaws
 pub mod StopLaws
+pub mod TrailLaws
+pub mod TurnLaws
+pub mod UptoLaws

@@ -1,5 +1,5 @@
 -- How a script stops before the end of its input: the run that its lines make, by what stopped it.
-use Rattle.std.proofs.Common.{◌≡◌, ◌≤◌, ℕ, ◌+◌, ℤ, List, [], ◌∷◌, ◌++◌, length, take, drop, Option, Some, None, refl, sym, ap, ◌∙◌, subst, arith, append_assoc}
+use Rattle.std.proofs.Common.{◌≡◌, ◌⊎◌, inl, inr, ◌≤◌, ℕ, ◌+◌, ℤ, List, [], ◌∷◌, ◌++◌, length, take, drop, Option, Some, None, refl, sym, ap, ◌∙◌, subst, arith, append_assoc}
 use Rattle.std.specs.Prelude.{Err}
 use Rattle.std.specs.List.{AllByRecursion}
 use Rattle.std.specs.Io.KnownBytes.{Consumes, Appends}
@@ -15,14 +15,16 @@ use Rattle.qz_top.specs.declared.turns.LineEnd.{LineEnd}
 use Rattle.qz_top.specs.declared.turns.LineEnd.TheVariants as ends
 use Rattle.qz_top.specs.Statuses.{status_at}
 use Rattle.qz_top.specs.Lines.{IsGood, first_bad}
-use Rattle.qz_top.specs.Sessions.{SessionData, new_session}
-use Rattle.qz_top.specs.Turns.{Ran, RanPart, IsBad, texts_of}
-use Rattle.qz_top.specs.Inputs.{Ahead, BeginsWith, BeginsSome, BeginsBad, TurnDone, Upto, BeyondDone}
-use Rattle.qz_top.specs.Runs.{ReadToBad, Reads, WrotePart, IsRun}
+use Rattle.qz_types.specs.declared.steps.StepReply.{StepReply}
+use Rattle.qz_top.specs.Trails.{texts, RunState}
+use Rattle.qz_top.specs.Turns.{taken_reading, Ran, RanPart, IsBad, Idles, LineFull}
+use Rattle.qz_top.specs.Inputs.{Ahead, BeginsWith, BeginsSome, BeginsBad, WrotePartOf, TurnDone, Upto, BeyondDone}
+use Rattle.qz_top.specs.Runs.{BeginWith, ReadToBad, Reads, IsNext, WrotePart, IsRun}
 use Rattle.qz_top.proofs.LineLaws.{first_bad_from-append, first_bad_from-bad, first_bad_from-many}
-use Rattle.qz_top.proofs.TurnLaws.{Tells-nil, Tells-trans, Did-more, texts_of-append}
-use Rattle.qz_top.proofs.UptoLaws.{texts_are, taken_more, whole, told_rest}
-use Rattle.qz_top.proofs.EndLaws.{exact_readings, told_nothing, wrote_nothing}
+use Rattle.qz_top.proofs.TurnLaws.{Tells-nil, Tells-trans, Did-more}
+use Rattle.qz_top.proofs.UptoLaws.{taken_more, whole, told_rest}
+use Rattle.qz_top.proofs.EndLaws.{exact_readings, told_nothing, wrote_nothing, wrote_whole}
+use Rattle.qz_top.proofs.TrailLaws.{Idles-none, Went-none}
 
 -- what is ahead of a source that tells its bytes stands behind the lines that were done
 pub record Told (bytes : List ℕ) (lines : List (List ℕ)) (P : List ℕ → Type 0) : Type 0 where
@@ -68,95 +70,207 @@ reads_fault (Some bytes) j k lines pending pending' taken hands one = record {
   no_feed = one;
 }
 
+at_most_one : (own : Option ℤ) (at : ℤ) → length (taken_reading own at) ≤ 1
+at_most_one None at = omega arith
+at_most_one (Some t) at = omega arith
+
+-- a step that finds no room changes nothing
+full_idles : (line : List ℕ) (need room : ℕ) (R R' : RunState) (x y : Option (List ℕ)) (a b : Option (List ℤ)) → LineFull line need room R R' x y a b → Idles R R'
+full_idles line need room R R' x y a b full = record {
+  trail = full.full.trail;
+  own = full.full.is_own;
+  stays = λ not_own. record { triggers = full.full.full.full.same; held = full.full.full.held };
+}
+
+begins_part : (bytes : List ℕ) (j k : Option (List ℕ)) (lines : List (List ℕ)) (pending line : List ℕ) → AllByRecursion IsOneLine lines → Consumes (Some bytes) j (with_feeds lines ++ pending)
+    → Ahead j k pending (BeginsWith line) → BeginWith (lines ++ line ∷ []) (lines_of bytes)
+begins_part bytes j k lines pending line one taken ahead =
+    let told = told_ahead bytes j k lines pending (BeginsWith line) one taken ahead in
+    record { rest = told.is.more; all = told.all ∙ ap (λ l. lines ++ l) told.is.lines ∙ sym (append_assoc lines (line ∷ []) told.is.more) }
+
 reads_part : (i j k : Option (List ℕ)) (lines : List (List ℕ)) (pending line : List ℕ) → AllByRecursion IsOneLine lines → Consumes i j (with_feeds lines ++ pending)
     → Ahead j k pending (BeginsWith line) → Reads status.WriteFault i k (lines ++ line ∷ [])
 reads_part None j k lines pending line one taken ahead = tt
-reads_part (Some bytes) j k lines pending line one taken ahead =
-    let told = told_ahead bytes j k lines pending (BeginsWith line) one taken ahead in
-    record { rest = told.is.more; all = told.all ∙ ap (λ l. lines ++ l) told.is.lines ∙ sym (append_assoc lines (line ∷ []) told.is.more) }
+reads_part (Some bytes) j k lines pending line one taken ahead = begins_part bytes j k lines pending line one taken ahead
+
+-- the same, where there was no memory for the reply
+reads_unanswered : (i j k : Option (List ℕ)) (lines : List (List ℕ)) (pending line : List ℕ) → AllByRecursion IsOneLine lines → Consumes i j (with_feeds lines ++ pending)
+    → Ahead j k pending (BeginsWith line) → Reads status.NoMemory i k (lines ++ line ∷ [])
+reads_unanswered None j k lines pending line one taken ahead = tt
+reads_unanswered (Some bytes) j k lines pending line one taken ahead = begins_part bytes j k lines pending line one taken ahead
+
+is_next : (i j k : Option (List ℕ)) (lines : List (List ℕ)) (pending line : List ℕ) → AllByRecursion IsOneLine lines → Consumes i j (with_feeds lines ++ pending)
+    → Ahead j k pending (BeginsWith line) → IsNext i lines line
+is_next None j k lines pending line one taken ahead = tt
+is_next (Some bytes) j k lines pending line one taken ahead = begins_part bytes j k lines pending line one taken ahead
+
+begins_some : (bytes : List ℕ) (j k : Option (List ℕ)) (lines : List (List ℕ)) (pending got : List ℕ) → AllByRecursion IsOneLine lines → Consumes (Some bytes) j (with_feeds lines ++ pending) → Consumes j k got
+    → BeginWith lines (lines_of bytes)
+begins_some bytes j k lines pending got one taken more =
+    let rest = told_rest bytes j k _ _ taken more in
+    record { rest = lines_of ((pending ++ got) ++ rest.0); all = whole bytes j k lines pending got rest.0 one taken more rest.1 }
 
 reads_some : (i j k : Option (List ℕ)) (lines : List (List ℕ)) (pending got : List ℕ) → AllByRecursion IsOneLine lines → Consumes i j (with_feeds lines ++ pending) → Consumes j k got
     → Reads status.NoMemory i k lines
 reads_some None j k lines pending got one taken more = tt
-reads_some (Some bytes) j k lines pending got one taken more =
-    let rest = told_rest bytes j k _ _ taken more in
-    record { rest = lines_of ((pending ++ got) ++ rest.0); all = whole bytes j k lines pending got rest.0 one taken more rest.1 }
+reads_some (Some bytes) j k lines pending got one taken more = begins_some bytes j k lines pending got one taken more
+
+reads_full : (need room : ℕ) (i j k : Option (List ℕ)) (lines : List (List ℕ)) (pending got : List ℕ) → AllByRecursion IsOneLine lines → Consumes i j (with_feeds lines ++ pending) → Consumes j k got
+    → Reads (status.JournalFull need room) i k lines
+reads_full need room None j k lines pending got one taken more = tt
+reads_full need room (Some bytes) j k lines pending got one taken more = begins_some bytes j k lines pending got one taken more
 
 -- all replies but the last were written, and a part of that
-wrote_part : (x y z : Option (List ℕ)) (a b c : Option (List ℤ)) (lines : List (List ℕ)) (readings : List ℤ) (line : List ℕ) (S : SessionData)
-    → Ran lines readings new_session S x y a b → (part : RanPart line S y z b c) → WrotePart x z (lines ++ line ∷ []) (readings ++ part.readings)
-wrote_part x y z a b c lines readings line S ran part =
-    let text = texts_of S (line ∷ []) part.readings in
-    let all = texts_of-append lines (line ∷ []) readings part.readings new_session S a b ran.did in
-    let cut : texts_of new_session lines readings ++ text ≡ texts_of new_session lines readings ++ take part.count text ++ drop part.count text =
-    ap (λ t. texts_of new_session lines readings ++ t) (sym (take-append-drop part.count text)) ∙ sym (append_assoc (texts_of new_session lines readings) (take part.count text) (drop part.count text)) in
+wrote_part : (x y z : Option (List ℕ)) (a b c : Option (List ℤ)) (lines : List (List ℕ)) (readings : List ℤ) (line : List ℕ) (R S S' : RunState)
+    → (ran : Ran lines readings R S x y a b) → (part : RanPart line S S' y z b c) → WrotePart x z (ran.did.replies ++ part.did.replies)
+wrote_part x y z a b c lines readings line R S S' ran part =
+    let text = texts part.did.replies in
     record {
-      kept = lines;
-      last = line ∷ [];
+      kept = ran.did.replies;
+      last = part.did.replies;
       cut = refl;
-      one = omega arith;
-      kept_readings = readings;
-      last_readings = part.readings;
-      readings_cut = refl;
+      one = part.one;
       part = take part.count text;
       rest = drop part.count text;
-      texts = sym (texts_are _ _) ∙ all ∙ cut ∙ ap (λ t. t ++ take part.count text ++ drop part.count text) (texts_are lines readings);
-      written = subst (λ t. Appends x z (t ++ take part.count text)) (texts_are lines readings) (Appends-trans x y z _ _ ran.written part.written);
+      text = sym (take-append-drop part.count text);
+      written = Appends-trans x y z _ _ ran.written part.written;
     }
 
--- A turn ended the script.
-pub IsRun-at : (e : LineEnd) (lines : List (List ℕ)) (readings : List ℤ) (i j k : Option (List ℕ)) (pending pending' : List ℕ) (S S' : SessionData) (x y z : Option (List ℕ)) (a b c : Option (List ℤ))
-    → Upto lines readings i j pending S x y a b → TurnDone (Err e) j k pending pending' S S' y z b c → length lines + 1 ≤ LINE_COUNT_LIMIT
-    → (all : List (List ℕ)) × (taken : List ℤ) × IsRun (status_at e (length lines + 1)) i k x z a c all taken
-IsRun-at (ends.Bad kind) lines readings i j k pending pending' S S' x y z a b c upto done low = (
-  lines,
-  readings,
-  record {
-    called = tt;
-    good = upto.ran.did.good;
-    reads = reads_bad i j k lines pending kind upto.one_line upto.ran.did.good low upto.taken done.ahead;
-    clocked = exact_readings _ a c lines readings upto.ran.did.count (told_nothing a b c readings upto.ran.did.told done.told);
-    writes = subst (Appends x z) (texts_are lines readings) (wrote_nothing x y z _ upto.ran.written done.kept);
-  },
-)
-IsRun-at ends.ReadFault lines readings i j k pending pending' S S' x y z a b c upto done low = (
-  lines,
-  readings,
-  record {
-    called = tt;
-    good = upto.ran.did.good;
-    reads = reads_fault i j k lines pending pending' upto.taken done.hands done.one_line;
-    clocked = exact_readings _ a c lines readings upto.ran.did.count (told_nothing a b c readings upto.ran.did.told done.told);
-    writes = subst (Appends x z) (texts_are lines readings) (wrote_nothing x y z _ upto.ran.written done.kept);
-  },
-)
-IsRun-at ends.WriteFault lines readings i j k pending pending' S S' x y z a b c upto done low =
-    let did = Did-more lines (done.line ∷ []) readings done.part.readings new_session S done.part.S' a b c upto.ran.did done.part.did in (
+-- the last line was done, and a part of its reply written
+ran_part : (e : LineEnd) (number : ℕ) (lines : List (List ℕ)) (readings : List ℤ) (i j k : Option (List ℕ)) (pending : List ℕ) (R S S' : RunState) (x y z : Option (List ℕ)) (a b c : Option (List ℤ))
+    → (e ≡ ends.WriteFault) ⊎ (e ≡ ends.Unanswered) → Upto lines readings i j pending R S x y a b → WrotePartOf j k pending S S' y z b c
+    → (all : List (List ℕ)) × (taken : List ℤ) × (replies : List StepReply) × IsRun (status_at e number) R S' i k x z a c all taken replies
+ran_part e number lines readings i j k pending R S S' x y z a b c (inl is) upto done = subst (λ f. (all : List (List ℕ)) × (taken : List ℤ) × (replies : List StepReply) × IsRun (status_at f number) R S' i k x z a c all taken replies) (sym is)
+    (let did = Did-more lines (done.line ∷ []) readings done.part.readings R S S' a b c upto.ran.did done.part.did in (
       lines ++ done.line ∷ [],
       readings ++ done.part.readings,
+      did.replies,
       record {
         called = tt;
         good = did.good;
+        behind = S';
+        went = did.went;
+        idles = Idles-none S';
+        full = tt;
+        closed = tt;
         reads = reads_part i j k lines pending done.line upto.one_line upto.taken done.ahead;
         clocked = exact_readings _ a c _ _ did.count did.told;
-        writes = wrote_part x y z a b c lines readings done.line S upto.ran done.part;
+        writes = wrote_part x y z a b c lines readings done.line R S S' upto.ran done.part;
       },
-    )
-IsRun-at ends.NoMemory lines readings i j k pending pending' S S' x y z a b c upto done low = (
+    ))
+ran_part e number lines readings i j k pending R S S' x y z a b c (inr is) upto done = subst (λ f. (all : List (List ℕ)) × (taken : List ℤ) × (replies : List StepReply) × IsRun (status_at f number) R S' i k x z a c all taken replies) (sym is)
+    (let did = Did-more lines (done.line ∷ []) readings done.part.readings R S S' a b c upto.ran.did done.part.did in (
+      lines ++ done.line ∷ [],
+      readings ++ done.part.readings,
+      did.replies,
+      record {
+        called = tt;
+        good = did.good;
+        behind = S';
+        went = did.went;
+        idles = Idles-none S';
+        full = tt;
+        closed = tt;
+        reads = reads_unanswered i j k lines pending done.line upto.one_line upto.taken done.ahead;
+        clocked = exact_readings _ a c _ _ did.count did.told;
+        writes = wrote_part x y z a b c lines readings done.line R S S' upto.ran done.part;
+      },
+    ))
+
+-- A turn ended the script.
+pub IsRun-at : (e : LineEnd) (lines : List (List ℕ)) (readings : List ℤ) (i j k : Option (List ℕ)) (pending pending' : List ℕ) (R S S' : RunState) (x y z : Option (List ℕ)) (a b c : Option (List ℤ))
+    → Upto lines readings i j pending R S x y a b → TurnDone (Err e) j k pending pending' S S' y z b c → length lines + 1 ≤ LINE_COUNT_LIMIT
+    → (all : List (List ℕ)) × (taken : List ℤ) × (replies : List StepReply) × IsRun (status_at e (length lines + 1)) R S' i k x z a c all taken replies
+IsRun-at (ends.Bad kind) lines readings i j k pending pending' R S S' x y z a b c upto done low = (
   lines,
   readings,
+  upto.ran.did.replies,
   record {
     called = tt;
     good = upto.ran.did.good;
+    behind = S;
+    went = upto.ran.did.went;
+    idles = subst (Idles S) (sym done.untouched.same) (Idles-none S);
+    full = tt;
+    closed = tt;
+    reads = reads_bad i j k lines pending kind upto.one_line upto.ran.did.good low upto.taken done.ahead;
+    clocked = exact_readings _ a c lines readings upto.ran.did.count (told_nothing a b c readings upto.ran.did.told done.untouched.told);
+    writes = wrote_nothing x y z _ upto.ran.written done.untouched.kept;
+  },
+)
+IsRun-at ends.ReadFault lines readings i j k pending pending' R S S' x y z a b c upto done low = (
+  lines,
+  readings,
+  upto.ran.did.replies,
+  record {
+    called = tt;
+    good = upto.ran.did.good;
+    behind = S;
+    went = upto.ran.did.went;
+    idles = subst (Idles S) (sym done.untouched.same) (Idles-none S);
+    full = tt;
+    closed = tt;
+    reads = reads_fault i j k lines pending pending' upto.taken done.hands done.one_line;
+    clocked = exact_readings _ a c lines readings upto.ran.did.count (told_nothing a b c readings upto.ran.did.told done.untouched.told);
+    writes = wrote_nothing x y z _ upto.ran.written done.untouched.kept;
+  },
+)
+IsRun-at ends.WriteFault lines readings i j k pending pending' R S S' x y z a b c upto done low =
+    ran_part ends.WriteFault (length lines + 1) lines readings i j k pending R S S' x y z a b c (inl refl) upto done
+IsRun-at ends.Unanswered lines readings i j k pending pending' R S S' x y z a b c upto done low =
+    ran_part ends.Unanswered (length lines + 1) lines readings i j k pending R S S' x y z a b c (inr refl) upto done
+IsRun-at ends.NoMemory lines readings i j k pending pending' R S S' x y z a b c upto done low = (
+  lines,
+  readings,
+  upto.ran.did.replies,
+  record {
+    called = tt;
+    good = upto.ran.did.good;
+    behind = S;
+    went = upto.ran.did.went;
+    idles = done.gave_up.idles;
+    full = tt;
+    closed = tt;
     reads = reads_some i j k lines pending done.got upto.one_line upto.taken done.taken;
     clocked = record {
       count = upto.ran.did.count;
       more = done.gave_up.readings;
       told = Tells-trans a b c readings done.gave_up.readings upto.ran.did.told done.gave_up.told;
-      none = λ other. absurd (other refl);
+      none = λ other. absurd (other tt);
       one = done.gave_up.one;
     };
-    writes = subst (Appends x z) (texts_are lines readings) (wrote_nothing x y z _ upto.ran.written done.gave_up.kept);
+    writes = wrote_whole x z _ (wrote_nothing x y z _ upto.ran.written done.gave_up.kept);
+  },
+)
+IsRun-at (ends.JournalFull need room) lines readings i j k pending pending' R S S' x y z a b c upto done low = (
+  lines,
+  readings,
+  upto.ran.did.replies,
+  record {
+    called = tt;
+    good = upto.ran.did.good;
+    behind = S;
+    went = upto.ran.did.went;
+    idles = full_idles done.line need room S S' y z b c done.full;
+    full = record {
+      line = done.line;
+      next = is_next i j k lines pending done.line upto.one_line upto.taken done.ahead;
+      given = done.full.given;
+      meaning = done.full.meaning;
+      at = done.full.full.at;
+      own = done.full.full.own;
+      full = done.full.full.full;
+    };
+    closed = tt;
+    reads = reads_full need room i j k lines pending done.ahead.got upto.one_line upto.taken done.ahead.taken;
+    clocked = record {
+      count = upto.ran.did.count;
+      more = taken_reading done.full.given.at done.full.full.at;
+      told = Tells-trans a b c readings _ upto.ran.did.told done.full.full.told;
+      none = λ other. absurd (other tt);
+      one = at_most_one done.full.given.at done.full.full.at;
+    };
+    writes = wrote_nothing x y z _ upto.ran.written done.full.full.kept;
   },
 )
 
@@ -175,40 +289,58 @@ reads_many (Some bytes) j k lines pending one good full taken ahead =
     }
 
 -- One line too many begins.
-pub IsRun-many : (lines : List (List ℕ)) (readings : List ℤ) (i j k : Option (List ℕ)) (pending : List ℕ) (S : SessionData) (x y : Option (List ℕ)) (a b : Option (List ℤ))
-    → Upto lines readings i j pending S x y a b → Ahead j k pending BeginsSome → length lines ≡ LINE_COUNT_LIMIT
-    → IsRun (status.BadLine (LINE_COUNT_LIMIT + 1) bad.TooManyLines) i k x y a b lines readings
-IsRun-many lines readings i j k pending S x y a b upto ahead full = record {
+pub IsRun-many : (lines : List (List ℕ)) (readings : List ℤ) (i j k : Option (List ℕ)) (pending : List ℕ) (R S : RunState) (x y : Option (List ℕ)) (a b : Option (List ℤ))
+    → (upto : Upto lines readings i j pending R S x y a b) → Ahead j k pending BeginsSome → length lines ≡ LINE_COUNT_LIMIT
+    → IsRun (status.BadLine (LINE_COUNT_LIMIT + 1) bad.TooManyLines) R S i k x y a b lines readings upto.ran.did.replies
+IsRun-many lines readings i j k pending R S x y a b upto ahead full = record {
   called = tt;
   good = upto.ran.did.good;
+  behind = S;
+  went = upto.ran.did.went;
+  idles = Idles-none S;
+  full = tt;
+  closed = tt;
   reads = reads_many i j k lines pending upto.one_line upto.ran.did.good full upto.taken ahead;
   clocked = exact_readings _ a b lines readings upto.ran.did.count upto.ran.did.told;
-  writes = subst (Appends x y) (texts_are lines readings) upto.ran.written;
+  writes = upto.ran.written;
 }
 
 -- The source failed behind the last line that a script may have.
-pub IsRun-fault : (lines : List (List ℕ)) (readings : List ℤ) (i j k : Option (List ℕ)) (pending pending' : List ℕ) (S : SessionData) (x y : Option (List ℕ)) (a b : Option (List ℤ))
-    → Upto lines readings i j pending S x y a b → Hands j k pending pending' [] → IsOneLine pending'
-    → IsRun status.ReadFault i k x y a b lines readings
-IsRun-fault lines readings i j k pending pending' S x y a b upto hands one = record {
+pub IsRun-beyond : (e : LineEnd) (lines : List (List ℕ)) (readings : List ℤ) (i j k : Option (List ℕ)) (pending pending' : List ℕ) (R S : RunState) (x y : Option (List ℕ)) (a b : Option (List ℤ)) (n : ℕ)
+    → (upto : Upto lines readings i j pending R S x y a b) → BeyondDone (Err e) j k pending pending' → IsRun (status_at e n) R S i k x y a b lines readings upto.ran.did.replies
+IsRun-beyond ends.ReadFault lines readings i j k pending pending' R S x y a b n upto done = record {
   called = tt;
   good = upto.ran.did.good;
-  reads = reads_fault i j k lines pending pending' upto.taken hands one;
+  behind = S;
+  went = upto.ran.did.went;
+  idles = Idles-none S;
+  full = tt;
+  closed = tt;
+  reads = reads_fault i j k lines pending pending' upto.taken done.0 done.1;
   clocked = exact_readings _ a b lines readings upto.ran.did.count upto.ran.did.told;
-  writes = subst (Appends x y) (texts_are lines readings) upto.ran.written;
+  writes = upto.ran.written;
 }
-
-pub IsRun-beyond : (e : LineEnd) (lines : List (List ℕ)) (readings : List ℤ) (i j k : Option (List ℕ)) (pending pending' : List ℕ) (S : SessionData) (x y : Option (List ℕ)) (a b : Option (List ℤ)) (n : ℕ)
-    → Upto lines readings i j pending S x y a b → BeyondDone (Err e) j k pending pending' → IsRun (status_at e n) i k x y a b lines readings
-IsRun-beyond (ends.Bad kind) lines readings i j k pending pending' S x y a b n upto done = absurd done
-IsRun-beyond ends.ReadFault lines readings i j k pending pending' S x y a b n upto done = IsRun-fault lines readings i j k pending pending' S x y a b upto done.0 done.1
-IsRun-beyond ends.WriteFault lines readings i j k pending pending' S x y a b n upto done = absurd done
-IsRun-beyond ends.NoMemory lines readings i j k pending pending' S x y a b n upto done = absurd done
+IsRun-beyond (ends.Bad kind) lines readings i j k pending pending' R S x y a b n upto done = absurd done
+IsRun-beyond ends.WriteFault lines readings i j k pending pending' R S x y a b n upto done = absurd done
+IsRun-beyond ends.Unanswered lines readings i j k pending pending' R S x y a b n upto done = absurd done
+IsRun-beyond ends.NoMemory lines readings i j k pending pending' R S x y a b n upto done = absurd done
+IsRun-beyond (ends.JournalFull need room) lines readings i j k pending pending' R S x y a b n upto done = absurd done
 
 reads_nothing : (i : Option (List ℕ)) → Reads status.NoMemory i i []
 reads_nothing None = tt
 reads_nothing (Some bytes) = record { rest = lines_of bytes; all = refl }
 
 -- memory ran out before anything was read
-pub IsRun-nothing : (i x : Option (List ℕ)) (a : Option (List ℤ)) → IsRun status.NoMemory i i x x a a [] []
-IsRun-nothing i x a = record { called = tt; good = tt; reads = reads_nothing i; clocked = exact_readings status.NoMemory a a [] [] refl (Tells-nil a); writes = Appends-nil x }
+pub IsRun-nothing : (R : RunState) (i x : Option (List ℕ)) (a : Option (List ℤ)) → IsRun status.NoMemory R R i i x x a a [] [] []
+IsRun-nothing R i x a = record {
+  called = tt;
+  good = tt;
+  behind = R;
+  went = Went-none R;
+  idles = Idles-none R;
+  full = tt;
+  closed = tt;
+  reads = reads_nothing i;
+  clocked = exact_readings status.NoMemory a a [] [] refl (Tells-nil a);
+  writes = wrote_whole x x [] (Appends-nil x);
+}

@@ -1,6 +1,7 @@
 -- Runs of lines that go on.
 use Rattle.std.proofs.Common.{◌≡◌, ◌⊎◌, inl, inr, ◌≤◌, take, ℕ, ◌+◌, ℤ, List, [], ◌∷◌, ◌++◌, length, Option, Some, None, refl, sym, ap, ◌∙◌, subst, append_assoc, arith, length-append}
 use Rattle.std.proofs.lemmas.List.{append-nil}
+use Rattle.std.proofs.lemmas.Grind.{flat_map-append}
 use Rattle.std.specs.Io.KnownBytes.{Appends}
 use Rattle.std.proofs.KnownBytes.{Appends-nil, Appends-trans}
 use Rattle.qz_io.specs.Clocks.{Tells}
@@ -8,14 +9,17 @@ use Rattle.std.specs.Prelude.{Result, Ok, Err}
 use Rattle.qz_types.specs.declared.steps.Step.{Step}
 use Rattle.qz_job_json.specs.declared.lines.Given.{Given}
 use Rattle.qz_top.specs.Lines.{Meaning, line_meaning, kind_of, IsGoodMeaning, readings_of_at, readings_of_meaning, timed, steps_by_meaning, steps_of}
-use Rattle.qz_top.specs.Sessions.{SessionData, session_after_all, session_text, session_texts}
-use Rattle.qz_top.specs.Turns.{Did, Ran, DidStep, IsOwn, taken_reading, step_at, texts_of, GaveUp, StepDone, LineDone, IsBad, line_end}
+use Rattle.qz_types.specs.declared.steps.StepReply.{StepReply}
+use Rattle.qz_model.specs.Script.{TimedStep}
+use Rattle.qz_report.specs.Replies.{reply_text}
+use Rattle.qz_top.specs.Trails.{texts, RunState, Went}
+use Rattle.qz_top.specs.Turns.{Did, Ran, DidStep, IsOwn, taken_reading, step_at, Idles, GaveUp, StepFull, StepPart, StepDone, LineDone, RanPart, IsBad, Untouched, line_end}
 use Rattle.qz_top.specs.declared.turns.LineEnd.{LineEnd}
 use Rattle.qz_top.specs.declared.turns.LineEnd.TheVariants as ends
 use Rattle.qz_job_json.specs.declared.lines.LineFault.{LineFault}
 use Rattle.qz_job_json.specs.declared.lines.LineFault.TheVariants as line_fault
 use Rattle.qz_top.proofs.LineLaws.{AllByRecursion-append, steps_of-append, readings_of-append}
-use Rattle.qz_top.proofs.SessionLaws.{session_after_all-append, session_texts-append}
+use Rattle.qz_top.proofs.TrailLaws.{Went-none, Went-more, Idles-none}
 
 pub Tells-nil : (a : Option (List ℤ)) → Tells a a []
 Tells-nil None = tt
@@ -27,36 +31,29 @@ Tells-trans (Some x) None c rs qs p q = absurd p
 Tells-trans (Some x) (Some y) None rs qs p q = absurd q
 Tells-trans (Some x) (Some y) (Some z) rs qs p q = q ∙ ap (λ l. l ++ qs) p ∙ append_assoc x rs qs
 
-pub Did-none : (S : SessionData) (clock : Option (List ℤ)) → Did [] [] S S clock clock
-Did-none S clock = record { good = tt; count = refl; told = Tells-nil clock; session = refl }
+pub Did-none : (R : RunState) (clock : Option (List ℤ)) → Did [] [] R R clock clock
+Did-none R clock = record { good = tt; count = refl; told = Tells-nil clock; replies = []; went = Went-none R }
 
-pub Ran-none : (S : SessionData) (held : Option (List ℕ)) (clock : Option (List ℤ)) → Ran [] [] S S held held clock clock
-Ran-none S held clock = record { did = Did-none S clock; written = Appends-nil held }
+pub Ran-none : (R : RunState) (held : Option (List ℕ)) (clock : Option (List ℤ)) → Ran [] [] R R held held clock clock
+Ran-none R held clock = record { did = Did-none R clock; written = Appends-nil held }
 
 -- lines are done behind others
-pub Did-more : (xs ys : List (List ℕ)) (rs qs : List ℤ) (S T U : SessionData) (a b c : Option (List ℤ))
-    → Did xs rs S T a b → Did ys qs T U b c → Did (xs ++ ys) (rs ++ qs) S U a c
-Did-more xs ys rs qs S T U a b c p q =
-    let steps = steps_of-append xs ys rs qs p.good p.count in
-    record {
-      good = AllByRecursion-append _ xs ys p.good q.good;
-      count = simp length-append (rw readings_of-append (omega (arith, p.count, q.count)));
-      told = Tells-trans a b c rs qs p.told q.told;
-      session = q.session ∙ ap (λ s. session_after_all s (steps_of ys qs)) p.session ∙ sym (session_after_all-append S (steps_of xs rs) (steps_of ys qs)) ∙ ap (session_after_all S) (sym steps);
-    }
+pub Did-more : (xs ys : List (List ℕ)) (rs qs : List ℤ) (R S T : RunState) (a b c : Option (List ℤ))
+    → Did xs rs R S a b → Did ys qs S T b c → Did (xs ++ ys) (rs ++ qs) R T a c
+Did-more xs ys rs qs R S T a b c p q = record {
+  good = AllByRecursion-append _ xs ys p.good q.good;
+  count = simp length-append (rw readings_of-append (omega (arith, p.count, q.count)));
+  told = Tells-trans a b c rs qs p.told q.told;
+  replies = p.replies ++ q.replies;
+  went = subst (λ ts. Went ts (p.replies ++ q.replies) R T) (sym (steps_of-append xs ys rs qs p.good p.count))
+      (Went-more (steps_of xs rs) (steps_of ys qs) p.replies q.replies R S T p.went q.went);
+}
 
--- the replies of lines and of those behind them
-pub texts_of-append : (xs ys : List (List ℕ)) (rs qs : List ℤ) (S T : SessionData) (a b : Option (List ℤ))
-    → Did xs rs S T a b → texts_of S (xs ++ ys) (rs ++ qs) ≡ texts_of S xs rs ++ texts_of T ys qs
-texts_of-append xs ys rs qs S T a b p =
-    ap (session_texts S) (steps_of-append xs ys rs qs p.good p.count) ∙ session_texts-append S (steps_of xs rs) (steps_of ys qs)
-    ∙ ap (λ s. session_texts S (steps_of xs rs) ++ session_texts s (steps_of ys qs)) (sym p.session)
-
-pub Ran-more : (xs ys : List (List ℕ)) (rs qs : List ℤ) (S T U : SessionData) (x y z : Option (List ℕ)) (a b c : Option (List ℤ))
-    → Ran xs rs S T x y a b → Ran ys qs T U y z b c → Ran (xs ++ ys) (rs ++ qs) S U x z a c
-Ran-more xs ys rs qs S T U x y z a b c p q = record {
-  did = Did-more xs ys rs qs S T U a b c p.did q.did;
-  written = subst (Appends x z) (sym (texts_of-append xs ys rs qs S T a b p.did)) (Appends-trans x y z _ _ p.written q.written);
+pub Ran-more : (xs ys : List (List ℕ)) (rs qs : List ℤ) (R S T : RunState) (x y z : Option (List ℕ)) (a b c : Option (List ℤ))
+    → Ran xs rs R S x y a b → Ran ys qs S T y z b c → Ran (xs ++ ys) (rs ++ qs) R T x z a c
+Ran-more xs ys rs qs R S T x y z a b c p q = record {
+  did = Did-more xs ys rs qs R S T a b c p.did q.did;
+  written = subst (Appends x z) (sym (flat_map-append reply_text p.did.replies q.did.replies)) (Appends-trans x y z _ _ p.written q.written);
 }
 
 -- the one step of a line
@@ -83,18 +80,19 @@ pub steps_of-one : (line : List ℕ) (given : Given) (t : ℤ) → line_meaning 
 steps_of-one line given t e own = by_meaning (line_meaning line) given t e own
 
 -- a line's step was done
-pub Did-one : (line : List ℕ) (given : Given) (t : ℤ) (S S' : SessionData) (a b : Option (List ℤ)) → line_meaning line ≡ Ok (Some given)
-    → DidStep given t S S' a b → Did (line ∷ []) (taken_reading given.at t) S S' a b
-Did-one line given t S S' a b e did = record {
+pub Did-one : (line : List ℕ) (given : Given) (t : ℤ) (R R' : RunState) (a b : Option (List ℤ)) → line_meaning line ≡ Ok (Some given)
+    → DidStep given t R R' a b → Did (line ∷ []) (taken_reading given.at t) R R' a b
+Did-one line given t R R' a b e did = record {
   good = (good_by (line_meaning line) (Some given) e, tt);
   count = count_by_meaning (line_meaning line) given t e;
   told = did.told;
-  session = did.session ∙ ap (session_after_all S) (sym (steps_of-one line given t e did.own));
+  replies = did.reply ∷ [];
+  went = subst (λ ts. Went ts (did.reply ∷ []) R R') (sym (steps_of-one line given t e did.own)) did.went;
 }
 
-pub texts_of-one : (line : List ℕ) (given : Given) (t : ℤ) (S : SessionData) → line_meaning line ≡ Ok (Some given) → IsOwn given.at t
-    → texts_of S (line ∷ []) (taken_reading given.at t) ≡ session_text S (step_at given t)
-texts_of-one line given t S e own = ap (session_texts S) (steps_of-one line given t e own) ∙ append-nil _
+-- the text of one reply
+one_text : (r : StepReply) → texts (r ∷ []) ≡ reply_text r
+one_text r = append-nil (reply_text r)
 
 blank_steps : (m : Meaning) → m ≡ Ok None → steps_by_meaning m [] (λ _. []) ≡ []
 blank_steps m e = rw e refl
@@ -103,66 +101,78 @@ blank_count : (m : Meaning) → m ≡ Ok None → 0 ≡ readings_of_meaning m + 
 blank_count m e = rw e (omega arith)
 
 -- a blank line does nothing
-pub Ran-blank : (line : List ℕ) (S : SessionData) (held : Option (List ℕ)) (clock : Option (List ℤ)) → line_meaning line ≡ Ok None
-    → Ran (line ∷ []) [] S S held held clock clock
-Ran-blank line S held clock e =
-    let steps : steps_of (line ∷ []) [] ≡ [] = blank_steps (line_meaning line) e in
-    record {
-      did = record { good = (good_by (line_meaning line) None e, tt); count = blank_count (line_meaning line) e; told = Tells-nil clock; session = rw steps refl };
-      written = rw steps (Appends-nil held);
-    }
+pub Ran-blank : (line : List ℕ) (R : RunState) (held : Option (List ℕ)) (clock : Option (List ℤ)) → line_meaning line ≡ Ok None
+    → Ran (line ∷ []) [] R R held held clock clock
+Ran-blank line R held clock e = record {
+  did = record {
+    good = (good_by (line_meaning line) None e, tt);
+    count = blank_count (line_meaning line) e;
+    told = Tells-nil clock;
+    replies = [];
+    went = subst (λ ts. Went ts [] R R) (sym (blank_steps (line_meaning line) e)) (Went-none R);
+  };
+  written = Appends-nil held;
+}
 
 -- what was read is the line's meaning, if it isn't want of memory
 read_meaning : (given : Option Given) (m : Meaning) → (Ok given ≡ Err line_fault.NoMemory) ⊎ (Ok given ≡ m) → m ≡ Ok given
 read_meaning given m (inl e) = absurd cc
 read_meaning given m (inr e) = sym e
 
-gave_up : (held : Option (List ℕ)) (clock : Option (List ℤ)) → GaveUp held held clock clock
-gave_up held clock = record { readings = []; one = omega arith; told = Tells-nil clock; kept = Appends-nil held }
+gave_up : (R : RunState) (held : Option (List ℕ)) (clock : Option (List ℤ)) → GaveUp R R held held clock clock
+gave_up R held clock = record { idles = Idles-none R; readings = []; one = omega arith; told = Tells-nil clock; kept = Appends-nil held }
+
+-- a part of the reply of a line's step was written
+part_of : (line : List ℕ) (given : Given) (R R' : RunState) (x y : Option (List ℕ)) (a b : Option (List ℤ)) → line_meaning line ≡ Ok (Some given)
+    → StepPart given R R' x y a b → RanPart line R R' x y a b
+part_of line given R R' x y a b e p = record {
+  readings = taken_reading given.at p.at;
+  did = Did-one line given p.at R R' a b e p.did;
+  one = omega arith;
+  count = p.count;
+  part = subst (λ t. p.count ≤ length t) (sym (one_text p.did.reply)) p.part;
+  written = subst (λ t. Appends x y (take p.count t)) (sym (one_text p.did.reply)) p.written;
+}
 
 -- what became of a line's step became of the line
-pub LineDone-step : (r : Result (Unit {0}) LineEnd) (line : List ℕ) (given : Given) (S S' : SessionData) (x y : Option (List ℕ)) (a b : Option (List ℤ))
-    → (Ok (Some given) ≡ Err line_fault.NoMemory) ⊎ (Ok (Some given) ≡ line_meaning line) → StepDone r given S S' x y a b → LineDone r line S S' x y a b
-LineDone-step (Ok u) line given S S' x y a b read done =
+pub LineDone-step : (r : Result (Unit {0}) LineEnd) (line : List ℕ) (given : Given) (R R' : RunState) (x y : Option (List ℕ)) (a b : Option (List ℤ))
+    → (Ok (Some given) ≡ Err line_fault.NoMemory) ⊎ (Ok (Some given) ≡ line_meaning line) → StepDone r given R R' x y a b → LineDone r line R R' x y a b
+LineDone-step (Ok u) line given R R' x y a b read done =
     let e = read_meaning (Some given) (line_meaning line) read in (
       taken_reading given.at done.0,
       record {
-        did = Did-one line given done.0 S S' a b e done.1;
-        written = subst (Appends x y) (sym (texts_of-one line given done.0 S e done.1.own)) done.2;
+        did = Did-one line given done.0 R R' a b e done.1;
+        written = subst (Appends x y) (sym (one_text done.1.reply)) done.2;
       },
     )
-LineDone-step (Err (ends.Bad kind)) line given S S' x y a b read done = absurd done
-LineDone-step (Err ends.ReadFault) line given S S' x y a b read done = done
-LineDone-step (Err ends.WriteFault) line given S S' x y a b read done =
-    let e = read_meaning (Some given) (line_meaning line) read in
-    let same = texts_of-one line given done.0 S e done.1.own in
-    record {
-      S' = S';
-      readings = taken_reading given.at done.0;
-      did = Did-one line given done.0 S S' a b e done.1;
-      count = done.2;
-      part = subst (λ t. done.2 ≤ length t) (sym same) done.3;
-      written = subst (λ t. Appends x y (take done.2 t)) (sym same) done.4;
-    }
-LineDone-step (Err ends.NoMemory) line given S S' x y a b read done = done
+LineDone-step (Err (ends.Bad kind)) line given R R' x y a b read done = absurd done
+LineDone-step (Err ends.ReadFault) line given R R' x y a b read done = done
+LineDone-step (Err ends.WriteFault) line given R R' x y a b read done = part_of line given R R' x y a b (read_meaning (Some given) (line_meaning line) read) done
+LineDone-step (Err ends.Unanswered) line given R R' x y a b read done = part_of line given R R' x y a b (read_meaning (Some given) (line_meaning line) read) done
+LineDone-step (Err ends.NoMemory) line given R R' x y a b read done = done
+LineDone-step (Err (ends.JournalFull need room)) line given R R' x y a b read done =
+    record { given = given; meaning = read_meaning (Some given) (line_meaning line) read; full = done }
 
 -- a fault is the line's meaning, if it isn't want of memory
 fault_meaning : (fault : LineFault) (m : Meaning) → (fault ≡ line_fault.NoMemory → ⊥) → (◌≡◌ {A = Meaning} (Err fault) (Err line_fault.NoMemory)) ⊎ (Err fault ≡ m) → m ≡ Err fault
 fault_meaning fault m other (inl e) = absurd (other cc)
 fault_meaning fault m other (inr e) = sym e
 
-bad_done : (fault : LineFault) (line : List ℕ) (held : Option (List ℕ)) (clock : Option (List ℤ)) → line_meaning line ≡ Err fault
-    → IsBad line (kind_of fault) × Appends held held [] × Tells clock clock []
-bad_done fault line held clock e = (record { fault = fault; meaning = e; kind_is = refl }, Appends-nil held, Tells-nil clock)
+pub untouched : (R : RunState) (held : Option (List ℕ)) (clock : Option (List ℤ)) → Untouched R R held held clock clock
+untouched R held clock = record { same = refl; kept = Appends-nil held; told = Tells-nil clock }
+
+bad_done : (fault : LineFault) (line : List ℕ) (R : RunState) (held : Option (List ℕ)) (clock : Option (List ℤ)) → line_meaning line ≡ Err fault
+    → IsBad line (kind_of fault) × Untouched R R held held clock clock
+bad_done fault line R held clock e = (record { fault = fault; meaning = e; kind_is = refl }, untouched R held clock)
 
 -- a line with a fault did nothing
-pub LineDone-fault : (fault : LineFault) (line : List ℕ) (S : SessionData) (held : Option (List ℕ)) (clock : Option (List ℤ))
-    → (◌≡◌ {A = Meaning} (Err fault) (Err line_fault.NoMemory)) ⊎ (Err fault ≡ line_meaning line) → LineDone (Err (line_end fault)) line S S held held clock clock
-LineDone-fault line_fault.NoMemory line S held clock read = gave_up held clock
-LineDone-fault line_fault.TooLong line S held clock read = bad_done line_fault.TooLong line held clock (fault_meaning line_fault.TooLong (line_meaning line) (λ e. cc) read)
-LineDone-fault line_fault.NotJson line S held clock read = bad_done line_fault.NotJson line held clock (fault_meaning line_fault.NotJson (line_meaning line) (λ e. cc) read)
-LineDone-fault line_fault.NotHere line S held clock read = bad_done line_fault.NotHere line held clock (fault_meaning line_fault.NotHere (line_meaning line) (λ e. cc) read)
-LineDone-fault line_fault.Shape line S held clock read = bad_done line_fault.Shape line held clock (fault_meaning line_fault.Shape (line_meaning line) (λ e. cc) read)
+pub LineDone-fault : (fault : LineFault) (line : List ℕ) (R : RunState) (held : Option (List ℕ)) (clock : Option (List ℤ))
+    → (◌≡◌ {A = Meaning} (Err fault) (Err line_fault.NoMemory)) ⊎ (Err fault ≡ line_meaning line) → LineDone (Err (line_end fault)) line R R held held clock clock
+LineDone-fault line_fault.NoMemory line R held clock read = gave_up R held clock
+LineDone-fault line_fault.TooLong line R held clock read = bad_done line_fault.TooLong line R held clock (fault_meaning line_fault.TooLong (line_meaning line) (λ e. cc) read)
+LineDone-fault line_fault.NotJson line R held clock read = bad_done line_fault.NotJson line R held clock (fault_meaning line_fault.NotJson (line_meaning line) (λ e. cc) read)
+LineDone-fault line_fault.NotHere line R held clock read = bad_done line_fault.NotHere line R held clock (fault_meaning line_fault.NotHere (line_meaning line) (λ e. cc) read)
+LineDone-fault line_fault.Shape line R held clock read = bad_done line_fault.Shape line R held clock (fault_meaning line_fault.Shape (line_meaning line) (λ e. cc) read)
 
 pub not_write : (fault : LineFault) → line_end fault ≡ ends.WriteFault → ⊥
 not_write line_fault.NoMemory e = cc

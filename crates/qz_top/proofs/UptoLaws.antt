@@ -8,37 +8,10 @@ use Rattle.std.proofs.lemmas.List.Elements.{All-from_recursion}
 use Rattle.std.proofs.lemmas.Grind.{flat_map-append}
 use Rattle.qz_io.specs.Lines.{IsOneLine, lines_of, with_feed, with_feeds}
 use Rattle.qz_io.proofs.Cut.{lines_of-append}
-use Rattle.qz_model.specs.Script.{ScriptState, TimedStep, new_script, after_step, effect_in, step_replies}
-use Rattle.qz_model.proofs.Scripts.{replay-with_optional}
-use Rattle.qz_report.specs.Replies.{reply_text}
-use Rattle.qz_top.specs.Lines.{steps_of}
-use Rattle.qz_top.specs.Sessions.{SessionData, seen, new_session, effect_at, session_after, session_text, session_texts}
-use Rattle.qz_top.specs.Turns.{texts_of}
+use Rattle.qz_top.specs.Trails.{RunState}
 use Rattle.qz_top.specs.Inputs.{WentOn, Upto}
-use Rattle.qz_top.specs.Runs.{script_texts}
 use Rattle.qz_top.proofs.LineLaws.{AllByRecursion-append}
 use Rattle.qz_top.proofs.TurnLaws.{Ran-none, Ran-more}
-
--- Sessions as they show a script's states.
-
-seen-after_step : (s : ScriptState) (t : TimedStep) → seen (after_step s t) ≡ session_after (seen s) t
-unfolding session_after effect_at
-seen-after_step s t = ap (λ T. record { tables = T; held = (effect_in s t).held }) (replay-with_optional (effect_in s t).entry s.history)
-
-same_text : (s : ScriptState) (t : TimedStep) → session_text (seen s) t ≡ reply_text (effect_in s t).reply
-unfolding effect_at
-same_text s t = refl
-
-seen_texts : (s : ScriptState) (ts : List TimedStep) → session_texts (seen s) ts ≡ flat_map reply_text (step_replies s ts)
-seen_texts s [] = refl
-seen_texts s (t ∷ ts) =
-    ap (λ text. text ++ session_texts (session_after (seen s) t) ts) (same_text s t)
-    ∙ ap (λ S. reply_text (effect_in s t).reply ++ session_texts S ts) (sym (seen-after_step s t))
-    ∙ ap (λ texts. reply_text (effect_in s t).reply ++ texts) (seen_texts (after_step s t) ts)
-
--- the replies of a new session are those of a new script
-pub texts_are : (lines : List (List ℕ)) (readings : List ℤ) → texts_of new_session lines readings ≡ script_texts lines readings
-texts_are lines readings = seen_texts (new_script 1) (steps_of lines readings)
 
 -- What was taken, behind what was taken before.
 
@@ -56,17 +29,17 @@ feeds_more lines line pending' =
     let one : with_feeds (line ∷ []) ≡ with_feed line = append-nil (with_feed line) in
     sym (ap (λ bytes. bytes ++ pending') (flat_map-append with_feed lines (line ∷ []) ∙ ap (λ bytes. with_feeds lines ++ bytes) one) ∙ append_assoc (with_feeds lines) (with_feed line) pending')
 
-pub Upto-none : (left : Option (List ℕ)) (held : Option (List ℕ)) (clock : Option (List ℤ)) → Upto [] [] left left [] new_session held held clock clock
-Upto-none left held clock = record { taken = Consumes-nil left; one_line = tt; ran = Ran-none new_session held clock }
+pub Upto-none : (R : RunState) (left : Option (List ℕ)) (held : Option (List ℕ)) (clock : Option (List ℤ)) → Upto [] [] left left [] R R held held clock clock
+Upto-none R left held clock = record { taken = Consumes-nil left; one_line = tt; ran = Ran-none R held clock }
 
 -- a turn that goes on
-pub Upto-more : (lines : List (List ℕ)) (readings : List ℤ) (i j k : Option (List ℕ)) (pending pending' : List ℕ) (S S' : SessionData) (x y z : Option (List ℕ)) (a b c : Option (List ℤ))
-    → Upto lines readings i j pending S x y a b → (went : WentOn j k pending pending' S S' y z b c)
-    → Upto (lines ++ went.line ∷ []) (readings ++ went.readings) i k pending' S' x z a c
-Upto-more lines readings i j k pending pending' S S' x y z a b c upto went = record {
+pub Upto-more : (lines : List (List ℕ)) (readings : List ℤ) (i j k : Option (List ℕ)) (pending pending' : List ℕ) (R S S' : RunState) (x y z : Option (List ℕ)) (a b c : Option (List ℤ))
+    → Upto lines readings i j pending R S x y a b → (went : WentOn j k pending pending' S S' y z b c)
+    → Upto (lines ++ went.line ∷ []) (readings ++ went.readings) i k pending' R S' x z a c
+Upto-more lines readings i j k pending pending' R S S' x y z a b c upto went = record {
   taken = subst (Consumes i k) (feeds_more lines went.line pending') (taken_more i j k lines pending went.hands.got (with_feed went.line) pending' upto.taken went.hands.taken went.hands.kept);
   one_line = AllByRecursion-append IsOneLine lines (went.line ∷ []) upto.one_line (went.one_line, tt);
-  ran = Ran-more lines (went.line ∷ []) readings went.readings new_session S S' x y z a b c upto.ran went.ran;
+  ran = Ran-more lines (went.line ∷ []) readings went.readings R S S' x y z a b c upto.ran went.ran;
 }
 
 -- the lines of a source that tells its bytes: those done, and those ahead

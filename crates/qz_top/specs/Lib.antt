@@ -1,6 +1,10 @@
+pub mod Calls
 pub mod Inputs
 pub mod Lines
+pub mod Making
 pub mod Runs
-pub mod Sessions
+pub mod Seen
 pub mod Statuses
+pub mod Trails
 pub mod Turns
+pub mod Wishes

@@ -1,19 +1,18 @@
 -- What a script run did, when it ended with a status.
-use Rattle.std.specs.Prelude.{◌≡◌, ⊤, ℕ, ◌+◌, ◌≤◌, ℤ, List, [], ◌++◌, length, Option, Some, None}
-use Rattle.std.specs.List.{AllByRecursion, flat_map}
+use Rattle.std.specs.Prelude.{◌≡◌, ⊤, ℕ, ◌+◌, ◌≤◌, ℤ, true, false, List, [], ◌∷◌, ◌++◌, length, Option, Some, None, Ok}
+use Rattle.std.specs.List.{AllByRecursion}
 use Rattle.std.specs.Io.KnownBytes.{Consumes, Appends, IsAtEnd}
 use Rattle.qz_io.specs.Clocks.{Tells}
 use Rattle.qz_io.specs.Lines.{IsOneLine, lines_of, with_feeds}
-use Rattle.qz_model.specs.Script.{new_script, step_replies}
-use Rattle.qz_report.specs.Replies.{reply_text}
-use Rattle.qz_top.specs.Lines.{IsGood, readings_of, steps_of, first_bad}
+use Rattle.qz_types.specs.declared.steps.StepReply.{StepReply}
+use Rattle.qz_cluster.specs.Steps.{ClusterState, FindsNoRoom}
+use Rattle.qz_job_json.specs.declared.lines.Given.{Given}
+use Rattle.qz_top.specs.Lines.{line_meaning, IsGood, readings_of, steps_of, first_bad}
+use Rattle.qz_top.specs.Trails.{texts, RunState, Went}
+use Rattle.qz_top.specs.Turns.{IsOwn, step_at, Idles}
 use Rattle.qz_top.specs.declared.statuses.BadKind.{BadKind}
 use Rattle.qz_top.specs.declared.statuses.Status.{Status}
 use Rattle.qz_top.specs.declared.statuses.Status.TheVariants as status
-
--- What a plain scheduler, new and empty, replies to the steps of these lines: one line of text a step, in order.
-abbrev pub script_texts : List (List ℕ) → List ℤ → List ℕ
-script_texts lines readings = flat_map reply_text (step_replies (new_script 1) (steps_of lines readings))
 
 -- These are the first lines of the input.
 pub record BeginWith (lines input : List (List ℕ)) : Type 0 where
@@ -46,45 +45,89 @@ Reads (status.BadWords fault) (Some bytes) left' lines = ⊥
 Reads (status.BadLine line kind) (Some bytes) left' lines = ReadToBad bytes lines line kind
 Reads status.ReadFault (Some bytes) left' lines = ReadToFault bytes left' lines
 Reads status.WriteFault (Some bytes) left' lines = BeginWith lines (lines_of bytes)
+Reads status.DiskFault (Some bytes) left' lines = ReadAll bytes left' lines
+Reads (status.NotAStore store) (Some bytes) left' lines = ⊥
+Reads (status.Damaged store at) (Some bytes) left' lines = ⊥
+Reads (status.JournalFull need room) (Some bytes) left' lines = BeginWith lines (lines_of bytes)
 Reads status.NoMemory (Some bytes) left' lines = BeginWith lines (lines_of bytes)
+Reads status.Exists (Some bytes) left' lines = ⊥
 
--- All replies were written but for the last line's, of which a part was written, none of it or all of it.
-pub record WrotePart (held held' : Option (List ℕ)) (lines : List (List ℕ)) (readings : List ℤ) : Type 0 where
-  pub kept : List (List ℕ)
-  pub last : List (List ℕ)
-  pub cut : lines ≡ kept ++ last
+-- this is the line behind these, where the source tells its bytes
+abbrev pub IsNext : Option (List ℕ) → List (List ℕ) → List ℕ → Type 0
+IsNext None lines line = ⊤
+IsNext (Some bytes) lines line = BeginWith (lines ++ line ∷ []) (lines_of bytes)
+
+-- The line behind those that were done asks for a step that would be accepted, and its record finds no room.
+pub record EndsFull (need room : ℕ) (left : Option (List ℕ)) (lines : List (List ℕ)) (S S' : ClusterState) : Type 0 where
+  pub line : List ℕ
+  pub next : IsNext left lines line
+  pub given : Given
+  pub meaning : line_meaning line ≡ Ok (Some given)
+  pub at : ℤ
+  pub own : IsOwn given.at at
+  pub full : FindsNoRoom (step_at given at) need room S S'
+
+abbrev pub Overflowed : Status → Option (List ℕ) → List (List ℕ) → ClusterState → ClusterState → Type 0
+Overflowed (status.JournalFull need room) left lines S S' = EndsFull need room left lines S S'
+Overflowed s left lines S S' = ⊤
+
+-- Behind the last line the status tells whether the store is closed.
+abbrev pub TellsClosed : Status → ClusterState → Type 0
+TellsClosed status.Ok S = S.triggers.is_open ≡ true
+TellsClosed status.DiskFault S = S.triggers.is_open ≡ false
+TellsClosed s S = ⊤
+
+-- All replies were written but for the last one, of which a part was written, none of it or all of it.
+pub record WrotePart (held held' : Option (List ℕ)) (replies : List StepReply) : Type 0 where
+  pub kept : List StepReply
+  pub last : List StepReply
+  pub cut : replies ≡ kept ++ last
   pub one : length last ≤ 1
-  pub kept_readings : List ℤ
-  pub last_readings : List ℤ
-  pub readings_cut : readings ≡ kept_readings ++ last_readings
   pub part : List ℕ
   pub rest : List ℕ
-  pub texts : script_texts lines readings ≡ script_texts kept kept_readings ++ part ++ rest
-  pub written : Appends held held' (script_texts kept kept_readings ++ part)
+  pub text : texts last ≡ part ++ rest
+  pub written : Appends held held' (texts kept ++ part)
 
--- What was written, by the status.
-abbrev pub Writes : Status → Option (List ℕ) → Option (List ℕ) → List (List ℕ) → List ℤ → Type 0
-Writes status.WriteFault held held' lines readings = WrotePart held held' lines readings
-Writes s held held' lines readings = Appends held held' (script_texts lines readings)
+-- What was written, by the status: the replies, where nothing kept a reply from being written.
+abbrev pub Writes : Status → Option (List ℕ) → Option (List ℕ) → List StepReply → Type 0
+Writes status.WriteFault held held' replies = WrotePart held held' replies
+Writes status.NoMemory held held' replies = WrotePart held held' replies
+Writes s held held' replies = Appends held held' (texts replies)
 
--- Which readings of the clock were taken: one for each step without a reading of its own, and where memory ran out
--- maybe one more.
+-- it ended before a step that isn't among those that were done
+abbrev pub IsShort : Status → Type 0
+IsShort status.NoMemory = ⊤
+IsShort (status.JournalFull need room) = ⊤
+IsShort s = ⊥
+
+-- Which readings of the clock were taken: one for each step without a reading of its own, and maybe one more for a
+-- step that wasn't done.
 pub record Clocked (s : Status) (clock clock' : Option (List ℤ)) (lines : List (List ℕ)) (readings : List ℤ) : Type 0 where
   pub count : length readings ≡ readings_of lines
   pub more : List ℤ
   pub told : Tells clock clock' (readings ++ more)
-  pub none : (s ≡ status.NoMemory → ⊥) → more ≡ []
+  pub none : (IsShort s → ⊥) → more ≡ []
   pub one : length more ≤ 1
 
--- a script has no words that could be bad
+-- how a run of lines may end
 abbrev pub IsOfScript : Status → Type 0
 IsOfScript (status.BadWords fault) = ⊥
+IsOfScript (status.NotAStore store) = ⊥
+IsOfScript (status.Damaged store at) = ⊥
+IsOfScript status.Exists = ⊥
 IsOfScript s = ⊤
 
--- A run of these lines, with these readings of the clock.
-pub record IsRun (s : Status) (left left' held held' : Option (List ℕ)) (clock clock' : Option (List ℤ)) (lines : List (List ℕ)) (readings : List ℤ) : Type 0 where
+-- A run of these lines from the first state on, with these readings of the clock, these replies, and the state behind
+-- the last reply.
+pub record IsRun (s : Status) (R R' : RunState) (left left' held held' : Option (List ℕ)) (clock clock' : Option (List ℤ))
+    (lines : List (List ℕ)) (readings : List ℤ) (replies : List StepReply) : Type 0 where
   pub called : IsOfScript s
   pub good : AllByRecursion IsGood lines
+  pub behind : RunState
+  pub went : Went (steps_of lines readings) replies R behind
+  pub idles : Idles behind R'
+  pub full : Overflowed s left lines behind.cluster R'.cluster
+  pub closed : TellsClosed s behind.cluster
   pub reads : Reads s left left' lines
   pub clocked : Clocked s clock clock' lines readings
-  pub writes : Writes s held held' lines readings
+  pub writes : Writes s held held' replies

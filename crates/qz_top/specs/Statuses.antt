@@ -1,8 +1,10 @@
 -- The exit status of the program, and the text on standard error, for each status.
-use Rattle.std.specs.Prelude.{◌⊎◌, ℕ, List, [], ◌++◌, codes, Option}
+use Rattle.std.specs.Prelude.{◌≡◌, ◌⊎◌, ℕ, Bool, true, false, List, [], ◌++◌, codes, Option}
 use Rattle.std.specs.Io.KnownBytes.{Appends}
 use Rattle.qz_civil.specs.Causes.{Rose}
 use Rattle.std.specs.Fmt.{decimal}
+use Rattle.qz_types.specs.declared.stores.Store.{Store}
+use Rattle.qz_types.specs.declared.stores.Store.TheVariants.{Triggers, States}
 use Rattle.qz_top.specs.declared.statuses.BadKind.{BadKind}
 use Rattle.qz_top.specs.declared.statuses.BadKind.TheVariants.{TooLong, NotJson, Shape, TooManyLines, NotHere}
 use Rattle.qz_top.specs.declared.statuses.Status.{Status}
@@ -16,7 +18,12 @@ exit_number (status.BadWords fault) = 1
 exit_number (status.BadLine line fault) = 2
 exit_number status.ReadFault = 3
 exit_number status.WriteFault = 4
+exit_number status.DiskFault = 5
+exit_number (status.NotAStore store) = 6
+exit_number (status.Damaged store at) = 6
+exit_number (status.JournalFull need room) = 7
 exit_number status.NoMemory = 9
+exit_number status.Exists = 10
 
 abbrev pub kind_text : BadKind → List ℕ
 kind_text TooLong = codes "too long"
@@ -25,6 +32,10 @@ kind_text Shape = codes "not a step"
 kind_text TooManyLines = codes "too many lines"
 kind_text NotHere = codes "not here"
 
+abbrev pub store_text : Store → List ℕ
+store_text Triggers = codes "triggers"
+store_text States = codes "states"
+
 -- one line, and nothing where all went well
 abbrev pub error_text : Status → List ℕ
 error_text status.Ok = []
@@ -32,15 +43,29 @@ error_text (status.BadWords fault) = codes "qz: bad words\n"
 error_text (status.BadLine line fault) = codes "qz: line " ++ decimal line ++ codes ": " ++ kind_text fault ++ codes "\n"
 error_text status.ReadFault = codes "qz: read fault\n"
 error_text status.WriteFault = codes "qz: write fault\n"
+error_text status.DiskFault = codes "qz: disk fault\n"
+error_text (status.NotAStore store) = codes "qz: " ++ store_text store ++ codes " not a store\n"
+error_text (status.Damaged store at) = codes "qz: " ++ store_text store ++ codes " damaged at " ++ decimal at ++ codes "\n"
+error_text (status.JournalFull need room) = codes "qz: journal full need " ++ decimal need ++ codes " room " ++ decimal room ++ codes "\n"
 error_text status.NoMemory = codes "qz: no memory\n"
+error_text status.Exists = codes "qz: store exists\n"
 
 -- how a script ends that ended so at the line of this number
 abbrev pub status_at : LineEnd → ℕ → Status
 status_at (ends.Bad kind) number = status.BadLine number kind
 status_at ends.ReadFault number = status.ReadFault
 status_at ends.WriteFault number = status.WriteFault
+status_at ends.Unanswered number = status.NoMemory
 status_at ends.NoMemory number = status.NoMemory
+status_at (ends.JournalFull need room) number = status.JournalFull need room
 
 -- the text was written, or the output failed
 abbrev pub Reported : List ℕ → Option (List ℕ) → Option (List ℕ) → ℕ → ℕ → Type 0
 Reported text held held' faults faults' = Appends held held' text ⊎ Rose faults faults'
+
+-- Behind the last line the output was flushed, and it is told whether the store is closed; or the flush failed.
+abbrev pub Finishes : Status → Bool → Option (List ℕ) → Option (List ℕ) → ℕ → ℕ → Type 0
+Finishes status.Ok closed held held' faults faults' = (closed ≡ false) × Appends held held' []
+Finishes status.DiskFault closed held held' faults faults' = (closed ≡ true) × Appends held held' []
+Finishes status.WriteFault closed held held' faults faults' = Appends held held' [] × Rose faults faults'
+Finishes s closed held held' faults faults' = ⊥

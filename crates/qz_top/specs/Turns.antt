@@ -1,34 +1,34 @@
 -- One turn of the script loop, and several.
-use Rattle.std.specs.Prelude.{◌≡◌, ⊤, ◌≤◌, ℕ, ℤ, List, [], ◌∷◌, length, take, Option, Some, None, Result, Ok, Err}
+use Rattle.std.specs.Prelude.{⊤, ◌≡◌, ◌≤◌, ℕ, ℤ, true, false, Bool, List, [], ◌∷◌, length, take, Option, Some, None, Result, Ok, Err}
 use Rattle.std.specs.List.{AllByRecursion}
 use Rattle.std.specs.Io.KnownBytes.{Appends}
 use Rattle.qz_io.specs.Clocks.{Tells}
+use Rattle.qz_types.specs.declared.steps.StepReply.{StepReply}
 use Rattle.qz_model.specs.Script.{TimedStep}
+use Rattle.qz_report.specs.Replies.{reply_text}
+use Rattle.qz_cluster.specs.Steps.{Stays, FindsNoRoom}
 use Rattle.qz_job_json.specs.declared.lines.Given.{Given}
 use Rattle.qz_job_json.specs.declared.lines.LineFault.{LineFault}
 use Rattle.qz_job_json.specs.declared.lines.LineFault.TheVariants as line_fault
 use Rattle.qz_top.specs.Lines.{line_meaning, kind_of, IsGood, readings_of, steps_of}
-use Rattle.qz_top.specs.Sessions.{SessionData, session_after, session_after_all, session_text, session_texts}
+use Rattle.qz_top.specs.Trails.{texts, RunState, Went}
 use Rattle.qz_top.specs.declared.statuses.BadKind.{BadKind}
 use Rattle.qz_top.specs.declared.turns.LineEnd.{LineEnd}
 use Rattle.qz_top.specs.declared.turns.LineEnd.TheVariants as ends
 
--- Good lines were done with these readings of the clock: their steps changed the session, and the clock told the
--- readings.
-pub record Did (lines : List (List ℕ)) (readings : List ℤ) (S S' : SessionData) (clock clock' : Option (List ℤ)) : Type 0 where
+-- Good lines were done with these readings of the clock: their steps led from one state to the other, and the clock
+-- told the readings.
+pub record Did (lines : List (List ℕ)) (readings : List ℤ) (R R' : RunState) (clock clock' : Option (List ℤ)) : Type 0 where
   pub good : AllByRecursion IsGood lines
   pub count : length readings ≡ readings_of lines
   pub told : Tells clock clock' readings
-  pub session : S' ≡ session_after_all S (steps_of lines readings)
-
--- the reply lines of these lines
-abbrev pub texts_of : SessionData → List (List ℕ) → List ℤ → List ℕ
-texts_of S lines readings = session_texts S (steps_of lines readings)
+  pub replies : List StepReply
+  pub went : Went (steps_of lines readings) replies R R'
 
 -- Good lines were done and answered.
-pub record Ran (lines : List (List ℕ)) (readings : List ℤ) (S S' : SessionData) (held held' : Option (List ℕ)) (clock clock' : Option (List ℤ)) : Type 0 where
-  pub did : Did lines readings S S' clock clock'
-  pub written : Appends held held' (texts_of S lines readings)
+pub record Ran (lines : List (List ℕ)) (readings : List ℤ) (R R' : RunState) (held held' : Option (List ℕ)) (clock clock' : Option (List ℤ)) : Type 0 where
+  pub did : Did lines readings R R' clock clock'
+  pub written : Appends held held' (texts did.replies)
 
 -- the readings of the clock that a step took, of which this is the one that it was done at
 abbrev pub taken_reading : Option ℤ → ℤ → List ℤ
@@ -44,28 +44,63 @@ abbrev pub step_at : Given → ℤ → TimedStep
 step_at given at = record { step = given.step; at = at }
 
 -- the step was done at this reading
-pub record DidStep (given : Given) (at : ℤ) (S S' : SessionData) (clock clock' : Option (List ℤ)) : Type 0 where
+pub record DidStep (given : Given) (at : ℤ) (R R' : RunState) (clock clock' : Option (List ℤ)) : Type 0 where
   pub own : IsOwn given.at at
   pub told : Tells clock clock' (taken_reading given.at at)
-  pub session : S' ≡ session_after S (step_at given at)
+  pub reply : StepReply
+  pub went : Went (step_at given at ∷ []) (reply ∷ []) R R'
 
--- nothing was written, and at most one reading was taken
-pub record GaveUp (held held' : Option (List ℕ)) (clock clock' : Option (List ℤ)) : Type 0 where
+-- Nothing was done but, where the disk is the call's own, a step that it failed in.
+pub record Idles (R R' : RunState) : Type 0 where
+  pub trail : R'.trail ≡ R.trail
+  pub own : R'.is_own ≡ R.is_own
+  pub stays : R.is_own ≡ false → Stays R.cluster R'.cluster
+
+-- nothing was done and nothing written, and at most one reading was taken
+pub record GaveUp (R R' : RunState) (held held' : Option (List ℕ)) (clock clock' : Option (List ℤ)) : Type 0 where
+  pub idles : Idles R R'
   pub readings : List ℤ
   pub one : length readings ≤ 1
   pub told : Tells clock clock' readings
   pub kept : Appends held held' []
 
+-- the step wasn't done, since its record finds no room
+pub record StepFull (given : Given) (need room : ℕ) (R R' : RunState) (held held' : Option (List ℕ)) (clock clock' : Option (List ℤ)) : Type 0 where
+  pub at : ℤ
+  pub own : IsOwn given.at at
+  pub told : Tells clock clock' (taken_reading given.at at)
+  pub kept : Appends held held' []
+  pub full : FindsNoRoom (step_at given at) need room R.cluster R'.cluster
+  pub trail : R'.trail ≡ R.trail
+  pub is_own : R'.is_own ≡ R.is_own
+
+-- what is left where a step has no answer
+abbrev pub NotDone : LineEnd → TimedStep → RunState → RunState → Type 0
+NotDone (ends.JournalFull need room) t R R' = FindsNoRoom t need room R.cluster R'.cluster × (R'.trail ≡ R.trail) × (R'.is_own ≡ R.is_own)
+NotDone ends.NoMemory t R R' = Idles R R'
+NotDone (ends.Bad kind) t R R' = ⊥
+NotDone ends.ReadFault t R R' = ⊥
+NotDone ends.WriteFault t R R' = ⊥
+NotDone ends.Unanswered t R R' = ⊥
+
+-- the step was done, and a part of its reply was written, none of it or all of it
+pub record StepPart (given : Given) (R R' : RunState) (held held' : Option (List ℕ)) (clock clock' : Option (List ℤ)) : Type 0 where
+  pub at : ℤ
+  pub did : DidStep given at R R' clock clock'
+  pub count : ℕ
+  pub part : count ≤ length (reply_text did.reply)
+  pub written : Appends held held' (take count (reply_text did.reply))
+
 -- what became of a step
-abbrev pub StepDone : Result (Unit {0}) LineEnd → Given → SessionData → SessionData → Option (List ℕ) → Option (List ℕ) → Option (List ℤ) → Option (List ℤ) → Type 0
-StepDone (Ok x) given S S' held held' clock clock' =
-    (at : ℤ) × DidStep given at S S' clock clock' × Appends held held' (session_text S (step_at given at))
-StepDone (Err (ends.Bad kind)) given S S' held held' clock clock' = ⊥
-StepDone (Err ends.ReadFault) given S S' held held' clock clock' = ⊥
-StepDone (Err ends.WriteFault) given S S' held held' clock clock' =
-    (at : ℤ) × DidStep given at S S' clock clock'
-    × (n : ℕ) × (n ≤ length (session_text S (step_at given at))) × Appends held held' (take n (session_text S (step_at given at)))
-StepDone (Err ends.NoMemory) given S S' held held' clock clock' = GaveUp held held' clock clock'
+abbrev pub StepDone : Result (Unit {0}) LineEnd → Given → RunState → RunState → Option (List ℕ) → Option (List ℕ) → Option (List ℤ) → Option (List ℤ) → Type 0
+StepDone (Ok x) given R R' held held' clock clock' =
+    (at : ℤ) × (did : DidStep given at R R' clock clock') × Appends held held' (reply_text did.reply)
+StepDone (Err (ends.Bad kind)) given R R' held held' clock clock' = ⊥
+StepDone (Err ends.ReadFault) given R R' held held' clock clock' = ⊥
+StepDone (Err ends.WriteFault) given R R' held held' clock clock' = StepPart given R R' held held' clock clock'
+StepDone (Err ends.Unanswered) given R R' held held' clock clock' = StepPart given R R' held held' clock clock'
+StepDone (Err ends.NoMemory) given R R' held held' clock clock' = GaveUp R R' held held' clock clock'
+StepDone (Err (ends.JournalFull need room)) given R R' held held' clock clock' = StepFull given need room R R' held held' clock clock'
 
 -- how a line with this fault ends a script
 abbrev pub line_end : LineFault → LineEnd
@@ -81,19 +116,33 @@ pub record IsBad (line : List ℕ) (kind : BadKind) : Type 0 where
   pub meaning : line_meaning line ≡ Err fault
   pub kind_is : kind ≡ kind_of fault
 
+-- nothing was done, written or asked of the clock
+pub record Untouched (R R' : RunState) (held held' : Option (List ℕ)) (clock clock' : Option (List ℤ)) : Type 0 where
+  pub same : R' ≡ R
+  pub kept : Appends held held' []
+  pub told : Tells clock clock' []
+
 -- a good line was done, and a part of its reply was written, none of it or all of it
-pub record RanPart (line : List ℕ) (S : SessionData) (held held' : Option (List ℕ)) (clock clock' : Option (List ℤ)) : Type 0 where
-  pub S' : SessionData
+pub record RanPart (line : List ℕ) (R R' : RunState) (held held' : Option (List ℕ)) (clock clock' : Option (List ℤ)) : Type 0 where
   pub readings : List ℤ
-  pub did : Did (line ∷ []) readings S S' clock clock'
+  pub did : Did (line ∷ []) readings R R' clock clock'
+  pub one : length did.replies ≤ 1
   pub count : ℕ
-  pub part : count ≤ length (texts_of S (line ∷ []) readings)
-  pub written : Appends held held' (take count (texts_of S (line ∷ []) readings))
+  pub part : count ≤ length (texts did.replies)
+  pub written : Appends held held' (take count (texts did.replies))
+
+-- a line asks for a step that finds no room
+pub record LineFull (line : List ℕ) (need room : ℕ) (R R' : RunState) (held held' : Option (List ℕ)) (clock clock' : Option (List ℤ)) : Type 0 where
+  pub given : Given
+  pub meaning : line_meaning line ≡ Ok (Some given)
+  pub full : StepFull given need room R R' held held' clock clock'
 
 -- what became of a line
-abbrev pub LineDone : Result (Unit {0}) LineEnd → List ℕ → SessionData → SessionData → Option (List ℕ) → Option (List ℕ) → Option (List ℤ) → Option (List ℤ) → Type 0
-LineDone (Ok x) line S S' held held' clock clock' = (readings : List ℤ) × Ran (line ∷ []) readings S S' held held' clock clock'
-LineDone (Err (ends.Bad kind)) line S S' held held' clock clock' = IsBad line kind × Appends held held' [] × Tells clock clock' []
-LineDone (Err ends.ReadFault) line S S' held held' clock clock' = ⊥
-LineDone (Err ends.WriteFault) line S S' held held' clock clock' = RanPart line S held held' clock clock'
-LineDone (Err ends.NoMemory) line S S' held held' clock clock' = GaveUp held held' clock clock'
+abbrev pub LineDone : Result (Unit {0}) LineEnd → List ℕ → RunState → RunState → Option (List ℕ) → Option (List ℕ) → Option (List ℤ) → Option (List ℤ) → Type 0
+LineDone (Ok x) line R R' held held' clock clock' = (readings : List ℤ) × Ran (line ∷ []) readings R R' held held' clock clock'
+LineDone (Err (ends.Bad kind)) line R R' held held' clock clock' = IsBad line kind × Untouched R R' held held' clock clock'
+LineDone (Err ends.ReadFault) line R R' held held' clock clock' = ⊥
+LineDone (Err ends.WriteFault) line R R' held held' clock clock' = RanPart line R R' held held' clock clock'
+LineDone (Err ends.Unanswered) line R R' held held' clock clock' = RanPart line R R' held held' clock clock'
+LineDone (Err ends.NoMemory) line R R' held held' clock clock' = GaveUp R R' held held' clock clock'
+LineDone (Err (ends.JournalFull need room)) line R R' held held' clock clock' = LineFull line need room R R' held held' clock clock'

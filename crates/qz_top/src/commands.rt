@@ -1,50 +1,124 @@
 //! The top call.
-ghost use Rattle.std.specs.Prelude.{◌≡◌, ◌<◌, ℕ, ℤ, List, length};
+ghost use Rattle.std.specs.Prelude.{◌≡◌, ◌⊎◌, [], Ok, Err};
 ghost use Rattle.qz_civil.specs.Causes.{Rose};
-ghost use Rattle.qz_top.specs.Runs.{IsOfScript, IsRun};
+ghost use Rattle.qz_top.specs.Calls.{OwnDone, RanOnDisk, NotOpened, Abstained, trail_of};
+ghost use Rattle.qz_top.specs.Making.{IsInit, SaysMade};
 ghost use Rattle.qz_top.specs.Statuses.{error_text, Reported};
+ghost use Rattle.qz_top.specs.Wishes.{wish_of};
+ghost use Rattle.qz_top.specs.declared.statuses.WordFault.{WordFault as Fault};
+ghost use Rattle.qz_top.specs.declared.words.Wish.TheVariants as wish;
 
-use crate::{Status, WordFault, report, script};
+use crate::ended::Ended;
+use crate::making::init;
+use crate::on_disk::{ended, script_on_disk};
+use crate::own::script_in_memory;
+use crate::words::{Wish, read_words};
+use crate::{Status, Trail, report};
+use qz_disk::Disk;
 use qz_io::{Clock, Sink, Source};
 use qz_types::Text;
 use std::alloc::Global;
+use std::snapshot::Snapshot;
 
 /// Does what the words of the command line ask for, and writes a line on `err` where that didn't end well.
 ///
-/// Without words it runs the lines of `input` as a script on a new store in memory, and writes a reply line a step
-/// to `out`. No other words are known yet.
-pub fn command<S: Source, K: Sink, E: Sink, C: Clock>(
+/// - Without words it runs the lines of `input` as a script on new stores in memory, and writes a reply line a step to
+///   `out`. The two disks aren't touched.
+/// - `init` makes the stores that aren't there, and writes `created`.
+/// - `script` opens the trigger store and runs the lines of `input` on it.
+///
+/// The disks come back in every case.
+pub fn command<S: Source, K: Sink, E: Sink, D: Disk, C: Clock>(
     alloc: Global,
     words: &[Text],
     input: &mut S,
     out: &mut K,
     err: &mut E,
+    triggers: D,
+    states: D,
     clock: &mut C,
-) -> Status
-    // With words, which none has a call for, nothing is read, written or asked of the clock.
-    ensures words { 0 < length words.now → result ≡ Status.BadWords WordFault.UnknownCommand }
-    ensures no_words { length words.now ≡ 0 → IsOfScript result }
-    ensures unread { 0 < length words.now → S.left input.new ≡ S.left input.old }
-    ensures unwritten { 0 < length words.now → K.held out.new ≡ K.held out.old }
-    ensures unasked { 0 < length words.now → C.readings clock.new ≡ C.readings clock.old }
+) -> Ended<D>
+    // Words that no call has are refused, and nothing else is done.
+    ensures bad_words { (fault : Fault) → wish_of words.now ≡ Err fault → result.status ≡ Status.BadWords fault }
+    ensures bad_words_only { (fault : Fault) → result.status ≡ Status.BadWords fault → wish_of words.now ≡ Err fault }
+    ensures no_wish { (fault : Fault) → wish_of words.now ≡ Err fault
+        → Abstained (S.left input.old) (S.left input.new) (K.held out.old) (K.held out.new) (C.readings clock.old) (C.readings clock.new) }
 
     // Without words out has grown by a plain scheduler's replies to the lines that the status tells were done.
-    ensures run { length words.now ≡ 0 → (lines : List (List ℕ)) × (readings : List ℤ)
-        × IsRun result (S.left input.old) (S.left input.new) (K.held out.old) (K.held out.new) (C.readings clock.old) (C.readings clock.new) lines readings }
+    ensures own { wish_of words.now ≡ Ok wish.Own
+        → OwnDone result.status (trail_of result.trail) (S.left input.old) (S.left input.new) (K.held out.old) (K.held out.new) (C.readings clock.old) (C.readings clock.new) }
+    ensures own_disks { wish_of words.now ≡ Ok wish.Own → (result.triggers ≡ triggers) × (result.states ≡ states) }
+
+    // `script` opens the store, if the bytes on the disk are one, and does the same along its history.
+    ensures script { wish_of words.now ≡ Ok wish.Script
+        → RanOnDisk result.status (trail_of result.trail) triggers result.triggers (S.left input.old) (S.left input.new) (K.held out.old) (K.held out.new) (C.readings clock.old) (C.readings clock.new)
+        ⊎ NotOpened result.status (trail_of result.trail) triggers result.triggers (S.left input.old) (S.left input.new) (K.held out.old) (K.held out.new) (C.readings clock.old) (C.readings clock.new) }
+    ensures script_states { wish_of words.now ≡ Ok wish.Script → result.states ≡ states }
+
+    ensures init { wish_of words.now ≡ Ok wish.Init → D.honest → IsInit result.status (D.state triggers) (D.state result.triggers) (D.state states) (D.state result.states) }
+    ensures init_says { wish_of words.now ≡ Ok wish.Init → SaysMade result.status (K.held out.old) (K.held out.new) }
+    ensures init_reads { wish_of words.now ≡ Ok wish.Init → (S.left input.new ≡ S.left input.old) × (C.readings clock.new ≡ C.readings clock.old) }
+    ensures no_script { (fault : Fault) → (wish_of words.now ≡ Ok wish.Init) ⊎ (wish_of words.now ≡ Err fault) → trail_of result.trail ≡ [] }
 
     // A fault is answered only where the object's count of faults rose in this call.
-    ensures read { result ≡ Status.ReadFault → Rose (S.faults input.old) (S.faults input.new) }
-    ensures write { result ≡ Status.WriteFault → Rose (K.faults out.old) (K.faults out.new) }
+    ensures read { result.status ≡ Status.ReadFault → Rose (S.faults input.old) (S.faults input.new) }
+    ensures write { result.status ≡ Status.WriteFault → Rose (K.faults out.old) (K.faults out.new) }
+    ensures disk { result.status ≡ Status.DiskFault → Rose (D.faults triggers) (D.faults result.triggers) ⊎ Rose (D.faults states) (D.faults result.states) }
 
-    ensures told { Reported (error_text result) (E.held err.old) (E.held err.new) (E.faults err.old) (E.faults err.new) }
+    ensures told { Reported (error_text result.status) (E.held err.old) (E.held err.new) (E.faults err.old) (E.faults err.new) }
 {
-    let status = if words.is_empty() {
-        script(alloc, input, out, clock)
-    } else {
-        Status::BadWords {
-            fault: WordFault::UnknownCommand,
+    let ended = work(alloc, words, input, out, triggers, states, clock);
+    report(ended.status, err);
+    ended
+}
+
+// The same, without the line on `err`.
+fn work<S: Source, K: Sink, D: Disk, C: Clock>(
+    alloc: Global,
+    words: &[Text],
+    input: &mut S,
+    out: &mut K,
+    mut triggers: D,
+    mut states: D,
+    clock: &mut C,
+) -> Ended<D>
+    ensures bad_words { (fault : Fault) → wish_of words.now ≡ Err fault → result.status ≡ Status.BadWords fault }
+    ensures bad_words_only { (fault : Fault) → result.status ≡ Status.BadWords fault → wish_of words.now ≡ Err fault }
+    ensures no_wish { (fault : Fault) → wish_of words.now ≡ Err fault
+        → Abstained (S.left input.old) (S.left input.new) (K.held out.old) (K.held out.new) (C.readings clock.old) (C.readings clock.new) }
+    ensures own { wish_of words.now ≡ Ok wish.Own
+        → OwnDone result.status (trail_of result.trail) (S.left input.old) (S.left input.new) (K.held out.old) (K.held out.new) (C.readings clock.old) (C.readings clock.new) }
+    ensures own_disks { wish_of words.now ≡ Ok wish.Own → (result.triggers ≡ triggers) × (result.states ≡ states) }
+    ensures script { wish_of words.now ≡ Ok wish.Script
+        → RanOnDisk result.status (trail_of result.trail) triggers result.triggers (S.left input.old) (S.left input.new) (K.held out.old) (K.held out.new) (C.readings clock.old) (C.readings clock.new)
+        ⊎ NotOpened result.status (trail_of result.trail) triggers result.triggers (S.left input.old) (S.left input.new) (K.held out.old) (K.held out.new) (C.readings clock.old) (C.readings clock.new) }
+    ensures script_states { wish_of words.now ≡ Ok wish.Script → result.states ≡ states }
+    ensures init { wish_of words.now ≡ Ok wish.Init → D.honest → IsInit result.status (D.state triggers) (D.state result.triggers) (D.state states) (D.state result.states) }
+    ensures init_says { wish_of words.now ≡ Ok wish.Init → SaysMade result.status (K.held out.old) (K.held out.new) }
+    ensures init_reads { wish_of words.now ≡ Ok wish.Init → (S.left input.new ≡ S.left input.old) × (C.readings clock.new ≡ C.readings clock.old) }
+    ensures no_script { (fault : Fault) → (wish_of words.now ≡ Ok wish.Init) ⊎ (wish_of words.now ≡ Err fault) → trail_of result.trail ≡ [] }
+    ensures read { result.status ≡ Status.ReadFault → Rose (S.faults input.old) (S.faults input.new) }
+    ensures write { result.status ≡ Status.WriteFault → Rose (K.faults out.old) (K.faults out.new) }
+    ensures disk { result.status ≡ Status.DiskFault → Rose (D.faults triggers) (D.faults result.triggers) ⊎ Rose (D.faults states) (D.faults result.states) }
+{
+    match read_words(words) {
+        Err(fault) => ended(alloc, Status::BadWords { fault }, triggers, states),
+        Ok(Wish::Own) => {
+            let own = script_in_memory(alloc, input, out, clock);
+            Ended {
+                status: own.status,
+                triggers,
+                states,
+                trail: Trail {
+                    on_disk: Snapshot::of(&Vec::new(alloc)),
+                    in_memory: own.trail,
+                },
+            }
         }
-    };
-    report(status, err);
-    status
+        Ok(Wish::Init) => {
+            let status = init(out, &mut triggers, &mut states);
+            ended(alloc, status, triggers, states)
+        }
+        Ok(Wish::Script) => script_on_disk(alloc, input, out, triggers, states, clock),
+    }
 }

@@ -1,18 +1,22 @@
-//! The top call of the scheduler: one script, from the bytes that come in to the bytes that go out.
+//! The top call of the scheduler, from the bytes that come in to the bytes that go out.
 #![tactic(auto)]
 
+mod beginning;
 mod commands;
+mod ended;
+mod making;
+mod on_disk;
+mod own;
 mod reports;
+mod runs;
 mod scripts;
-mod sessions;
 mod statuses;
 #[cfg(test)]
 mod tests;
 mod turns;
+mod words;
 
 pub use commands::command;
+pub use ended::{Ended, Trail};
 pub use reports::report;
-pub use scripts::script;
-pub use sessions::Session;
 pub use statuses::{BadKind, LINE_COUNT_LIMIT, Status, WordFault};
-pub use turns::{LineEnd, do_line};

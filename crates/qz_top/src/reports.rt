@@ -2,11 +2,12 @@
 ghost use Rattle.std.specs.Prelude.{◌≡◌, OnOk};
 ghost use Rattle.std.specs.Io.KnownBytes.{Appends};
 ghost use Rattle.qz_civil.specs.Causes.{HasCause};
-ghost use Rattle.qz_top.specs.Statuses.{kind_text, error_text, Reported};
+ghost use Rattle.qz_top.specs.Statuses.{kind_text, store_text, error_text, Reported};
 
 use crate::{BadKind, Status};
 use itoa::Buffer;
 use qz_io::{Failed, Sink, write_all};
+use qz_types::Store;
 
 /// Writes the line of a status, and nothing for `Ok`. Takes no memory. That the writing failed is passed over.
 pub fn report<E: Sink>(status: Status, err: &mut E)
@@ -25,7 +26,54 @@ fn write_error<E: Sink>(status: Status, err: &mut E) -> Result<(), Failed>
         Status::BadLine { line, fault } => write_bad_line(line, fault, err),
         Status::ReadFault => write_all(err, b"qz: read fault\n"),
         Status::WriteFault => write_all(err, b"qz: write fault\n"),
+        Status::DiskFault => write_all(err, b"qz: disk fault\n"),
+        Status::NotAStore { store } => write_not_a_store(store, err),
+        Status::Damaged { store, at } => write_damaged(store, at, err),
+        Status::JournalFull { need, room } => write_full(need, room, err),
         Status::NoMemory => write_all(err, b"qz: no memory\n"),
+        Status::Exists => write_all(err, b"qz: store exists\n"),
+    }
+}
+
+fn write_not_a_store<E: Sink>(store: Store, err: &mut E) -> Result<(), Failed>
+    ensures ok { OnOk result (Appends (E.held err.old) (E.held err.new) (error_text (Status.NotAStore store))) }
+    ensures cause { HasCause (E.faults err.old) (E.faults err.new) result }
+{
+    write_all(err, b"qz: ")?;
+    write_all(err, name_of(store).as_bytes())?;
+    write_all(err, b" not a store\n")
+}
+
+fn write_damaged<E: Sink>(store: Store, at: u64, err: &mut E) -> Result<(), Failed>
+    ensures ok { OnOk result (Appends (E.held err.old) (E.held err.new) (error_text (Status.Damaged store at))) }
+    ensures cause { HasCause (E.faults err.old) (E.faults err.new) result }
+{
+    let mut buffer = Buffer::new();
+    write_all(err, b"qz: ")?;
+    write_all(err, name_of(store).as_bytes())?;
+    write_all(err, b" damaged at ")?;
+    write_all(err, buffer.format(at).as_bytes())?;
+    write_all(err, b"\n")
+}
+
+fn write_full<E: Sink>(need: u64, room: u64, err: &mut E) -> Result<(), Failed>
+    ensures ok { OnOk result (Appends (E.held err.old) (E.held err.new) (error_text (Status.JournalFull need room))) }
+    ensures cause { HasCause (E.faults err.old) (E.faults err.new) result }
+{
+    let mut buffer = Buffer::new();
+    write_all(err, b"qz: journal full need ")?;
+    write_all(err, buffer.format(need).as_bytes())?;
+    write_all(err, b" room ")?;
+    write_all(err, buffer.format(room).as_bytes())?;
+    write_all(err, b"\n")
+}
+
+fn name_of(store: Store) -> &'static str
+    ensures { result.now ≡ store_text store }
+{
+    match store {
+        Store::Triggers => "triggers",
+        Store::States => "states",
     }
 }
 

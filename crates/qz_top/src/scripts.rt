@@ -1,24 +1,30 @@
 //! The script loop.
-ghost use Rattle.std.specs.Prelude.{◌≡◌, ◌≤◌, ℕ, ℤ, List, Err, OnErr};
+ghost use Rattle.std.specs.Prelude.{◌≡◌, ◌≤◌, ℕ, ℤ, List, Err, OnErr, not};
 ghost use Rattle.qz_civil.specs.Causes.{Rose};
-ghost use Rattle.qz_top.specs.Inputs.{TurnDone, BeyondDone, Finishes};
+ghost use Rattle.qz_types.specs.declared.steps.StepReply.{StepReply};
+ghost use Rattle.qz_top.specs.Inputs.{TurnDone, BeyondDone};
 ghost use Rattle.qz_top.specs.Runs.{IsOfScript, IsRun};
-ghost use Rattle.qz_top.specs.Statuses.{status_at};
+ghost use Rattle.qz_top.specs.Seen.{run_of};
+ghost use Rattle.qz_top.specs.Statuses.{status_at, Finishes};
 
-use crate::{BadKind, LINE_COUNT_LIMIT, LineEnd, Session, Status, do_line};
+use crate::runs::Run;
+use crate::turns::{LineEnd, do_line};
+use crate::{BadKind, LINE_COUNT_LIMIT, Status};
+use qz_disk::Disk;
 use qz_io::{Clock, LineReader, Seen, Sink, Source};
 use std::alloc::Global;
 
-/// Runs the lines of the input on a new store: each line's step is done and its reply written before the next line
-/// is looked at. After the last line the output is flushed.
-pub fn script<S: Source, K: Sink, C: Clock>(
+/// Runs the lines of the input: each line's step is done and its reply written before the next line is looked at.
+/// After the last line the output is flushed.
+pub(crate) fn run_lines<S: Source, K: Sink, D: Disk, C: Clock>(
     alloc: Global,
     input: &mut S,
     out: &mut K,
+    run: &mut Run<D>,
     clock: &mut C,
 ) -> Status
-    ensures run { (lines : List (List ℕ)) × (readings : List ℤ)
-        × IsRun result (S.left input.old) (S.left input.new) (K.held out.old) (K.held out.new) (C.readings clock.old) (C.readings clock.new) lines readings }
+    ensures run { (lines : List (List ℕ)) × (readings : List ℤ) × (replies : List StepReply)
+        × IsRun result (run_of run.old) (run_of run.new) (S.left input.old) (S.left input.new) (K.held out.old) (K.held out.new) (C.readings clock.old) (C.readings clock.new) lines readings replies }
     ensures called { IsOfScript result }
     ensures read { result ≡ Status.ReadFault → Rose (S.faults input.old) (S.faults input.new) }
     ensures write { result ≡ Status.WriteFault → Rose (K.faults out.old) (K.faults out.new) }
@@ -27,11 +33,10 @@ pub fn script<S: Source, K: Sink, C: Clock>(
         Ok(reader) => reader,
         Err(_) => return Status::NoMemory,
     };
-    let mut session = Session::new(alloc);
     for number in 0..LINE_COUNT_LIMIT {
-        match turn(alloc, &mut reader, &mut session, input, out, clock) {
+        match turn(alloc, &mut reader, run, input, out, clock) {
             Ok(true) => {}
-            Ok(false) => return finish(out),
+            Ok(false) => return finish(out, run.cluster.closed()),
             Err(end) => return status_at(end, number + 1),
         }
     }
@@ -40,39 +45,35 @@ pub fn script<S: Source, K: Sink, C: Clock>(
             line: LINE_COUNT_LIMIT + 1,
             fault: BadKind::TooManyLines,
         },
-        Ok(false) => finish(out),
+        Ok(false) => finish(out, run.cluster.closed()),
         Err(end) => status_at(end, LINE_COUNT_LIMIT + 1),
     }
 }
 
 /// Reads, does and answers the next line. False where no further one can come.
-fn turn<S: Source, K: Sink, C: Clock>(
+fn turn<S: Source, K: Sink, D: Disk, C: Clock>(
     alloc: Global,
     reader: &mut LineReader,
-    session: &mut Session,
+    run: &mut Run<D>,
     input: &mut S,
     out: &mut K,
     clock: &mut C,
 ) -> Result<bool, LineEnd>
-    ensures done { TurnDone result (S.left input.old) (S.left input.new) reader.old.pending reader.new.pending session.old session.new (K.held out.old) (K.held out.new) (C.readings clock.old) (C.readings clock.new) }
+    ensures done { TurnDone result (S.left input.old) (S.left input.new) reader.old.pending reader.new.pending (run_of run.old) (run_of run.new) (K.held out.old) (K.held out.new) (C.readings clock.old) (C.readings clock.new) }
     ensures reads { S.faults input.old ≤ S.faults input.new }
     ensures writes { K.faults out.old ≤ K.faults out.new }
     ensures read { result ≡ Err LineEnd.ReadFault → Rose (S.faults input.old) (S.faults input.new) }
     ensures write { result ≡ Err LineEnd.WriteFault → Rose (K.faults out.old) (K.faults out.new) }
 {
     match reader.next(input) {
-        Ok(Seen::Line) => {
-            match do_line(alloc, reader.line(), session, out, clock) {
-                Ok(()) => Ok(true),
-                Err(end) => Err(end),
-            }
-        }
-        Ok(Seen::Rest) => {
-            match do_line(alloc, reader.line(), session, out, clock) {
-                Ok(()) => Ok(false),
-                Err(end) => Err(end),
-            }
-        }
+        Ok(Seen::Line) => match do_line(alloc, reader.line(), run, out, clock) {
+            Ok(()) => Ok(true),
+            Err(end) => Err(end),
+        },
+        Ok(Seen::Rest) => match do_line(alloc, reader.line(), run, out, clock) {
+            Ok(()) => Ok(false),
+            Err(end) => Err(end),
+        },
         Ok(Seen::TooLong) => Err(LineEnd::Bad(BadKind::TooLong)),
         Ok(Seen::End) => Ok(false),
         Err(_) => Err(LineEnd::ReadFault),
@@ -93,11 +94,12 @@ fn beyond<S: Source>(reader: &mut LineReader, input: &mut S) -> Result<bool, Lin
     }
 }
 
-/// All lines were done: hands on what the output may have put aside.
-fn finish<K: Sink>(out: &mut K) -> Status
-    ensures { Finishes result (K.held out.old) (K.held out.new) (K.faults out.old) (K.faults out.new) }
+/// All lines were done: hands on what the output may have put aside, and tells whether the store is closed.
+fn finish<K: Sink>(out: &mut K, closed: bool) -> Status
+    ensures { Finishes result closed (K.held out.old) (K.held out.new) (K.faults out.old) (K.faults out.new) }
 {
     match out.flush() {
+        Ok(()) if closed => Status::DiskFault,
         Ok(()) => Status::Ok,
         Err(_) => Status::WriteFault,
     }
@@ -114,6 +116,8 @@ fn status_at(end: LineEnd, number: u64) -> Status
         },
         LineEnd::ReadFault => Status::ReadFault,
         LineEnd::WriteFault => Status::WriteFault,
+        LineEnd::Unanswered => Status::NoMemory,
         LineEnd::NoMemory => Status::NoMemory,
+        LineEnd::JournalFull { need, room } => Status::JournalFull { need, room },
     }
 }

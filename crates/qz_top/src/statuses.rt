@@ -2,6 +2,8 @@
 ghost use Rattle.std.specs.Prelude.{◌≡◌};
 ghost use Rattle.qz_top.specs.Statuses.{exit_number};
 
+use qz_types::Store;
+
 /// Lines of one script.
 pub const LINE_COUNT_LIMIT: u64 = 1048576;
 
@@ -10,6 +12,8 @@ pub const LINE_COUNT_LIMIT: u64 = 1048576;
 pub enum WordFault {
     /// No call begins with this word.
     UnknownCommand,
+    /// So many words stand behind the first, and its call takes another number of them.
+    WrongCount { found: u32 },
 }
 
 /// What is wrong with a line of the input.
@@ -40,8 +44,19 @@ pub enum Status {
     ReadFault,
     /// A write of the output failed.
     WriteFault,
+    /// A disk failed while the stores were made or opened; or, behind a whole script, a store is closed since its disk
+    /// failed.
+    DiskFault,
+    /// The disk doesn't begin with the header of this store. Nothing was read from the input or written.
+    NotAStore { store: Store },
+    /// The first bad place of the store's bytes, as an offset. Nothing was read from the input or written.
+    Damaged { store: Store, at: u64 },
+    /// A step would be accepted, and its record needs more bytes than are left in the store.
+    JournalFull { need: u64, room: u64 },
     /// Memory ran out.
     NoMemory,
+    /// Both stores exist already.
+    Exists,
 }
 
 impl Status {
@@ -55,7 +70,12 @@ impl Status {
             Status::BadLine { line: _, fault: _ } => 2,
             Status::ReadFault => 3,
             Status::WriteFault => 4,
+            Status::DiskFault => 5,
+            Status::NotAStore { store: _ } => 6,
+            Status::Damaged { store: _, at: _ } => 6,
+            Status::JournalFull { need: _, room: _ } => 7,
             Status::NoMemory => 9,
+            Status::Exists => 10,
         }
     }
 }

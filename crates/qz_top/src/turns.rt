@@ -1,46 +1,59 @@
 //! One line of a script: read, done and answered.
-ghost use Rattle.std.specs.Prelude.{◌≡◌, ◌⊎◌, ◌≤◌, Err, IsTrue, IfOk, IfSome, OnOk};
+ghost use Rattle.std.specs.Prelude.{◌≡◌, ◌⊎◌, ◌≤◌, ◌<◌, ◌∷◌, [], Err, IsTrue, IfOk, IfErr, IfSome, OnOk, vec_len, vec_capacity, true};
 ghost use Rattle.qz_civil.specs.Causes.{Rose};
 ghost use Rattle.qz_io.specs.Clocks.{Tells};
 ghost use Rattle.qz_types.specs.Steps.{is_step};
+ghost use Rattle.qz_report.specs.Replies.{reply_text};
+ghost use Rattle.qz_cluster.specs.Steps.{IsStep, IsCutShort};
+ghost use Rattle.qz_cluster.specs.Seen.{state_of};
 ghost use Rattle.qz_top.specs.Lines.{line_meaning};
-ghost use Rattle.qz_top.specs.Sessions.{session_text, session_after};
-ghost use Rattle.qz_top.specs.Turns.{IsOwn, taken_reading, line_end, StepDone, LineDone};
+ghost use Rattle.qz_top.specs.Seen.{run_of};
+ghost use Rattle.qz_top.specs.Trails.{Went, IsNoFault};
+ghost use Rattle.qz_top.specs.Turns.{IsOwn, taken_reading, line_end, StepDone, LineDone, NotDone};
 
-use crate::{BadKind, Session};
+use crate::BadKind;
+use crate::runs::Run;
+use qz_cluster::StepEnd;
+use qz_disk::Disk;
 use qz_io::{Clock, Sink, write_all};
 use qz_job_json::{Given, LineFault, read_step};
 use qz_report::reply_line;
-use qz_types::{NoMemory, Step, Text};
+use qz_types::{Step, StepReply};
 use std::alloc::Global;
+use std::snapshot::Snapshot;
 
 /// What ends a script at a line.
 #[derive(Clone, Copy, PartialEq, Eq, Debug)]
-pub enum LineEnd {
+pub(crate) enum LineEnd {
     /// The line is bad. It did nothing.
     Bad(BadKind),
     /// The input failed before the line was whole.
     ReadFault,
     /// The line's step was done, and the output failed before its reply was whole.
     WriteFault,
+    /// The line's step was done, and there was no memory for its reply.
+    Unanswered,
+    /// The line's step wasn't done.
     NoMemory,
+    /// The line's step wasn't done, since its record finds no room.
+    JournalFull { need: u64, room: u64 },
 }
 
 /// Does what a line asks for, and writes the reply. A blank line asks for nothing.
-pub fn do_line<K: Sink, C: Clock>(
+pub(crate) fn do_line<K: Sink, D: Disk, C: Clock>(
     alloc: Global,
     line: &[u8],
-    session: &mut Session,
+    run: &mut Run<D>,
     out: &mut K,
     clock: &mut C,
 ) -> Result<(), LineEnd>
-    ensures done { LineDone result line.now session.old session.new (K.held out.old) (K.held out.new) (C.readings clock.old) (C.readings clock.new) }
+    ensures done { LineDone result line.now (run_of run.old) (run_of run.new) (K.held out.old) (K.held out.new) (C.readings clock.old) (C.readings clock.new) }
     ensures later { K.faults out.old ≤ K.faults out.new }
     ensures write { result ≡ Err LineEnd.WriteFault → Rose (K.faults out.old) (K.faults out.new) }
 {
     match read_line(alloc, line) {
         Ok(None) => Ok(()),
-        Ok(Some(given)) => do_step(alloc, given, session, out, clock),
+        Ok(Some(given)) => do_step(alloc, given, run, out, clock),
         Err(fault) => Err(fault_of(fault)),
     }
 }
@@ -66,23 +79,23 @@ fn fault_of(fault: LineFault) -> LineEnd
 }
 
 /// Does a step at its own reading, or at one of the clock, and writes the reply.
-fn do_step<K: Sink, C: Clock>(
+fn do_step<K: Sink, D: Disk, C: Clock>(
     alloc: Global,
     given: Given,
-    session: &mut Session,
+    run: &mut Run<D>,
     out: &mut K,
     clock: &mut C,
 ) -> Result<(), LineEnd>
     requires { IsTrue (is_step given.step) }
-    ensures done { StepDone result given session.old session.new (K.held out.old) (K.held out.new) (C.readings clock.old) (C.readings clock.new) }
+    ensures done { StepDone result given (run_of run.old) (run_of run.new) (K.held out.old) (K.held out.new) (C.readings clock.old) (C.readings clock.new) }
     ensures later { K.faults out.old ≤ K.faults out.new }
     ensures write { result ≡ Err LineEnd.WriteFault → Rose (K.faults out.old) (K.faults out.new) }
 {
     let Given { at, step } = given;
     let at = reading_of(at, clock);
-    let text = match answer_text(alloc, step, at, session) {
-        Ok(text) => text,
-        Err(_) => return Err(LineEnd::NoMemory),
+    let reply = answer(step, at, run)?;
+    let Ok(text) = reply_line(alloc, &reply) else {
+        return Err(LineEnd::Unanswered);
     };
     match write_all(out, text.as_str().as_bytes()) {
         Ok(()) => Ok(()),
@@ -90,15 +103,24 @@ fn do_step<K: Sink, C: Clock>(
     }
 }
 
-/// Does a step, and gives its reply line.
-#[tactic(auto, unfolding(crate::specs::Sessions::effect_at, crate::specs::Sessions::session_after))]
-fn answer_text(alloc: Global, step: Step, at: i64, session: &mut Session) -> Result<Text, NoMemory>
+/// Does a step, and shows the state behind it.
+fn answer<D: Disk>(step: Step, at: i64, run: &mut Run<D>) -> Result<StepReply, LineEnd>
     requires { IsTrue (is_step step) }
-    ensures text { IfOk result (λ text. text ≡ session_text session.old (record { step = step; at = at })) }
-    ensures session { OnOk result (session.new ≡ session_after session.old (record { step = step; at = at })) }
+    ensures ok { IfOk result (λ reply. Went (record { step = step; at = at } ∷ []) (reply ∷ []) (run_of run.old) (run_of run.new)) }
+    ensures err { IfErr result (λ e. NotDone e (record { step = step; at = at }) (run_of run.old) (run_of run.new)) }
 {
-    let reply = session.answer(step, at)?;
-    reply_line(alloc, &reply)
+    if run.trail.reserve(1).is_err() {
+        return Err(LineEnd::NoMemory);
+    }
+    match run.cluster.step(step, at) {
+        Ok(StepReply::Fault) if run.is_own => Err(LineEnd::NoMemory),
+        Ok(reply) => {
+            run.trail.push_reserved(Snapshot::of(&run.cluster));
+            Ok(reply)
+        }
+        Err(StepEnd::JournalFull { need, room }) => Err(LineEnd::JournalFull { need, room }),
+        Err(StepEnd::NoMemory) => Err(LineEnd::NoMemory),
+    }
 }
 
 /// The step's own reading, or one of the clock.

@@ -12,7 +12,8 @@ use Rattle.qz_model.specs.Outcomes.{Outcome, accepted, refused}
 use Rattle.qz_model.specs.Transaction.{transaction}
 use Rattle.qz_model.specs.History.{History, tables_left, onto_replies, with_entry, IsAccepted, IsLegalFrom, replay_from, replies_from, moments_from}
 use Rattle.qz_model.proofs.Histories.{replay_from-append, replies_from-append, moments_from-append}
-use Rattle.qz_journal.specs.Layout.{Holds, IsBeforeOrAfter}
+use Rattle.qz_journal.specs.Layout.{end_of, Holds, IsBeforeOrAfter}
+use Rattle.qz_journal.proofs.Stands.{end_of-push}
 use Rattle.qz_journal.specs.declared.layout.TheConstants.{TRIGGERS}
 use Rattle.qz_codec.specs.Layout.{record_of}
 use Rattle.qz_codec.specs.Values.{IsEntry}
@@ -30,6 +31,13 @@ more found old new e is = ap (λ (l : List EntryData). found ++ l) is ∙ sym (a
 
 pub counted_with : (es fs : List EntryData) (e : EntryData) (n m : ℕ) → fs ≡ es ++ e ∷ [] → n ≡ length es → m ≡ n + 1 → m ≡ length fs
 counted_with es fs e n m is n_is m_is = omega (arith, ap (λ (l : List EntryData). length l) is, length-append es (e ∷ []), n_is, m_is)
+
+-- the gate behind the records, with one more
+pub placed_with : (es fs : List EntryData) (e : EntryData) (written : List ℕ) (n m : ℕ) → fs ≡ es ++ e ∷ [] → written ≡ record_of e
+    → n ≡ end_of (records es) → m ≡ n + (5 + length written) → m ≡ end_of (records fs)
+placed_with es fs e written n m is same n_is m_is =
+    m_is ∙ ap (λ k. k + (5 + length written)) n_is ∙ ap (λ (l : List ℕ). end_of (records es) + (5 + length l)) same
+    ∙ sym (end_of-push (records es) (record_of e)) ∙ ap end_of (sym (records-push es e)) ∙ ap (λ (l : List EntryData). end_of (records l)) (sym is)
 
 pub legal_with : (T : SchedulerTables) (es fs : List EntryData) (e : EntryData) (U : SchedulerTables) (r : Reply) → fs ≡ es ++ e ∷ [] → T ≡ replay_from (empty 1) es → IsLegalFrom (empty 1) es
     → transaction T e ≡ accepted U r → IsLegalFrom (empty 1) fs

@@ -5,7 +5,7 @@ ghost use Rattle.qz_journal.specs.Layout.{end_of};
 ghost use Rattle.qz_journal.specs.declared.layout.TheConstants.{TRIGGERS as OF_TRIGGERS};
 ghost use Rattle.qz_journal.specs.Through.{OnlyReads};
 ghost use Rattle.qz_model.specs.History.{History};
-ghost use Rattle.qz_trigger_store.specs.Bytes.{history_of, Stands, IsHistory};
+ghost use Rattle.qz_trigger_store.specs.Bytes.{history_of, records, Stands, IsHistory};
 ghost use Rattle.qz_trigger_store.specs.Opening.{IsRefused, IsFirstBad};
 ghost use Rattle.qz_trigger_store.specs.Seen.{seen, disk_of};
 
@@ -51,6 +51,7 @@ fn begin<D: Disk>(alloc: Global, journal: Journal<D>, replayed: Replayed) -> Tri
     requires kind { journal.kind ≡ OF_TRIGGERS }
     requires open { journal.closed ≡ None }
     requires counted { journal.count ≡ length replayed.entries }
+    requires placed { journal.gate ≡ end_of (records replayed.entries) }
     requires stands { D.honest → Stands (D.state journal.disk).content (history_of replayed.entries) }
     ensures journal { result.journal ≡ journal }
     ensures found { result.found ≡ replayed.entries }

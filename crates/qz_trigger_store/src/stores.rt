@@ -7,7 +7,8 @@ ghost use Rattle.qz_model.specs.Invariant.{TablesValid};
 ghost use Rattle.qz_journal.specs.declared.layout.TheConstants.{TRIGGERS as OF_TRIGGERS};
 ghost use Rattle.std.specs.List.{AllByRecursion};
 ghost use Rattle.qz_codec.specs.Values.{IsEntry};
-ghost use Rattle.qz_trigger_store.specs.Bytes.{history_of, Stands, MayBe};
+ghost use Rattle.qz_journal.specs.Layout.{end_of};
+ghost use Rattle.qz_trigger_store.specs.Bytes.{history_of, records, Stands, MayBe};
 ghost use Rattle.qz_trigger_store.specs.Facts.{IsLegalFrom-prop, MayBe-prop};
 
 use crate::accepted::Accepted;
@@ -35,6 +36,7 @@ pub struct TriggerStore<D: Disk> {
     ghost ready: { is_open ≡ true → journal.closed ≡ None },
     ghost settled: { is_open ≡ true → undecided ≡ None },
     ghost counted: { journal.count ≡ length (found ++ accepted.entries) },
+    ghost placed: { journal.gate ≡ end_of (records (found ++ accepted.entries)) },
     ghost legal: { IsLegalFrom (empty 1) (found ++ accepted.entries) } by { IsLegalFrom-prop (empty 1) (found ++ accepted.entries) },
     ghost replayed: { tables ≡ replay_from (empty 1) (found ++ accepted.entries) },
     ghost valid: { ∥ TablesValid tables ∥₁ },

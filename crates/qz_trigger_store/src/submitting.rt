@@ -9,7 +9,7 @@ ghost use Rattle.qz_model.specs.Outcomes.{accepted};
 ghost use Rattle.qz_model.specs.Tables.{recorded_moment};
 ghost use Rattle.qz_model.specs.Transaction.{transaction};
 ghost use Rattle.qz_trigger_store.specs.Seen.{seen, IsAsBefore, LeavesEither};
-ghost use Rattle.qz_trigger_store.specs.Steps.{Submits, FitsAt, IsPrepareCause};
+ghost use Rattle.qz_trigger_store.specs.Steps.{Submits, IsPrepareCause};
 
 use crate::replaying::copy_entry;
 use crate::{SubmitError, TriggerStore};
@@ -109,7 +109,6 @@ impl<D: Disk> TriggerStore<D> {
     /// call. After an error other than `Fault` all is as it was, and no device call was made.
     pub fn submit(&mut self, entry: Entry) -> Result<Reply, SubmitError>
         ensures one { Submits entry result (seen self.old) (seen self.new) }
-        ensures fits { FitsAt self.old.journal.gate self.old.journal.count entry result }
         ensures unchanged { result ≢ Err SubmitError.Fault → OnErr result (IsAsBefore self.old self.new) }
         ensures found { self.new.found ≡ self.old.found }
         ensures entries { OnOk result (self.new.accepted.entries ≡ self.old.accepted.entries ++ entry ∷ []) }
@@ -150,7 +149,6 @@ impl<D: Disk> TriggerStore<D> {
         requires fits { need_of (length p.written) ≤ room_of self.old.journal.gate self.old.journal.count }
         requires valid { ∥ TablesValid p.tables ∥₁ }
         ensures one { Submits entry result (seen self.old) (seen self.new) }
-        ensures fits { FitsAt self.old.journal.gate self.old.journal.count entry result }
         ensures unchanged { result ≢ Err SubmitError.Fault → OnErr result (IsAsBefore self.old self.new) }
         ensures found { self.new.found ≡ self.old.found }
         ensures entries { OnOk result (self.new.accepted.entries ≡ self.old.accepted.entries ++ entry ∷ []) }

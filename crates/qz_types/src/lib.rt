@@ -10,6 +10,7 @@ mod members;
 mod replies;
 mod sorted;
 mod steps;
+mod stores;
 #[cfg(test)]
 mod tests;
 mod triggers;
@@ -27,4 +28,5 @@ pub use qz_civil::{Failed, Kind, LAST, LONGEST, List, NoMemory, Text, Timing};
 pub use replies::{Refusal, Reply, Taken};
 pub use sorted::{Keyed, find, insert, place};
 pub use steps::{Step, StepReply};
+pub use stores::Store;
 pub use triggers::{TriggerRow, TriggerSpec, TriggerState};

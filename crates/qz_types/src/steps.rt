@@ -18,6 +18,10 @@ pub enum Step {
 pub enum StepReply {
     Ok(Reply),
     Refused(Refusal),
+    /// The disk failed in this step. Its store is closed, and a crash may leave the step's transaction or not.
+    Fault,
+    /// A store that the step needs is closed since a fault.
+    Closed,
     /// The node holds no epoch: it didn't join, or it stopped.
     Stopped,
 }

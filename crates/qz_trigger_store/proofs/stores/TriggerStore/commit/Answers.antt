@@ -3,7 +3,7 @@ use Rattle.std.proofs.lemmas.Grind.{common_steps}
 use Rattle.std.proofs.lemmas.Int.{to_z-of_z}
 use Rattle.std.specs.Prelude.{Some, None}
 use Rattle.std.specs.List.{AllByRecursion}
-use Rattle.qz_journal.specs.Layout.{Holds}
+use Rattle.qz_journal.specs.Layout.{end_of, Holds}
 use Rattle.qz_journal.specs.declared.layout.TheConstants.{TRIGGERS}
 use Rattle.qz_codec.specs.Values.{IsEntry}
 use Rattle.qz_types.specs.Entries.{EntryData}
@@ -22,6 +22,13 @@ invariant_of-self-in-Ok-append-clause-counted g c =
     let s = c.args.self.now in
     let is = c.push.ensures.entries ∙ ap (λ (l : List EntryData). l ++ c.args.entry ∷ []) c.in-Ok.ensures.ok.0 in
     Appending.counted_with (s.found ++ s.accepted.entries) _ c.args.entry s.journal.count _ (Appending.more s.found s.accepted.entries _ c.args.entry is) s.counted c.in-Ok-append.ensures.ok.2
+
+pub invariant_of-self-in-Ok-append-clause-placed : goal.invariant_of-self-in-Ok-append-clause-placed
+invariant_of-self-in-Ok-append-clause-placed g c =
+    let s = c.args.self.now in
+    let is = c.push.ensures.entries ∙ ap (λ (l : List EntryData). l ++ c.args.entry ∷ []) c.in-Ok.ensures.ok.0 in
+    Appending.placed_with (s.found ++ s.accepted.entries) _ c.args.entry c.as_slice.result.now s.journal.gate _ (Appending.more s.found s.accepted.entries _ c.args.entry is)
+    (c.as_slice.ensures ∙ c.requires.written.0) s.placed c.in-Ok-append.ensures.ok.1
 
 pub invariant_of-self-in-Ok-append-clause-legal : goal.invariant_of-self-in-Ok-append-clause-legal
 invariant_of-self-in-Ok-append-clause-legal g c =
@@ -100,6 +107,11 @@ pub invariant_of-self-in-Err-append-clause-counted : goal.invariant_of-self-in-E
 invariant_of-self-in-Err-append-clause-counted g c =
     let s = c.args.self.now in
     c.in-Err-append.ensures.same_place.1 ∙ s.counted ∙ ap (λ (l : List EntryData). length (s.found ++ l)) (sym (c.shut.ensures.entries ∙ c.in-Ok.ensures.ok.0))
+
+pub invariant_of-self-in-Err-append-clause-placed : goal.invariant_of-self-in-Err-append-clause-placed
+invariant_of-self-in-Err-append-clause-placed g c =
+    let s = c.args.self.now in
+    c.in-Err-append.ensures.same_place.0 ∙ s.placed ∙ ap (λ (l : List EntryData). end_of (records (s.found ++ l))) (sym (c.shut.ensures.entries ∙ c.in-Ok.ensures.ok.0))
 
 pub invariant_of-self-in-Err-append-clause-legal : goal.invariant_of-self-in-Err-append-clause-legal
 invariant_of-self-in-Err-append-clause-legal g c =

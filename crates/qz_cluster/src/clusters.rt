@@ -1,0 +1,16 @@
+//! A store, and who works on it.
+use qz_disk::Disk;
+use qz_trigger_store::TriggerStore;
+use qz_types::MemberRow;
+use std::alloc::Global;
+
+/// An open trigger store, and under which epoch each node that joined works. Epochs are held in memory alone: where a
+/// cluster is opened, no node holds one. The fields are public so that contracts may name them; change them through
+/// the calls alone.
+#[derive(Drop)]
+pub struct Cluster<D: Disk> {
+    pub(crate) alloc: Global,
+    pub triggers: TriggerStore<D>,
+    /// In the order of the nodes' names.
+    pub held: Vec<MemberRow>,
+}

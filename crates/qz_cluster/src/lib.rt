@@ -1,0 +1,15 @@
+//! The store that nodes share, and the epochs under which they work: a script's steps, one after the other.
+#![tactic(auto)]
+
+mod clusters;
+mod entries;
+mod errors;
+mod held;
+mod opening;
+mod steps;
+#[cfg(test)]
+mod tests;
+
+pub use clusters::Cluster;
+pub use errors::StepEnd;
+pub use qz_trigger_store::MountError;

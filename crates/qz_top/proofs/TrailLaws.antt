@@ -1,0 +1,42 @@
+-- Runs of steps that go on, and what their replies tell.
+use Rattle.std.proofs.Common.{◌≡◌, ◌≤◌, ℕ, List, [], ◌∷◌, ◌++◌, true, false, refl, sym, ap, ◌∙◌, subst, append_assoc, arith}
+use Rattle.std.specs.List.{AllByRecursion}
+use Rattle.std.proofs.lemmas.List.{append-nil}
+use Rattle.qz_types.specs.declared.steps.StepReply.{StepReply}
+use Rattle.qz_model.specs.Script.{TimedStep}
+use Rattle.qz_cluster.specs.Steps.{ClusterState, IsStep, Stays}
+use Rattle.qz_top.specs.Trails.{StepsDone, last_of, IsNoFault, RunState, Went}
+use Rattle.qz_top.specs.Turns.{Idles}
+use Rattle.qz_top.proofs.LineLaws.{AllByRecursion-append}
+
+pub last_of-append : (S : ClusterState) (xs ys : List ClusterState) → last_of S (xs ++ ys) ≡ last_of (last_of S xs) ys
+last_of-append S [] ys = refl
+last_of-append S (x ∷ xs) ys = last_of-append x xs ys
+
+pub StepsDone-append : (S : ClusterState) (ts us : List TimedStep) (rs qs : List StepReply) (xs ys : List ClusterState)
+    → StepsDone S ts rs xs → StepsDone (last_of S xs) us qs ys → StepsDone S (ts ++ us) (rs ++ qs) (xs ++ ys)
+StepsDone-append S [] us [] qs [] ys p q = q
+StepsDone-append S (t ∷ ts) us (r ∷ rs) qs (x ∷ xs) ys p q = (p.0, StepsDone-append x ts us rs qs xs ys p.1 q)
+StepsDone-append S [] us (r ∷ rs) qs xs ys p q = absurd p
+StepsDone-append S [] us [] qs (x ∷ xs) ys p q = absurd p
+StepsDone-append S (t ∷ ts) us [] qs xs ys p q = absurd p
+StepsDone-append S (t ∷ ts) us (r ∷ rs) qs [] ys p q = absurd p
+
+pub Went-none : (R : RunState) → Went [] [] R R
+Went-none R = record { states = []; done = tt; last = refl; trail = sym (append-nil R.trail); own = refl; no_fault = λ own. tt }
+
+pub Went-more : (ts us : List TimedStep) (rs qs : List StepReply) (R S T : RunState) → Went ts rs R S → Went us qs S T → Went (ts ++ us) (rs ++ qs) R T
+Went-more ts us rs qs R S T p q = record {
+  states = p.states ++ q.states;
+  done = StepsDone-append R.cluster ts us rs qs p.states q.states p.done (subst (λ C. StepsDone C us qs q.states) p.last q.done);
+  last = q.last ∙ ap (λ C. last_of C q.states) p.last ∙ sym (last_of-append R.cluster p.states q.states);
+  trail = q.trail ∙ ap (λ l. l ++ q.states) p.trail ∙ append_assoc R.trail p.states q.states;
+  own = q.own ∙ p.own;
+  no_fault = λ own. AllByRecursion-append IsNoFault rs qs (p.no_fault own) (q.no_fault (p.own ∙ own));
+}
+
+pub Stays-none : (S : ClusterState) → Stays S S
+Stays-none S = record { triggers = record { history = refl; is_open = refl; undecided = refl; later = omega arith }; held = refl }
+
+pub Idles-none : (R : RunState) → Idles R R
+Idles-none R = record { trail = refl; own = refl; stays = λ not_own. Stays-none R.cluster }

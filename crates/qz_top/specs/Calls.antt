@@ -1,0 +1,94 @@
+-- What the calls that run scripts did.
+use Rattle.std.specs.Prelude.{⊤, ◌≡◌, ◌⊎◌, ◌≤◌, ℕ, ℤ, true, false, Bool, List, [], ◌∷◌, ◌++◌, Option, None}
+use Rattle.std.specs.Io.KnownBytes.{Appends}
+use Rattle.qz_io.specs.Clocks.{Tells}
+use Rattle.qz_types.specs.declared.steps.StepReply.{StepReply}
+use Rattle.qz_types.specs.declared.stores.Store.TheVariants as store
+use Rattle.qz_disk.specs.declared.disk.Disk.{Ghosts}
+use Rattle.qz_journal.specs.declared.errors.MountError.{MountError}
+use Rattle.qz_journal.specs.declared.errors.MountError.TheVariants as mount
+use Rattle.qz_trigger_store.specs.Bytes.{Stands, MayBe}
+use Rattle.qz_trigger_store.specs.Opening.{IsRefused}
+use Rattle.qz_cluster.specs.Steps.{ClusterState}
+use Rattle.qz_model.specs.Script.{new_script, step_replies}
+use Rattle.qz_top.specs.Lines.{steps_of}
+use Rattle.qz_top.specs.Runs.{IsRun}
+use Rattle.qz_top.specs.Seen.{states_in}
+use Rattle.qz_top.specs.Trails.{RunState, new_cluster}
+use Rattle.qz_top.specs.declared.statuses.Status.{Status}
+use Rattle.qz_top.specs.declared.statuses.Status.TheVariants as status
+use Rattle.qz_top.specs.declared.ended.Trail.{Trail}
+
+-- the states that a call's script went through
+abbrev pub trail_of : {D : Type 0} {g : Ghosts D} → Trail D g → List ClusterState
+trail_of t = states_in t.on_disk.value ++ states_in t.in_memory.value
+
+-- a script that begins at this cluster
+abbrev pub begun : Bool → ClusterState → RunState
+begun is_own S = record { cluster = S; trail = S ∷ []; is_own = is_own }
+
+-- A script on a new store in memory was run. Its replies are those of a plain scheduler that is new and empty.
+pub record RanInMemory (s : Status) (trail : List ClusterState) (left left' held held' : Option (List ℕ)) (clock clock' : Option (List ℤ)) : Type 0 where
+  pub faults : ℕ
+  pub behind : RunState
+  pub lines : List (List ℕ)
+  pub readings : List ℤ
+  pub replies : List StepReply
+  pub run : IsRun s (begun true (new_cluster faults)) behind left left' held held' clock clock' lines readings replies
+  pub plain : replies ≡ step_replies (new_script 1) (steps_of lines readings)
+  pub trail_is : trail ≡ behind.trail
+  pub no_fault : s ≡ status.DiskFault → ⊥
+
+-- nothing was read, written or asked of the clock
+pub record Abstained (left left' held held' : Option (List ℕ)) (clock clock' : Option (List ℤ)) : Type 0 where
+  pub read : left' ≡ left
+  pub written : held' ≡ held
+  pub asked : clock' ≡ clock
+
+-- A script on a new store in memory was run, or there was no memory for the store.
+abbrev pub OwnDone : Status → List ClusterState → Option (List ℕ) → Option (List ℕ) → Option (List ℕ) → Option (List ℕ) → Option (List ℤ) → Option (List ℤ) → Type 0
+OwnDone s trail left left' held held' clock clock' =
+    RanInMemory s trail left left' held held' clock clock'
+    ⊎ ((s ≡ status.NoMemory) × (trail ≡ []) × Abstained left left' held held' clock clock')
+
+-- The store that stands on the disk was opened, and a script was run on it.
+pub record RanOnDisk {D : Type 0} {g : Ghosts D} (s : Status) (trail : List ClusterState) (triggers triggers' : D)
+    (left left' held held' : Option (List ℕ)) (clock clock' : Option (List ℤ)) : Type 0 where
+  pub opened : ClusterState
+  pub is_open : opened.triggers.is_open ≡ true
+  pub settled : opened.triggers.undecided ≡ None
+  pub nothing_held : opened.held ≡ []
+  pub stands : g.honest → Stands (g.state triggers).content opened.triggers.history
+  pub no_earlier : g.faults triggers ≤ opened.triggers.faults
+  pub behind : RunState
+  pub lines : List (List ℕ)
+  pub readings : List ℤ
+  pub replies : List StepReply
+  pub run : IsRun s (begun false opened) behind left left' held held' clock clock' lines readings replies
+  pub trail_is : trail ≡ behind.trail
+  pub faults : g.faults triggers' ≡ behind.cluster.triggers.faults
+  -- what a crash leaves stands for the history, or for it with the undecided entry
+  pub images : g.honest → (b : List ℕ) → (g.state triggers').IsImage b → MayBe behind.cluster.triggers.history behind.cluster.triggers.undecided b
+
+-- why no store was opened
+abbrev pub RefusedBy : Status → List ℕ → Type 0
+RefusedBy (status.NotAStore store.Triggers) bytes = IsRefused bytes mount.NotAStore
+RefusedBy (status.Damaged store.Triggers at) bytes = IsRefused bytes (mount.Damaged at)
+RefusedBy status.DiskFault bytes = ⊤
+RefusedBy status.NoMemory bytes = ⊤
+RefusedBy s bytes = ⊥
+
+-- No store was opened, and nothing was done.
+pub record NotOpened {D : Type 0} {g : Ghosts D} (s : Status) (trail : List ClusterState) (triggers triggers' : D)
+    (left left' held held' : Option (List ℕ)) (clock clock' : Option (List ℤ)) : Type 0 where
+  pub none : trail ≡ []
+  pub refused : g.honest → RefusedBy s (g.state triggers).content
+  pub same : g.honest → (g.state triggers').content ≡ (g.state triggers).content
+  pub abstained : Abstained left left' held held' clock clock'
+
+-- the status of a trigger store that wasn't opened
+abbrev pub refusal_of : MountError → Status
+refusal_of mount.Fault = status.DiskFault
+refusal_of mount.NotAStore = status.NotAStore store.Triggers
+refusal_of (mount.Damaged at) = status.Damaged store.Triggers at
+refusal_of mount.NoMemory = status.NoMemory

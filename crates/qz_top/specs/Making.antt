@@ -1,0 +1,66 @@
+-- What `init` makes of the two disks.
+use Rattle.std.specs.Prelude.{⊤, ◌≡◌, ◌⊎◌, ◌≤◌, ℕ, List, [], length, take, drop, Bool, true, false, Option, codes, Result, Ok, Err}
+use Rattle.std.specs.Io.KnownBytes.{Appends}
+use Rattle.qz_disk.specs.Disk.{DiskState, Only, Stays}
+use Rattle.qz_journal.specs.Layout.{IsHeader, Holds, other_kind}
+use Rattle.qz_journal.specs.declared.layout.TheConstants.{TRIGGERS, STATES}
+use Rattle.qz_types.specs.declared.stores.Store.TheVariants as store
+use Rattle.qz_top.specs.declared.making.Unmade.{Unmade}
+use Rattle.qz_top.specs.declared.making.Unmade.TheVariants as unmade
+use Rattle.qz_top.specs.declared.statuses.Status.{Status}
+use Rattle.qz_top.specs.declared.statuses.Status.TheVariants as status
+
+-- An empty store was made on a disk that began with neither header. What a crash leaves is this store, and what stood
+-- behind it stays.
+pub record IsNew (kind : ℕ) (old new : DiskState) : Type 0 where
+  pub not_this : IsHeader kind (take 16 old.content) → ⊥
+  pub not_other : IsHeader (other_kind kind) (take 16 old.content) → ⊥
+  pub empty : Holds new.content kind []
+  pub durable : Only new.content new
+  pub behind : drop 17 new.content ≡ drop 17 old.content
+
+-- A store stands on a disk, and was left as it was.
+pub record IsLeft (kind : ℕ) (old new : DiskState) : Type 0 where
+  pub header : IsHeader kind (take 16 old.content)
+  pub stays : Stays old new
+
+-- a new store, or the one that stood there
+abbrev pub IsMade : ℕ → Bool → DiskState → DiskState → Type 0
+IsMade kind true old new = IsNew kind old new
+IsMade kind false old new = IsLeft kind old new
+
+-- what came of making a store on a disk: whether there is a new one, or why there is none
+abbrev pub Makes : ℕ → Result Bool Unmade → DiskState → DiskState → Type 0
+Makes kind (Ok made) old new = IsMade kind made old new
+Makes kind (Err unmade.OtherKind) old new = IsLeft (other_kind kind) old new
+Makes kind (Err unmade.Fault) old new = ⊤
+
+-- at least one store is new
+pub record AreMade (t t' s s' : DiskState) : Type 0 where
+  pub triggers_made : Bool
+  pub states_made : Bool
+  pub triggers : IsMade TRIGGERS triggers_made t t'
+  pub states : IsMade STATES states_made s s'
+  pub some : (triggers_made ≡ true) ⊎ (states_made ≡ true)
+
+-- A trigger store is there, new or not, and the disk of states begins with its header too.
+pub record AreSwapped (t t' s s' : DiskState) : Type 0 where
+  pub made : Bool
+  pub triggers : IsMade TRIGGERS made t t'
+  pub states : IsLeft (other_kind STATES) s s'
+
+-- what an `init` that ended so made of the disk of triggers, and of that of states
+abbrev pub IsInit : Status → DiskState → DiskState → DiskState → DiskState → Type 0
+IsInit status.Ok t t' s s' = AreMade t t' s s'
+IsInit status.WriteFault t t' s s' = AreMade t t' s s'
+IsInit status.Exists t t' s s' = IsLeft TRIGGERS t t' × IsLeft STATES s s'
+IsInit (status.NotAStore store.Triggers) t t' s s' = IsLeft (other_kind TRIGGERS) t t' × Stays s s'
+IsInit (status.NotAStore store.States) t t' s s' = AreSwapped t t' s s'
+IsInit status.DiskFault t t' s s' = ⊤
+IsInit s t t' u u' = ⊥
+
+-- `created`, or a part of it where the output failed
+abbrev pub SaysMade : Status → Option (List ℕ) → Option (List ℕ) → Type 0
+SaysMade status.Ok held held' = Appends held held' (codes "created\n")
+SaysMade status.WriteFault held held' = (n : ℕ) × (n ≤ 8) × Appends held held' (take n (codes "created\n"))
+SaysMade s held held' = Appends held held' []

@@ -1,0 +1,52 @@
+-- Steps that were done one after another, and the states that they went through.
+use Rattle.std.specs.Prelude.{⊤, ◌≡◌, ℕ, true, Bool, List, [], ◌∷◌, ◌++◌, None}
+use Rattle.std.specs.List.{AllByRecursion, flat_map}
+use Rattle.qz_types.specs.declared.steps.StepReply.{StepReply}
+use Rattle.qz_types.specs.declared.steps.StepReply.TheVariants as reply
+use Rattle.qz_model.specs.History.{new_history}
+use Rattle.qz_model.specs.Script.{TimedStep}
+use Rattle.qz_report.specs.Replies.{reply_text}
+use Rattle.qz_cluster.specs.Steps.{ClusterState, IsStep}
+
+-- each state follows from the one before by its step and reply
+abbrev pub StepsDone : ClusterState → List TimedStep → List StepReply → List ClusterState → Type 0
+StepsDone S [] [] [] = ⊤
+StepsDone S (t ∷ ts) (r ∷ rs) (S' ∷ states) = IsStep t r S S' × StepsDone S' ts rs states
+StepsDone S ts rs states = ⊥
+
+-- the last of these states, which come behind the first
+abbrev pub last_of : ClusterState → List ClusterState → ClusterState
+last_of S [] = S
+last_of S (S' ∷ states) = last_of S' states
+
+-- the reply lines
+abbrev pub texts : List StepReply → List ℕ
+texts replies = flat_map reply_text replies
+
+abbrev pub IsNoFault : StepReply → Type 0
+IsNoFault (reply.Ok r) = ⊤
+IsNoFault (reply.Refused refusal) = ⊤
+IsNoFault reply.Fault = ⊥
+IsNoFault reply.Closed = ⊤
+IsNoFault reply.Stopped = ⊤
+
+-- A script in progress: the cluster, the states that it went through with the one that it began with, and whether its
+-- disk is the call's own.
+pub record RunState : Type 0 where
+  pub cluster : ClusterState
+  pub trail : List ClusterState
+  pub is_own : Bool
+
+-- These steps led from one state of a script to the other, with these replies. On a disk of its own it goes on behind
+-- no fault.
+pub record Went (steps : List TimedStep) (replies : List StepReply) (R R' : RunState) : Type 0 where
+  pub states : List ClusterState
+  pub done : StepsDone R.cluster steps replies states
+  pub last : R'.cluster ≡ last_of R.cluster states
+  pub trail : R'.trail ≡ R.trail ++ states
+  pub own : R'.is_own ≡ R.is_own
+  pub no_fault : R.is_own ≡ true → AllByRecursion IsNoFault replies
+
+-- a cluster on a new store
+abbrev pub new_cluster : ℕ → ClusterState
+new_cluster faults = record { triggers = record { history = new_history 1; is_open = true; undecided = None; faults = faults }; held = [] }

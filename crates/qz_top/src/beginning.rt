@@ -1,0 +1,34 @@
+//! How a script begins.
+ghost use Rattle.std.specs.Prelude.{◌≡◌, IfOk, IfErr};
+ghost use Rattle.qz_cluster.specs.Seen.{state_of};
+ghost use Rattle.qz_top.specs.Calls.{begun};
+ghost use Rattle.qz_top.specs.Seen.{run_of};
+
+use crate::runs::Run;
+use qz_cluster::Cluster;
+use qz_disk::Disk;
+use std::alloc::Global;
+use std::snapshot::Snapshot;
+
+impl<D: Disk> Run<D> {
+    /// A script that begins at this cluster. The cluster comes back where there is no memory.
+    pub(crate) fn begin(
+        alloc: Global,
+        cluster: Cluster<D>,
+        is_own: bool,
+    ) -> Result<Run<D>, Cluster<D>>
+        ensures ok { IfOk result (λ run. (run_of run ≡ begun is_own (state_of cluster)) × (run.cluster ≡ cluster)) }
+        ensures err { IfErr result (λ c. c ≡ cluster) }
+    {
+        let mut trail = Vec::new(alloc);
+        if trail.reserve(1).is_err() {
+            return Err(cluster);
+        }
+        trail.push_reserved(Snapshot::of(&cluster));
+        Ok(Run {
+            cluster,
+            trail,
+            is_own,
+        })
+    }
+}

@@ -1,0 +1,24 @@
+//! What a call gives back.
+use crate::Status;
+use qz_cluster::Cluster;
+use qz_disk::{Disk, MemDisk};
+use std::snapshot::Snapshot;
+
+/// The states of a script, for contracts alone: they take no bytes. One list is of a script on the handed-in disks,
+/// the other of one on the call's own; the one that isn't meant is empty. The first state is the one in which the
+/// store was opened, and then comes one behind each step that was done. Both are empty where no store was opened, and
+/// for a call that runs no script.
+#[derive(Drop)]
+pub struct Trail<D: Disk> {
+    pub on_disk: Snapshot<Vec<Snapshot<Cluster<D>>>>,
+    pub in_memory: Snapshot<Vec<Snapshot<Cluster<MemDisk>>>>,
+}
+
+/// How a call ended, with the disks that it was handed.
+#[derive(Drop)]
+pub struct Ended<D: Disk> {
+    pub status: Status,
+    pub triggers: D,
+    pub states: D,
+    pub trail: Trail<D>,
+}

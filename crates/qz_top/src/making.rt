@@ -1,0 +1,76 @@
+//! `init`: new stores on the disks.
+ghost use Rattle.std.specs.Prelude.{◌≡◌, ◌⊎◌, ◌≤◌, Err};
+ghost use Rattle.qz_civil.specs.Causes.{Rose};
+ghost use Rattle.qz_top.specs.Making.{Makes, IsInit, SaysMade};
+
+use crate::Status;
+use qz_disk::Disk;
+use qz_io::{Sink, write_all};
+use qz_journal::{CreateError, STATES, TRIGGERS, create};
+use qz_types::Store;
+
+/// Why there is no new store on a disk, and none that was left.
+#[derive(Clone, Copy, PartialEq, Eq, Debug)]
+pub(crate) enum Unmade {
+    /// The disk begins with the header of the other store.
+    OtherKind,
+    Fault,
+}
+
+/// Makes the stores on the disks that don't begin with their header, the trigger store first, and says so.
+pub(crate) fn init<K: Sink, D: Disk>(out: &mut K, triggers: &mut D, states: &mut D) -> Status
+    ensures told { D.honest → IsInit result (D.state triggers.old) (D.state triggers.new) (D.state states.old) (D.state states.new) }
+    ensures written { SaysMade result (K.held out.old) (K.held out.new) }
+    ensures disk { result ≡ Status.DiskFault → Rose (D.faults triggers.old) (D.faults triggers.new) ⊎ Rose (D.faults states.old) (D.faults states.new) }
+    ensures write { result ≡ Status.WriteFault → Rose (K.faults out.old) (K.faults out.new) }
+{
+    let first = match make(triggers, TRIGGERS) {
+        Ok(first) => first,
+        Err(Unmade::OtherKind) => {
+            return Status::NotAStore {
+                store: Store::Triggers,
+            };
+        }
+        Err(Unmade::Fault) => return Status::DiskFault,
+    };
+    let second = match make(states, STATES) {
+        Ok(second) => second,
+        Err(Unmade::OtherKind) => {
+            return Status::NotAStore {
+                store: Store::States,
+            };
+        }
+        Err(Unmade::Fault) => return Status::DiskFault,
+    };
+    if !first && !second {
+        return Status::Exists;
+    }
+    say_made(out)
+}
+
+// Makes a store where none stands. False where one stood there.
+fn make<D: Disk>(disk: &mut D, kind: u8) -> Result<bool, Unmade>
+    ensures told { D.honest → Makes kind result (D.state disk.old) (D.state disk.new) }
+    ensures fault { result ≡ Err Unmade.Fault → Rose (D.faults disk.old) (D.faults disk.new) }
+{
+    match create(disk, kind) {
+        Ok(()) => Ok(true),
+        Err(CreateError::Exists) => Ok(false),
+        Err(CreateError::OtherKind) => Err(Unmade::OtherKind),
+        Err(CreateError::Fault) => Err(Unmade::Fault),
+    }
+}
+
+fn say_made<K: Sink>(out: &mut K) -> Status
+    ensures status { (result ≡ Status.Ok) ⊎ (result ≡ Status.WriteFault) }
+    ensures written { SaysMade result (K.held out.old) (K.held out.new) }
+    ensures write { result ≡ Status.WriteFault → Rose (K.faults out.old) (K.faults out.new) }
+{
+    if write_all(out, b"created\n").is_err() {
+        return Status::WriteFault;
+    }
+    match out.flush() {
+        Ok(()) => Status::Ok,
+        Err(_) => Status::WriteFault,
+    }
+}

@@ -1,0 +1,90 @@
+//! A script on the stores of two disks.
+ghost use Rattle.std.specs.Prelude.{◌≡◌, ◌⊎◌, []};
+ghost use Rattle.qz_civil.specs.Causes.{Rose};
+ghost use Rattle.qz_top.specs.Calls.{RanOnDisk, NotOpened, trail_of, refusal_of};
+
+use crate::ended::{Ended, Trail};
+use crate::runs::Run;
+use crate::scripts::run_lines;
+use crate::Status;
+use qz_cluster::{Cluster, MountError};
+use qz_disk::Disk;
+use qz_io::{Clock, Sink, Source};
+use qz_types::Store;
+use std::alloc::Global;
+use std::snapshot::Snapshot;
+
+/// Opens the trigger store, and runs the lines of the input on it.
+pub(crate) fn script_on_disk<S: Source, K: Sink, D: Disk, C: Clock>(
+    alloc: Global,
+    input: &mut S,
+    out: &mut K,
+    triggers: D,
+    states: D,
+    clock: &mut C,
+) -> Ended<D>
+    ensures done { RanOnDisk result.status (trail_of result.trail) triggers result.triggers (S.left input.old) (S.left input.new) (K.held out.old) (K.held out.new) (C.readings clock.old) (C.readings clock.new)
+        ⊎ NotOpened result.status (trail_of result.trail) triggers result.triggers (S.left input.old) (S.left input.new) (K.held out.old) (K.held out.new) (C.readings clock.old) (C.readings clock.new) }
+    ensures states { result.states ≡ states }
+    ensures disk { result.status ≡ Status.DiskFault → Rose (D.faults triggers) (D.faults result.triggers) }
+    ensures read { result.status ≡ Status.ReadFault → Rose (S.faults input.old) (S.faults input.new) }
+    ensures write { result.status ≡ Status.WriteFault → Rose (K.faults out.old) (K.faults out.new) }
+{
+    let cluster = match Cluster::mount(alloc, triggers) {
+        Ok(cluster) => cluster,
+        Err((error, triggers)) => return ended(alloc, refusal_of(error), triggers, states),
+    };
+    let mut run = match Run::begin(alloc, cluster, false) {
+        Ok(run) => run,
+        Err(cluster) => return ended(alloc, Status::NoMemory, cluster.into_disk(), states),
+    };
+    let status = run_lines(alloc, input, out, &mut run, clock);
+    let Run {
+        cluster,
+        trail,
+        is_own: _,
+    } = run;
+    Ended {
+        status,
+        triggers: cluster.into_disk(),
+        states,
+        trail: Trail {
+            on_disk: Snapshot::of(&trail),
+            in_memory: Snapshot::of(&Vec::new(alloc)),
+        },
+    }
+}
+
+/// A call that ran no script.
+pub(crate) fn ended<D: Disk>(alloc: Global, status: Status, triggers: D, states: D) -> Ended<D>
+    ensures status { result.status ≡ status }
+    ensures disks { (result.triggers ≡ triggers) × (result.states ≡ states) }
+    ensures trail { trail_of result.trail ≡ [] }
+{
+    Ended {
+        status,
+        triggers,
+        states,
+        trail: Trail {
+            on_disk: Snapshot::of(&Vec::new(alloc)),
+            in_memory: Snapshot::of(&Vec::new(alloc)),
+        },
+    }
+}
+
+// The status of a trigger store that wasn't opened.
+fn refusal_of(error: MountError) -> Status
+    ensures { result ≡ refusal_of error }
+{
+    match error {
+        MountError::Fault => Status::DiskFault,
+        MountError::NotAStore => Status::NotAStore {
+            store: Store::Triggers,
+        },
+        MountError::Damaged { at } => Status::Damaged {
+            store: Store::Triggers,
+            at,
+        },
+        MountError::NoMemory => Status::NoMemory,
+    }
+}

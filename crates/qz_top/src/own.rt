@@ -1,0 +1,67 @@
+//! A script on stores in memory.
+ghost use Rattle.std.specs.Prelude.{◌≡◌, IfSome};
+ghost use Rattle.qz_civil.specs.Causes.{Rose};
+ghost use Rattle.qz_cluster.specs.Seen.{state_of};
+ghost use Rattle.qz_top.specs.Calls.{begun, OwnDone};
+ghost use Rattle.qz_top.specs.Seen.{run_of, states_in};
+ghost use Rattle.qz_top.specs.Trails.{new_cluster};
+
+use crate::Status;
+use crate::runs::Run;
+use crate::scripts::run_lines;
+use qz_cluster::Cluster;
+use qz_disk::MemDisk;
+use qz_io::{Clock, Sink, Source};
+use qz_journal::{STATES, TRIGGERS, create};
+use std::alloc::Global;
+use std::snapshot::Snapshot;
+
+/// How a script in memory ended, and the states that it went through.
+#[derive(Drop)]
+pub(crate) struct OwnEnded {
+    pub(crate) status: Status,
+    pub(crate) trail: Snapshot<Vec<Snapshot<Cluster<MemDisk>>>>,
+}
+
+/// Runs the lines of the input on new stores in memory.
+pub(crate) fn script_in_memory<S: Source, K: Sink, C: Clock>(
+    alloc: Global,
+    input: &mut S,
+    out: &mut K,
+    clock: &mut C,
+) -> OwnEnded
+    ensures done { OwnDone result.status (states_in result.trail.value) (S.left input.old) (S.left input.new) (K.held out.old) (K.held out.new) (C.readings clock.old) (C.readings clock.new) }
+    ensures read { result.status ≡ Status.ReadFault → Rose (S.faults input.old) (S.faults input.new) }
+    ensures write { result.status ≡ Status.WriteFault → Rose (K.faults out.old) (K.faults out.new) }
+{
+    let Some(mut run) = new_run(alloc) else {
+        return OwnEnded {
+            status: Status::NoMemory,
+            trail: Snapshot::of(&Vec::new(alloc)),
+        };
+    };
+    let status = run_lines(alloc, input, out, &mut run, clock);
+    OwnEnded {
+        status,
+        trail: Snapshot::of(&run.trail),
+    }
+}
+
+// A script that begins on new stores. None, where there is no memory for them.
+fn new_run(alloc: Global) -> Option<Run<MemDisk>>
+    ensures { IfSome result (λ run. run_of run ≡ begun true (new_cluster (state_of run.cluster).triggers.faults)) }
+{
+    let cluster = new_stores(alloc)?;
+    Run::begin(alloc, cluster, true).ok()
+}
+
+// An open cluster on new stores.
+fn new_stores(alloc: Global) -> Option<Cluster<MemDisk>>
+    ensures { IfSome result (λ c. state_of c ≡ new_cluster (state_of c).triggers.faults) }
+{
+    let mut triggers = MemDisk::new(alloc);
+    let mut states = MemDisk::new(alloc);
+    create(&mut triggers, TRIGGERS).ok()?;
+    create(&mut states, STATES).ok()?;
+    Cluster::mount(alloc, triggers).ok()
+}
