@@ -78,8 +78,20 @@ impl<D: Disk> Cluster<D> {
         ensures triggers { self.new.triggers ≡ self.old.triggers }
     {
         match reply {
-            StepReply::Ok(Reply::Joined { epoch, executions: _, triggers: _ }) => {
-                put_reserved(&mut rows, MemberRow { node, epoch: *epoch });
+            StepReply::Ok(
+                Reply::Joined {
+                    epoch,
+                    executions: _,
+                    triggers: _,
+                },
+            ) => {
+                put_reserved(
+                    &mut rows,
+                    MemberRow {
+                        node,
+                        epoch: *epoch,
+                    },
+                );
                 self.held = rows;
             }
             StepReply::Fault => self.held = rows,
@@ -98,7 +110,10 @@ impl<D: Disk> Cluster<D> {
             Ok(reply) => Ok(StepReply::Ok(reply)),
             Err(SubmitError::Closed { at: _ }) => Ok(StepReply::Closed),
             Err(SubmitError::Refused(refusal)) => Ok(StepReply::Refused(refusal)),
-            Err(SubmitError::JournalFull { need, room }) => Err(StepEnd::JournalFull { need, room }),
+            Err(SubmitError::JournalFull { need, room }) => Err(StepEnd::JournalFull {
+                need,
+                room,
+            }),
             Err(SubmitError::NoMemory) => Err(StepEnd::NoMemory),
             Err(SubmitError::Fault) => Ok(StepReply::Fault),
         }

@@ -59,9 +59,8 @@ fn failing_disk(alloc: Global) -> Result<FaultDisk<MemDisk>, Fail> {
 #[test]
 fn a_fault_closes_the_store(rt: HostRuntime) -> Result<(), Fail> {
     let alloc = rt.alloc();
-    let Ok(mut cluster) = Cluster::mount(alloc, failing_disk(alloc)?) else {
-        return Err(Fail);
-    };
+    let opened = Cluster::mount(alloc, failing_disk(alloc)?).ok();
+    let mut cluster = opened.expect(&rt, "it opens");
     let first = reason(cluster.step(join(alloc, "A")?, 5));
     let early = reason(cluster.step(fire(alloc, "B")?, 5));
     let refused = reason(cluster.step(fire(alloc, "A")?, 5));

@@ -1,11 +1,13 @@
 //! What the program tells of itself.
 
-pub const VERSION: &str = "qz_sched 0.1.0\n";
+pub const VERSION: &str = "qz_sched 0.2.0\n";
 
-pub const HELP: &str = "usage: qz_sched < LINES
+pub const HELP: &str = "usage: qz_sched < LINES           a script on new stores in memory
+       qz_sched init              new stores in the current folder
+       qz_sched script < LINES    a script on the stores of the current folder
 
-Runs a script on a new trigger store in memory: each line of standard input is one
-JSON object, and each step is answered by one line on standard output.
+Each line of standard input is one JSON object, and each step is answered by one line
+on standard output.
 
   {\"do\":\"add_job\",\"job\":{\"name\":\"report\",\"class\":\"ok\"}}
   {\"do\":\"add_trigger\",\"trigger\":{\"name\":\"t1\",\"job\":\"report\",\"kind\":\"simple\",\"start\":1704067200000}}
@@ -15,11 +17,14 @@ JSON object, and each step is answered by one line on standard output.
   {\"do\":\"complete\",\"node\":\"A\",\"entry\":1}
 
 Times are in milliseconds since 1970-01-01T00:00:00Z. A line may have its own clock
-reading as \"at\". What ends a script early is told on standard error:
+reading as \"at\". The stores are the files qz-triggers.store and qz-states.store; one
+program at a time may work on them. What ends a call early is told on standard error:
 
-  status 1  bad words            status 4  write fault
-  status 2  a bad line           status 9  no memory
-  status 3  read fault
+  status 1  bad words                  status 6   no store, or a damaged one
+  status 2  a bad line                 status 7   the journal is full
+  status 3  read fault                 status 9   no memory
+  status 4  write fault                status 10  the stores exist already
+  status 5  disk fault
 
 --help and --version, as the only word, print this text and the version.
 ";

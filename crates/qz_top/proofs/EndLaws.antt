@@ -56,13 +56,13 @@ all_lines bytes j k lines pending R R' y z b c one taken went =
     ∙ ap (λ b. lines ++ lines_of b) (append-nil (pending ++ went.got))
     ∙ ap (λ l. lines ++ l) went.all
 
-is_open : (closed open : Bool) → closed ≡ not open → closed ≡ false → open ≡ true
-is_open closed true tells no = refl
-is_open closed false tells no = absurd cc
+stands_open : (closed now : Bool) → closed ≡ not now → closed ≡ false → now ≡ true
+stands_open closed true tells isnt = refl
+stands_open closed false tells isnt = let bad : true ≡ false = sym tells ∙ isnt in absurd cc
 
-is_closed : (closed open : Bool) → closed ≡ not open → closed ≡ true → open ≡ false
-is_closed closed false tells yes = refl
-is_closed closed true tells yes = absurd cc
+stands_closed : (closed now : Bool) → closed ≡ not now → closed ≡ true → now ≡ false
+stands_closed closed false tells is = refl
+stands_closed closed true tells is = let bad : false ≡ true = sym tells ∙ is in absurd cc
 
 -- all lines were read
 pub record AllRead (left left' : Option (List ℕ)) (lines : List (List ℕ)) : Type 0 where
@@ -111,7 +111,7 @@ IsRun-finished status.Ok closed lines readings i j k pending R S S' x y z w a b 
         went = ran.did.went;
         idles = Idles-none S';
         full = tt;
-        closed = is_open closed S'.cluster.triggers.is_open tells flushed.0;
+        closed = stands_open closed S'.cluster.triggers.is_open tells flushed.0;
         reads = (reads_all i j k lines pending S S' y z b c upto.one_line upto.taken went ran.did.good (simp length-append low)).ok;
         clocked = exact_readings status.Ok a c _ _ ran.did.count ran.did.told;
         writes = wrote_nothing x z w _ ran.written flushed.1;
@@ -127,7 +127,7 @@ IsRun-finished status.DiskFault closed lines readings i j k pending R S S' x y z
         went = ran.did.went;
         idles = Idles-none S';
         full = tt;
-        closed = is_closed closed S'.cluster.triggers.is_open tells flushed.0;
+        closed = stands_closed closed S'.cluster.triggers.is_open tells flushed.0;
         reads = (reads_all i j k lines pending S S' y z b c upto.one_line upto.taken went ran.did.good (simp length-append low)).closed;
         clocked = exact_readings status.DiskFault a c _ _ ran.did.count ran.did.told;
         writes = wrote_nothing x z w _ ran.written flushed.1;
@@ -183,4 +183,5 @@ pub IsRun-full : (s : Status) (closed : Bool) (lines : List (List ℕ)) (reading
 IsRun-full s closed lines readings i j k pending R S x y z a b m n upto nothing full tells flushed =
     let end = nothing_ahead j k pending S y b nothing.0 nothing.1 nothing.2 in
     let low : length lines + length end.went.lines ≤ LINE_COUNT_LIMIT = rw end.none (omega (arith, full)) in
-    (lines ++ end.went.lines, readings ++ end.went.readings, IsRun-finished s closed lines readings i j k pending R S S x y y z a b b m n upto end.went low tells flushed)
+    let run = IsRun-finished s closed lines readings i j k pending R S S x y y z a b b m n upto end.went low tells flushed in
+    (lines ++ end.went.lines, readings ++ end.went.readings, run.0, run.1)

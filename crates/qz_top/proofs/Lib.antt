@@ -1,6 +1,10 @@
 pub mod EndLaws
 pub mod InputLaws
 pub mod LineLaws
+pub mod OpenedLaws
+pub mod Pieces
+pub mod RunLaws
+pub mod ShownLaws
 pub mod StopLaws
 pub mod TrailLaws
 pub mod TurnLaws

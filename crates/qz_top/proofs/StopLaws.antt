@@ -140,6 +140,7 @@ wrote_part x y z a b c lines readings line R S S' ran part =
 ran_part : (e : LineEnd) (number : ℕ) (lines : List (List ℕ)) (readings : List ℤ) (i j k : Option (List ℕ)) (pending : List ℕ) (R S S' : RunState) (x y z : Option (List ℕ)) (a b c : Option (List ℤ))
     → (e ≡ ends.WriteFault) ⊎ (e ≡ ends.Unanswered) → Upto lines readings i j pending R S x y a b → WrotePartOf j k pending S S' y z b c
     → (all : List (List ℕ)) × (taken : List ℤ) × (replies : List StepReply) × IsRun (status_at e number) R S' i k x z a c all taken replies
+unfolding Did-more
 ran_part e number lines readings i j k pending R S S' x y z a b c (inl is) upto done = subst (λ f. (all : List (List ℕ)) × (taken : List ℤ) × (replies : List StepReply) × IsRun (status_at f number) R S' i k x z a c all taken replies) (sym is)
     (let did = Did-more lines (done.line ∷ []) readings done.part.readings R S S' a b c upto.ran.did done.part.did in (
       lines ++ done.line ∷ [],

@@ -3,9 +3,11 @@ use Rattle.std.proofs.Common.{◌≡◌, ◌≤◌, ℕ, List, [], ◌∷◌, �
 use Rattle.std.specs.List.{AllByRecursion}
 use Rattle.std.proofs.lemmas.List.{append-nil}
 use Rattle.qz_types.specs.declared.steps.StepReply.{StepReply}
+use Rattle.std.specs.Prelude.{None}
+use Rattle.qz_model.specs.History.{new_history}
 use Rattle.qz_model.specs.Script.{TimedStep}
 use Rattle.qz_cluster.specs.Steps.{ClusterState, IsStep, Stays}
-use Rattle.qz_top.specs.Trails.{StepsDone, last_of, IsNoFault, RunState, Went}
+use Rattle.qz_top.specs.Trails.{StepsDone, last_of, is_fault, IsNoFault, RunState, Went, new_cluster}
 use Rattle.qz_top.specs.Turns.{Idles}
 use Rattle.qz_top.proofs.LineLaws.{AllByRecursion-append}
 
@@ -34,6 +36,17 @@ Went-more ts us rs qs R S T p q = record {
   own = q.own ∙ p.own;
   no_fault = λ own. AllByRecursion-append IsNoFault rs qs (p.no_fault own) (q.no_fault (p.own ∙ own));
 }
+
+-- one step, whose state was shown
+pub Went-one : (t : TimedStep) (r : StepReply) (R R' : RunState) → IsStep t r R.cluster R'.cluster → R'.trail ≡ R.trail ++ R'.cluster ∷ []
+    → R'.is_own ≡ R.is_own → (R.is_own ≡ true → is_fault r ≡ false) → Went (t ∷ []) (r ∷ []) R R'
+Went-one t r R R' step trail own no_fault =
+    record { states = R'.cluster ∷ []; done = (step, tt); last = refl; trail = trail; own = own; no_fault = λ is_own. (no_fault is_own, tt) }
+
+-- a cluster on a new store
+pub new_state : (S : ClusterState) → S.triggers.history ≡ new_history 1 → S.triggers.is_open ≡ true → S.triggers.undecided ≡ None → S.held ≡ [] → S ≡ new_cluster S.triggers.faults
+new_state S history is_open undecided held =
+    λ i. record { triggers = record { history = history i; is_open = is_open i; undecided = undecided i; faults = S.triggers.faults }; held = held i }
 
 pub Stays-none : (S : ClusterState) → Stays S S
 Stays-none S = record { triggers = record { history = refl; is_open = refl; undecided = refl; later = omega arith }; held = refl }

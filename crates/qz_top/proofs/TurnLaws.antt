@@ -13,7 +13,7 @@ use Rattle.qz_types.specs.declared.steps.StepReply.{StepReply}
 use Rattle.qz_model.specs.Script.{TimedStep}
 use Rattle.qz_report.specs.Replies.{reply_text}
 use Rattle.qz_top.specs.Trails.{texts, RunState, Went}
-use Rattle.qz_top.specs.Turns.{Did, Ran, DidStep, IsOwn, taken_reading, step_at, Idles, GaveUp, StepFull, StepPart, StepDone, LineDone, RanPart, IsBad, Untouched, line_end}
+use Rattle.qz_top.specs.Turns.{Did, Ran, DidStep, IsOwn, taken_reading, step_at, Idles, GaveUp, StepFull, StepPart, NotAnswered, StepDone, LineDone, RanPart, IsBad, Untouched, line_end}
 use Rattle.qz_top.specs.declared.turns.LineEnd.{LineEnd}
 use Rattle.qz_top.specs.declared.turns.LineEnd.TheVariants as ends
 use Rattle.qz_job_json.specs.declared.lines.LineFault.{LineFault}
@@ -35,10 +35,11 @@ pub Did-none : (R : RunState) (clock : Option (List ℤ)) → Did [] [] R R cloc
 Did-none R clock = record { good = tt; count = refl; told = Tells-nil clock; replies = []; went = Went-none R }
 
 pub Ran-none : (R : RunState) (held : Option (List ℕ)) (clock : Option (List ℤ)) → Ran [] [] R R held held clock clock
+unfolding Did-none
 Ran-none R held clock = record { did = Did-none R clock; written = Appends-nil held }
 
 -- lines are done behind others
-pub Did-more : (xs ys : List (List ℕ)) (rs qs : List ℤ) (R S T : RunState) (a b c : Option (List ℤ))
+unfoldable pub Did-more : (xs ys : List (List ℕ)) (rs qs : List ℤ) (R S T : RunState) (a b c : Option (List ℤ))
     → Did xs rs R S a b → Did ys qs S T b c → Did (xs ++ ys) (rs ++ qs) R T a c
 Did-more xs ys rs qs R S T a b c p q = record {
   good = AllByRecursion-append _ xs ys p.good q.good;
@@ -51,6 +52,7 @@ Did-more xs ys rs qs R S T a b c p q = record {
 
 pub Ran-more : (xs ys : List (List ℕ)) (rs qs : List ℤ) (R S T : RunState) (x y z : Option (List ℕ)) (a b c : Option (List ℤ))
     → Ran xs rs R S x y a b → Ran ys qs S T y z b c → Ran (xs ++ ys) (rs ++ qs) R T x z a c
+unfolding Did-more
 Ran-more xs ys rs qs R S T x y z a b c p q = record {
   did = Did-more xs ys rs qs R S T a b c p.did q.did;
   written = subst (Appends x z) (sym (flat_map-append reply_text p.did.replies q.did.replies)) (Appends-trans x y z _ _ p.written q.written);
@@ -125,6 +127,7 @@ gave_up R held clock = record { idles = Idles-none R; readings = []; one = omega
 -- a part of the reply of a line's step was written
 part_of : (line : List ℕ) (given : Given) (R R' : RunState) (x y : Option (List ℕ)) (a b : Option (List ℤ)) → line_meaning line ≡ Ok (Some given)
     → StepPart given R R' x y a b → RanPart line R R' x y a b
+unfolding Did-one
 part_of line given R R' x y a b e p = record {
   readings = taken_reading given.at p.at;
   did = Did-one line given p.at R R' a b e p.did;
@@ -134,9 +137,51 @@ part_of line given R R' x y a b e p = record {
   written = subst (λ t. Appends x y (take p.count t)) (sym (one_text p.did.reply)) p.written;
 }
 
+at_most_one : (own : Option ℤ) (at : ℤ) → length (taken_reading own at) ≤ 1
+at_most_one None at = omega arith
+at_most_one (Some t) at = omega arith
+
+-- a step without a reply line
+pub StepDone-err : (e : LineEnd) (given : Given) (at : ℤ) (R R' : RunState) (x : Option (List ℕ)) (a b : Option (List ℤ)) → IsOwn given.at at → Tells a b (taken_reading given.at at)
+    → NotAnswered e (step_at given at) R R' → StepDone (Err e) given R R' x x a b
+StepDone-err ends.Unanswered given at R R' x a b own told left = record {
+  at = at;
+  did = record { own = own; told = told; reply = left.0; went = left.1 };
+  count = 0;
+  part = omega arith;
+  written = Appends-nil x;
+}
+StepDone-err ends.NoMemory given at R R' x a b own told left =
+    record { idles = left; readings = taken_reading given.at at; one = at_most_one given.at at; told = told; kept = Appends-nil x }
+StepDone-err (ends.JournalFull need room) given at R R' x a b own told left =
+    record { at = at; own = own; told = told; kept = Appends-nil x; full = left.0; trail = left.1; is_own = left.2 }
+StepDone-err (ends.Bad kind) given at R R' x a b own told left = absurd left
+StepDone-err ends.ReadFault given at R R' x a b own told left = absurd left
+StepDone-err ends.WriteFault given at R R' x a b own told left = absurd left
+
+-- a step whose reply line was written
+pub StepDone-ok : (given : Given) (at : ℤ) (R R' : RunState) (x y : Option (List ℕ)) (a b : Option (List ℤ)) (text : List ℕ) → IsOwn given.at at → Tells a b (taken_reading given.at at)
+    → (reply : StepReply) × Went (step_at given at ∷ []) (reply ∷ []) R R' × (text ≡ reply_text reply) → Appends x y text
+    → (at : ℤ) × (did : DidStep given at R R' a b) × Appends x y (reply_text did.reply)
+StepDone-ok given at R R' x y a b text own told went written =
+    (at, record { own = own; told = told; reply = went.0; went = went.1 }, subst (Appends x y) went.2 written)
+
+-- a step of whose reply line a part was written
+pub StepDone-part : (given : Given) (at : ℤ) (R R' : RunState) (x y : Option (List ℕ)) (a b : Option (List ℤ)) (text : List ℕ) → IsOwn given.at at → Tells a b (taken_reading given.at at)
+    → (reply : StepReply) × Went (step_at given at ∷ []) (reply ∷ []) R R' × (text ≡ reply_text reply) → (n : ℕ) × (n ≤ length text) × Appends x y (take n text)
+    → StepPart given R R' x y a b
+StepDone-part given at R R' x y a b text own told went written = record {
+  at = at;
+  did = record { own = own; told = told; reply = went.0; went = went.1 };
+  count = written.0;
+  part = subst (λ t. written.0 ≤ length t) went.2 written.1;
+  written = subst (λ t. Appends x y (take written.0 t)) went.2 written.2;
+}
+
 -- what became of a line's step became of the line
 pub LineDone-step : (r : Result (Unit {0}) LineEnd) (line : List ℕ) (given : Given) (R R' : RunState) (x y : Option (List ℕ)) (a b : Option (List ℤ))
     → (Ok (Some given) ≡ Err line_fault.NoMemory) ⊎ (Ok (Some given) ≡ line_meaning line) → StepDone r given R R' x y a b → LineDone r line R R' x y a b
+unfolding Did-one
 LineDone-step (Ok u) line given R R' x y a b read done =
     let e = read_meaning (Some given) (line_meaning line) read in (
       taken_reading given.at done.0,
@@ -164,6 +209,11 @@ untouched R held clock = record { same = refl; kept = Appends-nil held; told = T
 bad_done : (fault : LineFault) (line : List ℕ) (R : RunState) (held : Option (List ℕ)) (clock : Option (List ℤ)) → line_meaning line ≡ Err fault
     → IsBad line (kind_of fault) × Untouched R R held held clock clock
 bad_done fault line R held clock e = (record { fault = fault; meaning = e; kind_is = refl }, untouched R held clock)
+
+-- a blank line was read
+pub LineDone-blank : (line : List ℕ) (R : RunState) (held : Option (List ℕ)) (clock : Option (List ℤ))
+    → (◌≡◌ {A = Meaning} (Ok None) (Err line_fault.NoMemory)) ⊎ (Ok None ≡ line_meaning line) → (readings : List ℤ) × Ran (line ∷ []) readings R R held held clock clock
+LineDone-blank line R held clock read = ([], Ran-blank line R held clock (read_meaning None (line_meaning line) read))
 
 -- a line with a fault did nothing
 pub LineDone-fault : (fault : LineFault) (line : List ℕ) (R : RunState) (held : Option (List ℕ)) (clock : Option (List ℤ))

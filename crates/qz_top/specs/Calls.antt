@@ -18,6 +18,7 @@ use Rattle.qz_top.specs.Trails.{RunState, new_cluster}
 use Rattle.qz_top.specs.declared.statuses.Status.{Status}
 use Rattle.qz_top.specs.declared.statuses.Status.TheVariants as status
 use Rattle.qz_top.specs.declared.ended.Trail.{Trail}
+use Rattle.qz_top.specs.declared.ended.Ended.{Ended}
 
 -- the states that a call's script went through
 abbrev pub trail_of : {D : Type 0} {g : Ghosts D} → Trail D g → List ClusterState
@@ -52,7 +53,7 @@ OwnDone s trail left left' held held' clock clock' =
     ⊎ ((s ≡ status.NoMemory) × (trail ≡ []) × Abstained left left' held held' clock clock')
 
 -- The store that stands on the disk was opened, and a script was run on it.
-pub record RanOnDisk {D : Type 0} {g : Ghosts D} (s : Status) (trail : List ClusterState) (triggers triggers' : D)
+pub record RanOnDisk {D : Type 0} {g : Ghosts D} (triggers : D) (e : Ended D g)
     (left left' held held' : Option (List ℕ)) (clock clock' : Option (List ℤ)) : Type 0 where
   pub opened : ClusterState
   pub is_open : opened.triggers.is_open ≡ true
@@ -64,11 +65,19 @@ pub record RanOnDisk {D : Type 0} {g : Ghosts D} (s : Status) (trail : List Clus
   pub lines : List (List ℕ)
   pub readings : List ℤ
   pub replies : List StepReply
-  pub run : IsRun s (begun false opened) behind left left' held held' clock clock' lines readings replies
-  pub trail_is : trail ≡ behind.trail
-  pub faults : g.faults triggers' ≡ behind.cluster.triggers.faults
+  pub run : IsRun e.status (begun false opened) behind left left' held held' clock clock' lines readings replies
+  pub trail_is : trail_of e.trail ≡ behind.trail
+  pub faults : g.faults e.triggers ≡ behind.cluster.triggers.faults
   -- what a crash leaves stands for the history, or for it with the undecided entry
-  pub images : g.honest → (b : List ℕ) → (g.state triggers').IsImage b → MayBe behind.cluster.triggers.history behind.cluster.triggers.undecided b
+  pub images : g.honest → (b : List ℕ) → (g.state e.triggers).IsImage b → MayBe behind.cluster.triggers.history behind.cluster.triggers.undecided b
+
+-- how a call may end that opened no store
+abbrev pub IsOfOpening : Status → Type 0
+IsOfOpening (status.NotAStore store.Triggers) = ⊤
+IsOfOpening (status.Damaged store.Triggers at) = ⊤
+IsOfOpening status.DiskFault = ⊤
+IsOfOpening status.NoMemory = ⊤
+IsOfOpening s = ⊥
 
 -- why no store was opened
 abbrev pub RefusedBy : Status → List ℕ → Type 0
@@ -76,14 +85,15 @@ RefusedBy (status.NotAStore store.Triggers) bytes = IsRefused bytes mount.NotASt
 RefusedBy (status.Damaged store.Triggers at) bytes = IsRefused bytes (mount.Damaged at)
 RefusedBy status.DiskFault bytes = ⊤
 RefusedBy status.NoMemory bytes = ⊤
-RefusedBy s bytes = ⊥
+RefusedBy s bytes = IsOfOpening s
 
 -- No store was opened, and nothing was done.
-pub record NotOpened {D : Type 0} {g : Ghosts D} (s : Status) (trail : List ClusterState) (triggers triggers' : D)
+pub record NotOpened {D : Type 0} {g : Ghosts D} (triggers : D) (e : Ended D g)
     (left left' held held' : Option (List ℕ)) (clock clock' : Option (List ℤ)) : Type 0 where
-  pub none : trail ≡ []
-  pub refused : g.honest → RefusedBy s (g.state triggers).content
-  pub same : g.honest → (g.state triggers').content ≡ (g.state triggers).content
+  pub called : IsOfOpening e.status
+  pub none : trail_of e.trail ≡ []
+  pub refused : g.honest → RefusedBy e.status (g.state triggers).content
+  pub same : g.honest → (g.state e.triggers).content ≡ (g.state triggers).content
   pub abstained : Abstained left left' held held' clock clock'
 
 -- the status of a trigger store that wasn't opened

@@ -59,6 +59,15 @@ IsInit (status.NotAStore store.States) t t' s s' = AreSwapped t t' s s'
 IsInit status.DiskFault t t' s s' = ⊤
 IsInit s t t' u u' = ⊥
 
+-- how an `init` may end
+abbrev pub IsOfInit : Status → Type 0
+IsOfInit status.Ok = ⊤
+IsOfInit status.WriteFault = ⊤
+IsOfInit status.DiskFault = ⊤
+IsOfInit (status.NotAStore store) = ⊤
+IsOfInit status.Exists = ⊤
+IsOfInit s = ⊥
+
 -- `created`, or a part of it where the output failed
 abbrev pub SaysMade : Status → Option (List ℕ) → Option (List ℕ) → Type 0
 SaysMade status.Ok held held' = Appends held held' (codes "created\n")

@@ -36,6 +36,12 @@ abbrev pub store_text : Store → List ℕ
 store_text Triggers = codes "triggers"
 store_text States = codes "states"
 
+abbrev pub need_text : ℕ → List ℕ
+need_text need = codes "qz: journal full need " ++ decimal need
+
+abbrev pub room_text : ℕ → List ℕ
+room_text room = codes " room " ++ decimal room ++ codes "\n"
+
 -- one line, and nothing where all went well
 abbrev pub error_text : Status → List ℕ
 error_text status.Ok = []
@@ -46,7 +52,7 @@ error_text status.WriteFault = codes "qz: write fault\n"
 error_text status.DiskFault = codes "qz: disk fault\n"
 error_text (status.NotAStore store) = codes "qz: " ++ store_text store ++ codes " not a store\n"
 error_text (status.Damaged store at) = codes "qz: " ++ store_text store ++ codes " damaged at " ++ decimal at ++ codes "\n"
-error_text (status.JournalFull need room) = codes "qz: journal full need " ++ decimal need ++ codes " room " ++ decimal room ++ codes "\n"
+error_text (status.JournalFull need room) = need_text need ++ room_text room
 error_text status.NoMemory = codes "qz: no memory\n"
 error_text status.Exists = codes "qz: store exists\n"
 

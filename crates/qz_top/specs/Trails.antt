@@ -1,5 +1,5 @@
 -- Steps that were done one after another, and the states that they went through.
-use Rattle.std.specs.Prelude.{⊤, ◌≡◌, ℕ, true, Bool, List, [], ◌∷◌, ◌++◌, None}
+use Rattle.std.specs.Prelude.{⊤, ◌≡◌, ℕ, true, false, Bool, List, [], ◌∷◌, ◌++◌, None}
 use Rattle.std.specs.List.{AllByRecursion, flat_map}
 use Rattle.qz_types.specs.declared.steps.StepReply.{StepReply}
 use Rattle.qz_types.specs.declared.steps.StepReply.TheVariants as reply
@@ -23,12 +23,15 @@ last_of S (S' ∷ states) = last_of S' states
 abbrev pub texts : List StepReply → List ℕ
 texts replies = flat_map reply_text replies
 
+abbrev pub is_fault : StepReply → Bool
+is_fault (reply.Ok r) = false
+is_fault (reply.Refused refusal) = false
+is_fault reply.Fault = true
+is_fault reply.Closed = false
+is_fault reply.Stopped = false
+
 abbrev pub IsNoFault : StepReply → Type 0
-IsNoFault (reply.Ok r) = ⊤
-IsNoFault (reply.Refused refusal) = ⊤
-IsNoFault reply.Fault = ⊥
-IsNoFault reply.Closed = ⊤
-IsNoFault reply.Stopped = ⊤
+IsNoFault r = is_fault r ≡ false
 
 -- A script in progress: the cluster, the states that it went through with the one that it began with, and whether its
 -- disk is the call's own.

@@ -83,6 +83,15 @@ NotDone ends.ReadFault t R R' = ⊥
 NotDone ends.WriteFault t R R' = ⊥
 NotDone ends.Unanswered t R R' = ⊥
 
+-- what is left where a step has no reply line: the step was done, or it wasn't
+abbrev pub NotAnswered : LineEnd → TimedStep → RunState → RunState → Type 0
+NotAnswered ends.Unanswered t R R' = (reply : StepReply) × Went (t ∷ []) (reply ∷ []) R R'
+NotAnswered (ends.JournalFull need room) t R R' = NotDone (ends.JournalFull need room) t R R'
+NotAnswered ends.NoMemory t R R' = Idles R R'
+NotAnswered (ends.Bad kind) t R R' = ⊥
+NotAnswered ends.ReadFault t R R' = ⊥
+NotAnswered ends.WriteFault t R R' = ⊥
+
 -- the step was done, and a part of its reply was written, none of it or all of it
 pub record StepPart (given : Given) (R R' : RunState) (held held' : Option (List ℕ)) (clock clock' : Option (List ℤ)) : Type 0 where
   pub at : ℤ

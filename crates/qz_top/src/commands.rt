@@ -51,8 +51,8 @@ pub fn command<S: Source, K: Sink, E: Sink, D: Disk, C: Clock>(
 
     // `script` opens the store, if the bytes on the disk are one, and does the same along its history.
     ensures script { wish_of words.now ≡ Ok wish.Script
-        → RanOnDisk result.status (trail_of result.trail) triggers result.triggers (S.left input.old) (S.left input.new) (K.held out.old) (K.held out.new) (C.readings clock.old) (C.readings clock.new)
-        ⊎ NotOpened result.status (trail_of result.trail) triggers result.triggers (S.left input.old) (S.left input.new) (K.held out.old) (K.held out.new) (C.readings clock.old) (C.readings clock.new) }
+        → RanOnDisk triggers result (S.left input.old) (S.left input.new) (K.held out.old) (K.held out.new) (C.readings clock.old) (C.readings clock.new)
+        ⊎ NotOpened triggers result (S.left input.old) (S.left input.new) (K.held out.old) (K.held out.new) (C.readings clock.old) (C.readings clock.new) }
     ensures script_states { wish_of words.now ≡ Ok wish.Script → result.states ≡ states }
 
     ensures init { wish_of words.now ≡ Ok wish.Init → D.honest → IsInit result.status (D.state triggers) (D.state result.triggers) (D.state states) (D.state result.states) }
@@ -90,8 +90,8 @@ fn work<S: Source, K: Sink, D: Disk, C: Clock>(
         → OwnDone result.status (trail_of result.trail) (S.left input.old) (S.left input.new) (K.held out.old) (K.held out.new) (C.readings clock.old) (C.readings clock.new) }
     ensures own_disks { wish_of words.now ≡ Ok wish.Own → (result.triggers ≡ triggers) × (result.states ≡ states) }
     ensures script { wish_of words.now ≡ Ok wish.Script
-        → RanOnDisk result.status (trail_of result.trail) triggers result.triggers (S.left input.old) (S.left input.new) (K.held out.old) (K.held out.new) (C.readings clock.old) (C.readings clock.new)
-        ⊎ NotOpened result.status (trail_of result.trail) triggers result.triggers (S.left input.old) (S.left input.new) (K.held out.old) (K.held out.new) (C.readings clock.old) (C.readings clock.new) }
+        → RanOnDisk triggers result (S.left input.old) (S.left input.new) (K.held out.old) (K.held out.new) (C.readings clock.old) (C.readings clock.new)
+        ⊎ NotOpened triggers result (S.left input.old) (S.left input.new) (K.held out.old) (K.held out.new) (C.readings clock.old) (C.readings clock.new) }
     ensures script_states { wish_of words.now ≡ Ok wish.Script → result.states ≡ states }
     ensures init { wish_of words.now ≡ Ok wish.Init → D.honest → IsInit result.status (D.state triggers) (D.state result.triggers) (D.state states) (D.state result.states) }
     ensures init_says { wish_of words.now ≡ Ok wish.Init → SaysMade result.status (K.held out.old) (K.held out.new) }

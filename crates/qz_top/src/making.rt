@@ -1,7 +1,7 @@
 //! `init`: new stores on the disks.
 ghost use Rattle.std.specs.Prelude.{◌≡◌, ◌⊎◌, ◌≤◌, Err};
 ghost use Rattle.qz_civil.specs.Causes.{Rose};
-ghost use Rattle.qz_top.specs.Making.{Makes, IsInit, SaysMade};
+ghost use Rattle.qz_top.specs.Making.{Makes, IsInit, IsOfInit, SaysMade};
 
 use crate::Status;
 use qz_disk::Disk;
@@ -20,6 +20,7 @@ pub(crate) enum Unmade {
 /// Makes the stores on the disks that don't begin with their header, the trigger store first, and says so.
 pub(crate) fn init<K: Sink, D: Disk>(out: &mut K, triggers: &mut D, states: &mut D) -> Status
     ensures told { D.honest → IsInit result (D.state triggers.old) (D.state triggers.new) (D.state states.old) (D.state states.new) }
+    ensures called { IsOfInit result }
     ensures written { SaysMade result (K.held out.old) (K.held out.new) }
     ensures disk { result ≡ Status.DiskFault → Rose (D.faults triggers.old) (D.faults triggers.new) ⊎ Rose (D.faults states.old) (D.faults states.new) }
     ensures write { result ≡ Status.WriteFault → Rose (K.faults out.old) (K.faults out.new) }

@@ -3,10 +3,10 @@ ghost use Rattle.std.specs.Prelude.{◌≡◌, ◌⊎◌, []};
 ghost use Rattle.qz_civil.specs.Causes.{Rose};
 ghost use Rattle.qz_top.specs.Calls.{RanOnDisk, NotOpened, trail_of, refusal_of};
 
+use crate::Status;
 use crate::ended::{Ended, Trail};
 use crate::runs::Run;
 use crate::scripts::run_lines;
-use crate::Status;
 use qz_cluster::{Cluster, MountError};
 use qz_disk::Disk;
 use qz_io::{Clock, Sink, Source};
@@ -23,8 +23,8 @@ pub(crate) fn script_on_disk<S: Source, K: Sink, D: Disk, C: Clock>(
     states: D,
     clock: &mut C,
 ) -> Ended<D>
-    ensures done { RanOnDisk result.status (trail_of result.trail) triggers result.triggers (S.left input.old) (S.left input.new) (K.held out.old) (K.held out.new) (C.readings clock.old) (C.readings clock.new)
-        ⊎ NotOpened result.status (trail_of result.trail) triggers result.triggers (S.left input.old) (S.left input.new) (K.held out.old) (K.held out.new) (C.readings clock.old) (C.readings clock.new) }
+    ensures done { RanOnDisk triggers result (S.left input.old) (S.left input.new) (K.held out.old) (K.held out.new) (C.readings clock.old) (C.readings clock.new)
+        ⊎ NotOpened triggers result (S.left input.old) (S.left input.new) (K.held out.old) (K.held out.new) (C.readings clock.old) (C.readings clock.new) }
     ensures states { result.states ≡ states }
     ensures disk { result.status ≡ Status.DiskFault → Rose (D.faults triggers) (D.faults result.triggers) }
     ensures read { result.status ≡ Status.ReadFault → Rose (S.faults input.old) (S.faults input.new) }

@@ -1,5 +1,5 @@
 //! A script on stores in memory.
-ghost use Rattle.std.specs.Prelude.{◌≡◌, IfSome};
+ghost use Rattle.std.specs.Prelude.{◌≡◌, IfSome, true};
 ghost use Rattle.qz_civil.specs.Causes.{Rose};
 ghost use Rattle.qz_cluster.specs.Seen.{state_of};
 ghost use Rattle.qz_top.specs.Calls.{begun, OwnDone};
@@ -41,10 +41,9 @@ pub(crate) fn script_in_memory<S: Source, K: Sink, C: Clock>(
         };
     };
     let status = run_lines(alloc, input, out, &mut run, clock);
-    OwnEnded {
-        status,
-        trail: Snapshot::of(&run.trail),
-    }
+    let trail = Snapshot::of(&run.trail);
+    let_go(run);
+    OwnEnded { status, trail }
 }
 
 // A script that begins on new stores. None, where there is no memory for them.
@@ -52,7 +51,13 @@ fn new_run(alloc: Global) -> Option<Run<MemDisk>>
     ensures { IfSome result (λ run. run_of run ≡ begun true (new_cluster (state_of run.cluster).triggers.faults)) }
 {
     let cluster = new_stores(alloc)?;
-    Run::begin(alloc, cluster, true).ok()
+    match Run::begin(alloc, cluster, true) {
+        Ok(run) => Some(run),
+        Err(cluster) => {
+            let_go(cluster);
+            None
+        }
+    }
 }
 
 // An open cluster on new stores.
@@ -61,7 +66,19 @@ fn new_stores(alloc: Global) -> Option<Cluster<MemDisk>>
 {
     let mut triggers = MemDisk::new(alloc);
     let mut states = MemDisk::new(alloc);
-    create(&mut triggers, TRIGGERS).ok()?;
-    create(&mut states, STATES).ok()?;
-    Cluster::mount(alloc, triggers).ok()
+    match create(&mut states, STATES) {
+        Ok(()) => {}
+        Err(_) => return None,
+    }
+    match create(&mut triggers, TRIGGERS) {
+        Ok(()) => {}
+        Err(_) => return None,
+    }
+    match Cluster::mount(alloc, triggers) {
+        Ok(cluster) => Some(cluster),
+        Err(_) => None,
+    }
 }
+
+// Lets a value go. The cases of its drop are looked at here and nowhere else.
+fn let_go<T: Drop>(_value: T) {}

@@ -2,7 +2,7 @@
 ghost use Rattle.std.specs.Prelude.{◌≡◌, OnOk};
 ghost use Rattle.std.specs.Io.KnownBytes.{Appends};
 ghost use Rattle.qz_civil.specs.Causes.{HasCause};
-ghost use Rattle.qz_top.specs.Statuses.{kind_text, store_text, error_text, Reported};
+ghost use Rattle.qz_top.specs.Statuses.{kind_text, store_text, need_text, room_text, error_text, Reported};
 
 use crate::{BadKind, Status};
 use itoa::Buffer;
@@ -27,7 +27,7 @@ fn write_error<E: Sink>(status: Status, err: &mut E) -> Result<(), Failed>
         Status::ReadFault => write_all(err, b"qz: read fault\n"),
         Status::WriteFault => write_all(err, b"qz: write fault\n"),
         Status::DiskFault => write_all(err, b"qz: disk fault\n"),
-        Status::NotAStore { store } => write_not_a_store(store, err),
+        Status::NotAStore { store } => write_all(err, not_a_store(store).as_bytes()),
         Status::Damaged { store, at } => write_damaged(store, at, err),
         Status::JournalFull { need, room } => write_full(need, room, err),
         Status::NoMemory => write_all(err, b"qz: no memory\n"),
@@ -35,13 +35,13 @@ fn write_error<E: Sink>(status: Status, err: &mut E) -> Result<(), Failed>
     }
 }
 
-fn write_not_a_store<E: Sink>(store: Store, err: &mut E) -> Result<(), Failed>
-    ensures ok { OnOk result (Appends (E.held err.old) (E.held err.new) (error_text (Status.NotAStore store))) }
-    ensures cause { HasCause (E.faults err.old) (E.faults err.new) result }
+fn not_a_store(store: Store) -> &'static str
+    ensures { result.now ≡ error_text (Status.NotAStore store) }
 {
-    write_all(err, b"qz: ")?;
-    write_all(err, name_of(store).as_bytes())?;
-    write_all(err, b" not a store\n")
+    match store {
+        Store::Triggers => "qz: triggers not a store\n",
+        Store::States => "qz: states not a store\n",
+    }
 }
 
 fn write_damaged<E: Sink>(store: Store, at: u64, err: &mut E) -> Result<(), Failed>
@@ -60,9 +60,24 @@ fn write_full<E: Sink>(need: u64, room: u64, err: &mut E) -> Result<(), Failed>
     ensures ok { OnOk result (Appends (E.held err.old) (E.held err.new) (error_text (Status.JournalFull need room))) }
     ensures cause { HasCause (E.faults err.old) (E.faults err.new) result }
 {
+    write_need(need, err)?;
+    write_room(room, err)
+}
+
+fn write_need<E: Sink>(need: u64, err: &mut E) -> Result<(), Failed>
+    ensures ok { OnOk result (Appends (E.held err.old) (E.held err.new) (need_text need)) }
+    ensures cause { HasCause (E.faults err.old) (E.faults err.new) result }
+{
     let mut buffer = Buffer::new();
     write_all(err, b"qz: journal full need ")?;
-    write_all(err, buffer.format(need).as_bytes())?;
+    write_all(err, buffer.format(need).as_bytes())
+}
+
+fn write_room<E: Sink>(room: u64, err: &mut E) -> Result<(), Failed>
+    ensures ok { OnOk result (Appends (E.held err.old) (E.held err.new) (room_text room)) }
+    ensures cause { HasCause (E.faults err.old) (E.faults err.new) result }
+{
+    let mut buffer = Buffer::new();
     write_all(err, b" room ")?;
     write_all(err, buffer.format(room).as_bytes())?;
     write_all(err, b"\n")

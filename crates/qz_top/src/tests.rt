@@ -1,7 +1,8 @@
 //! Worked examples through the top call, over objects in memory.
-use crate::{BadKind, Status, WordFault, command};
+use crate::{BadKind, Ended, Status, WordFault, command};
+use qz_disk::{Disk, FaultDisk, MemDisk};
 use qz_io::{FaultSink, FaultSource, ListClock, MemSink, MemSource};
-use qz_types::{List, Text};
+use qz_types::{List, Store, Text};
 use std::alloc::{AllocError, Global};
 use std::process::Abort;
 use std::test::Fail;
@@ -44,6 +45,44 @@ const EARLY_REPLIES: &str =
     "ok\nok next 1704067200000\njoined 1 executions 0 triggers 0\nacquired 1 DEFAULT/t1 1704067200000
 refused 19 next 1704067200000\nfired 1 scheduled 1704067200000 at 1704067200000 next none\n";
 
+// A call with one word, or with none, and what it wrote.
+#[derive(Drop)]
+struct Called<D: Disk> {
+    ended: Ended<D>,
+    out: MemSink,
+    err: MemSink,
+}
+
+fn call<D: Disk>(
+    alloc: Global,
+    word: &str,
+    script: &str,
+    triggers: D,
+    states: D,
+) -> Result<Called<D>, Fail> {
+    let mut words = Vec::new(alloc);
+    if !word.is_empty() {
+        words.push(Text::from_str(alloc, word)?)?;
+    }
+    let mut input = MemSource::new(bytes_of(alloc, script)?);
+    let mut out = MemSink::new(alloc);
+    let mut err = MemSink::new(alloc);
+    let mut clock = clock(alloc)?;
+    let ended = command(
+        alloc, &words, &mut input, &mut out, &mut err, triggers, states, &mut clock,
+    );
+    Ok(Called { ended, out, err })
+}
+
+impl<D: Disk> Called<D> {
+    fn is(&self, replies: &str, error: &str, status: Status) -> bool {
+        self.out.bytes() == replies.as_bytes()
+            && self.err.bytes() == error.as_bytes()
+            && self.ended.status == status
+    }
+}
+
+// A call without words.
 fn check<R: Abort>(
     rt: &R,
     alloc: Global,
@@ -52,20 +91,8 @@ fn check<R: Abort>(
     error: &str,
     status: Status,
 ) -> Result<(), Fail> {
-    let mut input = MemSource::new(bytes_of(alloc, script)?);
-    let mut out = MemSink::new(alloc);
-    let mut err = MemSink::new(alloc);
-    let ended = command(
-        alloc,
-        &[],
-        &mut input,
-        &mut out,
-        &mut err,
-        &mut clock(alloc)?,
-    );
-    assert!(rt; out.bytes() == replies.as_bytes(), "replies of {script}");
-    assert!(rt; err.bytes() == error.as_bytes(), "error of {script}");
-    assert!(rt; ended == status, "status of {script}");
+    let call = call(alloc, "", script, MemDisk::new(alloc), MemDisk::new(alloc))?;
+    assert!(rt; call.is(replies, error, status), "a call on {script}");
     Ok(())
 }
 
@@ -134,29 +161,44 @@ fn faults_keep_what_was_answered(rt: HostRuntime) -> Result<(), Fail> {
     let mut input = FaultSource::new(bytes_of(alloc, SIX)?, numbers(alloc, &[2])?);
     let mut out = MemSink::new(alloc);
     let mut err = MemSink::new(alloc);
+    let mut clock = clock(alloc)?;
+    let (triggers, states) = (MemDisk::new(alloc), MemDisk::new(alloc));
     let status = command(
         alloc,
         &[],
         &mut input,
         &mut out,
         &mut err,
-        &mut clock(alloc)?,
-    );
+        triggers,
+        states,
+        &mut clock,
+    )
+    .status;
     assert!(rt; status == Status::ReadFault);
     assert!(rt; out.bytes() == SIX_REPLIES.as_bytes());
     assert!(rt; err.bytes() == "qz: read fault\n".as_bytes());
+    Ok(())
+}
 
+#[test]
+fn a_failed_output_holds_the_replies_before(rt: HostRuntime) -> Result<(), Fail> {
+    let alloc = rt.alloc();
     let mut input = MemSource::new(bytes_of(alloc, SIX)?);
     let mut out = FaultSink::new(alloc, numbers(alloc, &[2])?);
     let mut err = MemSink::new(alloc);
+    let mut clock = clock(alloc)?;
+    let (triggers, states) = (MemDisk::new(alloc), MemDisk::new(alloc));
     let status = command(
         alloc,
         &[],
         &mut input,
         &mut out,
         &mut err,
-        &mut clock(alloc)?,
-    );
+        triggers,
+        states,
+        &mut clock,
+    )
+    .status;
     assert!(rt; status == Status::WriteFault);
     assert!(rt; out.bytes() == "ok\n".as_bytes());
     assert!(rt; err.bytes() == "qz: write fault\n".as_bytes());
@@ -166,22 +208,120 @@ fn faults_keep_what_was_answered(rt: HostRuntime) -> Result<(), Fail> {
 #[test]
 fn words_are_refused(rt: HostRuntime) -> Result<(), Fail> {
     let alloc = rt.alloc();
-    let mut input = MemSource::new(bytes_of(alloc, SIX)?);
-    let mut out = MemSink::new(alloc);
-    let mut err = MemSink::new(alloc);
-    let words = [Text::from_str(alloc, "fly")?];
-    let status = command(
-        alloc,
-        &words,
-        &mut input,
-        &mut out,
-        &mut err,
-        &mut clock(alloc)?,
-    );
     let fault = WordFault::UnknownCommand;
-    assert!(rt; status == Status::BadWords { fault });
-    assert!(rt; out.bytes().is_empty());
-    assert!(rt; err.bytes() == "qz: bad words\n".as_bytes());
-    assert!(rt; status.exit_number() == 1);
+    let (triggers, states) = (MemDisk::new(alloc), MemDisk::new(alloc));
+    let fly = call(alloc, "fly", SIX, triggers, states)?;
+    assert!(rt; fly.is("", "qz: bad words\n", Status::BadWords { fault }));
+    assert!(rt; fly.ended.status.exit_number() == 1);
+    Ok(())
+}
+
+const THREE_REPLIES: &str = "ok\nok next 1704067200000\njoined 1 executions 0 triggers 0\n";
+
+const THREE: &str = r#"{"do":"add_job","job":{"name":"report","class":"ok"}}
+{"do":"add_trigger","trigger":{"name":"t1","job":"report","kind":"simple","start":1704067200000}}
+{"do":"join","node":"A"}
+"#;
+
+// The disks of new stores.
+fn made<R: Abort>(rt: &R, alloc: Global) -> Result<(MemDisk, MemDisk), Fail> {
+    let init = call(alloc, "init", "", MemDisk::new(alloc), MemDisk::new(alloc))?;
+    assert!(rt; init.is("created\n", "", Status::Ok));
+    let Called {
+        ended,
+        out: _,
+        err: _,
+    } = init;
+    let Ended {
+        status: _,
+        triggers,
+        states,
+        trail: _,
+    } = ended;
+    Ok((triggers, states))
+}
+
+#[test]
+fn stores_are_made_once(rt: HostRuntime) -> Result<(), Fail> {
+    let alloc = rt.alloc();
+    let (triggers, states) = made(&rt, alloc)?;
+    let again = call(alloc, "init", "", triggers, states)?;
+    assert!(rt; again.is("", "qz: store exists\n", Status::Exists));
+    Ok(())
+}
+
+#[test]
+fn a_history_goes_on(rt: HostRuntime) -> Result<(), Fail> {
+    let alloc = rt.alloc();
+    let (triggers, states) = made(&rt, alloc)?;
+    let first = call(alloc, "script", THREE, triggers, states)?;
+    assert!(rt; first.is(THREE_REPLIES, "", Status::Ok));
+    let Called {
+        ended,
+        out: _,
+        err: _,
+    } = first;
+    let Ended {
+        status: _,
+        triggers,
+        states,
+        trail: _,
+    } = ended;
+    let fire =
+        "{\"do\":\"fire\",\"node\":\"A\",\"entry\":1}\n{\"do\":\"add_job\",\"job\":{\"name\":\"report\",\"class\":\"ok\"}}\n";
+    let second = call(alloc, "script", fire, triggers, states)?;
+    assert!(rt; second.is("stopped\nrefused 0\n", "", Status::Ok));
+    Ok(())
+}
+
+#[test]
+fn an_empty_script_does_nothing(rt: HostRuntime) -> Result<(), Fail> {
+    let alloc = rt.alloc();
+    let (triggers, states) = made(&rt, alloc)?;
+    assert!(rt; call(alloc, "script", "", triggers, states)?.is("", "", Status::Ok));
+    Ok(())
+}
+
+#[test]
+fn what_is_no_store_is_not_opened(rt: HostRuntime) -> Result<(), Fail> {
+    let alloc = rt.alloc();
+    let none = call(
+        alloc,
+        "script",
+        THREE,
+        MemDisk::new(alloc),
+        MemDisk::new(alloc),
+    )?;
+    let store = Store::Triggers;
+    assert!(rt;
+        none.is(
+            "",
+            "qz: triggers not a store\n",
+            Status::NotAStore { store }
+        )
+    );
+    let bytes = b"QZ23\x01T\0\0\0\0\0\0\0\0\0\0\xa5\0\0\0\x10\x01\x02\x03";
+    let broken = List::from_vec(Vec::from_slice(alloc, bytes)?);
+    let disk = MemDisk::with_bytes(alloc, broken);
+    let damaged = call(alloc, "script", THREE, disk, MemDisk::new(alloc))?;
+    assert!(rt;
+        damaged.is(
+            "",
+            "qz: triggers damaged at 16\n",
+            Status::Damaged { store, at: 16 }
+        )
+    );
+    Ok(())
+}
+
+#[test]
+fn a_disk_that_fails_closes_the_store(rt: HostRuntime) -> Result<(), Fail> {
+    let alloc = rt.alloc();
+    let (triggers, states) = made(&rt, alloc)?;
+    // the first call of the second commit, behind three of the opening and four of the first commit
+    let disk = FaultDisk::new(triggers, numbers(alloc, &[8])?);
+    let other = FaultDisk::new(states, List::new(alloc));
+    let failed = call(alloc, "script", THREE, disk, other)?;
+    assert!(rt; failed.is("ok\nfault\nclosed\n", "qz: disk fault\n", Status::DiskFault));
     Ok(())
 }

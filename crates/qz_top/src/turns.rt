@@ -3,13 +3,14 @@ ghost use Rattle.std.specs.Prelude.{◌≡◌, ◌⊎◌, ◌≤◌, ◌<◌, �
 ghost use Rattle.qz_civil.specs.Causes.{Rose};
 ghost use Rattle.qz_io.specs.Clocks.{Tells};
 ghost use Rattle.qz_types.specs.Steps.{is_step};
+ghost use Rattle.qz_types.specs.declared.steps.StepReply.{StepReply as Reply};
 ghost use Rattle.qz_report.specs.Replies.{reply_text};
 ghost use Rattle.qz_cluster.specs.Steps.{IsStep, IsCutShort};
 ghost use Rattle.qz_cluster.specs.Seen.{state_of};
 ghost use Rattle.qz_top.specs.Lines.{line_meaning};
 ghost use Rattle.qz_top.specs.Seen.{run_of};
-ghost use Rattle.qz_top.specs.Trails.{Went, IsNoFault};
-ghost use Rattle.qz_top.specs.Turns.{IsOwn, taken_reading, line_end, StepDone, LineDone, NotDone};
+ghost use Rattle.qz_top.specs.Trails.{Went, is_fault};
+ghost use Rattle.qz_top.specs.Turns.{IsOwn, taken_reading, line_end, StepDone, LineDone, NotDone, NotAnswered};
 
 use crate::BadKind;
 use crate::runs::Run;
@@ -18,7 +19,7 @@ use qz_disk::Disk;
 use qz_io::{Clock, Sink, write_all};
 use qz_job_json::{Given, LineFault, read_step};
 use qz_report::reply_line;
-use qz_types::{Step, StepReply};
+use qz_types::{NoMemory, Step, StepReply, Text};
 use std::alloc::Global;
 use std::snapshot::Snapshot;
 
@@ -93,14 +94,41 @@ fn do_step<K: Sink, D: Disk, C: Clock>(
 {
     let Given { at, step } = given;
     let at = reading_of(at, clock);
-    let reply = answer(step, at, run)?;
-    let Ok(text) = reply_line(alloc, &reply) else {
-        return Err(LineEnd::Unanswered);
+    let text = match answer_text(alloc, step, at, run) {
+        Ok(text) => text,
+        Err(end) => return Err(end),
     };
     match write_all(out, text.as_str().as_bytes()) {
         Ok(()) => Ok(()),
         Err(_) => Err(LineEnd::WriteFault),
     }
+}
+
+/// Does a step, and gives its reply line.
+fn answer_text<D: Disk>(
+    alloc: Global,
+    step: Step,
+    at: i64,
+    run: &mut Run<D>,
+) -> Result<Text, LineEnd>
+    requires { IsTrue (is_step step) }
+    ensures ok { IfOk result (λ text. (reply : Reply) × Went (record { step = step; at = at } ∷ []) (reply ∷ []) (run_of run.old) (run_of run.new) × (text ≡ reply_text reply)) }
+    ensures err { IfErr result (λ e. NotAnswered e (record { step = step; at = at }) (run_of run.old) (run_of run.new)) }
+{
+    match answer(step, at, run) {
+        Ok(reply) => match line_of(alloc, reply) {
+            Ok(text) => Ok(text),
+            Err(_) => Err(LineEnd::Unanswered),
+        },
+        Err(end) => Err(end),
+    }
+}
+
+/// The line of a reply, which is let go.
+fn line_of(alloc: Global, reply: StepReply) -> Result<Text, NoMemory>
+    ensures { IfOk result (λ text. text ≡ reply_text reply) }
+{
+    reply_line(alloc, &reply)
 }
 
 /// Does a step, and shows the state behind it.
@@ -113,13 +141,24 @@ fn answer<D: Disk>(step: Step, at: i64, run: &mut Run<D>) -> Result<StepReply, L
         return Err(LineEnd::NoMemory);
     }
     match run.cluster.step(step, at) {
-        Ok(StepReply::Fault) if run.is_own => Err(LineEnd::NoMemory),
         Ok(reply) => {
+            if run.is_own && is_fault(&reply) {
+                return Err(LineEnd::NoMemory);
+            }
             run.trail.push_reserved(Snapshot::of(&run.cluster));
             Ok(reply)
         }
         Err(StepEnd::JournalFull { need, room }) => Err(LineEnd::JournalFull { need, room }),
         Err(StepEnd::NoMemory) => Err(LineEnd::NoMemory),
+    }
+}
+
+fn is_fault(reply: &StepReply) -> bool
+    ensures { result ≡ is_fault reply.now }
+{
+    match reply {
+        StepReply::Fault => true,
+        StepReply::Ok(_) | StepReply::Refused(_) | StepReply::Closed | StepReply::Stopped => false,
     }
 }
 

@@ -1,6 +1,6 @@
 //! The words of the command line.
 ghost use Rattle.std.specs.Prelude.{◌≡◌};
-ghost use Rattle.qz_top.specs.Wishes.{wish_of};
+ghost use Rattle.qz_top.specs.Wishes.{alone, wish_of};
 
 use crate::WordFault;
 use qz_types::Text;

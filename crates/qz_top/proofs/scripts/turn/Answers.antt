@@ -17,7 +17,7 @@ returns-in-Err-do_line-2-clause-done g c =
     (rw c.line-in-Ok-Rest.ensures at c.in-Err-do_line-2.ensures.done)
 
 pub returns-in-Ok-TooLong-clause-done : goal.returns-in-Ok-TooLong-clause-done
-returns-in-Ok-TooLong-clause-done g c = MetBad-long _ _ _ _ _ _ (rw c.in-Ok-TooLong.field-0-is at c.in-Ok-TooLong.ensures.seen)
+returns-in-Ok-TooLong-clause-done g c = MetBad-long _ _ _ _ _ _ _ (rw c.in-Ok-TooLong.field-0-is at c.in-Ok-TooLong.ensures.seen)
 
 pub returns-in-Ok-End-clause-done : goal.returns-in-Ok-End-clause-done
 returns-in-Ok-End-clause-done g c = WentToEnd-end _ _ _ _ _ _ _ (rw c.in-Ok-End.field-0-is at c.in-Ok-End.ensures.seen)

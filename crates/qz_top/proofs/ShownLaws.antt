@@ -1,0 +1,14 @@
+-- Trails that grow.
+use Rattle.std.proofs.Common.{◌≡◌, ◌∙◌, ◌++◌, ◌∷◌, [], List, ap}
+use Rattle.std.specs.Prelude.{map}
+use Rattle.std.proofs.lemmas.List.{map-append}
+use Rattle.std.specs.declared.snapshot.Snapshot.{Snapshot}
+use Rattle.qz_disk.specs.declared.disk.Disk.{Ghosts}
+use Rattle.qz_cluster.specs.declared.clusters.Cluster.{Cluster}
+use Rattle.qz_cluster.specs.Steps.{ClusterState}
+use Rattle.qz_cluster.specs.Seen.{state_of}
+
+-- one state more was shown
+pub shown-push : {D : Type 0} {g : Ghosts D} (xs ys : List (Snapshot (Cluster D g))) (s : Snapshot (Cluster D g)) → ys ≡ xs ++ s ∷ []
+    → map (λ x. state_of x.value) ys ≡ map (λ x. state_of x.value) xs ++ state_of s.value ∷ []
+shown-push xs ys s is = ap (map (λ x. state_of x.value)) is ∙ map-append (λ x. state_of x.value) xs (s ∷ [])
