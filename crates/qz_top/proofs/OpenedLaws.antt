@@ -1,5 +1,5 @@
 -- What a whole run tells: how it may end on a disk, and in memory.
-use Rattle.std.proofs.Common.{◌≡◌, ◌≤◌, ℕ, ℤ, List, Bool, true, false, Option, refl, sym, ap, ◌∙◌, subst, arith}
+use Rattle.std.proofs.Common.{◌≡◌, ◌≤◌, ℕ, ℤ, List, true, false, Option, refl, sym, ap, ◌∙◌, subst, arith}
 use Rattle.qz_civil.specs.Causes.{Rose}
 use Rattle.qz_types.specs.declared.steps.StepReply.{StepReply}
 use Rattle.qz_model.specs.Script.{new_script, step_replies}
@@ -7,7 +7,7 @@ use Rattle.qz_cluster.specs.Steps.{ClusterState}
 use Rattle.qz_top.specs.Lines.{steps_of}
 use Rattle.qz_top.specs.Calls.{begun}
 use Rattle.qz_top.specs.Runs.{TellsClosed, IsRun}
-use Rattle.qz_top.specs.Trails.{RunState, last_of, new_cluster}
+use Rattle.qz_top.specs.Trails.{RunState, new_cluster}
 use Rattle.qz_top.specs.declared.statuses.Status.{Status}
 use Rattle.qz_top.specs.declared.statuses.Status.TheVariants as status
 use Rattle.qz_top.proofs.RunLaws.{run_closes, run_opens, run_plain}

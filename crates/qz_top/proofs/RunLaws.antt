@@ -1,5 +1,5 @@
 -- What a run of steps tells of the store: its disk's count of faults, whether it is open, and a plain scheduler's replies.
-use Rattle.std.proofs.Common.{◌≡◌, ◌≤◌, ℕ, ℤ, List, [], ◌∷◌, Bool, true, false, Option, Some, None, refl, sym, ap, ◌∙◌, subst, arith}
+use Rattle.std.proofs.Common.{◌≡◌, ◌≤◌, ℕ, ℤ, List, [], ◌∷◌, Bool, true, false, Option, Some, None, refl, sym, ap, ◌∙◌, arith}
 use Rattle.std.specs.List.{AllByRecursion}
 use Rattle.qz_civil.specs.Causes.{Rose}
 use Rattle.qz_types.specs.Rows.{MemberData}

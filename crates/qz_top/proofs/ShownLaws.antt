@@ -5,7 +5,6 @@ use Rattle.std.proofs.lemmas.List.{map-append}
 use Rattle.std.specs.declared.snapshot.Snapshot.{Snapshot}
 use Rattle.qz_disk.specs.declared.disk.Disk.{Ghosts}
 use Rattle.qz_cluster.specs.declared.clusters.Cluster.{Cluster}
-use Rattle.qz_cluster.specs.Steps.{ClusterState}
 use Rattle.qz_cluster.specs.Seen.{state_of}
 
 -- one state more was shown

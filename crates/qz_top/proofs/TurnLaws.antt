@@ -10,10 +10,9 @@ use Rattle.qz_types.specs.declared.steps.Step.{Step}
 use Rattle.qz_job_json.specs.declared.lines.Given.{Given}
 use Rattle.qz_top.specs.Lines.{Meaning, line_meaning, kind_of, IsGoodMeaning, readings_of_at, readings_of_meaning, timed, steps_by_meaning, steps_of}
 use Rattle.qz_types.specs.declared.steps.StepReply.{StepReply}
-use Rattle.qz_model.specs.Script.{TimedStep}
 use Rattle.qz_report.specs.Replies.{reply_text}
 use Rattle.qz_top.specs.Trails.{texts, RunState, Went}
-use Rattle.qz_top.specs.Turns.{Did, Ran, DidStep, IsOwn, taken_reading, step_at, Idles, GaveUp, StepFull, StepPart, NotAnswered, StepDone, LineDone, RanPart, IsBad, Untouched, line_end}
+use Rattle.qz_top.specs.Turns.{Did, Ran, DidStep, IsOwn, taken_reading, step_at, GaveUp, StepPart, NotAnswered, StepDone, LineDone, RanPart, IsBad, Untouched, line_end}
 use Rattle.qz_top.specs.declared.turns.LineEnd.{LineEnd}
 use Rattle.qz_top.specs.declared.turns.LineEnd.TheVariants as ends
 use Rattle.qz_job_json.specs.declared.lines.LineFault.{LineFault}

@@ -1,5 +1,5 @@
 -- What `init` makes of the two disks.
-use Rattle.std.specs.Prelude.{⊤, ◌≡◌, ◌⊎◌, ◌≤◌, ℕ, List, [], length, take, drop, Bool, true, false, Option, codes, Result, Ok, Err}
+use Rattle.std.specs.Prelude.{⊤, ◌≡◌, ◌⊎◌, ◌≤◌, ℕ, List, [], take, drop, Bool, true, false, Option, codes, Result, Ok, Err}
 use Rattle.std.specs.Io.KnownBytes.{Appends}
 use Rattle.qz_disk.specs.Disk.{DiskState, Only, Stays}
 use Rattle.qz_journal.specs.Layout.{IsHeader, Holds, other_kind}

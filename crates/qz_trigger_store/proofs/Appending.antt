@@ -1,5 +1,5 @@
 -- A history with one entry more.
-use Rattle.std.proofs.Common.{◌≡◌, ◌≢◌, ◌⊎◌, inl, inr, ℕ, ℤ, ◌+◌, ◌<◌, ◌≤◌, List, [], ◌∷◌, ◌++◌, length, length-append, refl, sym, ◌∙◌, ap, subst, arith, append_assoc}
+use Rattle.std.proofs.Common.{◌≡◌, ◌⊎◌, inl, inr, ℕ, ℤ, ◌+◌, List, [], ◌∷◌, ◌++◌, length, length-append, refl, sym, ◌∙◌, ap, subst, arith, append_assoc}
 use Rattle.std.proofs.Math.Logic.{∥∥₁_map}
 use Rattle.std.specs.Prelude.{Option, Some, None}
 use Rattle.std.specs.List.{AllByRecursion}
@@ -8,9 +8,9 @@ use Rattle.qz_disk.proofs.Moments.{started, weaker}
 use Rattle.qz_types.specs.Entries.{EntryData}
 use Rattle.qz_types.specs.declared.replies.Reply.{Reply}
 use Rattle.qz_model.specs.Tables.{SchedulerTables, empty, recorded_moment}
-use Rattle.qz_model.specs.Outcomes.{Outcome, accepted, refused}
+use Rattle.qz_model.specs.Outcomes.{Outcome, accepted}
 use Rattle.qz_model.specs.Transaction.{transaction}
-use Rattle.qz_model.specs.History.{History, tables_left, onto_replies, with_entry, IsAccepted, IsLegalFrom, replay_from, replies_from, moments_from}
+use Rattle.qz_model.specs.History.{History, tables_left, onto_replies, IsAccepted, IsLegalFrom, replay_from, replies_from, moments_from}
 use Rattle.qz_model.proofs.Histories.{replay_from-append, replies_from-append, moments_from-append}
 use Rattle.qz_journal.specs.Layout.{end_of, Holds, IsBeforeOrAfter}
 use Rattle.qz_journal.proofs.Stands.{end_of-push}
@@ -19,7 +19,6 @@ use Rattle.qz_codec.specs.Layout.{record_of}
 use Rattle.qz_codec.specs.Values.{IsEntry}
 use Rattle.qz_trigger_store.specs.Bytes.{history_of, records, Stands, MayBe}
 use Rattle.qz_trigger_store.specs.Facts.{records-push}
-use Rattle.qz_trigger_store.specs.Steps.{StoreState, IsOfEither}
 use Rattle.qz_trigger_store.proofs.Damage.{All-pushed, taken_legal}
 
 accepted_is : (o : Outcome) (T : SchedulerTables) (r : Reply) → o ≡ accepted T r → IsAccepted o

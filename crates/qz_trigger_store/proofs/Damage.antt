@@ -1,29 +1,29 @@
 -- Payloads that are taken one by one, and the first that is unfit.
-use Rattle.std.proofs.Common.{◌≡◌, ◌⊎◌, inl, inr, ℕ, ◌+◌, ◌<◌, ◌≤◌, ◌-◌, List, [], ◌∷◌, ◌++◌, length, get_or, take, drop, refl, sym, ◌∙◌, ap, subst, arith, append_assoc, length-append, take-append-drop}
-use Rattle.std.specs.Prelude.{Result, Ok, Err, All}
+use Rattle.std.proofs.Common.{◌≡◌, inl, inr, ℕ, ◌+◌, ◌≤◌, ◌-◌, List, [], ◌∷◌, ◌++◌, length, get_or, take, drop, refl, sym, ◌∙◌, ap, subst, arith, append_assoc, length-append, take-append-drop}
+use Rattle.std.specs.Prelude.{Result, Ok, All}
 use Rattle.std.specs.List.{AllByRecursion}
 use Rattle.std.proofs.lemmas.List.{get_or_append_left, get_or-append_right}
 use Rattle.qz_types.specs.Entries.{EntryData}
 use Rattle.qz_types.specs.declared.replies.Refusal.{Refusal}
-use Rattle.qz_model.specs.Tables.{SchedulerTables, empty}
-use Rattle.qz_model.specs.Outcomes.{Outcome, accepted, refused}
+use Rattle.qz_model.specs.Tables.{SchedulerTables}
+use Rattle.qz_model.specs.Outcomes.{Outcome, refused}
 use Rattle.qz_model.specs.Causes.{IsCause}
 use Rattle.qz_model.specs.declared.plain.StepRefused.{StepRefused}
 use Rattle.qz_model.specs.declared.plain.StepRefused.TheVariants.{Refused}
 use Rattle.qz_model.specs.Transaction.{transaction}
 use Rattle.qz_model.specs.History.{tables_left, IsAccepted, IsLegalFrom, replay_from}
 use Rattle.qz_model.proofs.Histories.{IsLegalFrom-entry, replay_from-append}
-use Rattle.qz_journal.specs.Layout.{IsHeader, IsPayload, open_gate, body_of, blocks, end_of, Holds}
-use Rattle.qz_journal.specs.Opening.{IsBad, IsDamagedBehind, IsRefusedBehind}
+use Rattle.qz_journal.specs.Layout.{IsHeader, IsPayload, body_of, blocks, end_of, Holds}
+use Rattle.qz_journal.specs.Opening.{IsDamagedBehind, IsRefusedBehind}
 use Rattle.qz_journal.specs.declared.errors.MountError.{MountError}
 use Rattle.qz_journal.specs.declared.errors.MountError.TheVariants as mount
 use Rattle.qz_journal.specs.declared.layout.TheConstants.{TRIGGERS}
 use Rattle.qz_journal.proofs.Stands.{end_of-push}
 use Rattle.qz_codec.specs.Layout.{record_of}
 use Rattle.qz_codec.specs.Values.{IsEntry}
-use Rattle.qz_trigger_store.specs.Bytes.{records, IsRecord}
+use Rattle.qz_trigger_store.specs.Bytes.{records}
 use Rattle.qz_trigger_store.specs.Facts.{records-push}
-use Rattle.qz_trigger_store.specs.Opening.{IsUnfit, HaveUnfit, AreReplayed, IsDamaged, IsRefused, IsStopped, IsFirstBad}
+use Rattle.qz_trigger_store.specs.Opening.{HaveUnfit, AreReplayed, IsDamaged, IsRefused, IsStopped, IsFirstBad}
 
 -- the entry that a payload is the record of, and it alone, was refused
 pub refused_unfit : (T : SchedulerTables) (e f : EntryData) (x : Refusal) → ◌≡◌ {A = Result EntryData ℕ} (Ok e) (Ok f) → transaction T f ≡ refused x → IsAccepted (transaction T e) → ⊥

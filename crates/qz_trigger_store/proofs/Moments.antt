@@ -1,5 +1,5 @@
 -- An accepted transaction makes its recorded moment the last one.
-use Rattle.std.proofs.Common.{◌≡◌, ℕ, ℤ, List, [], ◌∷◌, Bool, true, false, ◌&&◌, not, refl, subst}
+use Rattle.std.proofs.Common.{◌≡◌, ℤ, List, [], ◌∷◌, Bool, true, false, ◌&&◌, not, refl, subst}
 use Rattle.std.specs.Prelude.{⊤, Option, Some, None, if◌then◌else◌}
 use Rattle.qz_types.specs.Rows.{TriggerData, FiredData, JobData, MemberData}
 use Rattle.qz_types.specs.Entries.{EntryData}
@@ -16,7 +16,6 @@ use Rattle.qz_model.specs.Tables.{SchedulerTables, recorded_moment}
 use Rattle.qz_model.specs.Outcomes.{Outcome, accepted, refused, unless}
 use Rattle.qz_model.specs.Transaction.{by_command, transaction}
 use Rattle.qz_model.specs.Words.{fired_of, job_of, trigger_of}
-use Rattle.qz_model.specs.Due.{due_triggers}
 use Rattle.qz_model.specs.Scheduling.{add_job_refusal, add_trigger_refusal}
 use Rattle.qz_model.specs.Membership.{node_refusal, join_refusal}
 use Rattle.qz_model.specs.Firing

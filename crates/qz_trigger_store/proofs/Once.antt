@@ -1,17 +1,16 @@
 -- Payloads are the records of one history at most.
-use Rattle.std.proofs.Common.{◌≡◌, ◌⊎◌, inl, inr, ℕ, List, [], ◌∷◌, ◌++◌, get_or, drop, refl, sym, ◌∙◌, ap, subst, append-nil}
+use Rattle.std.proofs.Common.{◌≡◌, ◌⊎◌, inr, ℕ, List, [], ◌∷◌, ◌++◌, get_or, drop, refl, sym, ◌∙◌, ap, subst, append-nil}
 use Rattle.std.specs.List.{AllByRecursion}
 use Rattle.qz_types.specs.Entries.{EntryData}
 use Rattle.qz_model.specs.Tables.{SchedulerTables, empty}
 use Rattle.qz_model.specs.Transaction.{transaction}
-use Rattle.qz_model.specs.History.{History, tables_left, IsAccepted, IsLegalFrom, replay_from}
+use Rattle.qz_model.specs.History.{History, tables_left, IsLegalFrom, replay_from}
 use Rattle.qz_journal.specs.declared.errors.MountError.{MountError}
 use Rattle.qz_journal.specs.declared.errors.MountError.TheVariants as mount
-use Rattle.qz_codec.specs.Layout.{record_of}
 use Rattle.qz_codec.specs.Values.{IsEntry}
 use Rattle.qz_codec.proofs.EntryFormats.{record_unique}
-use Rattle.qz_trigger_store.specs.Bytes.{history_of, records, IsRecord, IsHistory}
-use Rattle.qz_trigger_store.specs.Opening.{IsUnfit, HaveUnfit, IsStopped, AreReplayed, IsFirstBad}
+use Rattle.qz_trigger_store.specs.Bytes.{history_of, records, IsHistory}
+use Rattle.qz_trigger_store.specs.Opening.{IsUnfit, IsStopped}
 
 head_is : (x y : List ℕ) (xs ys : List (List ℕ)) → x ∷ xs ≡ y ∷ ys → x ≡ y
 head_is x y xs ys same = ap (λ (l : List (List ℕ)). get_or l 0 []) same

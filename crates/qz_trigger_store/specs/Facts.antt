@@ -1,13 +1,12 @@
 -- Each of these facts has at most one proof, so that a store can keep it.
-use Rattle.std.proofs.Common.{◌≡◌, ◌⊎◌, ℕ, List, [], ◌∷◌, ◌++◌, map, refl, sym, ap, subst}
-use Rattle.std.proofs.Props.{props}
+use Rattle.std.proofs.Common.{◌≡◌, ◌⊎◌, ℕ, List, [], ◌∷◌, ◌++◌, refl, sym, ap, subst}
 use Rattle.std.specs.Prelude.{Option, Some, None}
 use Rattle.qz_types.specs.Entries.{EntryData}
 use Rattle.qz_model.specs.Tables.{SchedulerTables}
 use Rattle.qz_model.specs.Outcomes.{Outcome, accepted, refused}
 use Rattle.qz_model.specs.Transaction.{transaction}
 use Rattle.qz_model.specs.History.{History, tables_left, IsAccepted, IsLegalFrom}
-use Rattle.qz_journal.specs.Layout.{Holds, IsBeforeOrAfter}
+use Rattle.qz_journal.specs.Layout.{Holds}
 use Rattle.qz_journal.proofs.Undecided.{Holds-prop, IsBeforeOrAfter-prop}
 use Rattle.qz_journal.specs.declared.layout.TheConstants.{TRIGGERS}
 use Rattle.qz_codec.specs.Layout.{record_of}

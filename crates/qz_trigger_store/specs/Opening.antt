@@ -1,5 +1,5 @@
 -- What an opening finds in the bytes of a disk.
-use Rattle.std.specs.Prelude.{⊤, ◌≡◌, ◌⊎◌, ℕ, List, [], ◌∷◌, ◌++◌, take, drop, All}
+use Rattle.std.specs.Prelude.{⊤, ◌≡◌, ◌⊎◌, ℕ, List, ◌∷◌, ◌++◌, take, drop, All}
 use Rattle.std.specs.List.{AllByRecursion}
 use Rattle.qz_types.specs.Entries.{EntryData}
 use Rattle.qz_model.specs.Tables.{SchedulerTables, empty}

@@ -1,5 +1,5 @@
 -- What a run sees of a trigger store, and of its disk.
-use Rattle.std.specs.Prelude.{◌≡◌, ℕ, List, ◌++◌}
+use Rattle.std.specs.Prelude.{◌≡◌, ◌++◌}
 use Rattle.qz_disk.specs.declared.disk.Disk.{Ghosts}
 use Rattle.qz_disk.specs.Disk.{DiskState, LeavesOnly}
 use Rattle.qz_trigger_store.specs.Bytes.{history_of}

@@ -1,4 +1,4 @@
-use Rattle.std.proofs.Common.{◌≡◌, ◌⊎◌, inl, inr, ◌∙◌, ◌++◌, ◌≤◌, [], ℕ, List, refl, sym, ap, subst, arith}
+use Rattle.std.proofs.Common.{inl, ap}
 use Rattle.std.proofs.lemmas.List.{append-nil}
 use Rattle.qz_cluster.specs.Seen.{state_of}
 use Rattle.qz_top.specs.Seen.{run_of, states_in}

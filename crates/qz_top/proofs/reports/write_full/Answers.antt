@@ -1,5 +1,4 @@
 use Rattle.qz_top.proofs.Pieces.{wrote_both}
-use Rattle.qz_top.specs.Statuses.{need_text, room_text}
 use Rattle.qz_top.proofs.reports.write_full.Goals as goal
 
 pub returns-clause-ok : goal.returns-clause-ok

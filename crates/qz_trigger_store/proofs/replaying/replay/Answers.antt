@@ -1,7 +1,5 @@
-use Rattle.std.proofs.Common.{◌≡◌, ◌∙◌, ◌+◌, ◌∷◌, ◌++◌, List, ℕ, sym, ap, subst, arith}
-use Rattle.qz_codec.specs.Layout.{record_of}
-use Rattle.qz_model.specs.Tables.{empty, SchedulerTables}
-use Rattle.qz_model.specs.Invariant.{TablesValid}
+use Rattle.std.proofs.Common.{◌∙◌, ◌+◌, ◌++◌, List, ℕ, sym, ap, arith}
+use Rattle.qz_model.specs.Tables.{empty}
 use Rattle.qz_trigger_store.specs.Bytes.{records}
 use Rattle.qz_trigger_store.proofs.Damage.{within, taken_whole, taken_gate, taken_all, taken_legal, taken_tables}
 use Rattle.qz_trigger_store.proofs.replaying.replay.Goals as goal

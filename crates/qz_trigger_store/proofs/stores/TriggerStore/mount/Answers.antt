@@ -1,4 +1,4 @@
-use Rattle.std.proofs.Common.{◌≡◌, ◌∙◌, List, ℕ, sym, subst}
+use Rattle.std.proofs.Common.{◌∙◌, List, ℕ, sym, subst}
 use Rattle.qz_journal.specs.Layout.{Holds}
 use Rattle.qz_journal.specs.declared.layout.TheConstants.{TRIGGERS}
 use Rattle.qz_journal.proofs.Once.{holds_once, not_damaged}
