@@ -131,6 +131,53 @@ pub begun-bound : (zs : List Stretch) (t : ℤ) → bad_zone zs ≡ None → beg
 unfolding begun
 begun-bound zs t h = let long = zone-length zs h in omega (arith, prefix_len-le-length (λ s. int_le s.from t) zs)
 
+-- How many have begun later on.
+
+begun_up : (zs : List Stretch) (t u : ℤ) → t ≤ℤ u → prefix_len (λ s. int_le s.from t) zs ≤ prefix_len (λ s. int_le s.from u) zs
+begun_up [] t u h = omega arith
+begun_up (x ∷ rest) t u h =
+    by_lt_z t x.from
+    (λ lt. rw (le_no x.from t lt) (omega arith))
+    (λ ge. let more = begun_up rest t u h in rw (le_yes x.from t ge, le_yes x.from u (omega (arith, ints))) (omega arith))
+
+pub begun-up : (zs : List Stretch) (t u : ℤ) → t ≤ℤ u → begun zs t ≤ begun zs u
+unfolding begun
+begun-up = begun_up
+
+none_begin : (before : ℤ) (zs : List Stretch) (u : ℤ) → IsTable (Some before) zs → u <ℤ (before +ℤ STRETCH_LENGTH) → prefix_len (λ s. int_le s.from u) zs ≡ 0
+none_begin before [] u h lt = refl
+none_begin before (x ∷ rest) u h lt = let apart = h.1 in rw (le_no x.from u (omega (arith, ints))) refl
+
+few_begin : (before : Option ℤ) (zs : List Stretch) (t u : ℤ) → IsTable before zs → u <ℤ (t +ℤ STRETCH_LENGTH) → prefix_len (λ s. int_le s.from u) zs ≤ prefix_len (λ s. int_le s.from t) zs + 1
+few_begin before [] t u h lt = omega arith
+few_begin before (x ∷ rest) t u h lt =
+    by_lt_z u x.from
+    (λ no. rw (le_no x.from u no) (omega arith))
+    (λ yes. by_lt_z t x.from
+      (λ under. let none = none_begin x.from rest u h.2 (omega (arith, ints)) in rw (le_yes x.from u yes, le_no x.from t under) (omega arith))
+      (λ over. let more = few_begin (Some x.from) rest t u h.2 lt in rw (le_yes x.from u yes, le_yes x.from t over) (omega arith)))
+
+-- within the length of a stretch at most one begins
+pub begun-few : (zs : List Stretch) (t u : ℤ) → bad_zone zs ≡ None → u <ℤ (t +ℤ STRETCH_LENGTH) → begun zs u ≤ begun zs t + 1
+unfolding begun
+begun-few zs t u h lt = few_begin None zs t u (zone-table zs h) lt
+
+stays_by : (zs : List Stretch) (t u : ℤ) → t ≤ℤ u → ((s : Stretch) → slice_get zs (prefix_len (λ s. int_le s.from t) zs) ≡ Some s → u <ℤ s.from) → prefix_len (λ s. int_le s.from u) zs ≡ prefix_len (λ s. int_le s.from t) zs
+stays_by [] t u le h = refl
+stays_by (x ∷ rest) t u le h =
+    by_lt_z t x.from
+    (λ lt. let no = le_no x.from t lt in
+        let first : u <ℤ x.from = h x (rw no refl) in
+        rw (no, le_no x.from u first) refl)
+    (λ ge. let yes = le_yes x.from t ge in
+        let later = le_yes x.from u (omega (arith, ints)) in
+        rw (yes, later) (ap (λ n. 1 + n) (stays_by rest t u le (λ s e. h s (rw (yes, get_next x rest (prefix_len (λ x. int_le x.from t) rest)) e)))))
+
+-- as many have begun until the next one begins
+pub begun-stays : (zs : List Stretch) (t u : ℤ) → t ≤ℤ u → ((s : Stretch) → slice_get zs (begun zs t) ≡ Some s → u <ℤ s.from) → begun zs u ≡ begun zs t
+unfolding begun
+begun-stays = stays_by
+
 -- Offsets and starts.
 
 in_place : (o : Option Stretch) → ((s : Stretch) → o ≡ Some s → IsStretch s) → (neg_ℤ OFFSET_LIMIT ≤ℤ offset_of o) × (offset_of o ≤ℤ OFFSET_LIMIT)
@@ -149,5 +196,13 @@ unfolding begun
 next_start-later zs t h =
     let table = zone-table zs h in
     start_by t (slice_get zs (begun zs t)) (λ s e. (stretch_in None zs (begun zs t) s table e, begins_later None zs t (begun zs t) s table (omega arith) e))
+
+start_of : (u : ℤ) (o : Option Stretch) (s : Stretch) → o ≡ Some s → IfSome (option_map (λ s. s.from) o) (λ start. u <ℤ start) → u <ℤ s.from
+start_of u None s e h = cc
+start_of u (Some x) s e h = let same : x ≡ s = cc in subst (λ z. u <ℤ z.from) same h
+
+-- the offset stays until the next stretch begins
+pub offset-stays : (zs : List Stretch) (t u : ℤ) → t ≤ℤ u → IfSome (option_map (λ s. s.from) (slice_get zs (begun zs t))) (λ start. u <ℤ start) → offset_at zs u ≡ offset_at zs t
+offset-stays zs t u le h = ap (λ n. offset_of (slice_get zs (n - 1))) (begun-stays zs t u le (λ s e. start_of u (slice_get zs (begun zs t)) s e h))
 
 pub ruleset zone_facts = (begun-bound, stretch_at-last)

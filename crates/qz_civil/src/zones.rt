@@ -1,5 +1,5 @@
 //! Zones, and the local time that they give.
-ghost use Rattle.std.specs.Prelude.{◌≡◌, ℕ, ◌*◌, ◌<◌, ◌≤◌, pos, negsuc, neg_ℤ, ◌≤ℤ◌, ◌<ℤ◌, ◌+ℤ◌, ◌*ℤ◌, unsigned_abs, IfOk, IfErr, IfSome, None, Some, slice_get, option_map};
+ghost use Rattle.std.specs.Prelude.{◌≡◌, ℕ, ℤ, ◌*◌, ◌<◌, ◌≤◌, pos, negsuc, neg_ℤ, ◌≤ℤ◌, ◌<ℤ◌, ◌+ℤ◌, ◌*ℤ◌, unsigned_abs, IfOk, IfErr, IfSome, None, Some, slice_get, option_map};
 ghost use Rattle.qz_civil.specs.Dates as date_spec;
 ghost use Rattle.qz_civil.specs.Zones as spec;
 
@@ -101,6 +101,8 @@ impl Zone {
         ensures value { result ≡ option_map (λ s. s.from) (slice_get self.now (spec.begun self.now ms)) }
         ensures later { IfSome result (λ start. ms <ℤ start) }
         ensures high { IfSome result (λ start. start ≤ℤ LAST) }
+        // Until then the offset stays.
+        ensures stays { (t : ℤ) → ms ≤ℤ t → IfSome result (λ start. t <ℤ start) → spec.offset_at self.now t ≡ spec.offset_at self.now ms }
     {
         let _known = self.offset;
         let place = self.begun(ms);
