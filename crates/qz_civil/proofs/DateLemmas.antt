@@ -1,0 +1,142 @@
+-- The calendar by counting days has the dates of jiff_core's day numbers.
+use Rattle.std.proofs.Common.{◌≡◌, ℕ, zero, suc, ◌+◌, ◌<◌, ◌≤◌, inl, inr, nat_lt, if◌then◌else◌, refl, sym, subst, ◌∙◌, arith, rules, ℤ, pos, ◌+ℤ◌, ◌<ℤ◌, ◌≤ℤ◌}
+use Rattle.std.specs.Int.{IsInRange}
+use Rattle.std.proofs.lemmas.Bool.{cases_order}
+use Rattle.jiff_core.specs.declared.civil.date.Date.{Date as LibraryDate}
+use Rattle.jiff_core.specs.Calendar.{days_in_month as library_days_in_month, days_from_civil, IsBetween}
+use Rattle.jiff_core.specs.Date.{epoch_day}
+use Rattle.jiff_core.proofs.SignedLemmas.{signed_arith}
+use Rattle.jiff_core.proofs.CalendarLemmas.{days_from_civil-day_count, day_count-lt_year, days_in_month_bounds, day_count-epoch}
+use Rattle.jiff_core.proofs.DateLemmas.{epoch_day_injective, days_from_civil-day, days_from_civil-next_month, days_from_civil-next_year, days_from_civil-max}
+use Rattle.qz_civil.specs.declared.dates.Date.{Date}
+use Rattle.qz_civil.specs.declared.limits.TheConstants.{LAST_DAY}
+use Rattle.qz_civil.specs.Dates.{days_in_month, month_length, next_month, next_date, date_of, IsDate}
+
+-- The months of this calendar are the library's.
+
+days_in_month-library : (y m : ℕ) → days_in_month y m ≡ library_days_in_month (pos y) m
+unfolding days_in_month
+days_in_month-library y m = refl
+
+pub days_in_month-bound : (y m : ℕ) → IsInRange 28 31 (days_in_month y m)
+days_in_month-bound y m = let b = days_in_month_bounds (pos y) m in rw (days_in_month-library y m) (b.1, b.0)
+
+december : (y : ℕ) → days_in_month y 12 ≡ 31
+unfolding days_in_month
+december y = refl
+
+-- What comes after a date.
+
+if_lt : {A : Type 0} (a b : ℕ) (x y : A) → a < b → (if nat_lt a b then x else y) ≡ x
+if_lt a b x y h = grind arith
+
+if_ge : {A : Type 0} (a b : ℕ) (x y : A) → b ≤ a → (if nat_lt a b then x else y) ≡ y
+if_ge a b x y h = grind arith
+
+pub next_date-day : (d : Date) → d.day < month_length d → next_date d ≡ record d { day = d.day + 1 }
+unfolding next_date
+next_date-day d h = if_lt d.day (month_length d) _ _ h
+
+pub next_date-last : (d : Date) → month_length d ≤ d.day → next_date d ≡ next_month d
+unfolding next_date
+next_date-last d h = if_ge d.day (month_length d) _ _ h
+
+pub next_month-month : (d : Date) → d.month < 12 → next_month d ≡ record { year = d.year; month = d.month + 1; day = 1 }
+unfolding next_month
+next_month-month d h = if_lt d.month 12 _ _ h
+
+pub next_month-year : (d : Date) → 12 ≤ d.month → next_month d ≡ record { year = d.year + 1; month = 1; day = 1 }
+unfolding next_month
+next_month-year d h = if_ge d.month 12 _ _ h
+
+-- a date is followed by the next of its month, by the first of the next month, or by the first of the next year
+pub data Follows (d e : Date) : Type 0 where
+  in_month : d.day < month_length d → e ≡ record d { day = d.day + 1 } → Follows d e
+  in_year : d.day ≡ month_length d → d.month < 12 → e ≡ record { year = d.year; month = d.month + 1; day = 1 } → Follows d e
+  in_next : d.day ≡ month_length d → d.month ≡ 12 → e ≡ record { year = d.year + 1; month = 1; day = 1 } → Follows d e
+
+pub follows : (d : Date) → IsDate d → Follows d (next_date d)
+follows d h =
+    elim (cases_order d.day (month_length d)) [
+      | inr (inl lt) ↦ in_month lt (next_date-day d lt)
+      | inl same ↦ elim (cases_order d.month 12) [
+        | inr (inl lt) ↦ in_year same lt (next_date-last d (omega arith) ∙ next_month-month d lt)
+        | inl last ↦ in_next same last (next_date-last d (omega arith) ∙ next_month-year d (omega arith))
+        | inr (inr gt) ↦ absurd (omega (arith, h.0))
+      ]
+      | inr (inr gt) ↦ absurd (omega (arith, h.1))
+    ]
+
+first_day : (y m : ℕ) → IsInRange 1 12 m → IsDate (record { year = y; month = m; day = 1 })
+first_day y m h = let long = days_in_month-bound y m in (h, (omega arith, omega (arith, long.0)))
+
+valid_by : (d e : Date) → IsDate d → Follows d e → IsDate e
+valid_by d e h (in_month lt is) = subst IsDate (sym is) (h.0, (omega arith, omega arith))
+valid_by d e h (in_year same lt is) = subst IsDate (sym is) (first_day d.year (d.month + 1) (omega arith, omega arith))
+valid_by d e h (in_next same last is) = subst IsDate (sym is) (first_day (d.year + 1) 1 (omega arith, omega arith))
+
+pub date_of-valid : (n : ℕ) → IsDate (date_of n)
+unfolding date_of
+date_of-valid zero = (search rules, (omega arith, (let long = days_in_month-bound 1969 12 in rw (december 1969) (omega arith))))
+date_of-valid (suc n) = valid_by (date_of n) (next_date (date_of n)) (date_of-valid n) (follows (date_of n) (date_of-valid n))
+
+-- The library's number of a date is the day that has it.
+
+abbrev pub number : Date → ℤ
+number d = days_from_civil (pos d.year) d.month d.day
+
+number-epoch : number (record { year = 1969; month = 12; day = 31 }) +ℤ pos 1 ≡ pos 0
+number-epoch = omega (arith, signed_arith, days_from_civil-day_count (pos 1970) 1 1, day_count-epoch, days_from_civil-next_year (pos 1969) (pos 1970) (search rules) refl)
+
+number_by : (d e : Date) → IsDate d → Follows d e → number e ≡ number d +ℤ pos 1
+number_by d e h (in_month lt is) = rw is (omega (arith, signed_arith, days_from_civil-day (pos d.year) d.month d.day (d.day + 1) h.1.0 (omega arith)))
+number_by d e h (in_year same lt is) = rw is (days_from_civil-next_month (pos d.year) d.month d.day h.0.0 (same ∙ days_in_month-library d.year d.month))
+number_by d e h (in_next same last is) =
+    let end : d.day ≡ 31 = rw (last, december d.year) at same in
+    rw (is, last, end) (days_from_civil-next_year (pos d.year) (pos (d.year + 1)) (search rules) (omega (arith, signed_arith)))
+
+pub number-date_of : (n : ℕ) → number (date_of n) +ℤ pos 1 ≡ pos n
+unfolding date_of
+number-date_of zero = number-epoch
+number-date_of (suc n) =
+    let e = number_by (date_of n) (next_date (date_of n)) (date_of-valid n) (follows (date_of n) (date_of-valid n)) in
+    omega (arith, signed_arith, number-date_of n)
+
+-- the years up to the last day are years of the library
+pub year-bound : (n : ℕ) → n ≤ LAST_DAY → (date_of n).year ≤ 9999
+year-bound n h =
+    let valid = date_of-valid n in
+    elim (cases_order (date_of n).year 9999) [
+      | inl same ↦ omega arith
+      | inr (inl lt) ↦ omega arith
+      | inr (inr gt) ↦ absurd (omega (arith, signed_arith, number-date_of n, days_from_civil-max, days_from_civil-day_count, day_count-lt_year (pos 9999) 12 31 (pos (date_of n).year) (date_of n).month (date_of n).day (search rules) valid.1.0 (omega (arith, signed_arith))))
+    ]
+
+date_at : (n : ℕ) → n ≤ LAST_DAY → LibraryDate
+date_at n h =
+    let valid = date_of-valid n in
+    record {
+      year = pos (date_of n).year;
+      month = (date_of n).month;
+      day = (date_of n).day;
+      year_in = (let b = year-bound n h in omega (arith, signed_arith));
+      month_in = valid.0;
+      day_in = rw (← days_in_month-library (date_of n).year (date_of n).month) valid.1;
+    }
+
+-- the library's date with that number is the day's date
+pub same_date : (n : ℕ) (d : LibraryDate) → n ≤ LAST_DAY → epoch_day d +ℤ pos 1 ≡ pos n → (d.year ≡ pos (date_of n).year) × (d.month ≡ (date_of n).month) × (d.day ≡ (date_of n).day)
+unfolding date_at
+same_date n d h e = epoch_day_injective d (date_at n h) (omega (arith, signed_arith, number-date_of n))
+
+pub year_range : (n : ℕ) (d : LibraryDate) → n ≤ LAST_DAY → epoch_day d +ℤ pos 1 ≡ pos n → IsBetween (pos 0) (pos 9999) d.year
+year_range n d h e = let same = same_date n d h e in let b = year-bound n h in rw same.0 (omega (arith, signed_arith))
+
+abbrev date : ℕ → ℕ → ℕ → Date
+date y m d = record { year = y; month = m; day = d }
+
+pub same_parts : (d e : Date) → d.year ≡ e.year → d.month ≡ e.month → d.day ≡ e.day → d ≡ e
+same_parts d e year month day =
+    let made : date d.year d.month d.day ≡ date e.year e.month e.day = rw (year, month, day) refl in made
+
+pub ruleset date_facts = (date_of-valid, year-bound)
