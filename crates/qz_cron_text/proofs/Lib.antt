@@ -1,7 +1,9 @@
 pub mod CutLemmas
 pub mod FieldLemmas
 pub mod Free
+pub mod Names
 pub mod Numerals
 pub mod Prints
+pub mod RunLaws
 pub mod RunLemmas
 pub mod SetLemmas

@@ -11,7 +11,7 @@ use Rattle.qz_civil.specs.declared.fields.DayField.TheVariants as day
 use Rattle.qz_civil.specs.declared.fields.WeekField.{WeekField}
 use Rattle.qz_civil.specs.declared.fields.WeekField.TheVariants as week
 use Rattle.qz_civil.specs.declared.fields.CronFields.{CronFields}
-use Rattle.qz_civil.specs.Fields.{least, greatest, size}
+use Rattle.qz_civil.specs.Fields.{least, greatest, size, is_any_day, is_any_week}
 use Rattle.qz_cron_text.specs.declared.runs.Run.{Run}
 use Rattle.qz_cron_text.specs.declared.forms.Form.{Form}
 use Rattle.qz_cron_text.specs.declared.forms.Form.TheVariants.{Values, Day, Week}
@@ -21,7 +21,6 @@ use Rattle.qz_cron_text.specs.declared.forms.WeekForm.{WeekForm}
 use Rattle.qz_cron_text.specs.declared.forms.WeekForm.TheVariants as weeks
 use Rattle.qz_cron_text.specs.Values.{names}
 use Rattle.qz_cron_text.specs.Runs.{all_by, is_year}
-use Rattle.qz_cron_text.specs.Reading.{is_any_day, is_any_week}
 
 -- the number that digits stand for, each by its place
 abbrev pub digits_sum : List ℕ → ℕ

@@ -7,6 +7,7 @@ use Rattle.qz_civil.specs.declared.fields.DayField.TheVariants as day
 use Rattle.qz_civil.specs.declared.fields.WeekField.{WeekField}
 use Rattle.qz_civil.specs.declared.fields.WeekField.TheVariants as week
 use Rattle.qz_civil.specs.declared.fields.CronFields.{CronFields}
+use Rattle.qz_civil.specs.Fields.{is_any_day, is_any_week}
 use Rattle.qz_cron_text.specs.declared.errors.CronError.{CronError}
 use Rattle.qz_cron_text.specs.declared.errors.CronError.TheVariants.{BothDays, NoDays}
 use Rattle.qz_cron_text.specs.declared.forms.DayForm.{DayForm}
@@ -55,19 +56,6 @@ unfoldable pub years_of : Option Placed → Result (List ℕ) CronError
 years_of None = Ok ((2 ^ 64 - 1) ∷ (2 ^ 64 - 1) ∷ 3 ∷ 0 ∷ [])
 years_of (Some p) =
     word_at Year 0 p >>= λ a. word_at Year 64 p >>= λ b. word_at Year 128 p >>= λ c. Ok (a ∷ b ∷ c ∷ 0 ∷ [])
-
-abbrev pub is_any_day : DayField → Bool
-is_any_day day.Any = true
-is_any_day (day.Set s) = false
-is_any_day (day.Last b) = false
-is_any_day day.LastWeekday = false
-is_any_day (day.Nearest d) = false
-
-abbrev pub is_any_week : WeekField → Bool
-is_any_week week.Any = true
-is_any_week (week.Set s) = false
-is_any_week (week.Last d) = false
-is_any_week (week.Nth d n) = false
 
 -- exactly one of the two day fields names no value
 unfoldable pub days_checked : CronFields → Result CronFields CronError

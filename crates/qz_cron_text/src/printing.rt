@@ -1,10 +1,9 @@
 //! Prints the canonical text.
 ghost use Rattle.std.specs.Prelude.{◌≡◌, ◌<◌, ◌≤◌, ◌++◌, OnOk, IfOk, string_bytes};
 ghost use Rattle.qz_civil.specs.Fields.{size, has_word};
-ghost use Rattle.qz_civil.specs.declared.fields.Field.TheVariants as field;
 ghost use Rattle.qz_cron_text.specs.Printing.{has_all, member_text, values_text, set_text, one_word, day_text, week_text, years_text, times_text, dates_text, canonical_text};
 
-use qz_civil::{CronFields, DayField, Field, NoMemory, Text, WeekField};
+use qz_civil::{CronFields, DayField, Field, NoMemory, Text, WeekField, has};
 use std::alloc::{AllocError, Global};
 use std::fmt::Write;
 
@@ -12,12 +11,12 @@ use std::fmt::Write;
 type Set = [u64; 4];
 
 /// Whether a set has its `index`th value.
-#[tactic(auto, unfolding(qz_civil::specs::Fields::has), using(std::proofs::lemmas::Nat::Bits::shr_and_one))]
-fn has(set: &Set, index: u16) -> bool
+#[tactic(auto, unfolding(qz_civil::specs::Fields::has_word))]
+fn has_value(set: &Set, index: u16) -> bool
     requires { index < 256 }
     ensures { result ≡ has_word set.now index }
 {
-    set[index as usize / 64] >> (index % 64) & 1 == 1
+    has(set[index as usize / 64], index as u32 % 64)
 }
 
 /// Whether a set has each of its field's values.
@@ -26,7 +25,7 @@ fn is_full(field: Field, set: &Set) -> bool
     ensures { result ≡ has_all set.now (size field) }
 {
     for index in 0..field.size() {
-        if !has(set, index) {
+        if !has_value(set, index) {
             return false;
         }
     }
@@ -55,7 +54,7 @@ fn push_values(text: &mut String, field: Field, set: &Set) -> Result<(), AllocEr
 {
     let mut first = true;
     for index in 0..field.size() {
-        let there = has(set, index);
+        let there = has_value(set, index);
         push_member(text, there, first, field.least() + index)?;
         first = first && !there;
     }
