@@ -1,6 +1,10 @@
 pub mod CutLemmas
+pub mod ElementLaws
 pub mod FieldLemmas
+pub mod FormCases
+pub mod FormLaws
 pub mod Free
+pub mod HasLaws
 pub mod Names
 pub mod Numerals
 pub mod Prints
