@@ -23,7 +23,7 @@ use Rattle.qz_cron_text.proofs.Numerals.{numeral_read, number_is, numeral_plain,
 use Rattle.qz_cron_text.proofs.Names.{name_none, weekday_none}
 use Rattle.qz_cron_text.proofs.RunLaws.{some_is, none_is, value_read, value_is, value_plain, value_some, plain_no_mark, plain_no_star, run_read, run_is}
 
-letter_plain : (letter b : ℕ) → is_plain letter ≡ true → to_ascii_uppercase b ≡ letter → is_plain b ≡ true
+pub letter_plain : (letter b : ℕ) → is_plain letter ≡ true → to_ascii_uppercase b ≡ letter → is_plain b ≡ true
 letter_plain letter b plain is = grind (arith, plain, is)
 
 letter_no_digit : (letter b : ℕ) → is_ascii_digit letter ≡ false → to_ascii_uppercase b ≡ letter → is_ascii_digit b ≡ false

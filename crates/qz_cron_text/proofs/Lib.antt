@@ -1,5 +1,7 @@
+pub mod Bytes
 pub mod CutLemmas
 pub mod ElementLaws
+pub mod FieldLaws
 pub mod FieldLemmas
 pub mod FormCases
 pub mod FormLaws
@@ -11,3 +13,4 @@ pub mod Prints
 pub mod RunLaws
 pub mod RunLemmas
 pub mod SetLemmas
+pub mod TextLaws

@@ -173,7 +173,7 @@ AreBlanks (b ∷ bs) = ((b ≡ 32) ⊎ (b ≡ 9)) × AreBlanks bs
 pub data AreJoined : List (List ℕ) → List ℕ → Type 0 where
   last_field : (field blanks : List ℕ) → AreBlanks blanks → AreJoined (field ∷ []) (field ++ blanks)
   next_field : {fields : List (List ℕ)} {text : List ℕ} (field blanks : List ℕ) (b : ℕ) → AreBlanks (b ∷ blanks) → AreJoined fields text
-      → AreJoined (field ∷ fields) (field ++ (b ∷ blanks) ++ text)
+      → AreJoined (field ∷ fields) (field ++ b ∷ (blanks ++ text))
 
 abbrev pub years_list : Option (List ℕ) → List (List ℕ)
 years_list None = []
