@@ -245,10 +245,18 @@ no_special field from found (Week form ∷ forms) none =
     second true = refl
     second false = refl
 
--- a field that was read: a set, or one element
+-- a field that was read: a set, or one element that isn't a run of values
 pub data IsFieldOf (field : Field) (from : ℕ) (text : List ℕ) : Elements → Type 0 where
   a_set : {word : ℕ} → IsSet field from text word → IsFieldOf field from text (record { word = word; day = None; week = None })
-  a_form : {form : Form} → IsElement field text form → IsFieldOf field from text (and_form field from none_yet form)
+  a_day : {form : DayForm} → IsElement field text (Day form) → IsFieldOf field from text (record { word = 0; day = Some form; week = None })
+  a_week : {form : WeekForm} → IsElement field text (Week form) → IsFieldOf field from text (record { word = 0; day = None; week = Some form })
+
+special_field : (field : Field) (from : ℕ) (text : List ℕ) (form : Form) → IsElement field text form → has_special (and_form field from none_yet form) ≡ true
+    → IsFieldOf field from text (and_form field from none_yet form)
+unfolding and_form
+special_field field from text (Values run) is special = false_true (sym special)
+special_field field from text (Day form) is special = a_day is
+special_field field from text (Week form) is special = a_week is
 
 several_is : (field : Field) (text : List ℕ) (forms : List Form) → AreElements field text forms → is_some (cut_at 44 text).behind ≡ false
     → (form : Form) × (forms ≡ form ∷ []) × IsElement field text form
@@ -268,11 +276,11 @@ field_is field from at text found is = by_elements (all_of field from at none_ye
         sums.sum ∙ ap (λ (fs : List Form). sum_of field from none_yet fs) runs.is ∙ sum_runs field from none_yet runs.runs in
         subst (λ (x : Elements). IsFieldOf field from text x) (sym sum) (a_set (runs_are_set field from text runs.runs are))
 
-    as_form : (result : Elements) → Sums field from none_yet text result → is_some (cut_at 44 text).behind ≡ false → IsFieldOf field from text result
-    as_form result sums none =
+    as_form : (result : Elements) → Sums field from none_yet text result → is_some (cut_at 44 text).behind ≡ false → has_special result ≡ true → IsFieldOf field from text result
+    as_form result sums none special =
         let one : (form : Form) × (sums.forms ≡ form ∷ []) × IsElement field text form = several_is field text sums.forms sums.are none in
         let sum : result ≡ and_form field from none_yet one.0 = sums.sum ∙ ap (λ (fs : List Form). sum_of field from none_yet fs) one.1 in
-        subst (λ (x : Elements). IsFieldOf field from text x) (sym sum) (a_form one.2)
+        subst (λ (x : Elements). IsFieldOf field from text x) (sym sum) (special_field field from text one.0 one.2 (ap (λ (x : Elements). has_special x) (sym sum) ∙ special))
 
     by_special : (result : Elements) → Sums field from none_yet text result → (several special : Bool) → is_some (cut_at 44 text).behind ≡ several → has_special result ≡ special
         → cond (several && special) (Err (NotAlone (number field))) (Ok result) ≡ Ok found → IsFieldOf field from text found
@@ -281,7 +289,7 @@ field_is field from at text found is = by_elements (all_of field from at none_ye
         keep : (b : Bool) → cond (b && false) (Err (NotAlone (number field))) (Ok result) ≡ Ok found → ◌≡◌ {A = Result Elements CronError} (Ok result) (Ok found)
         keep true x = x
         keep false x = x
-    by_special result sums false true none special e = subst (λ (x : Elements). IsFieldOf field from text x) (ok_is e) (as_form result sums none)
+    by_special result sums false true none special e = subst (λ (x : Elements). IsFieldOf field from text x) (ok_is e) (as_form result sums none special)
     by_special result sums true true several special e = absurd (err_is e)
 
     by_elements : (r : Result Elements CronError) → all_of field from at none_yet (slice_split (λ b. b == 44) text) ≡ r

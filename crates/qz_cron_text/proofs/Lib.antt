@@ -14,3 +14,5 @@ pub mod RunLaws
 pub mod RunLemmas
 pub mod SetLemmas
 pub mod TextLaws
+pub mod WholeLaws
+pub mod GrammarLaws
