@@ -16,3 +16,5 @@ pub mod SetLemmas
 pub mod TextLaws
 pub mod WholeLaws
 pub mod GrammarLaws
+pub mod PrintSets
+pub mod PrintTexts
