@@ -20,7 +20,7 @@ use Rattle.qz_cron_text.specs.Grammar.{IsForm, IsOf, RunInRange, DayInRange, Wee
 use Rattle.qz_cron_text.proofs.FormLaws.{form_read}
 use Rattle.qz_cron_text.proofs.FormCases.{form_is}
 
-value_in_range : (field : Field) (v : ℕ) → is_value field v ≡ true → IsOf field v
+pub value_in_range : (field : Field) (v : ℕ) → is_value field v ≡ true → IsOf field v
 unfolding is_value
 value_in_range field v is = (grind (arith, is), grind (arith, is))
 

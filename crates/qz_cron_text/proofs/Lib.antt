@@ -17,4 +17,5 @@ pub mod TextLaws
 pub mod WholeLaws
 pub mod GrammarLaws
 pub mod PrintSets
+pub mod PrintStars
 pub mod PrintTexts

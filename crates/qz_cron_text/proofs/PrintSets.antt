@@ -161,6 +161,7 @@ has_member field set (suc n) v within has = step (has_word set n) refl has (has_
         → (i : ℕ) × (i < suc n) × (v ≡ least field + i) × (has_word set i ≡ true)
     by_part top (inl x) before = let found : (i : ℕ) × (i < n) × (v ≡ least field + i) × (has_word set i ≡ true) = before x in (found.0, omega (arith, found.1), found.2, found.3)
     by_part top (inr x) before = (n, omega arith, has_only field n v (omega arith) x, top)
+
     step : (b : Bool) → has_word set n ≡ b → SomeHas field (map (only field) (cond b (members set n ++ n ∷ []) (members set n))) v
         → (SomeHas field (map (only field) (members set n)) v → (i : ℕ) × (i < n) × (v ≡ least field + i) × (has_word set i ≡ true))
         → (i : ℕ) × (i < suc n) × (v ≡ least field + i) × (has_word set i ≡ true)
@@ -188,6 +189,7 @@ values_are_set field set from word some is = by_members (members set (size field
             let has : SomeHas field (map (only field) (members set (size field))) (least field + (from + i)) = member_has field set (size field) (from + i) (omega arith) at.1 at.2 in
             let e : least field + (from + i) ≡ least field + from + i = omega arith in
             (at.0, subst (λ (v : ℕ). SomeHas field (map (only field) (m ∷ ms)) v) e (subst (λ (xs : List ℕ). SomeHas field (map (only field) xs) (least field + (from + i))) same has))
+
         back : (i : ℕ) → (i < 64) × SomeHas field (map (only field) (m ∷ ms)) (least field + from + i) → bit_at word i ≡ 1
         back i at =
             let has : SomeHas field (map (only field) (members set (size field))) (least field + from + i) = subst (λ (xs : List ℕ). SomeHas field (map (only field) xs) (least field + from + i)) (sym same) at.1 in

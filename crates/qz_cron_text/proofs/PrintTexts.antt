@@ -1,13 +1,10 @@
 -- The canonical text is in the grammar, with the fields that it was printed of.
 use Rattle.std.proofs.Common.{◌≡◌, ◌≢◌, ◌∙◌, ap, sym, refl, subst, ℕ, ◌+◌, ◌-◌, ◌*◌, ◌/◌, ◌%◌, ◌^◌, ◌<◌, ◌≤◌, Bool, true, false, arith, zero, suc, cond, List, [], ◌∷◌, ◌++◌, length, map, lit<, lit≤, inl, inr}
-use Rattle.std.specs.Prelude.{Option, Some, None, ◌==◌, ◌&&◌, ◌||◌, not, nat_lt, nat_le, ◌⊎◌, slice_index, codes, min}
+use Rattle.std.specs.Prelude.{Option, Some, None, ◌==◌, ◌&&◌, ◌||◌, not, nat_lt, nat_le, ◌⊎◌, codes, min}
 use Rattle.std.specs.Fmt.{decimal as printed}
 use Rattle.std.specs.Int.{bit_at, IsInRange}
-use Rattle.std.specs.List.{join_with_byte}
 use Rattle.std.proofs.lemmas.List.{append_assoc, append-nil}
-use Rattle.std.proofs.lemmas.Nat.{pow_pos}
-use Rattle.std.proofs.lemmas.Nat.Bits.{bit_at-zero, bit_at-lt, bit_at_above, same_from_bits}
-use Rattle.std.proofs.Math.Nat.{pow-le-pow_right, mod-eq_of_lt, add-mod_right}
+use Rattle.std.proofs.lemmas.Nat.Bits.{bit_at_ones, same_from_bits_below}
 use Rattle.qz_civil.specs.declared.fields.Field.{Field}
 use Rattle.qz_civil.specs.declared.fields.Field.TheVariants.{Seconds, Minutes, Hours, DayOfMonth, Month, DayOfWeek, Year}
 use Rattle.qz_civil.specs.declared.fields.DayField.{DayField}
@@ -16,159 +13,322 @@ use Rattle.qz_civil.specs.declared.fields.WeekField.{WeekField}
 use Rattle.qz_civil.specs.declared.fields.WeekField.TheVariants as week
 use Rattle.qz_civil.specs.declared.fields.CronFields.{CronFields}
 use Rattle.qz_civil.specs.Fields.{least, greatest, size, is_value, has, has_word, is_set, is_within_words, has_some, is_year_set, is_day_field, is_week_field, is_any_day, is_any_week, is_time_fields, is_date_fields, is_cron_fields}
-use Rattle.qz_cron_text.specs.declared.runs.Run.{Run}
 use Rattle.qz_cron_text.specs.declared.forms.Form.{Form}
 use Rattle.qz_cron_text.specs.declared.forms.Form.TheVariants.{Values, Day, Week}
 use Rattle.qz_cron_text.specs.declared.forms.DayForm.TheVariants as days
 use Rattle.qz_cron_text.specs.declared.forms.WeekForm.TheVariants as weeks
-use Rattle.qz_cron_text.specs.Runs.{all_by}
 use Rattle.qz_cron_text.specs.Printing.{one_word, members, has_all, values_text, set_text, day_text, week_text, years_text, times_text, dates_text, canonical_text}
-use Rattle.qz_cron_text.specs.Grammar.{IsNumeral, numeral, every, of_values, no_day, last_day, before_last_day, last_weekday, nearest_weekday, no_weekday, last_of_month, nth_of_month, of_day, of_week, IsOf, RunInRange, IsElement, AreElements, one_element, span, HasValue, SomeHas, IsSet, IsDay, IsWeek, AreYears, AreYearsOf, AreBlanks, AreJoined, last_field, next_field, years_list, IsText}
-use Rattle.qz_cron_text.proofs.FieldLemmas.{size_some, size_most, values_most}
+use Rattle.qz_cron_text.specs.Grammar.{IsNumeral, IsValue, numeral, no_day, last_day, before_last_day, last_weekday, nearest_weekday, no_weekday, last_of_month, nth_of_month, of_day, of_week, IsOf, IsElement, IsSet, IsDay, IsWeek, AreYears, AreYearsOf, AreBlanks, AreJoined, last_field, next_field, years_list, IsText}
+use Rattle.qz_cron_text.proofs.ElementLaws.{value_in_range}
 use Rattle.qz_cron_text.proofs.PrintSets.{printed_numeral, IsWordFrom, values_are_set}
+use Rattle.qz_cron_text.proofs.PrintStars.{set_is, low_bit, bit_has, has_bit, word_members, all_numbers, false_true}
 
--- bit by bit in a set of four words
-word_at : (a b c d i : ℕ) → i < 64 → has_word (a ∷ b ∷ c ∷ d ∷ []) i ≡ has a i
+-- the days of the month
+value_small : (field : Field) (v : ℕ) → least field + size field ≤ 2100 → IsOf field v → v < 10000
+unfolding greatest
+value_small field v most (low, high) = omega arith
+
+month_day_small : (d : ℕ) → IsOf DayOfMonth d → d < 10000
+unfolding greatest least size
+month_day_small d (low, high) = omega arith
+
+week_day_small : (d : ℕ) → IsOf DayOfWeek d → d < 10000
+unfolding greatest least size
+week_day_small d (low, high) = omega arith
+
+days_few : size DayOfMonth ≤ 64
+unfolding size
+days_few = lit≤ tt
+
+week_few : size DayOfWeek ≤ 64
+unfolding size
+week_few = lit≤ tt
+
+months_few : size Month ≤ 64
+unfolding size
+months_few = lit≤ tt
+
+hours_few : size Hours ≤ 64
+unfolding size
+hours_few = lit≤ tt
+
+minutes_few : size Minutes ≤ 64
+unfolding size
+minutes_few = lit≤ tt
+
+seconds_few : size Seconds ≤ 64
+unfolding size
+seconds_few = lit≤ tt
+
+last_text : (back : ℕ) → back ≤ 30 → (b : Bool) → (back == 0) ≡ b → IsElement DayOfMonth (cond b (codes "L") (codes "L-" ++ printed back)) (Day (days.Last back))
+last_text back less true none =
+    let same : 0 ≡ back = grind (arith, none) in
+    subst (λ (n : ℕ). IsElement DayOfMonth (76 ∷ []) (Day (days.Last n))) same (record { is_form = of_day refl (last_day 76 refl); in_range = lit≤ tt })
+last_text back less false some =
+    record { is_form = of_day refl (before_last_day 76 refl (printed_numeral back (omega arith))); in_range = less }
+
+day_is : (d : DayField) → is_day_field d ≡ true → IsDay (day_text d) d
+unfolding day_text is_day_field
+day_is day.Any valid = record { is_form = of_day refl no_day; in_range = tt }
+day_is (day.Set word) valid = set_is DayOfMonth word days_few valid
+day_is (day.Last back) valid = last_text back (grind (arith, valid)) (back == 0) refl
+day_is day.LastWeekday valid = record { is_form = of_day refl (last_weekday 76 87 refl refl); in_range = tt }
+day_is (day.Nearest d) valid =
+    let right : IsOf DayOfMonth d = value_in_range DayOfMonth d valid in
+    record { is_form = of_day refl (nearest_weekday 87 (printed_numeral d (month_day_small d right)) refl); in_range = right }
+
+nth_text : (d n : ℕ) → IsOf DayOfWeek d → IsInRange 1 5 n → IsElement DayOfWeek ((printed d ++ codes "#") ++ printed n) (Week (weeks.Nth d n))
+nth_text d n right in_month =
+    let regroup : (printed d ++ codes "#") ++ printed n ≡ printed d ++ 35 ∷ printed n = append_assoc (printed d) (35 ∷ []) (printed n) in
+    subst (λ (t : List ℕ). IsElement DayOfWeek t (Week (weeks.Nth d n))) (sym regroup)
+    (record { is_form = of_week refl (nth_of_month (numeral (printed_numeral d (week_day_small d right))) (printed_numeral n (omega (arith, in_month.1)))); in_range = (right, in_month) })
+
+week_is : (w : WeekField) → is_week_field w ≡ true → IsWeek (week_text w) w
+unfolding week_text is_week_field
+week_is week.Any valid = record { is_form = of_week refl no_weekday; in_range = tt }
+week_is (week.Set word) valid = inl (set_is DayOfWeek word week_few valid)
+week_is (week.Last d) valid =
+    let right : IsOf DayOfWeek d = value_in_range DayOfWeek d valid in
+    record { is_form = of_week refl (last_of_month 76 (numeral (printed_numeral d (week_day_small d right))) refl); in_range = right }
+week_is (week.Nth d n) valid =
+    let right : is_value DayOfWeek d ≡ true = grind (arith, valid) in
+    let low : 1 ≤ n = grind (arith, valid) in
+    let high : n ≤ 5 = grind (arith, valid) in
+    nth_text d n (value_in_range DayOfWeek d right) (low, high)
+
+-- the years' four words
+record AreYearWords (years : List ℕ) : Type 0 where
+  first : ℕ
+  second : ℕ
+  third : ℕ
+  is : years ≡ first ∷ second ∷ third ∷ 0 ∷ []
+  first_small : first < 2 ^ 64
+  second_small : second < 2 ^ 64
+  third_small : third < 2 ^ 2
+  some : (0 < first) ⊎ (0 < second) ⊎ (0 < third)
+
+some_word : (a b c : ℕ) → (nat_lt 0 a || (nat_lt 0 b || (nat_lt 0 c || (nat_lt 0 0 || false)))) ≡ true → (0 < a) ⊎ (0 < b) ⊎ (0 < c)
+some_word a b c is = by_first (nat_lt 0 a) refl
+  where
+    by_second : nat_lt 0 a ≡ false → (t : Bool) → nat_lt 0 b ≡ t → (0 < a) ⊎ (0 < b) ⊎ (0 < c)
+    by_second a_none true b_some = inr (inl (grind (arith, b_some)))
+    by_second a_none false b_none = inr (inr (grind (arith, is, a_none, b_none)))
+
+    by_first : (t : Bool) → nat_lt 0 a ≡ t → (0 < a) ⊎ (0 < b) ⊎ (0 < c)
+    by_first true a_some = inl (grind (arith, a_some))
+    by_first false a_none = by_second a_none (nat_lt 0 b) refl
+
+year_words : (years : List ℕ) → length years ≡ 4 → is_year_set years ≡ true → AreYearWords years
+unfolding is_year_set size
+year_words [] four valid = absurd (omega (arith, four))
+year_words (a ∷ []) four valid = absurd (omega (arith, four))
+year_words (a ∷ b ∷ []) four valid = absurd (omega (arith, four))
+year_words (a ∷ b ∷ c ∷ []) four valid = absurd (omega (arith, four))
+year_words (a ∷ b ∷ c ∷ d ∷ []) four valid =
+    let a_small : nat_lt a (2 ^ 64) ≡ true = grind (arith, valid) in
+    let b_small : nat_lt b (2 ^ 64) ≡ true = grind (arith, valid) in
+    let c_small : nat_lt c (2 ^ 2) ≡ true = grind (arith, valid) in
+    let d_none : d ≡ 0 = grind (arith, valid) in
+    let some : (nat_lt 0 a || (nat_lt 0 b || (nat_lt 0 c || (nat_lt 0 d || false)))) ≡ true = grind (arith, valid) in
+    record {
+      first = a;
+      second = b;
+      third = c;
+      is = ap (λ (x : ℕ). a ∷ b ∷ c ∷ x ∷ []) d_none;
+      first_small = grind (arith, a_small);
+      second_small = grind (arith, b_small);
+      third_small = grind (arith, c_small);
+      some = some_word a b c (sym (ap (λ (x : ℕ). nat_lt 0 a || (nat_lt 0 b || (nat_lt 0 c || (nat_lt 0 x || false)))) d_none) ∙ some);
+    }
+year_words (a ∷ b ∷ c ∷ d ∷ e ∷ more) four valid = absurd (omega (arith, four))
+
+-- number `from + i` of the four words
+word_first : (a b c d i : ℕ) → i < 64 → has_word (a ∷ b ∷ c ∷ d ∷ []) (0 + i) ≡ has a i
 unfolding has_word
-word_at a b c d i low =
-    let e : i / 64 ≡ 0 = omega arith in
-    let f : i % 64 ≡ i = omega arith in
+word_first a b c d i low =
+    let e : (0 + i) / 64 ≡ 0 = omega arith in
+    let f : (0 + i) % 64 ≡ i = omega arith in
     rw (e, f) refl
 
-bit_has : (w i : ℕ) → bit_at w i ≡ 1 → has w i ≡ true
-unfolding has
-bit_has w i one = grind (arith, one)
+word_second : (a b c d i : ℕ) → i < 64 → has_word (a ∷ b ∷ c ∷ d ∷ []) (64 + i) ≡ has b i
+unfolding has_word
+word_second a b c d i low =
+    let e : (64 + i) / 64 ≡ 1 = omega arith in
+    let f : (64 + i) % 64 ≡ i = omega arith in
+    rw (e, f) refl
 
-has_bit : (w i : ℕ) → has w i ≡ true → bit_at w i ≡ 1
-unfolding has
-has_bit w i is = grind (arith, is)
+word_third : (a b c d i : ℕ) → i < 64 → has_word (a ∷ b ∷ c ∷ d ∷ []) (128 + i) ≡ has c i
+unfolding has_word
+word_third a b c d i low =
+    let e : (128 + i) / 64 ≡ 2 = omega arith in
+    let f : (128 + i) % 64 ≡ i = omega arith in
+    rw (e, f) refl
 
--- a bit of a small word is a low one
-low_bit : (w k i : ℕ) → w < 2 ^ k → bit_at w i ≡ 1 → i < k
-low_bit w k i small one = by_place (nat_lt i k) refl
+-- a word of the years
+word_from : (set : List ℕ) (from word k : ℕ) → word < 2 ^ k → k ≤ 64 → from + k ≤ 130 → (k ≡ 64) ⊎ (from + k ≡ 130)
+    → ((i : ℕ) → i < 64 → has_word set (from + i) ≡ has word i) → IsWordFrom Year set from word
+unfolding size
+word_from set from word k small few within end same = record { there = there; back = back }
   where
-    by_place : (b : Bool) → nat_lt i k ≡ b → i < k
-    by_place true low = grind (arith, low)
-    by_place false high =
-        let none : bit_at w i ≡ 0 = bit_at_above w k i small (grind (arith, high)) in
-        absurd (omega (arith, none, one))
-
-set_small : (field : Field) (w : ℕ) → is_set field w ≡ true → (0 < w) × (w < 2 ^ size field)
-unfolding is_set
-set_small field w is = (grind (arith, is), grind (arith, is))
-
--- a set of up to 64 values, as the word that it is
-one_word_from : (field : Field) (w : ℕ) → size field ≤ 64 → w < 2 ^ size field → IsWordFrom field (one_word w) 0 w
-one_word_from field w few small = record { there = there; back = back }
-  where
-    there : (i : ℕ) → bit_at w i ≡ 1 → (i < 64) × (0 + i < size field) × (has_word (one_word w) (0 + i) ≡ true)
+    there : (i : ℕ) → bit_at word i ≡ 1 → (i < 64) × (from + i < 130) × (has_word set (from + i) ≡ true)
     there i one =
-        let low : i < size field = low_bit w (size field) i small one in
-        let e : 0 + i ≡ i = omega arith in
-        (omega arith, omega arith, ap (λ (j : ℕ). has_word (one_word w) j) e ∙ word_at w 0 0 0 i (omega arith) ∙ bit_has w i one)
-    back : (i : ℕ) → i < 64 → 0 + i < size field → has_word (one_word w) (0 + i) ≡ true → bit_at w i ≡ 1
-    back i low within has =
-        let e : 0 + i ≡ i = omega arith in
-        has_bit w i (sym (word_at w 0 0 0 i low) ∙ sym (ap (λ (j : ℕ). has_word (one_word w) j) e) ∙ has)
+        let low : i < k = low_bit word k i small one in
+        (omega arith, omega arith, same i (omega arith) ∙ bit_has word i one)
 
--- a set without members has no number
-no_member : (set : List ℕ) (n i : ℕ) → members set n ≡ [] → i < n → has_word set i ≡ false
-unfolding members
-no_member set zero i none less = absurd (omega arith)
-no_member set (suc n) i none less = step (has_word set n) refl none (nat_lt i n) refl (no_member set n i)
+    back : (i : ℕ) → i < 64 → from + i < 130 → has_word set (from + i) ≡ true → bit_at word i ≡ 1
+    back i low less has = has_bit word i (sym (same i low) ∙ has)
+
+record WordsFrom (a b c : ℕ) : Type 0 where
+  first : IsWordFrom Year (a ∷ b ∷ c ∷ 0 ∷ []) 0 a
+  second : IsWordFrom Year (a ∷ b ∷ c ∷ 0 ∷ []) 64 b
+  third : IsWordFrom Year (a ∷ b ∷ c ∷ 0 ∷ []) 128 c
+
+words_from : (a b c : ℕ) → a < 2 ^ 64 → b < 2 ^ 64 → c < 2 ^ 2 → WordsFrom a b c
+words_from a b c a_small b_small c_small = record {
+  first = word_from (a ∷ b ∷ c ∷ 0 ∷ []) 0 a 64 a_small (lit≤ tt) (lit≤ tt) (inl refl) (λ i low. word_first a b c 0 i low);
+  second = word_from (a ∷ b ∷ c ∷ 0 ∷ []) 64 b 64 b_small (lit≤ tt) (lit≤ tt) (inl refl) (λ i low. word_second a b c 0 i low);
+  third = word_from (a ∷ b ∷ c ∷ 0 ∷ []) 128 c 2 c_small (lit≤ tt) (lit≤ tt) (inr refl) (λ i low. word_third a b c 0 i low);
+}
+
+-- all years
+full_word : (w k : ℕ) → w < 2 ^ k → ((i : ℕ) → i < k → has w i ≡ true) → 2 ^ k - 1 < 2 ^ k → w ≡ 2 ^ k - 1
+full_word w k small all less = same_from_bits_below k w (2 ^ k - 1) small less (λ i low. has_bit w i (all i low) ∙ sym (bit_at_ones k i low))
+
+all_years : (a b c : ℕ) → a < 2 ^ 64 → b < 2 ^ 64 → c < 2 ^ 2 → has_all (a ∷ b ∷ c ∷ 0 ∷ []) (size Year) ≡ true
+    → a ∷ b ∷ c ∷ 0 ∷ [] ≡ (2 ^ 64 - 1) ∷ (2 ^ 64 - 1) ∷ 3 ∷ 0 ∷ []
+unfolding size
+all_years a b c a_small b_small c_small all =
+    let first : a ≡ 2 ^ 64 - 1 = full_word a 64 a_small (λ i low. sym (word_first a b c 0 i low) ∙ all_numbers (a ∷ b ∷ c ∷ 0 ∷ []) 130 (0 + i) all (omega arith)) (lit< tt) in
+    let second : b ≡ 2 ^ 64 - 1 = full_word b 64 b_small (λ i low. sym (word_second a b c 0 i low) ∙ all_numbers (a ∷ b ∷ c ∷ 0 ∷ []) 130 (64 + i) all (omega arith)) (lit< tt) in
+    let third : c ≡ 2 ^ 2 - 1 = full_word c 2 c_small (λ i low. sym (word_third a b c 0 i (omega arith)) ∙ all_numbers (a ∷ b ∷ c ∷ 0 ∷ []) 130 (128 + i) all (omega arith)) (lit< tt) in
+    cc
+
+-- the years' text, and the fields that it adds
+record PrintedYears (years : List ℕ) : Type 0 where
+  text : Option (List ℕ)
+  are : AreYearsOf text years
+  is : (w : List ℕ) → AreJoined (w ∷ years_list text) (w ++ years_text years)
+
+no_years : (years : List ℕ) → has_all years (size Year) ≡ true → years_text years ≡ []
+unfolding years_text
+no_years years all = rw all refl
+
+some_years : (years : List ℕ) → has_all years (size Year) ≡ false → years_text years ≡ 32 ∷ values_text Year years (size Year)
+unfolding years_text
+some_years years other = rw other refl
+
+year_members : (a b c : ℕ) → WordsFrom a b c → ((0 < a) ⊎ (0 < b) ⊎ (0 < c)) → members (a ∷ b ∷ c ∷ 0 ∷ []) (size Year) ≢ []
+year_members a b c from (inl some) = word_members Year (a ∷ b ∷ c ∷ 0 ∷ []) 0 a from.first some
+year_members a b c from (inr (inl some)) = word_members Year (a ∷ b ∷ c ∷ 0 ∷ []) 64 b from.second some
+year_members a b c from (inr (inr some)) = word_members Year (a ∷ b ∷ c ∷ 0 ∷ []) 128 c from.third some
+
+printed_words : (a b c : ℕ) → a < 2 ^ 64 → b < 2 ^ 64 → c < 2 ^ 2 → ((0 < a) ⊎ (0 < b) ⊎ (0 < c)) → PrintedYears (a ∷ b ∷ c ∷ 0 ∷ [])
+printed_words a b c a_small b_small c_small some = by_all (has_all (a ∷ b ∷ c ∷ 0 ∷ []) (size Year)) refl
   where
-    pushed : (xs : List ℕ) → xs ++ n ∷ [] ≡ [] → ⊥
-    pushed [] e = cc
-    pushed (x ∷ xs) e = cc
-    step : (b : Bool) → has_word set n ≡ b → cond b (members set n ++ n ∷ []) (members set n) ≡ [] → (t : Bool) → nat_lt i n ≡ t
-        → (members set n ≡ [] → i < n → has_word set i ≡ false) → has_word set i ≡ false
-    step true top e t place before = absurd (pushed (members set n) e)
-    step false top e true low before = before e (grind (arith, low))
-    step false top e false high before = let same : i ≡ n = grind (arith, high) in ap (λ (j : ℕ). has_word set j) same ∙ top
+    from : WordsFrom a b c
+    from = words_from a b c a_small b_small c_small
 
-false_true : {A : Type 0} → false ≡ true → A
-false_true e = absurd (clash e)
+    has_members : members (a ∷ b ∷ c ∷ 0 ∷ []) (size Year) ≢ []
+    has_members = year_members a b c from some
+
+    by_all : (t : Bool) → has_all (a ∷ b ∷ c ∷ 0 ∷ []) (size Year) ≡ t → PrintedYears (a ∷ b ∷ c ∷ 0 ∷ [])
+    by_all true all = record {
+      text = None;
+      are = all_years a b c a_small b_small c_small all;
+      is = λ w. subst (λ (t : List ℕ). AreJoined (w ∷ []) (w ++ t)) (sym (no_years (a ∷ b ∷ c ∷ 0 ∷ []) all)) (last_field w [] tt);
+    }
+    by_all false other = record {
+      text = Some (values_text Year (a ∷ b ∷ c ∷ 0 ∷ []) (size Year));
+      are = record {
+        first = a;
+        second = b;
+        third = c;
+        words = refl;
+        is_first = values_are_set Year (a ∷ b ∷ c ∷ 0 ∷ []) 0 a has_members from.first;
+        is_second = values_are_set Year (a ∷ b ∷ c ∷ 0 ∷ []) 64 b has_members from.second;
+        is_third = values_are_set Year (a ∷ b ∷ c ∷ 0 ∷ []) 128 c has_members from.third;
+      };
+      is = λ w. subst (λ (t : List ℕ). AreJoined (w ∷ values_text Year (a ∷ b ∷ c ∷ 0 ∷ []) (size Year) ∷ []) (w ++ t)) (sym (some_years (a ∷ b ∷ c ∷ 0 ∷ []) other))
+          (next_field w [] 32 (inl refl, tt) (last_alone (values_text Year (a ∷ b ∷ c ∷ 0 ∷ []) (size Year))));
+    }
+      where
+        last_alone : (y : List ℕ) → AreJoined (y ∷ []) y
+        last_alone y = subst (λ (t : List ℕ). AreJoined (y ∷ []) t) (append-nil y) (last_field y [] tt)
+
+printed_years : (years : List ℕ) → AreYearWords years → PrintedYears years
+printed_years years words =
+    subst (λ (ys : List ℕ). PrintedYears ys) (sym words.is) (printed_words words.first words.second words.third words.first_small words.second_small words.third_small words.some)
+
+-- a field with one space behind it
+spaced_field : (field : List ℕ) (fields : List (List ℕ)) (text : List ℕ) → AreJoined fields text → AreJoined (field ∷ fields) (field ++ 32 ∷ text)
+spaced_field field fields text more = next_field field [] 32 (inl refl, tt) more
+
+regroup : (s m h d i w y : List ℕ)
+    → (((((s ++ codes " ") ++ m) ++ codes " ") ++ h) ++ codes " ") ++ ((((d ++ codes " ") ++ i) ++ codes " ") ++ w) ++ y
+    ≡ s ++ 32 ∷ (m ++ 32 ∷ (h ++ 32 ∷ (d ++ 32 ∷ (i ++ 32 ∷ (w ++ y)))))
+regroup s m h d i w y = simp append_assoc
+
+canonical_is : (f : CronFields)
+    → canonical_text f ≡ set_text Seconds (one_word f.seconds) ++ 32 ∷ (set_text Minutes (one_word f.minutes) ++ 32 ∷ (set_text Hours (one_word f.hours) ++ 32 ∷ (day_text f.day ++ 32 ∷ (set_text Month (one_word f.months) ++ 32 ∷ (week_text f.week ++ years_text f.years)))))
+unfolding canonical_text times_text dates_text
+canonical_is f =
+    regroup (set_text Seconds (one_word f.seconds)) (set_text Minutes (one_word f.minutes)) (set_text Hours (one_word f.hours)) (day_text f.day) (set_text Month (one_word f.months)) (week_text f.week) (years_text f.years)
+
+-- what valid fields have
+record AreValid (f : CronFields) : Type 0 where
+  seconds : is_set Seconds f.seconds ≡ true
+  minutes : is_set Minutes f.minutes ≡ true
+  hours : is_set Hours f.hours ≡ true
+  day : is_day_field f.day ≡ true
+  months : is_set Month f.months ≡ true
+  week : is_week_field f.week ≡ true
+  years : is_year_set f.years ≡ true
+  one_named : is_any_day f.day ≡ not (is_any_week f.week)
+
+one_day : (a b : Bool) → cond a (not b) b ≡ true → a ≡ not b
+one_day true true e = false_true e
+one_day true false e = refl
+one_day false true e = refl
+one_day false false e = false_true e
+
+are_valid : (f : CronFields) → is_cron_fields f ≡ true → AreValid f
+unfolding is_time_fields is_date_fields
+are_valid f valid = record {
+  seconds = grind (arith, valid);
+  minutes = grind (arith, valid);
+  hours = grind (arith, valid);
+  day = grind (arith, valid);
+  months = grind (arith, valid);
+  week = grind (arith, valid);
+  years = grind (arith, valid);
+  one_named = one_day (is_any_day f.day) (is_any_week f.week) (grind (arith, valid));
+}
+
+-- the canonical text of valid fields says them
+pub canonical_is_text : (f : CronFields) → length f.years ≡ 4 → is_cron_fields f ≡ true → IsText (canonical_text f) f
+canonical_is_text f four valid = made (are_valid f valid) (printed_years f.years (year_words f.years four (are_valid f valid).years))
   where
-    clash : false ≡ true → ⊥
-    clash x = cc
-
-no_bits : (w : ℕ) → ((i : ℕ) → bit_at w i ≡ 1 → ⊥) → w ≡ 0
-no_bits w none = same_from_bits w 0 (λ i. by_bit i (bit_at w i == 1) refl)
-  where
-    by_bit : (i : ℕ) (b : Bool) → (bit_at w i == 1) ≡ b → bit_at w i ≡ bit_at 0 i
-    by_bit i true is = let one : bit_at w i ≡ 1 = grind (arith, is) in absurd (none i one)
-    by_bit i false other = let zero_bit : bit_at 0 i ≡ 0 = bit_at-zero i in grind (arith, other, bit_at-lt w i, zero_bit)
-
--- a word that isn't 0 leaves members
-word_members : (field : Field) (set : List ℕ) (from word : ℕ) → IsWordFrom field set from word → 0 < word → members set (size field) ≢ []
-word_members field set from word is some none =
-    let zero_word : word ≡ 0 = no_bits word (λ i one. false_true (sym (no_member set (size field) (from + i) none (is.there i one).1) ∙ (is.there i one).2)) in
-    omega (arith, some, zero_word)
-
--- `*`: each value
-all_in_range : (field : Field) → RunInRange field (all_by field 1)
-unfolding greatest
-all_in_range field =
-    let some : 1 ≤ size field = size_some field in
-    record { first = (omega arith, omega arith); last = (omega arith, omega arith); years = λ _. omega arith; step = (lit≤ tt, lit≤ tt) }
-
-all_has : (field : Field) (i : ℕ) → i < size field → HasValue field (all_by field 1) (least field + i)
-unfolding greatest
-all_has field i less =
-    let some : 1 ≤ size field = size_some field in
-    let regroup : least field + size field - 1 + size field - least field ≡ (size field - 1) + size field = omega arith in
-    let whole : (least field + size field - 1 + size field - least field) % size field ≡ size field - 1 =
-            ap (λ (m : ℕ). m % size field) regroup ∙ add-mod_right (size field - 1) (size field) ∙ mod-eq_of_lt (omega arith) in
-    let e : least field - least field + i * 1 ≡ i = omega arith in
-    (i, omega (arith, whole), ap (λ (m : ℕ). least field + m) (sym (ap (λ (m : ℕ). m % size field) e ∙ mod-eq_of_lt less)))
-
-has_low : (field : Field) (run : Run) (v : ℕ) → HasValue field run v → v < least field + size field
-has_low field run v (k, within, at) =
-    let some : 1 ≤ size field = size_some field in
-    let low : (run.first - least field + k * run.step) % size field < size field = omega arith in
-    omega (arith, at, low)
-
-all_numbers : (set : List ℕ) (n i : ℕ) → has_all set n ≡ true → i < n → has_word set i ≡ true
-unfolding has_all
-all_numbers set zero i all less = absurd (omega arith)
-all_numbers set (suc n) i all less = step (nat_lt i n) refl (all_numbers set n i (first (has_all set n) (has_word set n) all))
-  where
-    first : (a b : Bool) → (a && b) ≡ true → a ≡ true
-    first true b e = refl
-    first false b e = e
-    second : (a b : Bool) → (a && b) ≡ true → b ≡ true
-    second true b e = e
-    second false b e = false_true e
-    step : (t : Bool) → nat_lt i n ≡ t → (i < n → has_word set i ≡ true) → has_word set i ≡ true
-    step true low before = before (grind (arith, low))
-    step false high before = let same : i ≡ n = grind (arith, high) in ap (λ (j : ℕ). has_word set j) same ∙ second (has_all set n) (has_word set n) all
-
-star_is_set : (field : Field) (set : List ℕ) (word : ℕ) → has_all set (size field) ≡ true → IsWordFrom field set 0 word → IsSet field 0 (42 ∷ []) word
-star_is_set field set word all is =
-    record { runs = all_by field 1 ∷ []; elements = one_element (record { is_form = of_values every; in_range = all_in_range field }); bits = λ i. (there i, back i) }
-  where
-    there : (i : ℕ) → bit_at word i ≡ 1 → (i < 64) × SomeHas field (all_by field 1 ∷ []) (least field + 0 + i)
-    there i one =
-        let at : (i < 64) × (0 + i < size field) × (has_word set (0 + i) ≡ true) = is.there i one in
-        let e : least field + i ≡ least field + 0 + i = omega arith in
-        (at.0, inl (subst (λ (v : ℕ). HasValue field (all_by field 1) v) e (all_has field i (omega (arith, at.1)))))
-    by_run : (i : ℕ) → i < 64 → SomeHas field (all_by field 1 ∷ []) (least field + 0 + i) → bit_at word i ≡ 1
-    by_run i low (inl has) =
-        let less : least field + 0 + i < least field + size field = has_low field (all_by field 1) (least field + 0 + i) has in
-        is.back i low (omega (arith, less)) (all_numbers set (size field) (0 + i) all (omega (arith, less)))
-    by_run i low (inr none) = absurd none
-    back : (i : ℕ) → (i < 64) × SomeHas field (all_by field 1 ∷ []) (least field + 0 + i) → bit_at word i ≡ 1
-    back i at = by_run i at.0 at.1
-
--- a printed set
-set_is : (field : Field) (w : ℕ) → size field ≤ 64 → is_set field w ≡ true → IsSet field 0 (set_text field (one_word w)) w
-unfolding set_text
-set_is field w few valid = by_all (has_all (one_word w) (size field)) refl
-  where
-    small : (0 < w) × (w < 2 ^ size field)
-    small = set_small field w valid
-    from : IsWordFrom field (one_word w) 0 w
-    from = one_word_from field w few small.1
-    by_all : (b : Bool) → has_all (one_word w) (size field) ≡ b → IsSet field 0 (cond b (42 ∷ []) (values_text field (one_word w) (size field))) w
-    by_all true all = star_is_set field (one_word w) w all from
-    by_all false other = values_are_set field (one_word w) 0 w (word_members field (one_word w) 0 w from small.0) from
+    made : AreValid f → PrintedYears f.years → IsText (canonical_text f) f
+    made are years = record {
+      seconds = set_text Seconds (one_word f.seconds);
+      minutes = set_text Minutes (one_word f.minutes);
+      hours = set_text Hours (one_word f.hours);
+      day = day_text f.day;
+      months = set_text Month (one_word f.months);
+      week = week_text f.week;
+      years = years.text;
+      blanks = [];
+      rest = canonical_text f;
+      is_blank = tt;
+      is = refl;
+      joined = subst (λ (t : List ℕ). AreJoined (set_text Seconds (one_word f.seconds) ∷ set_text Minutes (one_word f.minutes) ∷ set_text Hours (one_word f.hours) ∷ day_text f.day ∷ set_text Month (one_word f.months) ∷ week_text f.week ∷ years_list years.text) t) (sym (canonical_is f))
+          (spaced_field _ _ _ (spaced_field _ _ _ (spaced_field _ _ _ (spaced_field _ _ _ (spaced_field _ _ _ (years.is (week_text f.week)))))));
+      is_seconds = set_is Seconds f.seconds seconds_few are.seconds;
+      is_minutes = set_is Minutes f.minutes minutes_few are.minutes;
+      is_hours = set_is Hours f.hours hours_few are.hours;
+      is_day = day_is f.day are.day;
+      is_months = set_is Month f.months months_few are.months;
+      is_week = week_is f.week are.week;
+      is_years = years.are;
+      one_named = are.one_named;
+    }
