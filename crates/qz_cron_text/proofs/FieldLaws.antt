@@ -20,7 +20,7 @@ use Rattle.qz_cron_text.specs.Cuts.{Parts, cut_at}
 use Rattle.qz_cron_text.specs.Sets.{word_of}
 use Rattle.qz_cron_text.specs.Forms.{element_of}
 use Rattle.qz_cron_text.specs.Elements.{◌>>=◌, and_form, all_of, none_yet, elements_of, has_special, alone, field_of}
-use Rattle.qz_cron_text.specs.Grammar.{IsElement, AreElements, one_element, more_elements, RunInRange, InRange, HasValue, SomeHas, IsSet}
+use Rattle.qz_cron_text.specs.Grammar.{IsElement, AreElements, one_element, more_elements, RunInRange, InRange, HasValue, SomeHas, HasBits, IsSet}
 use Rattle.qz_cron_text.proofs.Free.{IsFree, is_mark, free_split, free_split_at, uncut, cut_marked}
 use Rattle.qz_cron_text.proofs.ElementLaws.{element_read, element_is}
 use Rattle.qz_cron_text.proofs.Bytes.{IsInner, form_inner, inner_no_comma}
@@ -110,11 +110,11 @@ sum_runs field from found (run ∷ runs) = sum_runs field from (record found { w
 abbrev pub AreInRange : Field → List Run → Type 0
 AreInRange field runs = AllByRecursion (λ run. RunInRange field run) runs
 
-forms_in_range : (field : Field) (text : List ℕ) (forms : List Form) → AreElements field text forms → AllByRecursion (λ form. InRange field form) forms
+pub forms_in_range : (field : Field) (text : List ℕ) (forms : List Form) → AreElements field text forms → AllByRecursion (λ form. InRange field form) forms
 forms_in_range field text forms (one_element {text = word} {form} is) = (is.in_range, tt)
 forms_in_range field text forms (more_elements {text = word} {texts} {form} {forms = others} is more) = (is.in_range, forms_in_range field texts others more)
 
-runs_in_range : (field : Field) (runs : List Run) → AllByRecursion (λ form. InRange field form) (map (λ run. Values run) runs) → AreInRange field runs
+pub runs_in_range : (field : Field) (runs : List Run) → AllByRecursion (λ form. InRange field form) (map (λ run. Values run) runs) → AreInRange field runs
 runs_in_range field [] right = tt
 runs_in_range field (run ∷ runs) right = (right.0, runs_in_range field runs right.1)
 
@@ -159,21 +159,20 @@ bit_words field from word (run ∷ runs) i right low (inl has) =
 bit_words field from word (run ∷ runs) i right low (inr has) = bit_words field from (bit_or word (word_of field run from)) runs i right.1 low has
 
 -- the word of a list of runs
+pub runs_bits : (field : Field) (from : ℕ) (text : List ℕ) (runs : List Run) → AreElements field text (map (λ run. Values run) runs)
+    → HasBits field from runs (words_of field from 0 runs)
+runs_bits field from text runs are i = (λ one. by_part (words_bit field from 0 runs i right one), λ has. bit_words field from 0 runs i right has.0 has.1)
+  where
+    right : AreInRange field runs
+    right = runs_in_range field runs (forms_in_range field text (map (λ run. Values run) runs) are)
+
+    by_part : ((bit_at 0 i ≡ 1) ⊎ ((i < 64) × SomeHas field runs (least field + from + i))) → (i < 64) × SomeHas field runs (least field + from + i)
+    by_part (inl one) = let zero_bit : bit_at 0 i ≡ 0 = bit_at-zero i in absurd (omega (arith, zero_bit, one))
+    by_part (inr has) = has
+
 pub runs_are_set : (field : Field) (from : ℕ) (text : List ℕ) (runs : List Run) → AreElements field text (map (λ run. Values run) runs)
     → IsSet field from text (words_of field from 0 runs)
-runs_are_set field from text runs are =
-    let right : AreInRange field runs = runs_in_range field runs (forms_in_range field text (map (λ run. Values run) runs) are) in
-    record { runs = runs; elements = are; bits = λ i. (there i right, λ has. bit_words field from 0 runs i right has.0 has.1) }
-  where
-    none : (i : ℕ) → bit_at 0 i ≡ 1 → ⊥
-    none i one = let zero_bit : bit_at 0 i ≡ 0 = bit_at-zero i in omega (arith, zero_bit, one)
-
-    there : (i : ℕ) → AreInRange field runs → bit_at (words_of field from 0 runs) i ≡ 1 → (i < 64) × SomeHas field runs (least field + from + i)
-    there i right one = by_part (words_bit field from 0 runs i right one)
-      where
-        by_part : ((bit_at 0 i ≡ 1) ⊎ ((i < 64) × SomeHas field runs (least field + from + i))) → (i < 64) × SomeHas field runs (least field + from + i)
-        by_part (inl e) = absurd (none i e)
-        by_part (inr e) = e
+runs_are_set field from text runs are = record { runs = runs; elements = are; bits = runs_bits field from text runs are }
 
 bits_same : (a b : ℕ) → ((i : ℕ) → bit_at a i ≡ 1 → bit_at b i ≡ 1) → ((i : ℕ) → bit_at b i ≡ 1 → bit_at a i ≡ 1) → a ≡ b
 bits_same a b there back = same_from_bits a b (λ i. by_bit i (bit_at a i == 1) (bit_at b i == 1) refl refl)
@@ -184,11 +183,10 @@ bits_same a b there back = same_from_bits a b (λ i. by_bit i (bit_at a i == 1) 
     by_bit i false false is_a is_b = grind (arith, is_a, is_b, bit_at-lt a i, bit_at-lt b i)
 
 -- a set has one word
-set_word : (field : Field) (from : ℕ) (text : List ℕ) (word : ℕ) (is : IsSet field from text word) → words_of field from 0 is.runs ≡ word
-unfolding runs_are_set
+pub set_word : (field : Field) (from : ℕ) (text : List ℕ) (word : ℕ) (is : IsSet field from text word) → words_of field from 0 is.runs ≡ word
 set_word field from text word is =
-    let whole : IsSet field from text (words_of field from 0 is.runs) = runs_are_set field from text is.runs is.elements in
-    bits_same (words_of field from 0 is.runs) word (λ i one. (is.bits i).1 ((whole.bits i).0 one)) (λ i one. (whole.bits i).1 ((is.bits i).0 one))
+    let whole : HasBits field from is.runs (words_of field from 0 is.runs) = runs_bits field from text is.runs is.elements in
+    bits_same (words_of field from 0 is.runs) word (λ i one. (is.bits i).1 ((whole i).0 one)) (λ i one. (whole i).1 ((is.bits i).0 one))
 
 pub set_read : (field : Field) (from at : ℕ) (text : List ℕ) (word : ℕ) → IsSet field from text word
     → field_of field from at text ≡ Ok (record { word = word; day = None; week = None })

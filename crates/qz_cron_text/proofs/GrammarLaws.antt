@@ -169,7 +169,7 @@ week_word text (week.Nth d n) is = element_word DayOfWeek text (Week (weeks.Nth 
 
 years_words : (years : Option (List ℕ)) (words : List ℕ) → AreYearsOf years words → AllByRecursion IsWord (years_list years)
 years_words None words is = tt
-years_words (Some text) words is = (set_word Year 0 text is.first is.is_first, tt)
+years_words (Some text) words is = (elements_word Year text (map (λ run. Values run) is.runs) is.elements, tt)
 
 -- a text in the grammar is read
 pub reading_read : (text : List ℕ) (f : CronFields) → IsText text f → reading text ≡ Ok f

@@ -16,7 +16,7 @@ use Rattle.qz_cron_text.specs.declared.forms.Form.{Form}
 use Rattle.qz_cron_text.specs.declared.forms.Form.TheVariants.{Values}
 use Rattle.qz_cron_text.specs.Runs.{all_by, is_year}
 use Rattle.qz_cron_text.specs.Printing.{members, has_all, values_text, set_text}
-use Rattle.qz_cron_text.specs.Grammar.{digits_sum, IsNumeral, IsValue, numeral, IsRun, every, single, IsForm, of_values, IsOf, RunInRange, IsElement, AreElements, one_element, more_elements, span, HasValue, SomeHas, IsSet}
+use Rattle.qz_cron_text.specs.Grammar.{digits_sum, IsNumeral, IsValue, numeral, IsRun, every, single, IsForm, of_values, IsOf, RunInRange, IsElement, AreElements, one_element, more_elements, span, HasValue, SomeHas, HasBits, IsSet}
 use Rattle.qz_cron_text.proofs.FieldLemmas.{size_some, size_most, values_most}
 
 -- a digit at the end
@@ -173,26 +173,38 @@ pub record IsWordFrom (field : Field) (set : List ℕ) (from word : ℕ) : Type 
   pub there : (i : ℕ) → bit_at word i ≡ 1 → (i < 64) × (from + i < size field) × (has_word set (from + i) ≡ true)
   pub back : (i : ℕ) → i < 64 → from + i < size field → has_word set (from + i) ≡ true → bit_at word i ≡ 1
 
+-- the runs of a printed list
+abbrev pub member_runs : Field → List ℕ → List Run
+member_runs field set = map (only field) (members set (size field))
+
+pub members_elements : (field : Field) (set : List ℕ) → members set (size field) ≢ []
+    → AreElements field (values_text field set (size field)) (map (λ run. Values run) (member_runs field set))
+unfolding values_text
+members_elements field set some = by_members (members set (size field)) refl (members_below set (size field) (size field) (omega arith))
+  where
+    by_members : (ms : List ℕ) → members set (size field) ≡ ms → AreBelow (size field) ms
+        → AreElements field (join_with_byte 44 (map (λ j. printed (least field + j)) ms)) (map (λ run. Values run) (map (only field) ms))
+    by_members [] none below = absurd (some none)
+    by_members (m ∷ ms) same below = values_elements field m ms below
+
+pub members_bits : (field : Field) (set : List ℕ) (from word : ℕ) → IsWordFrom field set from word → HasBits field from (member_runs field set) word
+members_bits field set from word is i = (there, back)
+  where
+    there : bit_at word i ≡ 1 → (i < 64) × SomeHas field (member_runs field set) (least field + from + i)
+    there one =
+        let at : (i < 64) × (from + i < size field) × (has_word set (from + i) ≡ true) = is.there i one in
+        let has : SomeHas field (member_runs field set) (least field + (from + i)) = member_has field set (size field) (from + i) (omega arith) at.1 at.2 in
+        let e : least field + (from + i) ≡ least field + from + i = omega arith in
+        (at.0, subst (λ (v : ℕ). SomeHas field (member_runs field set) v) e has)
+
+    back : (i < 64) × SomeHas field (member_runs field set) (least field + from + i) → bit_at word i ≡ 1
+    back at =
+        let found : (j : ℕ) × (j < size field) × (least field + from + i ≡ least field + j) × (has_word set j ≡ true) =
+        has_member field set (size field) (least field + from + i) (omega arith) at.1 in
+        let e : found.0 ≡ from + i = omega (arith, found.2) in
+        is.back i at.0 (omega (arith, e, found.1)) (subst (λ (j : ℕ). has_word set j ≡ true) e found.3)
+
 pub values_are_set : (field : Field) (set : List ℕ) (from word : ℕ) → members set (size field) ≢ [] → IsWordFrom field set from word
     → IsSet field from (values_text field set (size field)) word
-unfolding values_text
-values_are_set field set from word some is = by_members (members set (size field)) refl (members_below set (size field) (size field) (omega arith))
-  where
-    by_members : (ms : List ℕ) → members set (size field) ≡ ms → AreBelow (size field) ms → IsSet field from (join_with_byte 44 (map (λ j. printed (least field + j)) ms)) word
-    by_members [] none below = absurd (some none)
-    by_members (m ∷ ms) same below =
-        record { runs = map (only field) (m ∷ ms); elements = values_elements field m ms below; bits = λ i. (there i, back i) }
-      where
-        there : (i : ℕ) → bit_at word i ≡ 1 → (i < 64) × SomeHas field (map (only field) (m ∷ ms)) (least field + from + i)
-        there i one =
-            let at : (i < 64) × (from + i < size field) × (has_word set (from + i) ≡ true) = is.there i one in
-            let has : SomeHas field (map (only field) (members set (size field))) (least field + (from + i)) = member_has field set (size field) (from + i) (omega arith) at.1 at.2 in
-            let e : least field + (from + i) ≡ least field + from + i = omega arith in
-            (at.0, subst (λ (v : ℕ). SomeHas field (map (only field) (m ∷ ms)) v) e (subst (λ (xs : List ℕ). SomeHas field (map (only field) xs) (least field + (from + i))) same has))
-
-        back : (i : ℕ) → (i < 64) × SomeHas field (map (only field) (m ∷ ms)) (least field + from + i) → bit_at word i ≡ 1
-        back i at =
-            let has : SomeHas field (map (only field) (members set (size field))) (least field + from + i) = subst (λ (xs : List ℕ). SomeHas field (map (only field) xs) (least field + from + i)) (sym same) at.1 in
-            let found : (j : ℕ) × (j < size field) × (least field + from + i ≡ least field + j) × (has_word set j ≡ true) = has_member field set (size field) (least field + from + i) (omega arith) has in
-            let e : found.0 ≡ from + i = omega (arith, found.2) in
-            is.back i at.0 (omega (arith, e, found.1)) (subst (λ (j : ℕ). has_word set j ≡ true) e found.3)
+values_are_set field set from word some is =
+    record { runs = member_runs field set; elements = members_elements field set some; bits = members_bits field set from word is }

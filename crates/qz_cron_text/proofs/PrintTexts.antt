@@ -20,7 +20,7 @@ use Rattle.qz_cron_text.specs.declared.forms.WeekForm.TheVariants as weeks
 use Rattle.qz_cron_text.specs.Printing.{one_word, members, has_all, values_text, set_text, day_text, week_text, years_text, times_text, dates_text, canonical_text}
 use Rattle.qz_cron_text.specs.Grammar.{IsNumeral, IsValue, numeral, no_day, last_day, before_last_day, last_weekday, nearest_weekday, no_weekday, last_of_month, nth_of_month, of_day, of_week, IsOf, IsElement, IsSet, IsDay, IsWeek, AreYears, AreYearsOf, AreBlanks, AreJoined, last_field, next_field, years_list, IsText}
 use Rattle.qz_cron_text.proofs.ElementLaws.{value_in_range}
-use Rattle.qz_cron_text.proofs.PrintSets.{printed_numeral, IsWordFrom, values_are_set}
+use Rattle.qz_cron_text.proofs.PrintSets.{printed_numeral, IsWordFrom, member_runs, members_elements, members_bits}
 use Rattle.qz_cron_text.proofs.PrintStars.{set_is, low_bit, bit_has, has_bit, word_members, all_numbers, false_true}
 
 -- the days of the month
@@ -244,9 +244,11 @@ printed_words a b c a_small b_small c_small some = by_all (has_all (a ∷ b ∷ 
         second = b;
         third = c;
         words = refl;
-        is_first = values_are_set Year (a ∷ b ∷ c ∷ 0 ∷ []) 0 a has_members from.first;
-        is_second = values_are_set Year (a ∷ b ∷ c ∷ 0 ∷ []) 64 b has_members from.second;
-        is_third = values_are_set Year (a ∷ b ∷ c ∷ 0 ∷ []) 128 c has_members from.third;
+        runs = member_runs Year (a ∷ b ∷ c ∷ 0 ∷ []);
+        elements = members_elements Year (a ∷ b ∷ c ∷ 0 ∷ []) has_members;
+        first_bits = members_bits Year (a ∷ b ∷ c ∷ 0 ∷ []) 0 a from.first;
+        second_bits = members_bits Year (a ∷ b ∷ c ∷ 0 ∷ []) 64 b from.second;
+        third_bits = members_bits Year (a ∷ b ∷ c ∷ 0 ∷ []) 128 c from.third;
       };
       is = λ w. subst (λ (t : List ℕ). AreJoined (w ∷ values_text Year (a ∷ b ∷ c ∷ 0 ∷ []) (size Year) ∷ []) (w ++ t)) (sym (some_years (a ∷ b ∷ c ∷ 0 ∷ []) other))
           (next_field w [] 32 (inl refl, tt) (last_alone (values_text Year (a ∷ b ∷ c ∷ 0 ∷ []) (size Year))));

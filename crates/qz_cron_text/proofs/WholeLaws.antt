@@ -24,9 +24,9 @@ use Rattle.qz_cron_text.specs.Elements.{◌>>=◌, and_form, none_yet, field_of}
 use Rattle.qz_cron_text.specs.Texts.{Placed, Whole, six_and, whole_by, whole_of, fields_at}
 use Rattle.qz_cron_text.specs.Forms.{told}
 use Rattle.qz_cron_text.specs.Reading.{field_at, word_at, special_day, day_by, special_week, week_by, day_of, week_of, years_of, days_checked, fields_of, reading}
-use Rattle.qz_cron_text.specs.Grammar.{IsForm, of_day, of_week, IsElement, AreElements, IsSet, IsDay, IsWeek, AreYears, AreYearsOf, AreBlanks, AreJoined, years_list, IsText}
+use Rattle.qz_cron_text.specs.Grammar.{IsForm, of_day, of_week, IsElement, AreElements, HasBits, IsSet, IsDay, IsWeek, AreYears, AreYearsOf, AreBlanks, AreJoined, years_list, IsText}
 use Rattle.qz_cron_text.proofs.TextLaws.{text_of}
-use Rattle.qz_cron_text.proofs.FieldLaws.{IsFieldOf, a_set, a_day, a_week, set_read, form_field, field_is}
+use Rattle.qz_cron_text.proofs.FieldLaws.{IsFieldOf, a_set, a_day, a_week, words_of, runs_bits, runs_are_set, set_read, form_field, field_is}
 
 -- what was read, and the rest
 pub record Read {A B : Type 0} (r : Result A CronError) (f : A → Result B CronError) (y : B) : Type 0 where
@@ -179,7 +179,17 @@ text_in p = option_map (λ x. x.text) p
 pub years_are : (p : Option Placed) (years : List ℕ) → years_of p ≡ Ok years → AreYearsOf (text_in p) years
 unfolding years_of
 years_are None years e = sym (ok_is e)
-years_are (Some p) years e = by_words first second third
+years_are (Some p) years e = record {
+  first = first.value;
+  second = second.value;
+  third = third.value;
+  words = sym (ok_is third.rest);
+  runs = set.runs;
+  elements = set.elements;
+  first_bits = set.bits;
+  second_bits = same_bits 64 second.value second.is;
+  third_bits = same_bits 128 third.value third.is;
+}
   where
     first : Read (word_at Year 0 p) (λ a. word_at Year 64 p >>= λ b. word_at Year 128 p >>= λ c. Ok (a ∷ b ∷ c ∷ 0 ∷ [])) years
     first = read_on (word_at Year 0 p) (λ a. word_at Year 64 p >>= λ b. word_at Year 128 p >>= λ c. Ok (a ∷ b ∷ c ∷ 0 ∷ [])) years e
@@ -190,24 +200,26 @@ years_are (Some p) years e = by_words first second third
     third : Read (word_at Year 128 p) (λ c. Ok (first.value ∷ second.value ∷ c ∷ 0 ∷ [])) years
     third = read_on (word_at Year 128 p) (λ c. Ok (first.value ∷ second.value ∷ c ∷ 0 ∷ [])) years second.rest
 
-    by_words : Read (word_at Year 0 p) (λ a. word_at Year 64 p >>= λ b. word_at Year 128 p >>= λ c. Ok (a ∷ b ∷ c ∷ 0 ∷ [])) years
-        → Read (word_at Year 64 p) (λ b. word_at Year 128 p >>= λ c. Ok (first.value ∷ b ∷ c ∷ 0 ∷ [])) years
-        → Read (word_at Year 128 p) (λ c. Ok (first.value ∷ second.value ∷ c ∷ 0 ∷ [])) years → AreYears p.text years
-    by_words x y z = record {
-      first = first.value;
-      second = second.value;
-      third = third.value;
-      words = sym (ok_is third.rest);
-      is_first = word_is Year 0 p first.value years_plain first.is;
-      is_second = word_is Year 64 p second.value years_plain second.is;
-      is_third = word_is Year 128 p third.value years_plain third.is;
-    }
+    set : IsSet Year 0 p.text first.value
+    set = word_is Year 0 p first.value years_plain first.is
+
+    -- the same runs give the other words
+    same_bits : (from word : ℕ) → word_at Year from p ≡ Ok word → HasBits Year from set.runs word
+    same_bits from word read = subst (λ (w : ℕ). HasBits Year from set.runs w) (ok_is (sym again ∙ read)) (runs_bits Year from p.text set.runs set.elements)
+      where
+        again : word_at Year from p ≡ Ok (words_of Year from 0 set.runs)
+        again = word_read Year from p (words_of Year from 0 set.runs) (runs_are_set Year from p.text set.runs set.elements)
 
 pub years_read : (p : Option Placed) (years : List ℕ) → AreYearsOf (text_in p) years → years_of p ≡ Ok years
 unfolding years_of
 years_read None years is = rw is refl
 years_read (Some p) years is =
-    rw (word_read Year 0 p is.first is.is_first, word_read Year 64 p is.second is.is_second, word_read Year 128 p is.third is.is_third) (ap (λ (ys : List ℕ). Ok ys) (sym is.words))
+    rw (
+      word_read Year 0 p is.first (record { runs = is.runs; elements = is.elements; bits = is.first_bits }),
+      word_read Year 64 p is.second (record { runs = is.runs; elements = is.elements; bits = is.second_bits }),
+      word_read Year 128 p is.third (record { runs = is.runs; elements = is.elements; bits = is.third_bits }),
+    )
+    (ap (λ (ys : List ℕ). Ok ys) (sym is.words))
 
 -- exactly one of the two day fields is named
 pub record IsChecked (f g : CronFields) : Type 0 where

@@ -129,11 +129,15 @@ abbrev pub SomeHas : Field → List Run → ℕ → Type 0
 SomeHas field [] v = ⊥
 SomeHas field (run ∷ runs) v = HasValue field run v ⊎ SomeHas field runs v
 
+-- the word has as bits the 64 values from number `from` on, of which each is some run's
+abbrev pub HasBits : Field → ℕ → List Run → ℕ → Type 0
+HasBits field from runs word = (i : ℕ) → (bit_at word i ≡ 1) ↔ ((i < 64) × SomeHas field runs (least field + from + i))
+
 -- a list of runs, and the 64 values from number `from` on that some run has
 pub record IsSet (field : Field) (from : ℕ) (text : List ℕ) (word : ℕ) : Type 0 where
   pub runs : List Run
   pub elements : AreElements field text (map (λ run. Values run) runs)
-  pub bits : (i : ℕ) → (bit_at word i ≡ 1) ↔ ((i < 64) × SomeHas field runs (least field + from + i))
+  pub bits : HasBits field from runs word
 
 -- the days of the month
 abbrev pub IsDay : List ℕ → DayField → Type 0
@@ -150,16 +154,19 @@ IsWeek text (week.Set word) = IsSet DayOfWeek 0 text word ⊎ (IsElement DayOfWe
 IsWeek text (week.Last d) = IsElement DayOfWeek text (Week (weeks.LastOf d))
 IsWeek text (week.Nth d n) = IsElement DayOfWeek text (Week (weeks.Nth d n))
 
--- the years, which are all where the field is absent
+-- a list of runs, and the years that some run has, 64 a word
 pub record AreYears (text : List ℕ) (years : List ℕ) : Type 0 where
   pub first : ℕ
   pub second : ℕ
   pub third : ℕ
   pub words : years ≡ first ∷ second ∷ third ∷ 0 ∷ []
-  pub is_first : IsSet Year 0 text first
-  pub is_second : IsSet Year 64 text second
-  pub is_third : IsSet Year 128 text third
+  pub runs : List Run
+  pub elements : AreElements Year text (map (λ run. Values run) runs)
+  pub first_bits : HasBits Year 0 runs first
+  pub second_bits : HasBits Year 64 runs second
+  pub third_bits : HasBits Year 128 runs third
 
+-- all years where the field is absent
 abbrev pub AreYearsOf : Option (List ℕ) → List ℕ → Type 0
 AreYearsOf None years = years ≡ (2 ^ 64 - 1) ∷ (2 ^ 64 - 1) ∷ 3 ∷ 0 ∷ []
 AreYearsOf (Some text) years = AreYears text years
