@@ -24,7 +24,7 @@ pub value_in_range : (field : Field) (v : ℕ) → is_value field v ≡ true →
 unfolding is_value
 value_in_range field v is = (grind (arith, is), grind (arith, is))
 
-value_right : (field : Field) (v : ℕ) → IsOf field v → is_value field v ≡ true
+pub value_right : (field : Field) (v : ℕ) → IsOf field v → is_value field v ≡ true
 unfolding is_value
 value_right field v (low, high) = grind (arith, low, high)
 

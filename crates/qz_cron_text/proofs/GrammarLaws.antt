@@ -1,6 +1,6 @@
 -- Reading a text agrees with the grammar.
 use Rattle.std.proofs.Common.{◌≡◌, ◌∙◌, ap, sym, refl, subst, ℕ, ◌+◌, ◌-◌, ◌^◌, ◌<◌, ◌≤◌, Bool, true, false, arith, zero, suc, cond, List, [], ◌∷◌, ◌++◌, length, map, inl, inr}
-use Rattle.std.specs.Prelude.{Option, Some, None, Result, Ok, Err, not, ◌↔◌, ◌⊎◌}
+use Rattle.std.specs.Prelude.{Option, Some, None, Result, Ok, Err, not, ◌↔◌, ◌⊎◌, IfOk}
 use Rattle.std.specs.List.{AllByRecursion}
 use Rattle.qz_civil.specs.declared.fields.Field.{Field}
 use Rattle.qz_civil.specs.declared.fields.Field.TheVariants.{Seconds, Minutes, Hours, DayOfMonth, Month, DayOfWeek, Year}
@@ -24,7 +24,7 @@ use Rattle.qz_cron_text.specs.Grammar.{IsElement, AreElements, one_element, more
 use Rattle.qz_cron_text.proofs.Free.{IsFree, free-append}
 use Rattle.qz_cron_text.proofs.Bytes.{IsInner, inner_no_blank, form_inner, form_some}
 use Rattle.qz_cron_text.proofs.TextLaws.{IsWord, IsSpaced, spaced, spaced_words, fields_texts, text_of, words}
-use Rattle.qz_cron_text.proofs.WholeLaws.{Read, read_on, word_is, word_read, day_is, day_read, week_is, week_read, years_are, years_read, IsChecked, checked_is, checked_read, text_in, texts_in, whole_is, IsWhole, whole_read, seconds_plain, minutes_plain, hours_plain, months_plain}
+use Rattle.qz_cron_text.proofs.WholeLaws.{Read, read_on, ok_is, word_is, word_read, day_is, day_read, week_is, week_read, years_are, years_read, IsChecked, checked_is, checked_read, text_in, texts_in, whole_is, IsWhole, whole_read, seconds_plain, minutes_plain, hours_plain, months_plain}
 
 -- the parts of a text that was read
 record AreFields (w : Whole) (f : CronFields) : Type 0 where
@@ -204,3 +204,10 @@ reading_read text f is =
 -- a text says just one thing, and what it says is what is read
 pub texts_have_meanings : (text : List ℕ) (f : CronFields) → (reading text ≡ Ok f) ↔ IsText text f
 texts_have_meanings text f = (reading_is text f, reading_read text f)
+
+pub one_meaning : (text : List ℕ) (f g : CronFields) → IsText text f → IsText text g → f ≡ g
+one_meaning text f g is also = ok_is (sym (reading_read text f is) ∙ reading_read text g also)
+
+pub when_read : (text : List ℕ) (result : Result CronFields CronError) → result ≡ reading text → IfOk result (λ f. IsText text f)
+when_read text (Ok f) e = reading_is text f (sym e)
+when_read text (Err fault) e = tt

@@ -19,3 +19,4 @@ pub mod GrammarLaws
 pub mod PrintSets
 pub mod PrintStars
 pub mod PrintTexts
+pub mod ValidLaws

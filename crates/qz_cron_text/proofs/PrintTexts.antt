@@ -1,6 +1,6 @@
 -- The canonical text is in the grammar, with the fields that it was printed of.
 use Rattle.std.proofs.Common.{◌≡◌, ◌≢◌, ◌∙◌, ap, sym, refl, subst, ℕ, ◌+◌, ◌-◌, ◌*◌, ◌/◌, ◌%◌, ◌^◌, ◌<◌, ◌≤◌, Bool, true, false, arith, zero, suc, cond, List, [], ◌∷◌, ◌++◌, length, map, lit<, lit≤, inl, inr}
-use Rattle.std.specs.Prelude.{Option, Some, None, ◌==◌, ◌&&◌, ◌||◌, not, nat_lt, nat_le, ◌⊎◌, codes, min}
+use Rattle.std.specs.Prelude.{Option, Some, None, ◌==◌, ◌&&◌, ◌||◌, not, nat_lt, nat_le, ◌⊎◌, codes, min, Result, Ok}
 use Rattle.std.specs.Fmt.{decimal as printed}
 use Rattle.std.specs.Int.{bit_at, IsInRange}
 use Rattle.std.proofs.lemmas.List.{append_assoc, append-nil}
@@ -19,7 +19,9 @@ use Rattle.qz_cron_text.specs.declared.forms.DayForm.TheVariants as days
 use Rattle.qz_cron_text.specs.declared.forms.WeekForm.TheVariants as weeks
 use Rattle.qz_cron_text.specs.Printing.{one_word, members, has_all, values_text, set_text, day_text, week_text, years_text, times_text, dates_text, canonical_text}
 use Rattle.qz_cron_text.specs.Grammar.{IsNumeral, IsValue, numeral, no_day, last_day, before_last_day, last_weekday, nearest_weekday, no_weekday, last_of_month, nth_of_month, of_day, of_week, IsOf, IsElement, IsSet, IsDay, IsWeek, AreYears, AreYearsOf, AreBlanks, AreJoined, last_field, next_field, years_list, IsText}
+use Rattle.qz_cron_text.specs.Reading.{reading}
 use Rattle.qz_cron_text.proofs.ElementLaws.{value_in_range}
+use Rattle.qz_cron_text.proofs.GrammarLaws.{reading_read}
 use Rattle.qz_cron_text.proofs.PrintSets.{printed_numeral, IsWordFrom, member_runs, members_elements, members_bits}
 use Rattle.qz_cron_text.proofs.PrintStars.{set_is, low_bit, bit_has, has_bit, word_members, all_numbers, false_true}
 
@@ -36,27 +38,27 @@ week_day_small : (d : ℕ) → IsOf DayOfWeek d → d < 10000
 unfolding greatest least size
 week_day_small d (low, high) = omega arith
 
-days_few : size DayOfMonth ≤ 64
+pub days_few : size DayOfMonth ≤ 64
 unfolding size
 days_few = lit≤ tt
 
-week_few : size DayOfWeek ≤ 64
+pub week_few : size DayOfWeek ≤ 64
 unfolding size
 week_few = lit≤ tt
 
-months_few : size Month ≤ 64
+pub months_few : size Month ≤ 64
 unfolding size
 months_few = lit≤ tt
 
-hours_few : size Hours ≤ 64
+pub hours_few : size Hours ≤ 64
 unfolding size
 hours_few = lit≤ tt
 
-minutes_few : size Minutes ≤ 64
+pub minutes_few : size Minutes ≤ 64
 unfolding size
 minutes_few = lit≤ tt
 
-seconds_few : size Seconds ≤ 64
+pub seconds_few : size Seconds ≤ 64
 unfolding size
 seconds_few = lit≤ tt
 
@@ -334,3 +336,6 @@ canonical_is_text f four valid = made (are_valid f valid) (printed_years f.years
       is_years = years.are;
       one_named = are.one_named;
     }
+
+pub printed_again : (text : List ℕ) (f : CronFields) → text ≡ canonical_text f → length f.years ≡ 4 → is_cron_fields f ≡ true → reading text ≡ Ok f
+printed_again text f same four valid = rw same (reading_read (canonical_text f) f (canonical_is_text f four valid))

@@ -41,7 +41,7 @@ read_on (Err fault) f y e = absurd (clash e)
     clash : {B : Type 0} {z : B} → ◌≡◌ {A = Result B CronError} (Err fault) (Ok z) → ⊥
     clash x = cc
 
-ok_is : {A : Type 0} {x y : A} → ◌≡◌ {A = Result A CronError} (Ok x) (Ok y) → x ≡ y
+pub ok_is : {A : Type 0} {x y : A} → ◌≡◌ {A = Result A CronError} (Ok x) (Ok y) → x ≡ y
 ok_is e = cc
 
 day_at : (field : Field) (text : List ℕ) (form : DayForm) → IsForm field text (Day form) → field ≡ DayOfMonth

@@ -5,6 +5,7 @@ mod cuts;
 mod elements;
 mod errors;
 mod forms;
+mod laws;
 mod parsing;
 mod printing;
 mod runs;
@@ -13,5 +14,6 @@ mod texts;
 mod values;
 
 pub use errors::CronError;
+pub use laws::{printed_texts_are_read_again, texts_have_one_meaning};
 pub use parsing::parse;
 pub use printing::print;

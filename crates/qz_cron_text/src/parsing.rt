@@ -1,7 +1,8 @@
 //! Reads a cron text.
-ghost use Rattle.std.specs.Prelude.{◌≡◌, ◌<◌, ◌≤◌, ◌^◌, IfOk, IfSome};
+ghost use Rattle.std.specs.Prelude.{◌≡◌, ◌<◌, ◌≤◌, ◌^◌, IfOk, IfSome, IsTrue};
 ghost use Rattle.std.specs.Option.{option_map};
-ghost use Rattle.qz_civil.specs.Fields.{size};
+ghost use Rattle.qz_civil.specs.Fields.{size, is_cron_fields};
+ghost use Rattle.qz_cron_text.specs.Grammar.{IsText};
 ghost use Rattle.qz_cron_text.specs.Reading.{word_at, day_of, week_of, years_of, days_checked, fields_of, reading};
 ghost use Rattle.qz_cron_text.specs.Seen.{placed_piece, whole_pieces, IsWithin, AreWithin};
 
@@ -120,9 +121,23 @@ fn fields_of(pieces: Pieces<'_>) -> Result<CronFields, CronError>
 
 /// What a cron text means, or what is first wrong with it.
 #[tactic(auto, unfolding(crate::specs::Reading::reading))]
-pub fn parse(text: &str) -> Result<CronFields, CronError>
+fn read(text: &str) -> Result<CronFields, CronError>
     ensures { result ≡ reading text.now }
 {
     let pieces = pieces_of(text.as_bytes())?;
     fields_of(pieces)
+}
+
+/// Reads a cron text, as Quartz's `CronExpression` has them: six or seven fields of seconds, minutes, hours, day of month,
+/// month, day of week and, if there is a seventh, year. Letters are read in either case. No memory.
+pub fn parse(text: &str) -> Result<CronFields, CronError>
+    // What is read is what the text says.
+    ensures found { IfOk result (λ fields. IsText text.now fields) }
+    // What a text says is read.
+    ensures only { (fields : CronFields) → IsText text.now fields → result ≡ Ok fields }
+    // Which fault it is: the first one.
+    ensures exact { result ≡ reading text.now }
+    ensures valid { IfOk result (λ fields. IsTrue (is_cron_fields fields)) }
+{
+    read(text)
 }

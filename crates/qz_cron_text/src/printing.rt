@@ -1,7 +1,8 @@
 //! Prints the canonical text.
-ghost use Rattle.std.specs.Prelude.{◌≡◌, ◌<◌, ◌≤◌, ◌++◌, OnOk, IfOk, string_bytes};
-ghost use Rattle.qz_civil.specs.Fields.{size, has_word};
+ghost use Rattle.std.specs.Prelude.{◌≡◌, ◌<◌, ◌++◌, OnOk, IfOk, IsTrue, length, string_bytes};
+ghost use Rattle.qz_civil.specs.Fields.{size, has_word, is_cron_fields};
 ghost use Rattle.qz_cron_text.specs.Printing.{has_all, member_text, values_text, set_text, one_word, day_text, week_text, years_text, times_text, dates_text, canonical_text};
+ghost use Rattle.qz_cron_text.specs.Reading.{reading};
 
 use qz_civil::{CronFields, DayField, Field, NoMemory, Text, WeekField, has};
 use std::alloc::{AllocError, Global};
@@ -109,7 +110,8 @@ fn push_week(text: &mut String, week: WeekField) -> Result<(), AllocError>
 /// Adds the years as a further field, unless they are all.
 #[tactic(auto, unfolding(crate::specs::Printing::years_text))]
 fn push_years(text: &mut String, years: &Set) -> Result<(), AllocError>
-    ensures { OnOk result (string_bytes text.new ≡ string_bytes text.old ++ years_text years.now) }
+    ensures text { OnOk result (string_bytes text.new ≡ string_bytes text.old ++ years_text years.now) }
+    ensures four { length years.now ≡ 4 }
 {
     if is_full(Field::Year, years) {
         return Ok(());
@@ -145,7 +147,8 @@ fn push_dates(text: &mut String, fields: &CronFields) -> Result<(), AllocError>
 /// Adds the fields.
 #[tactic(auto, unfolding(crate::specs::Printing::canonical_text))]
 fn push_fields(text: &mut String, fields: &CronFields) -> Result<(), AllocError>
-    ensures { OnOk result (string_bytes text.new ≡ string_bytes text.old ++ canonical_text fields.now) }
+    ensures text { OnOk result (string_bytes text.new ≡ string_bytes text.old ++ canonical_text fields.now) }
+    ensures four { OnOk result (length fields.now.years ≡ 4) }
 {
     push_times(text, fields)?;
     text.push(' ')?;
@@ -157,7 +160,9 @@ fn push_fields(text: &mut String, fields: &CronFields) -> Result<(), AllocError>
 /// months as numbers, and no year field where all years are meant. Where the fields have a bit beyond a field's values,
 /// it isn't printed.
 pub fn print(alloc: Global, fields: &CronFields) -> Result<Text, NoMemory>
-    ensures { IfOk result (λ text. text ≡ canonical_text fields.now) }
+    ensures text { IfOk result (λ text. text ≡ canonical_text fields.now) }
+    // Valid fields are read again.
+    ensures again { IsTrue (is_cron_fields fields.now) → IfOk result (λ text. reading text ≡ Ok fields.now) }
 {
     let mut text = String::new(alloc);
     push_fields(&mut text, fields)?;
