@@ -1,10 +1,10 @@
 -- Elements whose numbers are in range: reading them agrees with the grammar.
-use Rattle.std.proofs.Common.{◌≡◌, ◌∙◌, ap, sym, refl, subst, ℕ, ◌+◌, ◌-◌, ◌<◌, ◌≤◌, Bool, true, false, arith, zero, suc, cond, List, [], ◌∷◌, ◌++◌, length}
-use Rattle.std.specs.Prelude.{Option, Some, None, Result, Ok, Err, ◌==◌, ◌&&◌, ◌||◌, not, nat_lt, nat_le, nat_eq}
+use Rattle.std.proofs.Common.{◌≡◌, refl, subst, ℕ, ◌≤◌, Bool, true, false, arith, cond, List}
+use Rattle.std.specs.Prelude.{Option, Some, None, Result, Ok, Err, ◌&&◌, ◌||◌, not, nat_lt}
 use Rattle.std.specs.Int.{IsInRange}
 use Rattle.qz_civil.specs.declared.fields.Field.{Field}
 use Rattle.qz_civil.specs.declared.fields.Field.TheVariants.{DayOfMonth, DayOfWeek}
-use Rattle.qz_civil.specs.Fields.{number, least, greatest, is_value}
+use Rattle.qz_civil.specs.Fields.{number, is_value}
 use Rattle.qz_cron_text.specs.declared.errors.CronError.{CronError}
 use Rattle.qz_cron_text.specs.declared.errors.CronError.TheVariants.{BadToken, OutOfRange}
 use Rattle.qz_cron_text.specs.declared.runs.Run.{Run}
@@ -16,7 +16,7 @@ use Rattle.qz_cron_text.specs.declared.forms.WeekForm.{WeekForm}
 use Rattle.qz_cron_text.specs.declared.forms.WeekForm.TheVariants as weeks
 use Rattle.qz_cron_text.specs.Runs.{run_fault, is_year}
 use Rattle.qz_cron_text.specs.Forms.{form_of, form_fault, day_fault, week_fault, range_fault, unless, checked, told, element_of}
-use Rattle.qz_cron_text.specs.Grammar.{IsForm, IsOf, RunInRange, DayInRange, WeekInRange, InRange, IsElement}
+use Rattle.qz_cron_text.specs.Grammar.{IsOf, RunInRange, DayInRange, WeekInRange, InRange, IsElement}
 use Rattle.qz_cron_text.proofs.FormLaws.{form_read}
 use Rattle.qz_cron_text.proofs.FormCases.{form_is}
 

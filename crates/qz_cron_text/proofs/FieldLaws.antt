@@ -1,12 +1,11 @@
 -- Fields: reading them agrees with the grammar.
-use Rattle.std.proofs.Common.{◌≡◌, ◌∙◌, ap, sym, refl, subst, ℕ, ◌+◌, ◌-◌, ◌<◌, ◌≤◌, Bool, true, false, arith, zero, suc, cond, List, [], ◌∷◌, ◌++◌, length, map, inl, inr}
-use Rattle.std.specs.Prelude.{Option, Some, None, Result, Ok, Err, ◌==◌, ◌&&◌, ◌||◌, not, is_some, bit_or, ◌⊎◌, max}
+use Rattle.std.proofs.Common.{◌≡◌, ◌∙◌, ap, sym, refl, subst, ℕ, ◌+◌, ◌<◌, Bool, true, false, arith, cond, List, [], ◌∷◌, ◌++◌, length, map, inl, inr}
+use Rattle.std.specs.Prelude.{Some, None, Result, Ok, Err, ◌==◌, ◌&&◌, ◌||◌, is_some, bit_or, ◌⊎◌, max}
 use Rattle.std.specs.List.{slice_split, onto_first, join_with_byte, AllByRecursion}
 use Rattle.std.specs.Int.{bit_at}
 use Rattle.std.proofs.lemmas.List.Splits.{join_with_byte-slice_split}
 use Rattle.std.proofs.lemmas.Nat.Bits.{bit_at_or, bit_at-zero, bit_at-lt, same_from_bits}
 use Rattle.qz_civil.specs.declared.fields.Field.{Field}
-use Rattle.qz_civil.specs.declared.fields.Field.TheVariants.{DayOfMonth, DayOfWeek}
 use Rattle.qz_civil.specs.Fields.{number, least}
 use Rattle.qz_cron_text.specs.declared.errors.CronError.{CronError}
 use Rattle.qz_cron_text.specs.declared.errors.CronError.TheVariants.{NotAlone}
@@ -23,7 +22,7 @@ use Rattle.qz_cron_text.specs.Elements.{◌>>=◌, and_form, all_of, none_yet, e
 use Rattle.qz_cron_text.specs.Grammar.{IsElement, AreElements, one_element, more_elements, RunInRange, InRange, HasValue, SomeHas, HasBits, IsSet}
 use Rattle.qz_cron_text.proofs.Free.{IsFree, is_mark, free_split, free_split_at, uncut, cut_marked}
 use Rattle.qz_cron_text.proofs.ElementLaws.{element_read, element_is}
-use Rattle.qz_cron_text.proofs.Bytes.{IsInner, form_inner, inner_no_comma}
+use Rattle.qz_cron_text.proofs.Bytes.{form_inner, inner_no_comma}
 use Rattle.qz_cron_text.proofs.HasLaws.{word_bit, bit_word}
 
 -- the elements of these forms

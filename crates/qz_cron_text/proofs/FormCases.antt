@@ -1,6 +1,6 @@
 -- Elements: what is read of one is in the grammar.
-use Rattle.std.proofs.Common.{◌≡◌, ◌∙◌, ap, sym, refl, subst, ℕ, ◌+◌, ◌-◌, ◌<◌, ◌≤◌, Bool, true, false, arith, zero, suc, cond, List, [], ◌∷◌, ◌++◌, length, take, drop, get_or}
-use Rattle.std.specs.Prelude.{Option, Some, None, ◌==◌, ◌&&◌, not, nat_eq, slice_index}
+use Rattle.std.proofs.Common.{◌≡◌, ◌∙◌, ap, sym, refl, subst, ℕ, ◌-◌, ◌≤◌, Bool, true, false, arith, suc, cond, List, [], ◌∷◌, ◌++◌, length, take, get_or}
+use Rattle.std.specs.Prelude.{Option, Some, None, ◌==◌, nat_eq, slice_index}
 use Rattle.std.specs.Option.{option_map, option_and_then}
 use Rattle.std.specs.Char.{to_ascii_uppercase}
 use Rattle.qz_civil.specs.declared.fields.Field.{Field}
@@ -12,11 +12,11 @@ use Rattle.qz_cron_text.specs.declared.forms.DayForm.{DayForm}
 use Rattle.qz_cron_text.specs.declared.forms.DayForm.TheVariants as days
 use Rattle.qz_cron_text.specs.declared.forms.WeekForm.{WeekForm}
 use Rattle.qz_cron_text.specs.declared.forms.WeekForm.TheVariants as weeks
-use Rattle.qz_cron_text.specs.Cuts.{Parts, cut_at}
+use Rattle.qz_cron_text.specs.Cuts.{cut_at}
 use Rattle.qz_cron_text.specs.Values.{number_of, value_of}
 use Rattle.qz_cron_text.specs.Runs.{run_of}
 use Rattle.qz_cron_text.specs.Forms.{is_letter, is_question, is_last_weekday, before_letter, or_else, last_back, last_back_of, nearest, day_form, nth, nth_of, last_of, week_form, special_form, form_of}
-use Rattle.qz_cron_text.specs.Grammar.{IsNumeral, IsValue, IsLetter, IsDayForm, no_day, last_day, before_last_day, last_weekday, nearest_weekday, IsWeekForm, no_weekday, saturday, last_of_month, nth_of_month, IsForm, of_values, of_day, of_week}
+use Rattle.qz_cron_text.specs.Grammar.{IsNumeral, IsLetter, IsDayForm, no_day, last_day, before_last_day, last_weekday, nearest_weekday, IsWeekForm, no_weekday, saturday, last_of_month, nth_of_month, IsForm, of_values, of_day, of_week}
 use Rattle.qz_cron_text.proofs.Free.{IsCut, cut_is}
 use Rattle.qz_cron_text.proofs.Numerals.{number_is}
 use Rattle.qz_cron_text.proofs.RunLaws.{some_is, none_is, value_is, run_is}

@@ -1,27 +1,23 @@
 -- Elements: reading them agrees with the grammar.
-use Rattle.std.proofs.Common.{◌≡◌, ◌∙◌, ap, sym, refl, subst, ℕ, ◌+◌, ◌-◌, ◌<◌, ◌≤◌, Bool, true, false, arith, zero, suc, cond, List, [], ◌∷◌, ◌++◌, length, take}
-use Rattle.std.specs.Prelude.{Option, Some, None, Result, Ok, Err, ◌==◌, ◌&&◌, ◌||◌, not, nat_eq, slice_index}
-use Rattle.std.specs.Option.{option_map, option_and_then}
+use Rattle.std.proofs.Common.{◌≡◌, sym, refl, subst, ℕ, ◌+◌, ◌≤◌, true, false, arith, List, [], ◌∷◌, ◌++◌, length}
+use Rattle.std.specs.Prelude.{Some, None, ◌==◌}
+use Rattle.std.specs.Option.{option_map}
 use Rattle.std.specs.Char.{to_ascii_uppercase, is_ascii_digit}
-use Rattle.std.proofs.lemmas.List.{take_at, get_or_at, append-nil}
+use Rattle.std.proofs.lemmas.List.{take_at, get_or_at}
 use Rattle.qz_civil.specs.declared.fields.Field.{Field}
-use Rattle.qz_civil.specs.declared.fields.Field.TheVariants.{Seconds, Minutes, Hours, DayOfMonth, Month, DayOfWeek, Year}
-use Rattle.qz_cron_text.specs.declared.runs.Run.{Run}
+use Rattle.qz_civil.specs.declared.fields.Field.TheVariants.{DayOfMonth, DayOfWeek}
 use Rattle.qz_cron_text.specs.declared.forms.Form.{Form}
 use Rattle.qz_cron_text.specs.declared.forms.Form.TheVariants.{Values, Day, Week}
 use Rattle.qz_cron_text.specs.declared.forms.DayForm.{DayForm}
-use Rattle.qz_cron_text.specs.declared.forms.DayForm.TheVariants as days
 use Rattle.qz_cron_text.specs.declared.forms.WeekForm.{WeekForm}
-use Rattle.qz_cron_text.specs.declared.forms.WeekForm.TheVariants as weeks
-use Rattle.qz_cron_text.specs.Cuts.{Parts, cut_at}
-use Rattle.qz_cron_text.specs.Values.{number_of, name_of, value_of, value_or_name}
-use Rattle.qz_cron_text.specs.Runs.{is_star, run_of, closed_run, values_by}
-use Rattle.qz_cron_text.specs.Forms.{is_letter, is_question, is_last_weekday, before_letter, or_else, last_back, last_back_of, nearest, day_form, nth, nth_of, last_of, week_form, special_form, form_of}
-use Rattle.qz_cron_text.specs.Grammar.{IsNumeral, IsValue, IsLetter, IsDayForm, no_day, last_day, before_last_day, last_weekday, nearest_weekday, IsWeekForm, no_weekday, saturday, last_of_month, nth_of_month, IsForm, of_values, of_day, of_week}
-use Rattle.qz_cron_text.proofs.Free.{IsFree, is_mark, free-append, uncut, cut_marked, IsCut, cut_is, IsPlain, is_plain, plain-append}
-use Rattle.qz_cron_text.proofs.Numerals.{numeral_read, number_is, numeral_plain, numeral_some, number_none}
+use Rattle.qz_cron_text.specs.Values.{name_of, value_of}
+use Rattle.qz_cron_text.specs.Runs.{is_star, run_of, closed_run}
+use Rattle.qz_cron_text.specs.Forms.{is_letter, is_question, is_last_weekday, before_letter, or_else, day_form, week_form, special_form, form_of}
+use Rattle.qz_cron_text.specs.Grammar.{IsNumeral, IsLetter, IsDayForm, no_day, last_day, before_last_day, last_weekday, nearest_weekday, IsWeekForm, no_weekday, saturday, last_of_month, nth_of_month, IsForm, of_values, of_day, of_week}
+use Rattle.qz_cron_text.proofs.Free.{IsFree, is_mark, free-append, uncut, cut_marked, IsPlain, is_plain, plain-append}
+use Rattle.qz_cron_text.proofs.Numerals.{numeral_read, numeral_plain, number_none}
 use Rattle.qz_cron_text.proofs.Names.{name_none, weekday_none}
-use Rattle.qz_cron_text.proofs.RunLaws.{some_is, none_is, value_read, value_is, value_plain, value_some, plain_no_mark, plain_no_star, run_read, run_is}
+use Rattle.qz_cron_text.proofs.RunLaws.{value_read, value_plain, value_some, plain_no_mark, plain_no_star, run_read}
 
 pub letter_plain : (letter b : ℕ) → is_plain letter ≡ true → to_ascii_uppercase b ≡ letter → is_plain b ≡ true
 letter_plain letter b plain is = grind (arith, plain, is)

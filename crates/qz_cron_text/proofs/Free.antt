@@ -1,11 +1,11 @@
 -- Texts without marks, and where they are cut.
-use Rattle.std.proofs.Common.{◌≡◌, ◌∙◌, ap, sym, refl, subst, ℕ, ◌+◌, ◌<◌, ◌≤◌, Bool, true, false, arith, zero, suc, cond, List, [], ◌∷◌, ◌++◌, length, take, drop, get_or}
-use Rattle.std.specs.Prelude.{Option, Some, None, ◌==◌, nat_lt, not, ◌||◌, ◌&&◌}
-use Rattle.std.specs.List.{position, position_or_len, slice_split, onto_first, AllByRecursion, before_first, after_first}
+use Rattle.std.proofs.Common.{◌≡◌, ◌∙◌, ap, sym, refl, ℕ, ◌+◌, ◌<◌, Bool, true, false, arith, List, [], ◌∷◌, ◌++◌, length, drop, get_or}
+use Rattle.std.specs.Prelude.{Option, Some, None, ◌==◌, ◌||◌}
+use Rattle.std.specs.List.{position, position_or_len, slice_split, AllByRecursion, before_first, after_first}
 use Rattle.std.specs.Char.{is_ascii_digit, to_ascii_uppercase, is_ascii_uppercase}
 use Rattle.std.proofs.lemmas.List.{take_at, drop_at, append_assoc}
 use Rattle.std.proofs.lemmas.List.Sums.{split_at_first, passes_at_first}
-use Rattle.qz_cron_text.specs.Cuts.{Parts, cut_at, cut_where}
+use Rattle.qz_cron_text.specs.Cuts.{cut_at, cut_where}
 
 -- no byte of the text passes
 abbrev pub IsFree : (ℕ → Bool) → List ℕ → Type 0

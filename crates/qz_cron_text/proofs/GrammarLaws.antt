@@ -1,6 +1,6 @@
 -- Reading a text agrees with the grammar.
-use Rattle.std.proofs.Common.{◌≡◌, ◌∙◌, ap, sym, refl, subst, ℕ, ◌+◌, ◌-◌, ◌^◌, ◌<◌, ◌≤◌, Bool, true, false, arith, zero, suc, cond, List, [], ◌∷◌, ◌++◌, length, map, inl, inr}
-use Rattle.std.specs.Prelude.{Option, Some, None, Result, Ok, Err, not, ◌↔◌, ◌⊎◌, IfOk}
+use Rattle.std.proofs.Common.{◌≡◌, ◌∙◌, ap, sym, refl, subst, ℕ, ◌≤◌, arith, List, [], ◌∷◌, ◌++◌, length, map, inl, inr}
+use Rattle.std.specs.Prelude.{Option, Some, None, Result, Ok, Err, not, ◌↔◌, IfOk}
 use Rattle.std.specs.List.{AllByRecursion}
 use Rattle.qz_civil.specs.declared.fields.Field.{Field}
 use Rattle.qz_civil.specs.declared.fields.Field.TheVariants.{Seconds, Minutes, Hours, DayOfMonth, Month, DayOfWeek, Year}
@@ -11,18 +11,17 @@ use Rattle.qz_civil.specs.declared.fields.WeekField.TheVariants as week
 use Rattle.qz_civil.specs.declared.fields.CronFields.{CronFields}
 use Rattle.qz_civil.specs.Fields.{is_any_day, is_any_week}
 use Rattle.qz_cron_text.specs.declared.errors.CronError.{CronError}
-use Rattle.qz_cron_text.specs.declared.runs.Run.{Run}
 use Rattle.qz_cron_text.specs.declared.forms.Form.{Form}
 use Rattle.qz_cron_text.specs.declared.forms.Form.TheVariants.{Values, Day, Week}
 use Rattle.qz_cron_text.specs.declared.forms.DayForm.TheVariants as days
 use Rattle.qz_cron_text.specs.declared.forms.WeekForm.TheVariants as weeks
 use Rattle.qz_cron_text.specs.Elements.{◌>>=◌}
-use Rattle.qz_cron_text.specs.Texts.{Placed, Whole, whole_by, whole_of, fields_at, is_blank}
+use Rattle.qz_cron_text.specs.Texts.{Whole, whole_by, whole_of, fields_at, is_blank}
 use Rattle.qz_cron_text.specs.Forms.{told}
 use Rattle.qz_cron_text.specs.Reading.{word_at, day_of, week_of, years_of, days_checked, fields_of, reading}
-use Rattle.qz_cron_text.specs.Grammar.{IsElement, AreElements, one_element, more_elements, IsSet, IsDay, IsWeek, AreYears, AreYearsOf, AreBlanks, AreJoined, years_list, IsText}
-use Rattle.qz_cron_text.proofs.Free.{IsFree, free-append}
-use Rattle.qz_cron_text.proofs.Bytes.{IsInner, inner_no_blank, form_inner, form_some}
+use Rattle.qz_cron_text.specs.Grammar.{IsElement, AreElements, one_element, more_elements, IsSet, IsDay, IsWeek, AreYearsOf, years_list, IsText}
+use Rattle.qz_cron_text.proofs.Free.{free-append}
+use Rattle.qz_cron_text.proofs.Bytes.{inner_no_blank, form_inner, form_some}
 use Rattle.qz_cron_text.proofs.TextLaws.{IsWord, IsSpaced, spaced, spaced_words, fields_texts, text_of, words}
 use Rattle.qz_cron_text.proofs.WholeLaws.{Read, read_on, ok_is, word_is, word_read, day_is, day_read, week_is, week_read, years_are, years_read, IsChecked, checked_is, checked_read, text_in, texts_in, whole_is, IsWhole, whole_read, seconds_plain, minutes_plain, hours_plain, months_plain}
 

@@ -1,16 +1,15 @@
 -- The values of a run: the test agrees with the grammar, and words have them as bits.
-use Rattle.std.proofs.Common.{◌≡◌, ◌≢◌, ◌∙◌, ap, sym, refl, subst, ℕ, ◌+◌, ◌-◌, ◌*◌, ◌/◌, ◌%◌, ◌^◌, ◌<◌, ◌≤◌, Bool, true, false, arith, zero, suc, cond, List, [], ◌∷◌, lit<, inl, inr, zero-add}
-use Rattle.std.specs.Prelude.{◌==◌, ◌&&◌, nat_lt, nat_le, bit_or, ◌↔◌, ◌⊎◌}
+use Rattle.std.proofs.Common.{◌≡◌, ◌∙◌, ap, sym, refl, subst, ℕ, ◌+◌, ◌-◌, ◌*◌, ◌/◌, ◌%◌, ◌^◌, ◌<◌, ◌≤◌, Bool, true, false, arith, zero, suc, cond, lit<}
+use Rattle.std.specs.Prelude.{◌==◌, ◌&&◌, nat_lt, nat_le}
 use Rattle.std.specs.Int.{bit_at}
-use Rattle.std.specs.List.{AllByRecursion}
-use Rattle.std.proofs.lemmas.Nat.Bits.{bit_at-zero, bit_at_cat_low, bit_at_cat_high, bit_at_above, bit_at_or, bit_at-lt}
-use Rattle.std.proofs.Math.Nat.{mod-eq_of_lt, add-mod_right, mul-mod_left, div-mul-le_self, mod-add-div'}
+use Rattle.std.proofs.lemmas.Nat.Bits.{bit_at-zero, bit_at_cat_low, bit_at_cat_high, bit_at_above}
+use Rattle.std.proofs.Math.Nat.{mod-eq_of_lt, add-mod_right, mul-mod_left, mod-add-div'}
 use Rattle.qz_civil.specs.declared.fields.Field.{Field}
 use Rattle.qz_civil.specs.Fields.{least, greatest, size}
 use Rattle.qz_cron_text.specs.declared.runs.Run.{Run}
 use Rattle.qz_cron_text.specs.Runs.{ahead, has_value}
 use Rattle.qz_cron_text.specs.Sets.{set_of, word_of}
-use Rattle.qz_cron_text.specs.Grammar.{RunInRange, span, HasValue, SomeHas}
+use Rattle.qz_cron_text.specs.Grammar.{RunInRange, span, HasValue}
 use Rattle.qz_cron_text.proofs.FieldLemmas.{size_some}
 use Rattle.qz_cron_text.proofs.SetLemmas.{set_of-lt}
 

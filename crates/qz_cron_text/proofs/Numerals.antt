@@ -1,12 +1,12 @@
 -- Numerals: reading them agrees with what they are.
-use Rattle.std.proofs.Common.{◌≡◌, ◌∙◌, ap, sym, refl, subst, ℕ, ◌+◌, ◌-◌, ◌*◌, ◌^◌, ◌<◌, ◌≤◌, Bool, true, false, arith, zero, suc, cond, List, [], ◌∷◌, ◌++◌, length}
-use Rattle.std.specs.Prelude.{Option, Some, None, ◌==◌, nat_lt, nat_eq, ◌&&◌}
+use Rattle.std.proofs.Common.{◌≡◌, ◌∙◌, ap, sym, refl, ℕ, ◌+◌, ◌-◌, ◌*◌, ◌^◌, ◌≤◌, true, false, arith, List, [], ◌∷◌, ◌++◌, length}
+use Rattle.std.specs.Prelude.{Some, None}
 use Rattle.std.specs.Str.{all_ascii_digits}
 use Rattle.std.specs.Char.{is_ascii_digit}
 use Rattle.std.proofs.Math.Nat.{pow-suc}
 use Rattle.qz_cron_text.specs.Values.{decimal, number_of}
 use Rattle.qz_cron_text.specs.Grammar.{IsNumeral, digits_sum}
-use Rattle.qz_cron_text.proofs.Free.{IsPlain, is_plain}
+use Rattle.qz_cron_text.proofs.Free.{IsPlain}
 
 scaled : (n x p w : ℕ) → (n * 10 + x) * p + w ≡ n * (p * 10) + (x * p + w)
 scaled n x p w = grind arith

@@ -1,6 +1,6 @@
 -- Printed sets are in the grammar.
 use Rattle.std.proofs.Common.{◌≡◌, ◌≢◌, ◌∙◌, ap, sym, refl, subst, ℕ, ◌+◌, ◌-◌, ◌*◌, ◌/◌, ◌%◌, ◌^◌, ◌<◌, ◌≤◌, Bool, true, false, arith, zero, suc, cond, List, [], ◌∷◌, ◌++◌, length, map, lit<, lit≤, inl, inr}
-use Rattle.std.specs.Prelude.{Option, Some, None, ◌==◌, ◌&&◌, ◌||◌, not, nat_lt, ◌⊎◌, ◌↔◌, slice_index}
+use Rattle.std.specs.Prelude.{nat_lt, ◌⊎◌}
 use Rattle.std.specs.Fmt.{decimal as printed}
 use Rattle.std.specs.Str.{all_ascii_digits}
 use Rattle.std.specs.Char.{is_ascii_digit}
@@ -9,15 +9,12 @@ use Rattle.std.specs.List.{AllByRecursion, join_with_byte}
 use Rattle.std.proofs.lemmas.Fmt.{decimal_by_steps, decimal_nonempty, length-decimal-le}
 use Rattle.std.proofs.Math.Nat.{pow-suc, mod-eq_of_lt, mod_self}
 use Rattle.qz_civil.specs.declared.fields.Field.{Field}
-use Rattle.qz_civil.specs.declared.fields.Field.TheVariants.{Seconds, Minutes, Hours, DayOfMonth, Month, DayOfWeek, Year}
 use Rattle.qz_civil.specs.Fields.{least, greatest, size, has, has_word}
 use Rattle.qz_cron_text.specs.declared.runs.Run.{Run}
-use Rattle.qz_cron_text.specs.declared.forms.Form.{Form}
 use Rattle.qz_cron_text.specs.declared.forms.Form.TheVariants.{Values}
-use Rattle.qz_cron_text.specs.Runs.{all_by, is_year}
-use Rattle.qz_cron_text.specs.Printing.{members, has_all, values_text, set_text}
-use Rattle.qz_cron_text.specs.Grammar.{digits_sum, IsNumeral, IsValue, numeral, IsRun, every, single, IsForm, of_values, IsOf, RunInRange, IsElement, AreElements, one_element, more_elements, span, HasValue, SomeHas, HasBits, IsSet}
-use Rattle.qz_cron_text.proofs.FieldLemmas.{size_some, size_most, values_most}
+use Rattle.qz_cron_text.specs.Printing.{members, values_text}
+use Rattle.qz_cron_text.specs.Grammar.{digits_sum, IsNumeral, numeral, single, of_values, RunInRange, IsElement, AreElements, one_element, more_elements, span, HasValue, SomeHas, HasBits, IsSet}
+use Rattle.qz_cron_text.proofs.FieldLemmas.{values_most}
 
 -- a digit at the end
 length_push : (ds : List ℕ) (d : ℕ) → length (ds ++ d ∷ []) ≡ suc (length ds)

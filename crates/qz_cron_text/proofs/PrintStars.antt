@@ -1,31 +1,17 @@
 -- A printed set is in the grammar, as `*` too.
-use Rattle.std.proofs.Common.{◌≡◌, ◌≢◌, ◌∙◌, ap, sym, refl, subst, ℕ, ◌+◌, ◌-◌, ◌*◌, ◌/◌, ◌%◌, ◌^◌, ◌<◌, ◌≤◌, Bool, true, false, arith, zero, suc, cond, List, [], ◌∷◌, ◌++◌, length, map, lit<, lit≤, inl, inr}
-use Rattle.std.specs.Prelude.{Option, Some, None, ◌==◌, ◌&&◌, ◌||◌, not, nat_lt, nat_le, ◌⊎◌, slice_index, codes, min}
-use Rattle.std.specs.Fmt.{decimal as printed}
-use Rattle.std.specs.Int.{bit_at, IsInRange}
-use Rattle.std.specs.List.{join_with_byte}
-use Rattle.std.proofs.lemmas.List.{append_assoc, append-nil}
-use Rattle.std.proofs.lemmas.Nat.{pow_pos}
+use Rattle.std.proofs.Common.{◌≡◌, ◌≢◌, ◌∙◌, ap, sym, refl, subst, ℕ, ◌+◌, ◌-◌, ◌*◌, ◌/◌, ◌%◌, ◌^◌, ◌<◌, ◌≤◌, Bool, true, false, arith, zero, suc, cond, List, [], ◌∷◌, ◌++◌, lit≤, inl, inr}
+use Rattle.std.specs.Prelude.{◌==◌, ◌&&◌, nat_lt}
+use Rattle.std.specs.Int.{bit_at}
 use Rattle.std.proofs.lemmas.Nat.Bits.{bit_at-zero, bit_at-lt, bit_at_above, same_from_bits}
-use Rattle.std.proofs.Math.Nat.{pow-le-pow_right, mod-eq_of_lt, add-mod_right}
+use Rattle.std.proofs.Math.Nat.{mod-eq_of_lt, add-mod_right}
 use Rattle.qz_civil.specs.declared.fields.Field.{Field}
-use Rattle.qz_civil.specs.declared.fields.Field.TheVariants.{Seconds, Minutes, Hours, DayOfMonth, Month, DayOfWeek, Year}
-use Rattle.qz_civil.specs.declared.fields.DayField.{DayField}
-use Rattle.qz_civil.specs.declared.fields.DayField.TheVariants as day
-use Rattle.qz_civil.specs.declared.fields.WeekField.{WeekField}
-use Rattle.qz_civil.specs.declared.fields.WeekField.TheVariants as week
-use Rattle.qz_civil.specs.declared.fields.CronFields.{CronFields}
-use Rattle.qz_civil.specs.Fields.{least, greatest, size, is_value, has, has_word, is_set, is_within_words, has_some, is_year_set, is_day_field, is_week_field, is_any_day, is_any_week, is_time_fields, is_date_fields, is_cron_fields}
+use Rattle.qz_civil.specs.Fields.{least, greatest, size, has, has_word, is_set}
 use Rattle.qz_cron_text.specs.declared.runs.Run.{Run}
-use Rattle.qz_cron_text.specs.declared.forms.Form.{Form}
-use Rattle.qz_cron_text.specs.declared.forms.Form.TheVariants.{Values, Day, Week}
-use Rattle.qz_cron_text.specs.declared.forms.DayForm.TheVariants as days
-use Rattle.qz_cron_text.specs.declared.forms.WeekForm.TheVariants as weeks
 use Rattle.qz_cron_text.specs.Runs.{all_by}
-use Rattle.qz_cron_text.specs.Printing.{one_word, members, has_all, values_text, set_text, day_text, week_text, years_text, times_text, dates_text, canonical_text}
-use Rattle.qz_cron_text.specs.Grammar.{IsNumeral, numeral, every, of_values, no_day, last_day, before_last_day, last_weekday, nearest_weekday, no_weekday, last_of_month, nth_of_month, of_day, of_week, IsOf, RunInRange, IsElement, AreElements, one_element, span, HasValue, SomeHas, IsSet, IsDay, IsWeek, AreYears, AreYearsOf, AreBlanks, AreJoined, last_field, next_field, years_list, IsText}
-use Rattle.qz_cron_text.proofs.FieldLemmas.{size_some, size_most, values_most}
-use Rattle.qz_cron_text.proofs.PrintSets.{printed_numeral, IsWordFrom, values_are_set}
+use Rattle.qz_cron_text.specs.Printing.{one_word, members, has_all, values_text, set_text}
+use Rattle.qz_cron_text.specs.Grammar.{every, of_values, RunInRange, one_element, HasValue, SomeHas, IsSet}
+use Rattle.qz_cron_text.proofs.FieldLemmas.{size_some}
+use Rattle.qz_cron_text.proofs.PrintSets.{IsWordFrom, values_are_set}
 
 -- bit by bit in a set of four words
 word_at : (a b c d i : ℕ) → i < 64 → has_word (a ∷ b ∷ c ∷ d ∷ []) i ≡ has a i

@@ -1,6 +1,6 @@
 -- The canonical text is in the grammar, with the fields that it was printed of.
-use Rattle.std.proofs.Common.{◌≡◌, ◌≢◌, ◌∙◌, ap, sym, refl, subst, ℕ, ◌+◌, ◌-◌, ◌*◌, ◌/◌, ◌%◌, ◌^◌, ◌<◌, ◌≤◌, Bool, true, false, arith, zero, suc, cond, List, [], ◌∷◌, ◌++◌, length, map, lit<, lit≤, inl, inr}
-use Rattle.std.specs.Prelude.{Option, Some, None, ◌==◌, ◌&&◌, ◌||◌, not, nat_lt, nat_le, ◌⊎◌, codes, min, Result, Ok}
+use Rattle.std.proofs.Common.{◌≡◌, ◌≢◌, ◌∙◌, ap, sym, refl, subst, ℕ, ◌+◌, ◌-◌, ◌/◌, ◌%◌, ◌^◌, ◌<◌, ◌≤◌, Bool, true, false, arith, cond, List, [], ◌∷◌, ◌++◌, length, lit<, lit≤, inl, inr}
+use Rattle.std.specs.Prelude.{Option, Some, None, ◌==◌, ◌||◌, not, nat_lt, ◌⊎◌, codes, Ok}
 use Rattle.std.specs.Fmt.{decimal as printed}
 use Rattle.std.specs.Int.{bit_at, IsInRange}
 use Rattle.std.proofs.lemmas.List.{append_assoc, append-nil}
@@ -12,13 +12,12 @@ use Rattle.qz_civil.specs.declared.fields.DayField.TheVariants as day
 use Rattle.qz_civil.specs.declared.fields.WeekField.{WeekField}
 use Rattle.qz_civil.specs.declared.fields.WeekField.TheVariants as week
 use Rattle.qz_civil.specs.declared.fields.CronFields.{CronFields}
-use Rattle.qz_civil.specs.Fields.{least, greatest, size, is_value, has, has_word, is_set, is_within_words, has_some, is_year_set, is_day_field, is_week_field, is_any_day, is_any_week, is_time_fields, is_date_fields, is_cron_fields}
-use Rattle.qz_cron_text.specs.declared.forms.Form.{Form}
-use Rattle.qz_cron_text.specs.declared.forms.Form.TheVariants.{Values, Day, Week}
+use Rattle.qz_civil.specs.Fields.{least, greatest, size, is_value, has, has_word, is_set, is_year_set, is_day_field, is_week_field, is_any_day, is_any_week, is_time_fields, is_date_fields, is_cron_fields}
+use Rattle.qz_cron_text.specs.declared.forms.Form.TheVariants.{Day, Week}
 use Rattle.qz_cron_text.specs.declared.forms.DayForm.TheVariants as days
 use Rattle.qz_cron_text.specs.declared.forms.WeekForm.TheVariants as weeks
 use Rattle.qz_cron_text.specs.Printing.{one_word, members, has_all, values_text, set_text, day_text, week_text, years_text, times_text, dates_text, canonical_text}
-use Rattle.qz_cron_text.specs.Grammar.{IsNumeral, IsValue, numeral, no_day, last_day, before_last_day, last_weekday, nearest_weekday, no_weekday, last_of_month, nth_of_month, of_day, of_week, IsOf, IsElement, IsSet, IsDay, IsWeek, AreYears, AreYearsOf, AreBlanks, AreJoined, last_field, next_field, years_list, IsText}
+use Rattle.qz_cron_text.specs.Grammar.{numeral, no_day, last_day, before_last_day, last_weekday, nearest_weekday, no_weekday, last_of_month, nth_of_month, of_day, of_week, IsOf, IsElement, IsDay, IsWeek, AreYearsOf, AreJoined, last_field, next_field, years_list, IsText}
 use Rattle.qz_cron_text.specs.Reading.{reading}
 use Rattle.qz_cron_text.proofs.ElementLaws.{value_in_range}
 use Rattle.qz_cron_text.proofs.GrammarLaws.{reading_read}

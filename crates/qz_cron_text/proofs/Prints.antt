@@ -1,12 +1,12 @@
 -- Values joined by commas, one more at a time.
-use Rattle.std.proofs.Common.{◌≡◌, ◌∙◌, ap, sym, refl, ℕ, ◌+◌, ◌<◌, ◌≤◌, Bool, true, false, arith, zero, suc, cond, List, [], ◌∷◌, ◌++◌, map, add-one}
+use Rattle.std.proofs.Common.{◌≡◌, ◌∙◌, ap, sym, refl, ℕ, ◌+◌, ◌<◌, Bool, true, false, arith, zero, suc, cond, List, [], ◌∷◌, ◌++◌, map, add-one}
 use Rattle.std.specs.Prelude.{◌&&◌, not}
 use Rattle.std.specs.Fmt.{decimal as printed}
 use Rattle.std.specs.List.{join_with_byte}
 use Rattle.std.proofs.lemmas.List.{append_assoc, append-nil}
 use Rattle.qz_civil.specs.declared.fields.Field.{Field}
-use Rattle.qz_civil.specs.Fields.{least, size, has_word}
-use Rattle.qz_cron_text.specs.Printing.{members, has_all, values_text, set_text, member_text}
+use Rattle.qz_civil.specs.Fields.{least, has_word}
+use Rattle.qz_cron_text.specs.Printing.{members, has_all, values_text, member_text}
 
 abbrev pub is_nil : {X : Type 0} → List X → Bool
 is_nil [] = true

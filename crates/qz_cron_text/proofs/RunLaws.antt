@@ -1,15 +1,13 @@
 -- Values and runs: reading them agrees with the grammar.
-use Rattle.std.proofs.Common.{◌≡◌, ◌∙◌, ap, sym, refl, subst, ℕ, ◌+◌, ◌-◌, ◌<◌, ◌≤◌, Bool, true, false, arith, zero, suc, cond, List, [], ◌∷◌, ◌++◌, length, map}
-use Rattle.std.specs.Prelude.{Option, Some, None, ◌==◌, ◌&&◌, ◌||◌, not, nat_eq, slice_get}
+use Rattle.std.proofs.Common.{◌≡◌, ◌∙◌, ap, sym, refl, subst, ℕ, ◌+◌, ◌≤◌, Bool, true, false, arith, cond, List, [], ◌∷◌, ◌++◌, length}
+use Rattle.std.specs.Prelude.{Option, Some, None, ◌==◌, ◌||◌, nat_eq}
 use Rattle.std.specs.Option.{option_map, option_and_then}
-use Rattle.std.specs.List.{AllByRecursion}
-use Rattle.std.specs.Char.{to_ascii_uppercase}
 use Rattle.qz_civil.specs.declared.fields.Field.{Field}
-use Rattle.qz_civil.specs.Fields.{least, greatest}
+use Rattle.qz_civil.specs.Fields.{greatest}
 use Rattle.qz_cron_text.specs.declared.runs.Run.{Run}
-use Rattle.qz_cron_text.specs.Cuts.{Parts, cut_at}
+use Rattle.qz_cron_text.specs.Cuts.{cut_at}
 use Rattle.qz_cron_text.specs.Values.{number_of, name_of, value_of, value_or_name, names}
-use Rattle.qz_cron_text.specs.Runs.{is_star, all_by, two_values, values_by, closed_run, open_run, run_with, run_by, run_of}
+use Rattle.qz_cron_text.specs.Runs.{is_star, all_by, two_values, values_by, closed_run, open_run, run_with, run_of}
 use Rattle.qz_cron_text.specs.Grammar.{IsNumeral, IsValue, numeral, named, IsRun, every, every_by, every_by_slash, single, onward, between, between_by}
 use Rattle.qz_cron_text.proofs.Free.{IsFree, is_mark, free-append, uncut, cut_marked, IsCut, cut_is, IsPlain, is_plain, plain_free}
 use Rattle.qz_cron_text.proofs.Numerals.{numeral_read, number_is, numeral_plain, numeral_some}

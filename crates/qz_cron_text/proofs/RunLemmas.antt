@@ -1,6 +1,6 @@
 -- What no fault says of a run.
-use Rattle.std.proofs.Common.{◌≡◌, ◌∙◌, ap, sym, refl, ℕ, ◌+◌, ◌<◌, ◌≤◌, Bool, true, false, arith, cond}
-use Rattle.std.specs.Prelude.{Option, Some, None, IsTrue}
+use Rattle.std.proofs.Common.{◌≡◌, ◌≤◌, arith}
+use Rattle.std.specs.Prelude.{None, IsTrue}
 use Rattle.qz_civil.specs.declared.fields.Field.{Field}
 use Rattle.qz_cron_text.specs.declared.runs.Run.{Run}
 use Rattle.qz_civil.specs.Fields.{is_value}

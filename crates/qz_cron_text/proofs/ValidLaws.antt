@@ -1,8 +1,7 @@
 -- What a text says is within the fields' limits, and no set is empty.
-use Rattle.std.proofs.Common.{◌≡◌, ◌≢◌, ◌∙◌, ap, sym, refl, subst, ℕ, ◌+◌, ◌-◌, ◌*◌, ◌%◌, ◌^◌, ◌<◌, ◌≤◌, Bool, true, false, arith, zero, suc, cond, List, [], ◌∷◌, length, map, lit<, lit≤, inl, inr}
-use Rattle.std.specs.Prelude.{Option, Some, None, Result, Ok, Err, ◌&&◌, ◌||◌, not, nat_lt, nat_le, ◌⊎◌, bit_or, min, IfOk, IsTrue}
-use Rattle.std.specs.Int.{bit_at, IsInRange}
-use Rattle.std.specs.List.{AllByRecursion}
+use Rattle.std.proofs.Common.{◌≡◌, ◌∙◌, ap, sym, refl, subst, ℕ, ◌+◌, ◌-◌, ◌*◌, ◌%◌, ◌^◌, ◌<◌, ◌≤◌, Bool, true, false, arith, zero, suc, cond, List, [], ◌∷◌, length, map, lit<, lit≤, inl, inr}
+use Rattle.std.specs.Prelude.{Option, Some, None, Result, Ok, Err, ◌||◌, not, nat_lt, nat_le, ◌⊎◌, bit_or, IfOk, IsTrue}
+use Rattle.std.specs.Int.{bit_at}
 use Rattle.std.proofs.lemmas.Nat.{or_lt, pow_pos}
 use Rattle.std.proofs.lemmas.Nat.Bits.{bit_at-zero}
 use Rattle.std.proofs.Math.Nat.{mod-eq_of_lt, zero-mul}
@@ -16,17 +15,17 @@ use Rattle.qz_civil.specs.declared.fields.CronFields.{CronFields}
 use Rattle.qz_civil.specs.Fields.{least, greatest, size, is_value, is_set, is_within_words, has_some, is_year_set, is_day_field, is_week_field, is_any_day, is_any_week, is_time_fields, is_date_fields, is_cron_fields}
 use Rattle.qz_cron_text.specs.declared.runs.Run.{Run}
 use Rattle.qz_cron_text.specs.declared.forms.Form.{Form}
-use Rattle.qz_cron_text.specs.declared.forms.Form.TheVariants.{Values, Day, Week}
+use Rattle.qz_cron_text.specs.declared.forms.Form.TheVariants.{Values}
 use Rattle.qz_cron_text.specs.declared.errors.CronError.{CronError}
 use Rattle.qz_cron_text.specs.Reading.{reading}
 use Rattle.qz_cron_text.specs.Runs.{has_value}
 use Rattle.qz_cron_text.proofs.GrammarLaws.{reading_is}
-use Rattle.qz_cron_text.specs.Sets.{set_of, word_of}
-use Rattle.qz_cron_text.specs.Grammar.{IsOf, RunInRange, InRange, IsElement, AreElements, one_element, more_elements, span, HasValue, SomeHas, HasBits, IsSet, IsDay, IsWeek, AreYears, AreYearsOf, IsText}
+use Rattle.qz_cron_text.specs.Sets.{word_of}
+use Rattle.qz_cron_text.specs.Grammar.{RunInRange, AreElements, one_element, more_elements, HasValue, SomeHas, HasBits, IsSet, IsDay, IsWeek, AreYearsOf, IsText}
 use Rattle.qz_cron_text.proofs.SetLemmas.{set_of-lt, set_of-below, has_value-above}
 use Rattle.qz_cron_text.proofs.FieldLemmas.{size_some}
 use Rattle.qz_cron_text.proofs.ElementLaws.{value_right}
-use Rattle.qz_cron_text.proofs.FieldLaws.{AreInRange, words_of, set_word, forms_in_range, runs_in_range, runs_are_set}
+use Rattle.qz_cron_text.proofs.FieldLaws.{AreInRange, words_of, set_word, forms_in_range, runs_in_range}
 use Rattle.qz_cron_text.proofs.PrintTexts.{days_few, week_few, months_few, hours_few, minutes_few, seconds_few}
 
 -- a word of a run has no bit beyond the field's values

@@ -1,8 +1,7 @@
 -- Whole texts: reading them agrees with the grammar.
-use Rattle.std.proofs.Common.{◌≡◌, ◌∙◌, ap, sym, refl, subst, ℕ, ◌+◌, ◌-◌, ◌^◌, ◌<◌, ◌≤◌, Bool, true, false, arith, zero, suc, cond, List, [], ◌∷◌, ◌++◌, length, map, inl, inr}
-use Rattle.std.specs.Prelude.{Option, Some, None, Result, Ok, Err, ◌&&◌, not, ◌⊎◌}
+use Rattle.std.proofs.Common.{◌≡◌, ◌∙◌, ap, sym, refl, subst, ℕ, Bool, true, false, cond, List, [], ◌∷◌, map, inl, inr}
+use Rattle.std.specs.Prelude.{Option, Some, None, Result, Ok, Err, ◌&&◌, not}
 use Rattle.std.specs.Option.{option_map}
-use Rattle.std.specs.List.{AllByRecursion}
 use Rattle.qz_civil.specs.declared.fields.Field.{Field}
 use Rattle.qz_civil.specs.declared.fields.Field.TheVariants.{Seconds, Minutes, Hours, DayOfMonth, Month, DayOfWeek, Year}
 use Rattle.qz_civil.specs.declared.fields.DayField.{DayField}
@@ -13,18 +12,16 @@ use Rattle.qz_civil.specs.declared.fields.CronFields.{CronFields}
 use Rattle.qz_civil.specs.Fields.{is_any_day, is_any_week}
 use Rattle.qz_cron_text.specs.declared.errors.CronError.{CronError}
 use Rattle.qz_cron_text.specs.declared.errors.CronError.TheVariants.{BothDays, NoDays, FieldCount}
-use Rattle.qz_cron_text.specs.declared.forms.Form.{Form}
-use Rattle.qz_cron_text.specs.declared.forms.Form.TheVariants.{Values, Day, Week}
+use Rattle.qz_cron_text.specs.declared.forms.Form.TheVariants.{Day, Week}
 use Rattle.qz_cron_text.specs.declared.forms.DayForm.{DayForm}
 use Rattle.qz_cron_text.specs.declared.forms.DayForm.TheVariants as days
 use Rattle.qz_cron_text.specs.declared.forms.WeekForm.{WeekForm}
 use Rattle.qz_cron_text.specs.declared.forms.WeekForm.TheVariants as weeks
 use Rattle.qz_cron_text.specs.declared.elements.Elements.{Elements}
-use Rattle.qz_cron_text.specs.Elements.{◌>>=◌, and_form, none_yet, field_of}
-use Rattle.qz_cron_text.specs.Texts.{Placed, Whole, six_and, whole_by, whole_of, fields_at}
-use Rattle.qz_cron_text.specs.Forms.{told}
-use Rattle.qz_cron_text.specs.Reading.{field_at, word_at, special_day, day_by, special_week, week_by, day_of, week_of, years_of, days_checked, fields_of, reading}
-use Rattle.qz_cron_text.specs.Grammar.{IsForm, of_day, of_week, IsElement, AreElements, HasBits, IsSet, IsDay, IsWeek, AreYears, AreYearsOf, AreBlanks, AreJoined, years_list, IsText}
+use Rattle.qz_cron_text.specs.Elements.{◌>>=◌, and_form}
+use Rattle.qz_cron_text.specs.Texts.{Placed, Whole, six_and, whole_by}
+use Rattle.qz_cron_text.specs.Reading.{field_at, word_at, special_day, day_by, special_week, week_by, day_of, week_of, years_of, days_checked}
+use Rattle.qz_cron_text.specs.Grammar.{IsForm, of_day, of_week, IsElement, HasBits, IsSet, IsDay, IsWeek, AreYearsOf, years_list}
 use Rattle.qz_cron_text.proofs.TextLaws.{text_of}
 use Rattle.qz_cron_text.proofs.FieldLaws.{IsFieldOf, a_set, a_day, a_week, words_of, runs_bits, runs_are_set, set_read, form_field, field_is}
 

@@ -1,5 +1,5 @@
 -- A field: elements joined by commas.
-use Rattle.std.specs.Prelude.{ℕ, ◌+◌, List, [], ◌∷◌, Option, Some, None, Result, Ok, Err, if◌then◌else◌, Bool, ◌&&◌, ◌||◌, ◌==◌, length, bit_or, is_some, IfSome, ◌≡◌}
+use Rattle.std.specs.Prelude.{ℕ, ◌+◌, List, [], ◌∷◌, Some, None, Result, Ok, Err, if◌then◌else◌, Bool, ◌&&◌, ◌||◌, ◌==◌, length, bit_or, is_some, IfSome, ◌≡◌}
 use Rattle.std.specs.List.{slice_split}
 use Rattle.qz_civil.specs.declared.fields.Field.{Field}
 use Rattle.qz_civil.specs.Fields.{number}

@@ -1,6 +1,6 @@
 -- The grammar of cron texts, as a relation: which texts there are, and what each says. No rule reads a text; each says
 -- how one is put together. Marks as bytes: 42 `*`, 44 `,`, 45 `-`, 47 `/`, 35 `#`, 63 `?`, 76 `L`, 87 `W`.
-use Rattle.std.specs.Prelude.{◌≡◌, ℕ, ◌+◌, ◌-◌, ◌*◌, ◌%◌, ◌^◌, ◌≤◌, ◌<◌, ◌↔◌, ◌⊎◌, List, [], ◌∷◌, ◌++◌, map, length, true, false, Option, Some, None, not, IsTrue, slice_get, codes}
+use Rattle.std.specs.Prelude.{◌≡◌, ℕ, ◌+◌, ◌-◌, ◌*◌, ◌%◌, ◌^◌, ◌≤◌, ◌<◌, ◌↔◌, ◌⊎◌, List, [], ◌∷◌, ◌++◌, map, length, true, Option, Some, None, not, slice_get}
 use Rattle.std.specs.Char.{to_ascii_uppercase}
 use Rattle.std.specs.Str.{all_ascii_digits}
 use Rattle.std.specs.Int.{IsInRange, bit_at}

@@ -1,5 +1,5 @@
 -- Runs of values: `*`, `a`, `a-b`, and with a step. Each is a first value, a last one and a step.
-use Rattle.std.specs.Prelude.{ℕ, ◌+◌, ◌-◌, ◌^◌, ◌%◌, List, [], ◌∷◌, Option, Some, None, if◌then◌else◌, Bool, ◌&&◌, ◌||◌, not, nat_le, nat_lt, nat_eq, length, true, false, ◌==◌, zero, suc}
+use Rattle.std.specs.Prelude.{ℕ, ◌+◌, ◌-◌, ◌%◌, List, [], ◌∷◌, Option, Some, None, if◌then◌else◌, Bool, ◌&&◌, ◌||◌, not, nat_le, nat_lt, nat_eq, length, true, false, ◌==◌}
 use Rattle.std.specs.Option.{option_map, option_and_then}
 use Rattle.qz_civil.specs.declared.fields.Field.{Field}
 use Rattle.qz_civil.specs.declared.fields.Field.TheVariants.{Seconds, Minutes, Hours, DayOfMonth, Month, DayOfWeek, Year}

@@ -10,6 +10,8 @@ mod parsing;
 mod printing;
 mod runs;
 mod sets;
+#[cfg(test)]
+mod tests;
 mod texts;
 mod values;
 

@@ -1,7 +1,4 @@
-use Rattle.std.proofs.Common.{◌≡◌, ◌∙◌, sym}
-use Rattle.std.specs.Prelude.{Result, Ok, Err, IfOk}
-use Rattle.qz_civil.specs.declared.fields.CronFields.{CronFields}
-use Rattle.qz_cron_text.specs.declared.errors.CronError.{CronError}
+use Rattle.std.proofs.Common.{◌∙◌}
 use Rattle.qz_cron_text.proofs.GrammarLaws.{reading_read, when_read}
 use Rattle.qz_cron_text.proofs.ValidLaws.{valid_when_read}
 use Rattle.qz_cron_text.proofs.parsing.parse.Goals as goal

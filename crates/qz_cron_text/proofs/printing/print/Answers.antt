@@ -1,4 +1,4 @@
-use Rattle.std.proofs.Common.{◌≡◌, ◌∙◌, ap, sym, arith, ◌++◌, List, ℕ}
+use Rattle.std.proofs.Common.{◌≡◌, arith}
 use Rattle.std.proofs.lemmas.Grind.{common_steps}
 use Rattle.qz_cron_text.specs.Printing.{canonical_text}
 use Rattle.qz_cron_text.proofs.PrintTexts.{printed_again}

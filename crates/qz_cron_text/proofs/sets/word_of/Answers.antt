@@ -1,4 +1,3 @@
-use Rattle.std.proofs.Common.{sym}
 use Rattle.qz_cron_text.proofs.SetLemmas.{word-small}
 use Rattle.qz_cron_text.proofs.sets.word_of.Goals as goal
 

@@ -1,4 +1,4 @@
-use Rattle.std.proofs.Common.{◌≡◌, ◌+◌, ◌*◌, ◌≤◌, length}
+use Rattle.std.proofs.Common.{◌≡◌, ◌+◌, ◌≤◌, length}
 use Rattle.qz_cron_text.specs.Texts.{fields_at}
 use Rattle.qz_cron_text.proofs.texts.field_count.Given as goal
 
