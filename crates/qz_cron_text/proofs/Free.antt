@@ -18,10 +18,6 @@ pub free-append : (p : ℕ → Bool) (xs ys : List ℕ) → IsFree p xs → IsFr
 free-append p [] ys a b = b
 free-append p (x ∷ xs) ys a b = (a.0, free-append p xs ys a.1 b)
 
-pub free-first : (p : ℕ → Bool) (xs ys : List ℕ) → IsFree p (xs ++ ys) → IsFree p xs
-free-first p [] ys a = tt
-free-first p (x ∷ xs) ys a = (a.0, free-first p xs ys a.1)
-
 pub free_split : (p : ℕ → Bool) (x : List ℕ) → IsFree p x → slice_split p x ≡ x ∷ []
 free_split p [] free = refl
 free_split p (b ∷ bs) free = rw (free.0, free_split p bs free.1) refl

@@ -24,11 +24,7 @@ use Rattle.qz_cron_text.proofs.GrammarLaws.{reading_read}
 use Rattle.qz_cron_text.proofs.PrintSets.{printed_numeral, IsWordFrom, member_runs, members_elements, members_bits}
 use Rattle.qz_cron_text.proofs.PrintStars.{set_is, low_bit, bit_has, has_bit, word_members, all_numbers, false_true}
 
--- the days of the month
-value_small : (field : Field) (v : ℕ) → least field + size field ≤ 2100 → IsOf field v → v < 10000
-unfolding greatest
-value_small field v most (low, high) = omega arith
-
+-- days are printed as numerals
 month_day_small : (d : ℕ) → IsOf DayOfMonth d → d < 10000
 unfolding greatest least size
 month_day_small d (low, high) = omega arith

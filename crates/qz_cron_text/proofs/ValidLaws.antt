@@ -222,14 +222,6 @@ text_valid text f is =
     )
     (one_day (is_any_day f.day) (is_any_week f.week) is.one_named)
 
--- what a text says has four words of years
-pub text_years : (text : List ℕ) (f : CronFields) → IsText text f → length f.years ≡ 4
-text_years text f is = by_years is.years is.is_years
-  where
-    by_years : (years : Option (List ℕ)) → AreYearsOf years f.years → length f.years ≡ 4
-    by_years None are = ap (λ (ys : List ℕ). length ys) are
-    by_years (Some t) are = ap (λ (ys : List ℕ). length ys) are.words
-
 pub valid_when_read : (text : List ℕ) (result : Result CronFields CronError) → result ≡ reading text → IfOk result (λ f. IsTrue (is_cron_fields f))
 valid_when_read text (Ok f) e = text_valid text f (reading_is text f (sym e))
 valid_when_read text (Err fault) e = tt

@@ -327,6 +327,9 @@ pub record IsWhole (found : ℕ) (ps : List Placed) (a b c d i f : List ℕ) (ye
   pub week : whole.week.text ≡ f
   pub years_text : text_in whole.years ≡ years
 
+extended : {ps qs rs : List Placed} {p : Placed} → ps ≡ p ∷ qs → qs ≡ rs → ps ≡ p ∷ rs
+extended first others = cc
+
 pub whole_read : (found : ℕ) (ps : List Placed) (a b c d i f : List ℕ) (years : Option (List ℕ)) → map text_of ps ≡ a ∷ b ∷ c ∷ d ∷ i ∷ f ∷ years_list years
     → IsWhole found ps a b c d i f years
 whole_read found ps a b c d i f years e =
@@ -337,8 +340,12 @@ whole_read found ps a b c d i f years e =
     let p5 : HasText p4.others i (f ∷ years_list years) = has_text p4.others i (f ∷ years_list years) p4.other_texts in
     let p6 : HasText p5.others f (years_list years) = has_text p5.others f (years_list years) p5.other_texts in
     let y : HasYears p6.others years = has_years p6.others years p6.other_texts in
-    let all : ps ≡ p1.first ∷ p2.first ∷ p3.first ∷ p4.first ∷ p5.first ∷ p6.first ∷ p6.others =
-    p1.is ∙ ap (λ (qs : List Placed). p1.first ∷ qs) (p2.is ∙ ap (λ (qs : List Placed). p2.first ∷ qs) (p3.is ∙ ap (λ (qs : List Placed). p3.first ∷ qs) (p4.is ∙ ap (λ (qs : List Placed). p4.first ∷ qs) (p5.is ∙ ap (λ (qs : List Placed). p5.first ∷ qs) p6.is)))) in
+    let from_six : p5.others ≡ p6.first ∷ p6.others = p6.is in
+    let from_five : p4.others ≡ p5.first ∷ p6.first ∷ p6.others = extended p5.is from_six in
+    let from_four : p3.others ≡ p4.first ∷ p5.first ∷ p6.first ∷ p6.others = extended p4.is from_five in
+    let from_three : p2.others ≡ p3.first ∷ p4.first ∷ p5.first ∷ p6.first ∷ p6.others = extended p3.is from_four in
+    let from_two : p1.others ≡ p2.first ∷ p3.first ∷ p4.first ∷ p5.first ∷ p6.first ∷ p6.others = extended p2.is from_three in
+    let all : ps ≡ p1.first ∷ p2.first ∷ p3.first ∷ p4.first ∷ p5.first ∷ p6.first ∷ p6.others = extended p1.is from_two in
     record {
       whole = six_and y.field p1.first p2.first p3.first p4.first p5.first p6.first;
       is = ap (λ (qs : List Placed). whole_by found qs) all ∙ y.is_six p1.first p2.first p3.first p4.first p5.first p6.first found;

@@ -88,6 +88,7 @@ pub record RunInRange (field : Field) (run : Run) : Type 0 where
   pub years : is_year field ≡ true → run.first ≤ run.last
   pub step : IsInRange 1 59 run.step
 
+-- the numbers of an element are in range
 abbrev pub DayInRange : DayForm → Type 0
 DayInRange days.Unnamed = Unit {0}
 DayInRange (days.Last back) = back ≤ 30
@@ -125,6 +126,7 @@ abbrev pub HasValue : Field → Run → ℕ → Type 0
 HasValue field run v =
     (k : ℕ) × (k * run.step ≤ span field run) × (v ≡ least field + (run.first - least field + k * run.step) % size field)
 
+-- some run has the value
 abbrev pub SomeHas : Field → List Run → ℕ → Type 0
 SomeHas field [] v = ⊥
 SomeHas field (run ∷ runs) v = HasValue field run v ⊎ SomeHas field runs v
@@ -182,12 +184,14 @@ pub data AreJoined : List (List ℕ) → List ℕ → Type 0 where
   next_field : {fields : List (List ℕ)} {text : List ℕ} (field blanks : List ℕ) (b : ℕ) → AreBlanks (b ∷ blanks) → AreJoined fields text
       → AreJoined (field ∷ fields) (field ++ b ∷ (blanks ++ text))
 
+-- the seventh field, if there is one
 abbrev pub years_list : Option (List ℕ) → List (List ℕ)
 years_list None = []
 years_list (Some text) = text ∷ []
 
--- a cron text with its fields: exactly one of the two day fields is `?`
+-- a cron text with what it says: six or seven fields, of which exactly one of the two day fields is `?`
 pub record IsText (text : List ℕ) (f : CronFields) : Type 0 where
+  -- the texts of its fields
   pub seconds : List ℕ
   pub minutes : List ℕ
   pub hours : List ℕ
@@ -195,11 +199,13 @@ pub record IsText (text : List ℕ) (f : CronFields) : Type 0 where
   pub months : List ℕ
   pub week : List ℕ
   pub years : Option (List ℕ)
+  -- the fields stand behind blanks, joined by blanks
   pub blanks : List ℕ
   pub rest : List ℕ
   pub is_blank : AreBlanks blanks
   pub is : text ≡ blanks ++ rest
   pub joined : AreJoined (seconds ∷ minutes ∷ hours ∷ day ∷ months ∷ week ∷ years_list years) rest
+  -- what each field says
   pub is_seconds : IsSet Seconds 0 seconds f.seconds
   pub is_minutes : IsSet Minutes 0 minutes f.minutes
   pub is_hours : IsSet Hours 0 hours f.hours

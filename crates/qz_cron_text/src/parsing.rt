@@ -13,7 +13,7 @@ use crate::texts::{Piece, Pieces, pieces_of};
 use qz_civil::{CronFields, DayField, Field, WeekField};
 
 /// The set of 1970 to 2099, 64 years a word.
-pub const ALL_YEARS: [u64; 4] = [u64::MAX, u64::MAX, 3, 0];
+const ALL_YEARS: [u64; 4] = [u64::MAX, u64::MAX, 3, 0];
 
 /// The set of the weekday 7.
 const SATURDAY: u8 = 64;

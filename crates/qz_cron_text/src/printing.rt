@@ -11,6 +11,13 @@ use std::fmt::Write;
 /// The values of a field from its least on, 64 a word.
 type Set = [u64; 4];
 
+/// A set of up to 64 values.
+fn one_word(set: u64) -> Set
+    ensures { result ≡ one_word set }
+{
+    [set, 0, 0, 0]
+}
+
 /// Whether a set has its `index`th value.
 #[tactic(auto, unfolding(qz_civil::specs::Fields::has_word))]
 fn has_value(set: &Set, index: u16) -> bool
@@ -81,7 +88,7 @@ fn push_day(text: &mut String, day: DayField) -> Result<(), AllocError>
 {
     match day {
         DayField::Any => text.push('?'),
-        DayField::Set(days) => push_set(text, Field::DayOfMonth, [days as u64, 0, 0, 0]),
+        DayField::Set(days) => push_set(text, Field::DayOfMonth, one_word(days as u64)),
         DayField::Last { back } => {
             if back == 0 {
                 text.push('L')
@@ -101,7 +108,7 @@ fn push_week(text: &mut String, week: WeekField) -> Result<(), AllocError>
 {
     match week {
         WeekField::Any => text.push('?'),
-        WeekField::Set(days) => push_set(text, Field::DayOfWeek, [days as u64, 0, 0, 0]),
+        WeekField::Set(days) => push_set(text, Field::DayOfWeek, one_word(days as u64)),
         WeekField::Last { day } => write!(text, "{day}L"),
         WeekField::Nth { day, nth } => write!(text, "{day}#{nth}"),
     }
@@ -125,11 +132,11 @@ fn push_years(text: &mut String, years: &Set) -> Result<(), AllocError>
 fn push_times(text: &mut String, fields: &CronFields) -> Result<(), AllocError>
     ensures { OnOk result (string_bytes text.new ≡ string_bytes text.old ++ times_text fields.now) }
 {
-    push_set(text, Field::Seconds, [fields.seconds, 0, 0, 0])?;
+    push_set(text, Field::Seconds, one_word(fields.seconds))?;
     text.push(' ')?;
-    push_set(text, Field::Minutes, [fields.minutes, 0, 0, 0])?;
+    push_set(text, Field::Minutes, one_word(fields.minutes))?;
     text.push(' ')?;
-    push_set(text, Field::Hours, [fields.hours as u64, 0, 0, 0])
+    push_set(text, Field::Hours, one_word(fields.hours as u64))
 }
 
 /// Adds the days, months and weekdays.
@@ -139,7 +146,7 @@ fn push_dates(text: &mut String, fields: &CronFields) -> Result<(), AllocError>
 {
     push_day(text, fields.day)?;
     text.push(' ')?;
-    push_set(text, Field::Month, [fields.months as u64, 0, 0, 0])?;
+    push_set(text, Field::Month, one_word(fields.months as u64))?;
     text.push(' ')?;
     push_week(text, fields.week)
 }

@@ -109,10 +109,7 @@ pub fn is_value(field: Field, value: u16) -> bool
 fn is_year(field: Field) -> bool
     ensures { result ≡ is_year field }
 {
-    match field {
-        Field::Year => true,
-        _ => false,
-    }
+    matches!(field, Field::Year)
 }
 
 /// The first value that is out of range, or else a step that is. Years don't go round.
