@@ -15,7 +15,8 @@ use Rattle.qz_cron_text.specs.declared.forms.DayForm.TheVariants as days
 use Rattle.qz_cron_text.specs.declared.forms.WeekForm.{WeekForm}
 use Rattle.qz_cron_text.specs.declared.forms.WeekForm.TheVariants as weeks
 use Rattle.qz_cron_text.specs.Runs.{run_fault, is_year}
-use Rattle.qz_cron_text.specs.Forms.{form_of, form_fault, day_fault, week_fault, range_fault, unless, checked, told, element_of}
+use Rattle.qz_cron_text.specs.Forms.{form_of, form_fault, day_fault, week_fault, range_fault, unless, checked, element_of}
+use Rattle.qz_cron_text.specs.Errors.{told}
 use Rattle.qz_cron_text.specs.Grammar.{IsOf, RunInRange, DayInRange, WeekInRange, InRange, IsElement}
 use Rattle.qz_cron_text.proofs.FormLaws.{form_read}
 use Rattle.qz_cron_text.proofs.FormCases.{form_is}

@@ -17,7 +17,7 @@ use Rattle.qz_cron_text.specs.declared.forms.DayForm.TheVariants as days
 use Rattle.qz_cron_text.specs.declared.forms.WeekForm.TheVariants as weeks
 use Rattle.qz_cron_text.specs.Elements.{◌>>=◌}
 use Rattle.qz_cron_text.specs.Texts.{Whole, whole_by, whole_of, fields_at, is_blank}
-use Rattle.qz_cron_text.specs.Forms.{told}
+use Rattle.qz_cron_text.specs.Errors.{told}
 use Rattle.qz_cron_text.specs.Reading.{word_at, day_of, week_of, years_of, days_checked, fields_of, reading}
 use Rattle.qz_cron_text.specs.Grammar.{IsElement, AreElements, one_element, more_elements, IsSet, IsDay, IsWeek, AreYearsOf, years_list, IsText}
 use Rattle.qz_cron_text.proofs.Free.{free-append}

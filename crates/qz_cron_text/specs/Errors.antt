@@ -1,5 +1,5 @@
--- The numbers of faults, by which programs tell them.
-use Rattle.std.specs.Prelude.{ℕ}
+-- Faults of cron texts: their numbers, by which programs tell them, and what they tell of places.
+use Rattle.std.specs.Prelude.{ℕ, ◌-◌, ◌^◌, min}
 use Rattle.qz_cron_text.specs.declared.errors.CronError.{CronError}
 use Rattle.qz_cron_text.specs.declared.errors.CronError.TheVariants.{FieldCount, BadToken, OutOfRange, BothDays, NoDays, BadStep, NotAlone}
 
@@ -11,3 +11,7 @@ error_number BothDays = 4
 error_number NoDays = 5
 error_number (BadStep field) = 6
 error_number (NotAlone field) = 7
+
+-- a place or a count as it is told
+abbrev pub told : ℕ → ℕ
+told n = min n (2 ^ 32 - 1)

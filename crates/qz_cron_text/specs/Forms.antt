@@ -14,6 +14,7 @@ use Rattle.qz_cron_text.specs.declared.forms.WeekForm.TheVariants as weeks
 use Rattle.qz_cron_text.specs.declared.errors.CronError.{CronError}
 use Rattle.qz_cron_text.specs.declared.errors.CronError.TheVariants.{OutOfRange, BadToken}
 use Rattle.qz_cron_text.specs.Cuts.{Parts, cut_at}
+use Rattle.qz_cron_text.specs.Errors.{told}
 use Rattle.qz_cron_text.specs.Values.{number_of, value_of}
 use Rattle.qz_cron_text.specs.Runs.{run_of, run_fault}
 
@@ -126,10 +127,6 @@ form_fault field (Week form) = week_fault form
 abbrev pub unless : Option CronError → Form → Result Form CronError
 unless None form = Ok form
 unless (Some fault) form = Err fault
-
--- a place or a count as it is told
-abbrev pub told : ℕ → ℕ
-told n = min n (2 ^ 32 - 1)
 
 abbrev pub checked : Field → ℕ → Option Form → Result Form CronError
 checked field at None = Err (BadToken (number field) (told at))

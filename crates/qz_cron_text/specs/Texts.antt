@@ -3,7 +3,7 @@ use Rattle.std.specs.Prelude.{ℕ, ◌+◌, List, [], ◌∷◌, Option, Some, N
 use Rattle.std.specs.List.{slice_split}
 use Rattle.qz_cron_text.specs.declared.errors.CronError.{CronError}
 use Rattle.qz_cron_text.specs.declared.errors.CronError.TheVariants.{FieldCount}
-use Rattle.qz_cron_text.specs.Forms.{told}
+use Rattle.qz_cron_text.specs.Errors.{told}
 
 -- a space or a tab
 abbrev pub is_blank : ℕ → Bool

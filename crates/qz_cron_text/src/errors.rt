@@ -1,6 +1,6 @@
 //! What is wrong with a cron text.
 ghost use Rattle.std.specs.Prelude.{◌≡◌};
-ghost use Rattle.qz_cron_text.specs.Errors.{error_number};
+ghost use Rattle.qz_cron_text.specs.Errors.{error_number, told};
 
 use thiserror::Error;
 
@@ -47,4 +47,11 @@ impl CronError {
             CronError::NotAlone { field: _ } => 7,
         }
     }
+}
+
+/// A place or a count in the type that faults have for it. Only a text of 4 GiB and more has greater ones.
+pub fn told(n: usize) -> u32
+    ensures { result ≡ told n }
+{
+    n.min(0xffff_ffff) as u32
 }

@@ -2,10 +2,10 @@
 ghost use Rattle.std.specs.Prelude.{◌≡◌, IfOk, None};
 ghost use Rattle.std.specs.Option.{option_map};
 ghost use Rattle.qz_cron_text.specs.Cuts.{cut_at};
-ghost use Rattle.qz_cron_text.specs.Forms.{is_letter, is_question, is_last_weekday, before_letter, day_form, week_form, special_form, form_of, day_fault, week_fault, form_fault, element_of, last_back_of, nth_of, range_fault, told};
+ghost use Rattle.qz_cron_text.specs.Forms.{is_letter, is_question, is_last_weekday, before_letter, day_form, week_form, special_form, form_of, day_fault, week_fault, form_fault, element_of, last_back_of, nth_of, range_fault};
 
 use crate::cuts::cut;
-use crate::errors::CronError;
+use crate::errors::{CronError, told};
 use crate::runs::{Run, is_value, run_fault, run_of};
 use crate::values::{number, value};
 use qz_civil::Field;
@@ -224,13 +224,6 @@ fn form_fault(field: Field, form: Form) -> Option<CronError>
         Form::Day(form) => day_fault(form),
         Form::Week(form) => week_fault(form),
     }
-}
-
-/// A place or a count in the type that faults have for it. Only a text of 4 GiB and more has greater ones.
-pub fn told(n: usize) -> u32
-    ensures { result ≡ told n }
-{
-    n.min(0xffff_ffff) as u32
 }
 
 /// The element at a place of the text, or what is wrong with it.

@@ -4,8 +4,7 @@ ghost use Rattle.qz_cron_text.specs.Texts.{fields_at, whole_of};
 ghost use Rattle.qz_cron_text.specs.Seen.{listed, shown, AreWithin};
 
 use crate::cuts::cut_at_blank;
-use crate::errors::CronError;
-use crate::forms::told;
+use crate::errors::{CronError, told};
 
 /// A field and its place in the text.
 #[derive(Clone, Copy)]
