@@ -1,5 +1,5 @@
 -- The calendar by counting days has the dates of jiff_core's day numbers.
-use Rattle.std.proofs.Common.{◌≡◌, ℕ, zero, suc, ◌+◌, ◌<◌, ◌≤◌, inl, inr, nat_lt, if◌then◌else◌, refl, sym, subst, ◌∙◌, arith, rules, ℤ, pos, ◌+ℤ◌, ◌<ℤ◌, ◌≤ℤ◌}
+use Rattle.std.proofs.Common.{◌≡◌, ◌≢◌, ℕ, zero, suc, ◌+◌, ◌<◌, ◌≤◌, min, inl, inr, nat_lt, if◌then◌else◌, refl, sym, ap, subst, ◌∙◌, arith, rules, ℤ, pos, neg_ℤ, ◌+ℤ◌, ◌<ℤ◌, ◌≤ℤ◌}
 use Rattle.std.specs.Int.{IsInRange}
 use Rattle.std.proofs.lemmas.Bool.{cases_order}
 use Rattle.jiff_core.specs.declared.civil.date.Date.{Date as LibraryDate}
@@ -112,25 +112,15 @@ year-bound n h =
       | inr (inr gt) ↦ absurd (omega (arith, signed_arith, number-date_of n, days_from_civil-max, days_from_civil-day_count, day_count-lt_year (pos 9999) 12 31 (pos (date_of n).year) (date_of n).month (date_of n).day (search rules) valid.1.0 (omega (arith, signed_arith))))
     ]
 
-date_at : (n : ℕ) → n ≤ LAST_DAY → LibraryDate
-date_at n h =
-    let valid = date_of-valid n in
-    record {
-      year = pos (date_of n).year;
-      month = (date_of n).month;
-      day = (date_of n).day;
-      year_in = (let b = year-bound n h in omega (arith, signed_arith));
-      month_in = valid.0;
-      day_in = rw (← days_in_month-library (date_of n).year (date_of n).month) valid.1;
-    }
-
--- the library's date with that number is the day's date
-pub same_date : (n : ℕ) (d : LibraryDate) → n ≤ LAST_DAY → epoch_day d +ℤ pos 1 ≡ pos n → (d.year ≡ pos (date_of n).year) × (d.month ≡ (date_of n).month) × (d.day ≡ (date_of n).day)
-unfolding date_at
-same_date n d h e = epoch_day_injective d (date_at n h) (omega (arith, signed_arith, number-date_of n))
-
-pub year_range : (n : ℕ) (d : LibraryDate) → n ≤ LAST_DAY → epoch_day d +ℤ pos 1 ≡ pos n → IsBetween (pos 0) (pos 9999) d.year
-year_range n d h e = let same = same_date n d h e in let b = year-bound n h in rw same.0 (omega (arith, signed_arith))
+date_at : (d : Date) → IsDate d → d.year ≤ 9999 → LibraryDate
+date_at d h year = record {
+  year = pos d.year;
+  month = d.month;
+  day = d.day;
+  year_in = omega (arith, signed_arith);
+  month_in = h.0;
+  day_in = rw (← days_in_month-library d.year d.month) h.1;
+}
 
 abbrev date : ℕ → ℕ → ℕ → Date
 date y m d = record { year = y; month = m; day = d }
@@ -138,5 +128,38 @@ date y m d = record { year = y; month = m; day = d }
 pub same_parts : (d e : Date) → d.year ≡ e.year → d.month ≡ e.month → d.day ≡ e.day → d ≡ e
 same_parts d e year month day =
     let made : date d.year d.month d.day ≡ date e.year e.month e.day = rw (year, month, day) refl in made
+
+-- two dates with one number are the same
+pub number-injective : (d e : Date) → IsDate d → IsDate e → d.year ≤ 9999 → e.year ≤ 9999 → number d ≡ number e → d ≡ e
+unfolding date_at
+number-injective d e hd he yd ye same =
+    let parts = epoch_day_injective (date_at d hd yd) (date_at e he ye) same in
+    same_parts d e (omega (arith, signed_arith, parts.0)) parts.1 parts.2
+
+-- the day with the number of a date has that date
+pub date_of-number : (n : ℕ) (d : Date) → n ≤ LAST_DAY → IsDate d → d.year ≤ 9999 → number d +ℤ pos 1 ≡ pos n → date_of n ≡ d
+date_of-number n d h valid year e =
+    number-injective (date_of n) d (date_of-valid n) valid (year-bound n h) year (omega (arith, signed_arith, number-date_of n))
+
+-- no day has an earlier date
+pub date_of-earlier : (n : ℕ) (d : Date) → number d <ℤ neg_ℤ (pos 1) → date_of n ≢ d
+date_of-earlier n d h e =
+    let same : number (date_of n) ≡ number d = ap number e in
+    absurd (omega (arith, signed_arith, number-date_of n))
+
+-- the library's date with the number of a day is the day's date
+pub same_date : (n : ℕ) (d : LibraryDate) → n ≤ LAST_DAY → epoch_day d +ℤ pos 1 ≡ pos n → (d.year ≡ pos (date_of n).year) × (d.month ≡ (date_of n).month) × (d.day ≡ (date_of n).day)
+unfolding date_at
+same_date n d h e = epoch_day_injective d (date_at (date_of n) (date_of-valid n) (year-bound n h)) (omega (arith, signed_arith, number-date_of n))
+
+pub year_range : (n : ℕ) (d : LibraryDate) → n ≤ LAST_DAY → epoch_day d +ℤ pos 1 ≡ pos n → IsBetween (pos 0) (pos 9999) d.year
+year_range n d h e = let same = same_date n d h e in let b = year-bound n h in rw same.0 (omega (arith, signed_arith))
+
+-- a real date isn't changed where the library clamps its day to the month
+pub number-constrained : (d : Date) (l : LibraryDate) (y : ℤ) → IsDate d → y ≡ pos d.year → l.year ≡ y → l.month ≡ d.month → l.day ≡ min d.day (library_days_in_month y d.month) → epoch_day l ≡ number d
+number-constrained d l y h year same month day =
+    let long : library_days_in_month y d.month ≡ month_length d = rw year (sym (days_in_month-library d.year d.month)) in
+    let kept : l.day ≡ d.day = omega (arith, h.1) in
+    rw (same, year, month, kept) refl
 
 pub ruleset date_facts = (date_of-valid, year-bound)

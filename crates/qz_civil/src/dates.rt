@@ -1,7 +1,7 @@
 //! Dates and civil times of the Gregorian calendar.
-ghost use Rattle.std.specs.Prelude.{◌≡◌, ◌≤◌, pos, ◌+ℤ◌};
+ghost use Rattle.std.specs.Prelude.{◌≡◌, ◌≢◌, ◌↔◌, ℕ, ◌≤◌, pos, negsuc, ◌+ℤ◌, ◌≤ℤ◌, IsTrue, IfNone, IfSome};
 ghost use Rattle.std.specs.Int.{IsInRange};
-ghost use Rattle.jiff_core.specs.Calendar.{IsBetween};
+ghost use Rattle.jiff_core.specs.Calendar.{IsBetween, IsEpochDay, days_from_civil};
 ghost use Rattle.jiff_core.specs.Date.{epoch_day};
 ghost use Rattle.qz_civil.specs.Dates as spec;
 
@@ -79,4 +79,60 @@ fn epoch_date(day: u32) -> civil::Date
     ensures { epoch_day result +ℤ pos 1 ≡ pos day }
 {
     civil::Date::from_unix_epoch_day(i64::from(day) - 1).unwrap()
+}
+
+/// The weekday of the date that many days after 1969-12-31, from 1 for Sunday. No memory.
+pub fn weekday_of(day: u32) -> u8
+    requires { day ≤ LAST_DAY }
+    ensures { result ≡ spec.weekday_of day }
+{
+    ((day + 3) % 7 + 1) as u8
+}
+
+/// How many days after 1969-12-31 the date is. None where it is earlier, later than the year 9999, or no date of the
+/// calendar. No memory.
+pub fn day_of(date: Date) -> Option<u32>
+    ensures found { IfSome result (λ day. spec.date_of day ≡ date) }
+    ensures bound { IfSome result (λ day. day ≤ LAST_DAY) }
+    ensures none { IfNone result ((day : ℕ) → day ≤ LAST_DAY → spec.date_of day ≢ date) }
+{
+    if !is_known(date) {
+        return None;
+    }
+    let number = epoch_day_of(date);
+    if number < -1 {
+        return None;
+    }
+    Some(day_numbered(number))
+}
+
+// The day that has the library's number.
+fn day_numbered(number: i32) -> u32
+    requires low { negsuc 0 ≤ℤ number }
+    requires high { IsEpochDay number }
+    ensures value { pos result ≡ number +ℤ pos 1 }
+    ensures bound { result ≤ LAST_DAY }
+{
+    (number + 1) as u32
+}
+
+// Whether the date is one of the library's.
+fn is_known(date: Date) -> bool
+    ensures { IsTrue result ↔ (spec.IsDate date × (date.year ≤ 9999)) }
+{
+    1 <= date.month
+        && date.month <= 12
+        && 1 <= date.day
+        && date.day <= days_in_month(date.year, date.month)
+        && date.year <= 9999
+}
+
+// The library's number of the date.
+fn epoch_day_of(date: Date) -> i32
+    requires date { spec.IsDate date }
+    requires year { date.year ≤ 9999 }
+    ensures value { result ≡ days_from_civil (pos date.year) date.month date.day }
+    ensures bound { IsEpochDay result }
+{
+    civil::Date::constrain(date.year as i16, date.month, date.day).to_unix_epoch_day()
 }

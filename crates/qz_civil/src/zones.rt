@@ -4,7 +4,7 @@ ghost use Rattle.qz_civil.specs.Dates as date_spec;
 ghost use Rattle.qz_civil.specs.Zones as spec;
 
 use crate::dates::{Civil, date_of};
-use crate::limits::{LAST, LAST_DAY, OFFSET_LIMIT};
+use crate::limits::{LAST, LAST_DAY, OFFSET_LIMIT, STRETCH_LIMIT};
 use crate::lists::List;
 use crate::stretches::{BadZone, Stretch, count_begun, fault_of, offset_of, start_of};
 use std::marker::Model;
@@ -80,6 +80,7 @@ impl Zone {
     pub fn stretch_at(&self, ms: i64) -> u32
         ensures value { result ≡ spec.stretch_at self.now ms }
         ensures last { spec.IsLastBegun self.now ms result }
+        ensures bound { result < STRETCH_LIMIT }
     {
         let _known = self.offset;
         self.begun(ms).saturating_sub(1) as u32
@@ -128,7 +129,7 @@ impl Zone {
         civil_of(self.local(ms))
     }
 
-    fn offset_of(&self, place: usize) -> i32
+    pub(crate) fn offset_of(&self, place: usize) -> i32
         ensures { result ≡ spec.offset_of (slice_get self.now place) }
     {
         match &self.table {
