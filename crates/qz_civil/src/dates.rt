@@ -1,5 +1,5 @@
 //! Dates and civil times of the Gregorian calendar.
-ghost use Rattle.std.specs.Prelude.{◌≡◌, ◌≢◌, ◌↔◌, ℕ, ◌≤◌, pos, negsuc, ◌+ℤ◌, ◌≤ℤ◌, IsTrue, IfNone, IfSome};
+ghost use Rattle.std.specs.Prelude.{◌≡◌, ◌≢◌, ◌↔◌, ℕ, ◌+◌, ◌*◌, ◌<◌, ◌≤◌, pos, negsuc, ◌+ℤ◌, ◌≤ℤ◌, IsTrue, IfNone, IfSome};
 ghost use Rattle.std.specs.Int.{IsInRange};
 ghost use Rattle.jiff_core.specs.Calendar.{IsBetween, IsEpochDay, days_from_civil};
 ghost use Rattle.jiff_core.specs.Date.{epoch_day};
@@ -135,4 +135,56 @@ fn epoch_day_of(date: Date) -> i32
     ensures bound { IsEpochDay result }
 {
     civil::Date::constrain(date.year as i16, date.month, date.day).to_unix_epoch_day()
+}
+
+// The civil time that is that many ms after 1969-12-31T00:00:00.
+pub(crate) fn civil_of(local: u64) -> Civil
+    requires { local < 86400000 * (LAST_DAY + 1) }
+    ensures { result ≡ spec.civil_of local }
+{
+    let day = (local / 86_400_000) as u32;
+    let date = date_of(day);
+    Civil {
+        year: date.year as i32,
+        month: date.month,
+        day: date.day,
+        weekday: weekday_of(day),
+        second: (local % 86_400_000 / 1000) as u32,
+        milli: (local % 1000) as u16,
+    }
+}
+
+// How many ms after 1969-12-31T00:00:00 the civil time is. None where it isn't one of the calendar from then on.
+pub(crate) fn local_of(civil: Civil) -> Option<u64>
+    ensures found { IfSome result (λ local. spec.civil_of local ≡ civil) }
+    ensures bound { IfSome result (λ local. local < 86400000 * (LAST_DAY + 1)) }
+    ensures none { IfNone result ((local : ℕ) → local < 86400000 * (LAST_DAY + 1) → spec.civil_of local ≢ civil) }
+{
+    if !is_in_range(civil) {
+        return None;
+    }
+    let day = day_of(date_part(civil))?;
+    if civil.weekday != weekday_of(day) {
+        return None;
+    }
+    Some(u64::from(day) * 86_400_000 + u64::from(civil.second) * 1000 + u64::from(civil.milli))
+}
+
+// Whether the parts that no calendar is needed for are in their ranges.
+fn is_in_range(civil: Civil) -> bool
+    ensures { IsTrue result ↔ spec.IsInRanges civil }
+{
+    0 <= civil.year && civil.second < 86400 && civil.milli < 1000
+}
+
+// The civil time's date.
+pub(crate) fn date_part(civil: Civil) -> Date
+    requires { pos 0 ≤ℤ civil.year }
+    ensures { result ≡ spec.date_part civil }
+{
+    Date {
+        year: civil.year as u32,
+        month: civil.month,
+        day: civil.day,
+    }
 }
