@@ -154,8 +154,8 @@ few_begin before (x ∷ rest) t u h lt =
     by_lt_z u x.from
     (λ no. rw (le_no x.from u no) (omega arith))
     (λ yes. by_lt_z t x.from
-      (λ under. let none = none_begin x.from rest u h.2 (omega (arith, ints)) in rw (le_yes x.from u yes, le_no x.from t under) (omega arith))
-      (λ over. let more = few_begin (Some x.from) rest t u h.2 lt in rw (le_yes x.from u yes, le_yes x.from t over) (omega arith)))
+    (λ under. let none = none_begin x.from rest u h.2 (omega (arith, ints)) in rw (le_yes x.from u yes, le_no x.from t under) (omega arith))
+    (λ over. let more = few_begin (Some x.from) rest t u h.2 lt in rw (le_yes x.from u yes, le_yes x.from t over) (omega arith)))
 
 -- within the length of a stretch at most one begins
 pub begun-few : (zs : List Stretch) (t u : ℤ) → bad_zone zs ≡ None → u <ℤ (t +ℤ STRETCH_LENGTH) → begun zs u ≤ begun zs t + 1
@@ -167,11 +167,11 @@ stays_by [] t u le h = refl
 stays_by (x ∷ rest) t u le h =
     by_lt_z t x.from
     (λ lt. let no = le_no x.from t lt in
-        let first : u <ℤ x.from = h x (rw no refl) in
-        rw (no, le_no x.from u first) refl)
+    let first : u <ℤ x.from = h x (rw no refl) in
+    rw (no, le_no x.from u first) refl)
     (λ ge. let yes = le_yes x.from t ge in
-        let later = le_yes x.from u (omega (arith, ints)) in
-        rw (yes, later) (ap (λ n. 1 + n) (stays_by rest t u le (λ s e. h s (rw (yes, get_next x rest (prefix_len (λ x. int_le x.from t) rest)) e)))))
+    let later = le_yes x.from u (omega (arith, ints)) in
+    rw (yes, later) (ap (λ n. 1 + n) (stays_by rest t u le (λ s e. h s (rw (yes, get_next x rest (prefix_len (λ x. int_le x.from t) rest)) e)))))
 
 -- as many have begun until the next one begins
 pub begun-stays : (zs : List Stretch) (t u : ℤ) → t ≤ℤ u → ((s : Stretch) → slice_get zs (begun zs t) ≡ Some s → u <ℤ s.from) → begun zs u ≡ begun zs t

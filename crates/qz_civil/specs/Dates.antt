@@ -1,6 +1,6 @@
 -- The calendar by counting days: day 0 is 1969-12-31, and each date is the next of the one before. Years are those of
 -- the Gregorian calendar.
-use Rattle.std.specs.Prelude.{ℕ, zero, suc, ◌+◌, ◌/◌, ◌%◌, Bool, not, ◌&&◌, ◌||◌, ◌==◌, nat_lt, ◌<◌, if◌then◌else◌, pos, unsigned_abs}
+use Rattle.std.specs.Prelude.{ℕ, zero, suc, ◌+◌, ◌/◌, ◌%◌, Bool, not, ◌&&◌, ◌||◌, ◌==◌, nat_lt, ◌<◌, if◌then◌else◌, pos, ◌≤ℤ◌, unsigned_abs}
 use Rattle.std.specs.Int.{IsInRange}
 use Rattle.qz_civil.specs.declared.dates.Civil.{Civil}
 use Rattle.qz_civil.specs.declared.dates.Date.{Date}
@@ -49,6 +49,12 @@ date_part c = record { year = unsigned_abs c.year; month = c.month; day = c.day 
 -- the calendar has this date, and the parts of a week and of a day are within their ranges
 abbrev pub IsCivil : Civil → Type 0
 IsCivil c = IsDate (date_part c) × IsInRange 1 7 c.weekday × (c.second < 86400)
+
+-- its year isn't negative, and its second and millisecond are within their ranges
+pub record IsInRanges (c : Civil) : Type 0 where
+  pub year : pos 0 ≤ℤ c.year
+  pub second : c.second < 86400
+  pub milli : c.milli < 1000
 
 -- the civil time that is n ms after 1969-12-31T00:00:00
 abbrev pub civil_of : ℕ → Civil

@@ -4,7 +4,7 @@ ghost use Rattle.std.specs.Int.{IsInRange};
 ghost use Rattle.qz_civil.specs.Dates.{IsCivil, IsDate};
 ghost use Rattle.qz_civil.specs.Fields as spec;
 
-use crate::dates::{Civil, Date, days_in_month};
+use crate::dates::{Civil, Date, date_part, days_in_month};
 use crate::limits::LAST_YEAR;
 
 /// A field of a cron text.
@@ -243,11 +243,6 @@ impl CronFields {
         if civil.year < 0 {
             return false;
         }
-        let date = Date {
-            year: civil.year as u32,
-            month: civil.month,
-            day: civil.day,
-        };
-        self.meets_date(date, civil.weekday) && self.meets_time(civil.second)
+        self.meets_date(date_part(civil), civil.weekday) && self.meets_time(civil.second)
     }
 }

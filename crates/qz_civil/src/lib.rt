@@ -15,7 +15,7 @@ mod texts;
 mod timings;
 mod zones;
 
-pub use dates::{Civil, Date, date_of, days_in_month};
+pub use dates::{Civil, Date, date_of, day_of, days_in_month, weekday_of};
 pub use failures::{Failed, NoMemory};
 pub use fields::{CronFields, DayField, Field, WeekField, has};
 pub use limits::{LAST, LAST_DAY, LAST_YEAR, LONGEST, OFFSET_LIMIT, STRETCH_LENGTH, STRETCH_LIMIT};

@@ -1,10 +1,11 @@
 //! Zones, and the local time that they give.
-ghost use Rattle.std.specs.Prelude.{◌≡◌, ℕ, ℤ, ◌*◌, ◌<◌, ◌≤◌, pos, negsuc, neg_ℤ, ◌≤ℤ◌, ◌<ℤ◌, ◌+ℤ◌, ◌*ℤ◌, unsigned_abs, IfOk, IfErr, IfSome, None, Some, slice_get, option_map};
-ghost use Rattle.qz_civil.specs.Dates as date_spec;
+ghost use Rattle.std.specs.Prelude.{◌≡◌, ◌&&◌, ◌==◌, ℤ, ◌+◌, ◌*◌, ◌<◌, pos, negsuc, neg_ℤ, ◌≤ℤ◌, ◌<ℤ◌, ◌+ℤ◌, ◌-ℤ◌, ◌*ℤ◌, unsigned_abs, IfOk, IfErr, IfSome, None, Some, slice_get, option_map};
+ghost use Rattle.qz_civil.specs.Instants.{AreMembers, IsInstant, IsOnly, IsShownAt, IsShownIn};
+ghost use Rattle.qz_civil.specs.Timings.{is_timestamp};
 ghost use Rattle.qz_civil.specs.Zones as spec;
 
-use crate::dates::{Civil, date_of};
-use crate::limits::{LAST, LAST_DAY, OFFSET_LIMIT};
+use crate::dates::{Civil, civil_of, local_of};
+use crate::limits::{LAST, LAST_DAY, OFFSET_LIMIT, STRETCH_LIMIT};
 use crate::lists::List;
 use crate::stretches::{BadZone, Stretch, count_begun, fault_of, offset_of, start_of};
 use std::marker::Model;
@@ -80,6 +81,7 @@ impl Zone {
     pub fn stretch_at(&self, ms: i64) -> u32
         ensures value { result ≡ spec.stretch_at self.now ms }
         ensures last { spec.IsLastBegun self.now ms result }
+        ensures bound { result < STRETCH_LIMIT }
     {
         let _known = self.offset;
         self.begun(ms).saturating_sub(1) as u32
@@ -91,9 +93,7 @@ impl Zone {
         ensures low { neg_ℤ OFFSET_LIMIT ≤ℤ result }
         ensures high { result ≤ℤ OFFSET_LIMIT }
     {
-        let _known = self.offset;
-        let place = self.stretch_at(ms) as usize;
-        self.offset_of(place)
+        self.offset_in(self.stretch_at(ms) as usize)
     }
 
     /// When the next stretch after the timestamp begins. No memory.
@@ -128,6 +128,65 @@ impl Zone {
         civil_of(self.local(ms))
     }
 
+    /// The at most two timestamps with that local time, ascending: none in a gap, and two in a fold. A time that isn't
+    /// one of the calendar, its weekday included, has none. No memory.
+    pub fn instants_of(&self, civil: Civil) -> (Option<i64>, Option<i64>)
+        ensures { AreMembers (IsInstant self.now civil) result.0 result.1 }
+    {
+        let _known = self.offset;
+        match local_of(civil) {
+            Some(local) => self.timestamps_at(local),
+            None => (None, None),
+        }
+    }
+
+    /// The at most two timestamps at which the local clock, in ms since 1969-12-31T00:00:00, shows that, ascending.
+    /// No memory.
+    pub fn timestamps_at(&self, local: u64) -> (Option<i64>, Option<i64>)
+        requires { local < 86400000 * (LAST_DAY + 1) }
+        ensures { AreMembers (IsShownAt self.now local) result.0 result.1 }
+    {
+        let _known = self.offset;
+        // The earliest timestamp is a day and 18 hours before, and two stretches don't begin within twice 18 hours.
+        let place = self.stretch_at(local.saturating_sub(151_200_000) as i64);
+        let first = self.timestamp_in(place, local);
+        let second = self.timestamp_in(place + 1, local);
+        match first {
+            Some(_) => (first, second),
+            None => (second, None),
+        }
+    }
+
+    // The timestamp in the stretch at that place, at which the local clock shows that.
+    fn timestamp_in(&self, place: u32, local: u64) -> Option<i64>
+        requires { local < 86400000 * (LAST_DAY + 1) }
+        ensures { IsOnly (IsShownIn self.now local place) result }
+    {
+        let _known = self.offset;
+        let ms = unshifted(local, self.offset_in(place as usize));
+        if self.is_in_stretch(place, ms) {
+            Some(ms)
+        } else {
+            None
+        }
+    }
+
+    fn is_in_stretch(&self, place: u32, ms: i64) -> bool
+        ensures { result ≡ (is_timestamp ms && (spec.stretch_at self.now ms == place)) }
+    {
+        0 <= ms && ms <= LAST && self.stretch_at(ms) == place
+    }
+
+    // The offset of the stretch at the place, and 0 where there is none.
+    fn offset_in(&self, place: usize) -> i32
+        ensures value { result ≡ spec.offset_of (slice_get self.now place) }
+        ensures low { neg_ℤ OFFSET_LIMIT ≤ℤ result }
+        ensures high { result ≤ℤ OFFSET_LIMIT }
+    {
+        let _known = self.offset;
+        self.offset_of(place)
+    }
+
     fn offset_of(&self, place: usize) -> i32
         ensures { result ≡ spec.offset_of (slice_get self.now place) }
     {
@@ -160,19 +219,13 @@ fn shifted(ms: i64, offset: i32) -> u64
     (ms + 86_400_000 + offset as i64 * 1000) as u64
 }
 
-// The parts of a local clock.
-fn civil_of(local: u64) -> Civil
-    requires { local < LAST_DAY * 86400000 }
-    ensures { result ≡ date_spec.civil_of local }
+// The timestamp at which the local clock at an offset shows that.
+#[tactic(auto, using(jiff_core::proofs::SignedLemmas::signed_arith))]
+fn unshifted(local: u64, offset: i32) -> i64
+    requires local { local < 86400000 * (LAST_DAY + 1) }
+    requires offset_low { neg_ℤ OFFSET_LIMIT ≤ℤ offset }
+    requires offset_high { offset ≤ℤ OFFSET_LIMIT }
+    ensures { result ≡ pos local -ℤ pos 86400000 -ℤ offset *ℤ pos 1000 }
 {
-    let day = local / 86_400_000;
-    let date = date_of(day as u32);
-    Civil {
-        year: date.year as i32,
-        month: date.month,
-        day: date.day,
-        weekday: ((day + 3) % 7 + 1) as u8,
-        second: (local % 86_400_000 / 1000) as u32,
-        milli: (local % 1000) as u16,
-    }
+    local as i64 - 86_400_000 - offset as i64 * 1000
 }
