@@ -15,11 +15,14 @@ use Rattle.qz_civil.proofs.ZoneLemmas.{offset_of-bound, begun-up, begun-few}
 
 -- What the local clock shows.
 
-timestamp_low : (t : ℤ) → IsTrue (is_timestamp t) → pos 0 ≤ℤ t
+pub timestamp_low : (t : ℤ) → IsTrue (is_timestamp t) → pos 0 ≤ℤ t
 timestamp_low t h = grind (arith, ints)
 
-timestamp_high : (t : ℤ) → IsTrue (is_timestamp t) → t ≤ℤ LAST
+pub timestamp_high : (t : ℤ) → IsTrue (is_timestamp t) → t ≤ℤ LAST
 timestamp_high t h = grind (arith, ints)
+
+pub to_timestamp : (t : ℤ) → pos 0 ≤ℤ t → t ≤ℤ LAST → IsTrue (is_timestamp t)
+to_timestamp t low high = grind (arith, ints)
 
 -- the local clock is UTC and the offset, from 1969-12-31 on
 pub local-clock : (zs : List Stretch) (t : ℤ) → bad_zone zs ≡ None → pos 0 ≤ℤ t → pos (local zs t) ≡ t +ℤ pos 86400000 +ℤ offset_at zs t *ℤ pos 1000
@@ -109,7 +112,7 @@ shown-second zs n second h first after =
 clock_back : (n : ℕ) (t offset : ℤ) → pos n ≡ t +ℤ pos 86400000 +ℤ offset *ℤ pos 1000 → t ≡ pos n -ℤ pos 86400000 -ℤ offset *ℤ pos 1000
 clock_back n t offset e = omega (arith, signed_arith)
 
-clock_on : (n : ℕ) (t offset : ℤ) → t ≡ pos n -ℤ pos 86400000 -ℤ offset *ℤ pos 1000 → pos n ≡ t +ℤ pos 86400000 +ℤ offset *ℤ pos 1000
+pub clock_on : (n : ℕ) (t offset : ℤ) → t ≡ pos n -ℤ pos 86400000 -ℤ offset *ℤ pos 1000 → pos n ≡ t +ℤ pos 86400000 +ℤ offset *ℤ pos 1000
 clock_on n t offset e = omega (arith, signed_arith)
 
 -- it is the number less the offset

@@ -1,6 +1,7 @@
 -- What holds of a list of stretches that is a zone.
-use Rattle.std.proofs.Common.{◌≡◌, ℕ, zero, suc, ◌+◌, ◌-◌, ◌<◌, ◌≤◌, Bool, true, false, ◌&&◌, refl, sym, ap, subst, arith, rules, ℤ, pos, neg_ℤ, ◌+ℤ◌, ◌<ℤ◌, ◌≤ℤ◌, int_le, List, [], ◌∷◌, length, Option, Some, None, slice_get, option_map, IfSome, if◌then◌else◌}
+use Rattle.std.proofs.Common.{◌≡◌, ℕ, zero, suc, ◌+◌, ◌-◌, ◌<◌, ◌≤◌, inl, inr, Bool, true, false, ◌&&◌, refl, sym, ap, subst, arith, rules, ℤ, pos, neg_ℤ, ◌+ℤ◌, ◌<ℤ◌, ◌≤ℤ◌, int_le, List, [], ◌∷◌, length, Option, Some, None, slice_get, option_map, IfSome, if◌then◌else◌}
 use Rattle.std.specs.List.{prefix_len}
+use Rattle.std.proofs.lemmas.Bool.{cases_lt}
 use Rattle.std.proofs.lemmas.Int.{ints, by_lt_z}
 use Rattle.std.proofs.lemmas.List.Sums.{prefix_len-le-length}
 use Rattle.qz_civil.specs.declared.limits.TheConstants.{LAST, OFFSET_LIMIT, STRETCH_LENGTH, STRETCH_LIMIT}
@@ -130,6 +131,19 @@ stretch_at-last zs t h =
 pub begun-bound : (zs : List Stretch) (t : ℤ) → bad_zone zs ≡ None → begun zs t ≤ STRETCH_LIMIT
 unfolding begun
 begun-bound zs t h = let long = zone-length zs h in omega (arith, prefix_len-le-length (λ s. int_le s.from t) zs)
+
+pub has-begun : (zs : List Stretch) (t : ℤ) (k : ℕ) (s : Stretch) → k < begun zs t → slice_get zs k ≡ Some s → s.from ≤ℤ t
+unfolding begun
+has-begun = has_begun
+
+-- what begins up to t has begun at t
+pub begun-past : (zs : List Stretch) (t : ℤ) (k : ℕ) (s : Stretch) → bad_zone zs ≡ None → slice_get zs k ≡ Some s → s.from ≤ℤ t → k < begun zs t
+unfolding begun
+begun-past zs t k s h e le =
+    elim (cases_lt k (prefix_len (λ s. int_le s.from t) zs)) [
+      | inl lt ↦ lt
+      | inr ge ↦ absurd (let later = begins_later None zs t k s (zone-table zs h) ge e in omega (arith, ints))
+    ]
 
 -- How many have begun later on.
 

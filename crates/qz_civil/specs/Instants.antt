@@ -1,5 +1,5 @@
 -- The timestamps of a local time.
-use Rattle.std.specs.Prelude.{◌≡◌, ℕ, ℤ, ◌<ℤ◌, List, Option, Some, None, IsTrue, IfSome, IsSomeAnd, ◌⊎◌}
+use Rattle.std.specs.Prelude.{◌≡◌, ℕ, ℤ, ◌<ℤ◌, ◌≤ℤ◌, List, Option, Some, None, IsTrue, IfSome, IsSomeAnd, ◌⊎◌}
 use Rattle.qz_civil.specs.declared.dates.Civil.{Civil}
 use Rattle.qz_civil.specs.declared.stretches.Stretch.{Stretch}
 use Rattle.qz_civil.specs.Timings.{is_timestamp}
@@ -12,6 +12,11 @@ IsInstant zs c t = IsTrue (is_timestamp t) × (civil zs t ≡ c)
 -- t is a timestamp at which the local clock shows n
 abbrev pub IsShownAt : List Stretch → ℕ → ℤ → Type 0
 IsShownAt zs n t = IsTrue (is_timestamp t) × (local zs t ≡ n)
+
+-- t is the first timestamp of the set
+pub record IsEarliest (Member : ℤ → Type 0) (t : ℤ) : Type 0 where
+  pub member : Member t
+  pub earliest : (s : ℤ) → Member s → t ≤ℤ s
 
 -- the set has just these two members or fewer, ascending
 pub record AreMembers (Member : ℤ → Type 0) (first second : Option ℤ) : Type 0 where

@@ -12,6 +12,7 @@ mod stretches;
 #[cfg(test)]
 mod tests;
 mod texts;
+mod times;
 mod timings;
 mod zones;
 
@@ -22,5 +23,6 @@ pub use limits::{LAST, LAST_DAY, LAST_YEAR, LONGEST, OFFSET_LIMIT, STRETCH_LENGT
 pub use lists::List;
 pub use stretches::{BadZone, Stretch};
 pub use texts::Text;
+pub use times::Times;
 pub use timings::{Kind, Timing};
 pub use zones::Zone;

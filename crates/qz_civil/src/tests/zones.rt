@@ -4,217 +4,163 @@ use std::alloc::Global;
 use std::process::Abort;
 use std::test::Fail;
 
+// When a stretch begins, and its offset.
+type Begin = (i64, i32);
+
+// A year, month, day, weekday and second of the day, and the timestamps that show them.
+type Row = ((i32, u8, u8, u8, u32), Option<i64>, Option<i64>);
+
 // Central Europe in 2024.
-const BERLIN: [(i64, i32); 3] = [(0, 3600), (1711846800000, 7200), (1729990800000, 3600)];
+const BERLIN: &[Begin] = &[(0, 3600), (1711846800000, 7200), (1729990800000, 3600)];
+
+const BERLIN_ROWS: &[Row] = &[
+    ((2024, 3, 31, 1, 9000), None, None),
+    ((2024, 3, 31, 1, 10800), Some(1711846800000), None),
+    (
+        (2024, 10, 27, 1, 7200),
+        Some(1729987200000),
+        Some(1729990800000),
+    ),
+    (
+        (2024, 10, 27, 1, 9000),
+        Some(1729989000000),
+        Some(1729992600000),
+    ),
+    ((2024, 10, 27, 1, 10800), Some(1729994400000), None),
+    // It was a Sunday.
+    ((2024, 10, 27, 2, 10800), None, None),
+];
 
 // Nepal's quarter of an hour, and the same one given back.
-const QUARTER_SKIPPED: [(i64, i32); 2] = [(0, 19800), (504901800000, 20700)];
+const QUARTER_SKIPPED: &[Begin] = &[(0, 19800), (504901800000, 20700)];
 
-const QUARTER_TWICE: [(i64, i32); 2] = [(0, 20700), (504901800000, 19800)];
+const QUARTER_SKIPPED_ROWS: &[Row] = &[
+    ((1985, 12, 31, 3, 86399), Some(504901799000), None),
+    ((1986, 1, 1, 4, 420), None, None),
+    ((1986, 1, 1, 4, 900), Some(504901800000), None),
+];
+
+const QUARTER_TWICE: &[Begin] = &[(0, 20700), (504901800000, 19800)];
+
+const QUARTER_TWICE_ROWS: &[Row] = &[
+    ((1986, 1, 1, 4, 0), Some(504900900000), Some(504901800000)),
+    ((1986, 1, 1, 4, 900), Some(504902700000), None),
+];
 
 // Samoa's day, and the same one given back.
-const DAY_SKIPPED: [(i64, i32); 2] = [(0, -36000), (1325239200000, 50400)];
+const DAY_SKIPPED: &[Begin] = &[(0, -36000), (1325239200000, 50400)];
 
-const DAY_TWICE: [(i64, i32); 2] = [(0, 50400), (1325239200000, -36000)];
+const DAY_SKIPPED_ROWS: &[Row] = &[
+    ((2011, 12, 29, 5, 86399), Some(1325239199000), None),
+    ((2011, 12, 30, 6, 43200), None, None),
+    ((2011, 12, 31, 7, 0), Some(1325239200000), None),
+];
 
-// The farthest step there is, which comes back after 48 hours.
-const FARTHEST: [(i64, i32); 3] = [(0, -64800), (864000000, 64800), (1036800000, -64800)];
+const DAY_TWICE: &[Begin] = &[(0, 50400), (1325239200000, -36000)];
 
-fn zone_of(alloc: Global, stretches: &[(i64, i32)]) -> Result<Zone, Fail> {
+const DAY_TWICE_ROWS: &[Row] = &[
+    (
+        (2011, 12, 30, 6, 43200),
+        Some(1325196000000),
+        Some(1325282400000),
+    ),
+    ((2011, 12, 31, 7, 0), Some(1325325600000), None),
+];
+
+// The farthest step there is, and back after 48 hours.
+const FARTHEST: &[Begin] = &[(0, -64800), (864000000, 64800), (1036800000, -64800)];
+
+const FARTHEST_ROWS: &[Row] = &[
+    ((1970, 1, 10, 7, 21600), None, None),
+    ((1970, 1, 11, 1, 64800), Some(864000000), None),
+    ((1970, 1, 12, 2, 21600), Some(907200000), Some(1036800000)),
+];
+
+// Before its first stretch a zone has that one's offset.
+const LATE: &[Begin] = &[(1711846800000, 7200)];
+
+const LATE_ROWS: &[Row] = &[
+    ((1970, 1, 1, 5, 3600), None, None),
+    ((1970, 1, 1, 5, 7200), Some(0), None),
+    ((2024, 3, 31, 1, 10799), Some(1711846799000), None),
+];
+
+const WEST_ROWS: &[Row] = &[
+    ((1969, 12, 31, 4, 21599), None, None),
+    ((1969, 12, 31, 4, 21600), Some(0), None),
+    ((2099, 12, 31, 5, 21600), None, None),
+];
+
+const EAST_ROWS: &[Row] = &[
+    ((1970, 1, 1, 5, 64799), None, None),
+    ((2100, 1, 1, 6, 64799), Some(4102444799000), None),
+    ((2100, 1, 1, 6, 64800), None, None),
+];
+
+const UTC_ROWS: &[Row] = &[
+    ((2000, 2, 29, 3, 0), Some(951782400000), None),
+    ((2100, 2, 29, 2, 0), None, None),
+    ((2023, 2, 29, 4, 0), None, None),
+    ((2024, 1, 1, 2, 86400), None, None),
+    ((-2024, 1, 1, 2, 0), None, None),
+];
+
+fn list_of(alloc: Global, stretches: &[Begin]) -> Result<List<Stretch>, Fail> {
     let mut list = List::new(alloc);
     for &(from, offset) in stretches.iter() {
         list.push(Stretch { from, offset })?;
     }
-    Ok(Zone::table(list)?)
+    Ok(list)
 }
 
-fn at(year: i32, month: u8, day: u8, weekday: u8, second: u32) -> Civil {
-    Civil {
-        year,
-        month,
-        day,
-        weekday,
-        second,
-        milli: 0,
-    }
-}
-
-fn show(rt: &impl Abort, zone: &Zone, ms: i64, want: Civil) {
-    assert!(rt; 0 <= ms && ms <= LAST);
-    assert_eq!(rt; zone.civil(ms), want, "at {ms}");
-}
-
-#[test]
-fn timestamps_show_local_times(rt: HostRuntime) -> Result<(), Fail> {
-    let alloc = rt.alloc();
-    let utc = Zone::utc();
-    show(&rt, &utc, 0, at(1970, 1, 1, 5, 0));
-    show(&rt, &utc, 951782400000, at(2000, 2, 29, 3, 0));
-    show(&rt, &utc, 951868800000, at(2000, 3, 1, 4, 0));
-    show(
-        &rt,
-        &utc,
-        LAST,
-        Civil {
-            milli: 999,
-            ..at(2099, 12, 31, 5, 86399)
-        },
-    );
-    show(&rt, &Zone::fixed(-1080), 0, at(1969, 12, 31, 4, 21600));
-    show(
-        &rt,
-        &Zone::fixed(1080),
-        LAST,
-        Civil {
-            milli: 999,
-            ..at(2100, 1, 1, 6, 64799)
-        },
-    );
-    let berlin = zone_of(alloc, &BERLIN)?;
-    show(
-        &rt,
-        &berlin,
-        1711846799999,
-        Civil {
-            milli: 999,
-            ..at(2024, 3, 31, 1, 7199)
-        },
-    );
-    show(&rt, &berlin, 1711846800000, at(2024, 3, 31, 1, 10800));
-    show(&rt, &berlin, 1729990800000, at(2024, 10, 27, 1, 7200));
-    assert!(rt; berlin.stretch_at(1711846799999) == 0 && berlin.stretch_at(1729990800000) == 2);
-    Ok(())
-}
-
-fn find(rt: &impl Abort, zone: &Zone, rows: &[(Civil, Option<i64>, Option<i64>)]) {
-    for &(civil, first, second) in rows.iter() {
-        assert_eq!(rt; zone.instants_of(civil), (first, second), "{civil:?}");
+// Each local time has the row's timestamps, and each of these shows it.
+fn find(rt: &impl Abort, zone: &Zone, rows: &[Row]) {
+    for &((year, month, day, weekday, second), first, last) in rows.iter() {
+        let civil = Civil {
+            year,
+            month,
+            day,
+            weekday,
+            second,
+            milli: 0,
+        };
+        assert_eq!(rt; zone.instants_of(civil), (first, last), "{civil:?}");
+        if let Some(ms) = last.or(first) {
+            assert!(rt; 0 <= ms && ms <= LAST);
+            assert_eq!(rt; zone.civil(ms), civil);
+        }
     }
 }
 
 #[test]
 fn local_times_have_at_most_two_timestamps(rt: HostRuntime) -> Result<(), Fail> {
     let alloc = rt.alloc();
-    find(
-        &rt,
-        &zone_of(alloc, &BERLIN)?,
-        &[
-            (at(2024, 3, 31, 1, 9000), None, None),
-            (at(2024, 3, 31, 1, 10800), Some(1711846800000), None),
-            (
-                at(2024, 10, 27, 1, 7200),
-                Some(1729987200000),
-                Some(1729990800000),
-            ),
-            (
-                at(2024, 10, 27, 1, 9000),
-                Some(1729989000000),
-                Some(1729992600000),
-            ),
-            (at(2024, 10, 27, 1, 10800), Some(1729994400000), None),
-            // It was a Sunday.
-            (at(2024, 10, 27, 2, 10800), None, None),
-        ],
-    );
-    find(
-        &rt,
-        &zone_of(alloc, &QUARTER_SKIPPED)?,
-        &[
-            (at(1985, 12, 31, 3, 86399), Some(504901799000), None),
-            (at(1986, 1, 1, 4, 420), None, None),
-            (at(1986, 1, 1, 4, 900), Some(504901800000), None),
-        ],
-    );
-    find(
-        &rt,
-        &zone_of(alloc, &QUARTER_TWICE)?,
-        &[
-            (at(1986, 1, 1, 4, 0), Some(504900900000), Some(504901800000)),
-            (at(1986, 1, 1, 4, 900), Some(504902700000), None),
-        ],
-    );
-    find(
-        &rt,
-        &zone_of(alloc, &DAY_SKIPPED)?,
-        &[
-            (at(2011, 12, 29, 5, 86399), Some(1325239199000), None),
-            (at(2011, 12, 30, 6, 43200), None, None),
-            (at(2011, 12, 31, 7, 0), Some(1325239200000), None),
-        ],
-    );
-    find(
-        &rt,
-        &zone_of(alloc, &DAY_TWICE)?,
-        &[
-            (
-                at(2011, 12, 30, 6, 43200),
-                Some(1325196000000),
-                Some(1325282400000),
-            ),
-            (at(2011, 12, 31, 7, 0), Some(1325325600000), None),
-        ],
-    );
-    Ok(())
-}
-
-#[test]
-fn local_times_at_the_ends(rt: HostRuntime) -> Result<(), Fail> {
-    let alloc = rt.alloc();
-    find(
-        &rt,
-        &zone_of(alloc, &FARTHEST)?,
-        &[
-            (at(1970, 1, 10, 7, 21600), None, None),
-            (at(1970, 1, 11, 1, 64800), Some(864000000), None),
-            (at(1970, 1, 12, 2, 21600), Some(907200000), Some(1036800000)),
-        ],
-    );
-    // Before its first stretch a zone has that one's offset.
-    find(
-        &rt,
-        &zone_of(alloc, &[(1711846800000, 7200)])?,
-        &[
-            (at(1970, 1, 1, 5, 3600), None, None),
-            (at(1970, 1, 1, 5, 7200), Some(0), None),
-            (at(2024, 3, 31, 1, 10799), Some(1711846799000), None),
-        ],
-    );
-    find(
-        &rt,
-        &Zone::fixed(-1080),
-        &[
-            (at(1969, 12, 31, 4, 21599), None, None),
-            (at(1969, 12, 31, 4, 21600), Some(0), None),
-            (at(2099, 12, 31, 5, 21600), None, None),
-        ],
-    );
-    find(
-        &rt,
-        &Zone::fixed(1080),
-        &[
-            (at(1970, 1, 1, 5, 64799), None, None),
-            (at(2100, 1, 1, 6, 64799), Some(4102444799000), None),
-            (at(2100, 1, 1, 6, 64800), None, None),
-        ],
-    );
-    find(
-        &rt,
-        &Zone::utc(),
-        &[
-            (at(2000, 2, 29, 3, 0), Some(951782400000), None),
-            (at(2100, 2, 29, 2, 0), None, None),
-            (at(2023, 2, 29, 4, 0), None, None),
-            (at(2024, 1, 1, 2, 86400), None, None),
-            (at(-2024, 1, 1, 2, 0), None, None),
-        ],
-    );
+    let tables = [
+        (BERLIN, BERLIN_ROWS),
+        (QUARTER_SKIPPED, QUARTER_SKIPPED_ROWS),
+        (QUARTER_TWICE, QUARTER_TWICE_ROWS),
+        (DAY_SKIPPED, DAY_SKIPPED_ROWS),
+        (DAY_TWICE, DAY_TWICE_ROWS),
+        (FARTHEST, FARTHEST_ROWS),
+        (LATE, LATE_ROWS),
+    ];
+    for (stretches, rows) in tables.iter() {
+        find(&rt, &Zone::table(list_of(alloc, stretches)?)?, rows);
+    }
+    find(&rt, &Zone::fixed(-1080), WEST_ROWS);
+    find(&rt, &Zone::fixed(1080), EAST_ROWS);
+    find(&rt, &Zone::utc(), UTC_ROWS);
+    let last = Zone::utc().civil(LAST);
+    assert!(rt; last.year == 2099 && last.second == 86399 && last.milli == 999);
+    let later = Zone::fixed(1080).civil(LAST);
+    assert!(rt; later.year == 2100 && later.second == 64799 && later.milli == 999);
     Ok(())
 }
 
 #[test]
 fn bad_zones_are_refused_in_order(rt: HostRuntime) -> Result<(), Fail> {
     let alloc = rt.alloc();
-    let rows: [(&[(i64, i32)], BadZone); 8] = [
+    let rows: [(&[Begin], BadZone); 8] = [
         (&[], BadZone::Empty),
         (&[(-1, 64801)], BadZone::FromOutOfRange { place: 0 }),
         (
@@ -243,14 +189,8 @@ fn bad_zones_are_refused_in_order(rt: HostRuntime) -> Result<(), Fail> {
         ),
     ];
     for (stretches, want) in rows.iter() {
-        let mut list = List::new(alloc);
-        for &(from, offset) in stretches.iter() {
-            list.push(Stretch { from, offset })?;
-        }
-        match Zone::table(list) {
-            Ok(_) => assert!(rt; false, "{want:?}"),
-            Err(fault) => assert_eq!(rt; fault, *want),
-        }
+        let fault = Zone::table(list_of(alloc, stretches)?).err();
+        assert_eq!(rt; fault, Some(*want));
     }
     Ok(())
 }
@@ -273,15 +213,12 @@ fn a_zone_has_at_most_512_stretches(rt: HostRuntime) -> Result<(), Fail> {
         from: -1,
         offset: 64801,
     })?;
-    match Zone::table(longer) {
-        Ok(_) => assert!(rt; false),
-        Err(fault) => {
-            assert_eq!(rt; fault, BadZone::TooManyStretches { count: 513 });
-            assert_eq!(rt;
-                fault.to_string(alloc)?.as_str(),
-                "513 stretches are too many"
-            );
-        }
-    }
+    let fault = Zone::table(longer).err();
+    assert_eq!(rt; fault, Some(BadZone::TooManyStretches { count: 513 }));
+    let text = BadZone::NotAscending { place: 1 }.to_string(alloc)?;
+    assert_eq!(rt;
+        text.as_str(),
+        "stretch 1 doesn't begin at least 48 hours after the one before"
+    );
     Ok(())
 }
