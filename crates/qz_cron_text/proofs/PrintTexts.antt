@@ -5,7 +5,6 @@ use Rattle.std.specs.Fmt.{decimal as printed}
 use Rattle.std.specs.Int.{bit_at, IsInRange}
 use Rattle.std.proofs.lemmas.List.{append_assoc, append-nil}
 use Rattle.std.proofs.lemmas.Nat.Bits.{bit_at_ones, same_from_bits_below}
-use Rattle.qz_civil.specs.declared.fields.Field.{Field}
 use Rattle.qz_civil.specs.declared.fields.Field.TheVariants.{Seconds, Minutes, Hours, DayOfMonth, Month, DayOfWeek, Year}
 use Rattle.qz_civil.specs.declared.fields.DayField.{DayField}
 use Rattle.qz_civil.specs.declared.fields.DayField.TheVariants as day

@@ -1,5 +1,5 @@
 -- What one element of a field can be.
-use Rattle.std.specs.Prelude.{ℕ, ◌-◌, List, [], ◌∷◌, Option, Some, None, Result, Ok, Err, if◌then◌else◌, Bool, ◌&&◌, not, nat_lt, nat_eq, min, length, true, false, ◌==◌, ◌^◌, take, slice_index}
+use Rattle.std.specs.Prelude.{ℕ, ◌-◌, List, [], ◌∷◌, Option, Some, None, Result, Ok, Err, if◌then◌else◌, Bool, ◌&&◌, not, nat_lt, nat_eq, length, true, false, ◌==◌, take, slice_index}
 use Rattle.std.specs.Option.{option_map, option_and_then}
 use Rattle.std.specs.Char.{to_ascii_uppercase}
 use Rattle.qz_civil.specs.declared.fields.Field.{Field}
