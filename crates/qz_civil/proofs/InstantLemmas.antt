@@ -1,5 +1,5 @@
 -- The timestamps at which a zone's local clock shows a number of milliseconds.
-use Rattle.std.proofs.Common.{◌≡◌, ◌≢◌, ℕ, ◌+◌, ◌-◌, ◌*◌, ◌<◌, ◌≤◌, ◌⊎◌, inl, inr, Bool, true, false, ◌&&◌, ◌==◌, refl, sym, ap, ◌∙◌, arith, ℤ, pos, ◌+ℤ◌, ◌-ℤ◌, ◌*ℤ◌, ◌<ℤ◌, ◌≤ℤ◌, List, Option, Some, None, slice_get, IsTrue, IfSome, IsSomeAnd}
+use Rattle.std.proofs.Common.{◌≡◌, ◌≢◌, ℕ, ◌+◌, ◌-◌, ◌*◌, ◌<◌, ◌⊎◌, inl, inr, Bool, true, false, ◌&&◌, ◌==◌, sym, ap, ◌∙◌, arith, ℤ, pos, ◌+ℤ◌, ◌-ℤ◌, ◌*ℤ◌, ◌<ℤ◌, ◌≤ℤ◌, List, Option, Some, None, slice_get, IsTrue, IfSome, IsSomeAnd}
 use Rattle.std.proofs.lemmas.Bool.{cases_order}
 use Rattle.std.proofs.lemmas.Int.{ints, by_lt_z}
 use Rattle.jiff_core.proofs.SignedLemmas.{signed_arith}
@@ -9,7 +9,7 @@ use Rattle.qz_civil.specs.declared.stretches.Stretch.{Stretch}
 use Rattle.qz_civil.specs.Dates.{civil_of}
 use Rattle.qz_civil.specs.Instants.{IsInstant, IsShownAt, IsShownIn, IsOnly, AreMembers}
 use Rattle.qz_civil.specs.Timings.{is_timestamp}
-use Rattle.qz_civil.specs.Zones.{bad_zone, begun, stretch_at, offset_of, offset_at, local}
+use Rattle.qz_civil.specs.Zones.{bad_zone, stretch_at, offset_of, offset_at, local}
 use Rattle.qz_civil.proofs.DateLemmas.{civil_of-injective}
 use Rattle.qz_civil.proofs.ZoneLemmas.{offset_of-bound, begun-up, begun-few}
 

@@ -1,16 +1,16 @@
 -- How the earliest timestamps follow each other.
-use Rattle.std.proofs.Common.{◌≡◌, ℕ, ◌+◌, ◌-◌, ◌*◌, ◌<◌, ◌≤◌, ◌⊎◌, inl, inr, sym, ap, subst, ◌∙◌, arith, ℤ, pos, neg_ℤ, ◌+ℤ◌, ◌-ℤ◌, ◌*ℤ◌, ◌<ℤ◌, ◌≤ℤ◌, List, Option, Some, None, slice_get, IsTrue}
+use Rattle.std.proofs.Common.{◌≡◌, ℕ, ◌<◌, inl, inr, sym, ap, subst, ◌∙◌, arith, ℤ, pos, neg_ℤ, ◌+ℤ◌, ◌-ℤ◌, ◌*ℤ◌, ◌<ℤ◌, ◌≤ℤ◌, List, Option, Some, None, slice_get, IsTrue}
 use Rattle.std.proofs.lemmas.Bool.{cases_order}
 use Rattle.std.proofs.lemmas.Int.{ints, by_lt_z}
 use Rattle.std.proofs.lemmas.Option.{slice_get-get_or}
 use Rattle.jiff_core.proofs.SignedLemmas.{signed_arith}
-use Rattle.qz_civil.specs.declared.limits.TheConstants.{LAST, STRETCH_LENGTH}
+use Rattle.qz_civil.specs.declared.limits.TheConstants.{STRETCH_LENGTH}
 use Rattle.qz_civil.specs.declared.stretches.Stretch.{Stretch}
 use Rattle.qz_civil.specs.Instants.{IsShownAt, IsEarliest, AreMembers}
 use Rattle.qz_civil.specs.Timings.{is_timestamp}
-use Rattle.qz_civil.specs.Zones.{bad_zone, begun, stretch_at, offset_of, offset_at, local}
-use Rattle.qz_civil.proofs.InstantLemmas.{timestamp_low, timestamp_high, to_timestamp, local-clock, clock_on}
-use Rattle.qz_civil.proofs.ZoneLemmas.{IsStretch, stretch_in, begins_apart, begun-up, has-begun, begun-past, stretch_at-last, offset_of-bound, zone-table}
+use Rattle.qz_civil.specs.Zones.{bad_zone, stretch_at, offset_of, offset_at, local}
+use Rattle.qz_civil.proofs.InstantLemmas.{timestamp_low, timestamp_high, to_timestamp, local-clock}
+use Rattle.qz_civil.proofs.ZoneLemmas.{stretch_in, begins_apart, begun-up, has-begun, begun-past, stretch_at-last, offset_of-bound, zone-table}
 
 -- The first of the timestamps of a local time is its earliest.
 pub members-earliest : (Member : ℤ → Type 0) (first : ℤ) (second : Option ℤ) → AreMembers Member (Some first) second → IsEarliest Member first

@@ -1,5 +1,5 @@
 -- Local time: a zone is a list of stretches, each with its first timestamp and its offset in seconds.
-use Rattle.std.specs.Prelude.{◌≡◌, ℕ, ◌+◌, ◌-◌, ◌≤◌, ◌<◌, Bool, true, not, nat_lt, int_le, if◌then◌else◌, ℤ, pos, neg_ℤ, ◌+ℤ◌, ◌*ℤ◌, ◌≤ℤ◌, ◌<ℤ◌, unsigned_abs, List, [], ◌∷◌, length, Option, Some, None, slice_get}
+use Rattle.std.specs.Prelude.{◌≡◌, ℕ, ◌+◌, ◌-◌, ◌<◌, Bool, true, not, nat_lt, int_le, if◌then◌else◌, ℤ, pos, neg_ℤ, ◌+ℤ◌, ◌*ℤ◌, ◌≤ℤ◌, ◌<ℤ◌, unsigned_abs, List, [], ◌∷◌, length, Option, Some, None, slice_get}
 use Rattle.std.specs.List.{prefix_len}
 use Rattle.qz_civil.specs.declared.dates.Civil.{Civil}
 use Rattle.qz_civil.specs.declared.limits.TheConstants.{OFFSET_LIMIT, STRETCH_LENGTH, STRETCH_LIMIT}

@@ -70,8 +70,7 @@ fn numbered_date(day: u32) -> civil::Date
     ensures day { epoch_day result +ℤ pos 1 ≡ pos day }
     ensures year { IsBetween (pos 0) (pos 9999) result.year }
 {
-    let date = epoch_date(day);
-    date
+    epoch_date(day)
 }
 
 fn epoch_date(day: u32) -> civil::Date

@@ -1,5 +1,5 @@
 -- The library's date has the parts of the day's date.
-use Rattle.std.proofs.Common.{◌≡◌, arith, ℤ, pos}
+use Rattle.std.proofs.Common.{arith}
 use Rattle.jiff_core.proofs.SignedLemmas.{signed_arith}
 use Rattle.qz_civil.specs.Dates.{date_of}
 use Rattle.qz_civil.proofs.DateLemmas.{same_date, same_parts}

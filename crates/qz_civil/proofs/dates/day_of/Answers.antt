@@ -1,5 +1,5 @@
 -- A date has its library's number, and an unknown or earlier one is no day's.
-use Rattle.std.proofs.Common.{◌≡◌, ◌≤◌, subst, arith, rules}
+use Rattle.std.proofs.Common.{◌≤◌, subst, arith, rules}
 use Rattle.jiff_core.proofs.SignedLemmas.{signed_arith}
 use Rattle.qz_civil.specs.Dates.{IsDate}
 use Rattle.qz_civil.proofs.DateLemmas.{date_of-valid, date_of-number, date_of-earlier, year-bound}

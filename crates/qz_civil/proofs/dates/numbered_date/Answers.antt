@@ -1,7 +1,7 @@
--- A day of the table is in a year of the library.
+-- The years of the days are years of the library.
 use Rattle.std.proofs.Common.{arith}
 use Rattle.qz_civil.proofs.DateLemmas.{year_range}
 use Rattle.qz_civil.proofs.dates.numbered_date.Goals as goal
 
 pub returns-clause-year : goal.returns-clause-year
-returns-clause-year c = year_range c.args.day c.epoch_date-date.result (omega arith) c.epoch_date-date.ensures
+returns-clause-year c = year_range c.args.day c.epoch_date.result (omega arith) c.epoch_date.ensures

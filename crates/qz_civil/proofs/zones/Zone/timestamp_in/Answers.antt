@@ -1,5 +1,5 @@
 -- In a stretch the timestamp is the local clock less the offset, where that lies in the stretch.
-use Rattle.std.proofs.Common.{◌≡◌, ◌∙◌, sym, None, arith, pos, ◌-ℤ◌, ◌*ℤ◌, slice_get, to_z, of_z, w32, w64}
+use Rattle.std.proofs.Common.{◌≡◌, ◌∙◌, sym, None, arith, slice_get, to_z, of_z, w32, w64}
 use Rattle.std.proofs.lemmas.Int.{ints}
 use Rattle.qz_civil.specs.Zones.{bad_zone, offset_of}
 use Rattle.qz_civil.proofs.InstantLemmas.{shown-in, not-shown-in}
