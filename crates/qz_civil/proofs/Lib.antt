@@ -1,0 +1,4 @@
+pub mod DateLemmas
+pub mod InstantLemmas
+pub mod ZoneLaws
+pub mod ZoneLemmas

@@ -1,4 +1,7 @@
-//! Lists and texts on their happy path.
+//! Lists and texts on their happy path; the tables of zones and fields.
+mod fields;
+mod zones;
+
 use crate::{List, NoMemory, Text};
 use std::cmp::Ordering;
 use std::test::Fail;

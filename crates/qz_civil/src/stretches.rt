@@ -1,0 +1,119 @@
+//! The stretches of a zone's table.
+ghost use Rattle.std.specs.Prelude.{◌≡◌, pos, ◌≤ℤ◌, Some, None, option_map, slice_get};
+ghost use Rattle.qz_civil.specs.Timings.{is_timestamp};
+ghost use Rattle.qz_civil.specs.Zones as spec;
+
+use crate::limits::{LAST, OFFSET_LIMIT, STRETCH_LENGTH, STRETCH_LIMIT};
+use thiserror::Error;
+
+/// A time in which a zone keeps one offset. It ends where the next one begins.
+#[derive(Clone, Copy, PartialEq, Eq, Debug)]
+pub struct Stretch {
+    /// In ms since 1970-01-01T00:00:00Z.
+    pub from: i64,
+    /// Local time less UTC, in seconds.
+    pub offset: i32,
+}
+
+/// Why a list of stretches is no zone. Places count from 0.
+#[derive(Clone, Copy, PartialEq, Eq, Debug, Error)]
+pub enum BadZone {
+    #[error("a zone has at least one stretch")]
+    Empty,
+    #[error("stretch {place} doesn't begin at least 48 hours after the one before")]
+    NotAscending { place: u64 },
+    #[error("the offset of stretch {place} is more than 18 hours")]
+    OffsetOutOfRange { place: u64 },
+    #[error("stretch {place} begins at no known timestamp")]
+    FromOutOfRange { place: u64 },
+    #[error("{count} stretches are too many")]
+    TooManyStretches { count: u64 },
+}
+
+// Why the stretches are no table of a zone.
+#[tactic(auto, unfolding(crate::specs::Zones::bad_zone))]
+pub fn fault_of(stretches: &[Stretch]) -> Option<BadZone>
+    ensures { result ≡ spec.bad_zone stretches.now }
+{
+    if stretches.is_empty() {
+        return Some(BadZone::Empty);
+    }
+    let count = stretches.len() as u64;
+    if count > STRETCH_LIMIT {
+        return Some(BadZone::TooManyStretches { count });
+    }
+    fault_of_places(stretches)
+}
+
+fn fault_of_places(stretches: &[Stretch]) -> Option<BadZone>
+    ensures { result ≡ spec.bad_place 0 None stretches.now }
+{
+    let mut before = None;
+    for (place, stretch) in stretches.iter().enumerate() {
+        let place = place as u64;
+        if !begins_at_timestamp(stretch) {
+            return Some(BadZone::FromOutOfRange { place });
+        }
+        if !has_offset_in_range(stretch) {
+            return Some(BadZone::OffsetOutOfRange { place });
+        }
+        if !is_apart(before, stretch.from) {
+            return Some(BadZone::NotAscending { place });
+        }
+        before = Some(stretch.from);
+    }
+    None
+}
+
+fn begins_at_timestamp(stretch: &Stretch) -> bool
+    ensures { result ≡ is_timestamp stretch.now.from }
+{
+    0 <= stretch.from && stretch.from <= LAST
+}
+
+fn has_offset_in_range(stretch: &Stretch) -> bool
+    ensures { result ≡ spec.is_offset stretch.now.offset }
+{
+    -OFFSET_LIMIT <= stretch.offset && stretch.offset <= OFFSET_LIMIT
+}
+
+fn is_apart(before: Option<i64>, from: i64) -> bool
+    requires { pos 0 ≤ℤ from }
+    ensures { result ≡ spec.is_apart before from }
+{
+    match before {
+        None => true,
+        Some(before) => before <= from - STRETCH_LENGTH,
+    }
+}
+
+// How many stretches have begun.
+#[tactic(auto, unfolding(crate::specs::Zones::begun))]
+pub fn count_begun(stretches: &[Stretch], ms: i64) -> usize
+    ensures { result ≡ spec.begun stretches.now ms }
+{
+    stretches
+        .iter()
+        .take_while(|stretch| stretch.from <= ms)
+        .count()
+}
+
+// The offset of the stretch at the place.
+pub fn offset_of(stretches: &[Stretch], place: usize) -> i32
+    ensures { result ≡ spec.offset_of (slice_get stretches.now place) }
+{
+    match stretches.get(place) {
+        Some(stretch) => stretch.offset,
+        None => 0,
+    }
+}
+
+// When the stretch at the place begins.
+pub fn start_of(stretches: &[Stretch], place: usize) -> Option<i64>
+    ensures { result ≡ option_map (λ s. s.from) (slice_get stretches.now place) }
+{
+    match stretches.get(place) {
+        Some(stretch) => Some(stretch.from),
+        None => None,
+    }
+}

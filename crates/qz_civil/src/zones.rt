@@ -1,0 +1,231 @@
+//! Zones, and the local time that they give.
+ghost use Rattle.std.specs.Prelude.{◌≡◌, ◌&&◌, ◌==◌, ℤ, ◌+◌, ◌*◌, ◌<◌, pos, negsuc, neg_ℤ, ◌≤ℤ◌, ◌<ℤ◌, ◌+ℤ◌, ◌-ℤ◌, ◌*ℤ◌, unsigned_abs, IfOk, IfErr, IfSome, None, Some, slice_get, option_map};
+ghost use Rattle.qz_civil.specs.Instants.{AreMembers, IsInstant, IsOnly, IsShownAt, IsShownIn};
+ghost use Rattle.qz_civil.specs.Timings.{is_timestamp};
+ghost use Rattle.qz_civil.specs.Zones as spec;
+
+use crate::dates::{Civil, civil_of, local_of};
+use crate::limits::{LAST, LAST_DAY, OFFSET_LIMIT, STRETCH_LIMIT};
+use crate::lists::List;
+use crate::stretches::{BadZone, Stretch, count_begun, fault_of, offset_of, start_of};
+use std::marker::Model;
+
+/// A fixed offset from UTC, or a table of stretches. Contracts see it as the list of its stretches.
+#[derive(Drop)]
+pub struct Zone {
+    offset: i32,
+    table: Option<List<Stretch>>,
+}
+
+impl Model for Zone {
+    ghost use Rattle.std.specs.Prelude.{◌≡◌, None, List as Stretches};
+    ghost use Rattle.qz_civil.specs.declared.stretches.Stretch.{Stretch};
+    ghost use Rattle.qz_civil.specs.Zones.{bad_zone, stretches_of};
+
+    ghost Value = { Stretches Stretch };
+
+    ghost view = { λ a. stretches_of a.offset a.table };
+
+    ghost invariant = { λ a. bad_zone (stretches_of a.offset a.table) ≡ None };
+}
+
+impl Zone {
+    /// The zone of Coordinated Universal Time. No memory.
+    pub fn utc() -> Zone
+        ensures { result ≡ spec.fixed_offset (pos 0) }
+    {
+        Zone::fixed(0)
+    }
+
+    /// The zone whose local time is always that many minutes after UTC. No memory.
+    #[tactic(auto, unfolding(crate::specs::Zones::bad_zone))]
+    pub fn fixed(minutes: i32) -> Zone
+        requires low { negsuc 1079 ≤ℤ minutes }
+        requires high { minutes ≤ℤ pos 1080 }
+        ensures { result ≡ spec.fixed_offset (minutes *ℤ pos 60) }
+    {
+        Zone {
+            offset: minutes * 60,
+            table: None,
+        }
+    }
+
+    /// The zone of a table of stretches. It has 1 to 512 of them, each begins at a timestamp from 0 to `LAST` and at least
+    /// 48 hours after the one before, and no offset is more than 18 hours. No memory.
+    pub fn table(stretches: List<Stretch>) -> Result<Zone, BadZone>
+        ensures ok { IfOk result (λ zone. (zone ≡ stretches) × (spec.bad_zone stretches ≡ None)) }
+        ensures err { IfErr result (λ fault. spec.bad_zone stretches ≡ Some fault) }
+    {
+        match fault_of(stretches.as_slice()) {
+            None => Ok(Zone {
+                offset: 0,
+                table: Some(stretches),
+            }),
+            Some(fault) => Err(fault),
+        }
+    }
+
+    /// How many stretches have begun at the timestamp. No memory.
+    #[tactic(auto, unfolding(crate::specs::Zones::begun))]
+    pub fn begun(&self, ms: i64) -> usize
+        ensures { result ≡ spec.begun self.now ms }
+    {
+        match &self.table {
+            Some(stretches) => count_begun(stretches.as_slice(), ms),
+            None => if 0 <= ms { 1 } else { 0 },
+        }
+    }
+
+    /// The place of the stretch that holds at the timestamp, from 0. Before all stretches the first one holds. No memory.
+    #[tactic(auto, using(crate::proofs::ZoneLemmas::zone_facts))]
+    pub fn stretch_at(&self, ms: i64) -> u32
+        ensures value { result ≡ spec.stretch_at self.now ms }
+        ensures last { spec.IsLastBegun self.now ms result }
+        ensures bound { result < STRETCH_LIMIT }
+    {
+        let _known = self.offset;
+        self.begun(ms).saturating_sub(1) as u32
+    }
+
+    /// Local time less UTC at the timestamp, in seconds. No memory.
+    pub fn offset_at(&self, ms: i64) -> i32
+        ensures value { result ≡ spec.offset_at self.now ms }
+        ensures low { neg_ℤ OFFSET_LIMIT ≤ℤ result }
+        ensures high { result ≤ℤ OFFSET_LIMIT }
+    {
+        self.offset_in(self.stretch_at(ms) as usize)
+    }
+
+    /// When the next stretch after the timestamp begins. No memory.
+    pub fn next_start(&self, ms: i64) -> Option<i64>
+        ensures value { result ≡ option_map (λ s. s.from) (slice_get self.now (spec.begun self.now ms)) }
+        ensures later { IfSome result (λ start. ms <ℤ start) }
+        ensures high { IfSome result (λ start. start ≤ℤ LAST) }
+        // Until then the offset stays.
+        ensures stays { (t : ℤ) → ms ≤ℤ t → IfSome result (λ start. t <ℤ start) → spec.offset_at self.now t ≡ spec.offset_at self.now ms }
+    {
+        let _known = self.offset;
+        let place = self.begun(ms);
+        self.start_of(place)
+    }
+
+    /// The local clock at the timestamp, in ms since 1969-12-31T00:00:00. No memory.
+    pub fn local(&self, ms: i64) -> u64
+        requires low { pos 0 ≤ℤ ms }
+        requires high { ms ≤ℤ LAST }
+        ensures value { result ≡ spec.local self.now ms }
+        ensures bound { result < LAST_DAY * 86400000 }
+    {
+        shifted(ms, self.offset_at(ms))
+    }
+
+    /// The local time at the timestamp, in ms since 1970-01-01T00:00:00Z. No memory.
+    pub fn civil(&self, ms: i64) -> Civil
+        requires low { pos 0 ≤ℤ ms }
+        requires high { ms ≤ℤ LAST }
+        ensures { result ≡ spec.civil self.now ms }
+    {
+        civil_of(self.local(ms))
+    }
+
+    /// The at most two timestamps with that local time, ascending: none in a gap, and two in a fold. A time that isn't
+    /// one of the calendar, its weekday included, has none. No memory.
+    pub fn instants_of(&self, civil: Civil) -> (Option<i64>, Option<i64>)
+        ensures { AreMembers (IsInstant self.now civil) result.0 result.1 }
+    {
+        let _known = self.offset;
+        match local_of(civil) {
+            Some(local) => self.timestamps_at(local),
+            None => (None, None),
+        }
+    }
+
+    /// The at most two timestamps at which the local clock, in ms since 1969-12-31T00:00:00, shows that, ascending.
+    /// No memory.
+    pub fn timestamps_at(&self, local: u64) -> (Option<i64>, Option<i64>)
+        requires { local < 86400000 * (LAST_DAY + 1) }
+        ensures { AreMembers (IsShownAt self.now local) result.0 result.1 }
+    {
+        let _known = self.offset;
+        // The earliest timestamp is a day and 18 hours before, and two stretches don't begin within twice 18 hours.
+        let place = self.stretch_at(local.saturating_sub(151_200_000) as i64);
+        let first = self.timestamp_in(place, local);
+        let second = self.timestamp_in(place + 1, local);
+        match first {
+            Some(_) => (first, second),
+            None => (second, None),
+        }
+    }
+
+    // The timestamp in the stretch at that place, at which the local clock shows that.
+    fn timestamp_in(&self, place: u32, local: u64) -> Option<i64>
+        requires { local < 86400000 * (LAST_DAY + 1) }
+        ensures { IsOnly (IsShownIn self.now local place) result }
+    {
+        let _known = self.offset;
+        let ms = unshifted(local, self.offset_in(place as usize));
+        if self.is_in_stretch(place, ms) {
+            Some(ms)
+        } else {
+            None
+        }
+    }
+
+    fn is_in_stretch(&self, place: u32, ms: i64) -> bool
+        ensures { result ≡ (is_timestamp ms && (spec.stretch_at self.now ms == place)) }
+    {
+        0 <= ms && ms <= LAST && self.stretch_at(ms) == place
+    }
+
+    // The offset of the stretch at the place, and 0 where there is none.
+    fn offset_in(&self, place: usize) -> i32
+        ensures value { result ≡ spec.offset_of (slice_get self.now place) }
+        ensures low { neg_ℤ OFFSET_LIMIT ≤ℤ result }
+        ensures high { result ≤ℤ OFFSET_LIMIT }
+    {
+        let _known = self.offset;
+        self.offset_of(place)
+    }
+
+    fn offset_of(&self, place: usize) -> i32
+        ensures { result ≡ spec.offset_of (slice_get self.now place) }
+    {
+        match &self.table {
+            Some(stretches) => offset_of(stretches.as_slice(), place),
+            None => if place == 0 { self.offset } else { 0 },
+        }
+    }
+
+    fn start_of(&self, place: usize) -> Option<i64>
+        ensures { result ≡ option_map (λ s. s.from) (slice_get self.now place) }
+    {
+        match &self.table {
+            Some(stretches) => start_of(stretches.as_slice(), place),
+            None => if place == 0 { Some(0) } else { None },
+        }
+    }
+}
+
+// The local clock at an offset.
+#[tactic(auto, using(jiff_core::proofs::SignedLemmas::signed_arith))]
+fn shifted(ms: i64, offset: i32) -> u64
+    requires low { pos 0 ≤ℤ ms }
+    requires high { ms ≤ℤ LAST }
+    requires offset_low { neg_ℤ OFFSET_LIMIT ≤ℤ offset }
+    requires offset_high { offset ≤ℤ OFFSET_LIMIT }
+    ensures value { result ≡ unsigned_abs (ms +ℤ pos 86400000 +ℤ offset *ℤ pos 1000) }
+    ensures bound { result < LAST_DAY * 86400000 }
+{
+    (ms + 86_400_000 + offset as i64 * 1000) as u64
+}
+
+// The timestamp at which the local clock at an offset shows that.
+#[tactic(auto, using(jiff_core::proofs::SignedLemmas::signed_arith))]
+fn unshifted(local: u64, offset: i32) -> i64
+    requires local { local < 86400000 * (LAST_DAY + 1) }
+    requires offset_low { neg_ℤ OFFSET_LIMIT ≤ℤ offset }
+    requires offset_high { offset ≤ℤ OFFSET_LIMIT }
+    ensures { result ≡ pos local -ℤ pos 86400000 -ℤ offset *ℤ pos 1000 }
+{
+    local as i64 - 86_400_000 - offset as i64 * 1000
+}

@@ -1,0 +1,13 @@
+use Rattle.std.proofs.Common.{◌∙◌}
+use Rattle.qz_cron_text.proofs.GrammarLaws.{reading_read, when_read}
+use Rattle.qz_cron_text.proofs.ValidLaws.{valid_when_read}
+use Rattle.qz_cron_text.proofs.parsing.parse.Goals as goal
+
+pub returns-clause-found : goal.returns-clause-found
+returns-clause-found c = when_read c.args.text.now c.read.result c.read.ensures
+
+pub returns-clause-only : goal.returns-clause-only
+returns-clause-only c fields is = c.read.ensures ∙ reading_read c.args.text.now fields is
+
+pub returns-clause-valid : goal.returns-clause-valid
+returns-clause-valid c = valid_when_read c.args.text.now c.read.result c.read.ensures

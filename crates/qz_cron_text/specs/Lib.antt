@@ -1,0 +1,12 @@
+pub mod Cuts
+pub mod Elements
+pub mod Errors
+pub mod Forms
+pub mod Grammar
+pub mod Printing
+pub mod Reading
+pub mod Runs
+pub mod Seen
+pub mod Sets
+pub mod Texts
+pub mod Values

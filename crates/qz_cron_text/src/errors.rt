@@ -1,0 +1,57 @@
+//! What is wrong with a cron text.
+ghost use Rattle.std.specs.Prelude.{◌≡◌};
+ghost use Rattle.qz_cron_text.specs.Errors.{error_number, told};
+
+use thiserror::Error;
+
+/// The first fault of a text, in the order in which texts are read. Fields are numbered from 1 for the seconds to 7
+/// for the years.
+#[derive(Clone, Copy, PartialEq, Eq, Debug, Error)]
+pub enum CronError {
+    /// The text has neither six fields nor seven.
+    #[error("there are {found} fields, and not six or seven")]
+    FieldCount { found: u32 },
+    /// An element is of no form that its field has. Its first byte stands at this offset of the text, from 0; an empty
+    /// element has the offset at which its first byte would stand.
+    #[error("field {field} has something else than a value at {at}")]
+    BadToken { field: u8, at: u32 },
+    /// A value isn't one of the field's, or a range of years begins with a later year than it ends.
+    #[error("{value} is out of the range of field {field}")]
+    OutOfRange { field: u8, value: u16 },
+    /// Neither the day of the month nor the day of the week is `?`.
+    #[error("both the day of the month and the day of the week are given")]
+    BothDays,
+    /// Both the day of the month and the day of the week are `?`.
+    #[error("neither the day of the month nor the day of the week is given")]
+    NoDays,
+    /// A step isn't 1 to 59.
+    #[error("field {field} has a step that is not 1 to 59")]
+    BadStep { field: u8 },
+    /// A form that names no set of values stands in a list.
+    #[error("field {field} has a list with a form that must stand alone")]
+    NotAlone { field: u8 },
+}
+
+impl CronError {
+    /// Its number, from 1, by which programs tell it.
+    pub fn number(self) -> u8
+        ensures { result ≡ error_number self }
+    {
+        match self {
+            CronError::FieldCount { found: _ } => 1,
+            CronError::BadToken { field: _, at: _ } => 2,
+            CronError::OutOfRange { field: _, value: _ } => 3,
+            CronError::BothDays => 4,
+            CronError::NoDays => 5,
+            CronError::BadStep { field: _ } => 6,
+            CronError::NotAlone { field: _ } => 7,
+        }
+    }
+}
+
+/// A place or a count in the type that faults have for it. Only a text of 4 GiB and more has greater ones.
+pub fn told(n: usize) -> u32
+    ensures { result ≡ told n }
+{
+    n.min(0xffff_ffff) as u32
+}

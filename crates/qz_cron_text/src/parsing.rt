@@ -1,0 +1,143 @@
+//! Reads a cron text.
+ghost use Rattle.std.specs.Prelude.{◌≡◌, ◌<◌, ◌≤◌, ◌^◌, IfOk, IfSome, IsTrue};
+ghost use Rattle.std.specs.Option.{option_map};
+ghost use Rattle.qz_civil.specs.Fields.{size, is_cron_fields};
+ghost use Rattle.qz_cron_text.specs.Grammar.{IsText};
+ghost use Rattle.qz_cron_text.specs.Reading.{word_at, day_of, week_of, years_of, days_checked, fields_of, reading};
+ghost use Rattle.qz_cron_text.specs.Seen.{placed_piece, whole_pieces, IsWithin, AreWithin};
+
+use crate::elements::field_of;
+use crate::errors::CronError;
+use crate::forms::{DayForm, WeekForm};
+use crate::texts::{Piece, Pieces, pieces_of};
+use qz_civil::{CronFields, DayField, Field, WeekField};
+
+/// The set of 1970 to 2099, 64 years a word.
+const ALL_YEARS: [u64; 4] = [u64::MAX, u64::MAX, 3, 0];
+
+/// The set of the weekday 7.
+const SATURDAY: u8 = 64;
+
+/// The values from number `from` on of a field.
+fn word_at(field: Field, from: u16, piece: Piece<'_>) -> Result<u64, CronError>
+    requires from { from ≤ 1000 }
+    requires within { IsWithin (2 ^ 63) piece }
+    ensures value { result ≡ word_at field from (placed_piece piece.entry) }
+    ensures small { from ≡ 0 → IfOk result (λ word. word < 2 ^ size field) }
+{
+    let found = field_of(field, from, piece.at, piece.text)?;
+    Ok(found.word)
+}
+
+/// The days of the month.
+#[tactic(auto, unfolding(crate::specs::Reading::day_of, qz_civil::specs::Fields::size, qz_civil::specs::Fields::is_value, qz_civil::specs::Fields::greatest, qz_civil::specs::Fields::least, crate::specs::Forms::day_fault))]
+fn day_of(piece: Piece<'_>) -> Result<DayField, CronError>
+    requires within { IsWithin (2 ^ 63) piece }
+    ensures value { result ≡ day_of (placed_piece piece.entry) }
+{
+    let found = field_of(Field::DayOfMonth, 0, piece.at, piece.text)?;
+    Ok(match found.day {
+        None => DayField::Set(found.word as u32),
+        Some(DayForm::Unnamed) => DayField::Any,
+        Some(DayForm::Last(back)) => DayField::Last { back: back as u8 },
+        Some(DayForm::LastWeekday) => DayField::LastWeekday,
+        Some(DayForm::Nearest(day)) => DayField::Nearest { day: day as u8 },
+    })
+}
+
+/// The days of the week.
+#[tactic(auto, unfolding(crate::specs::Reading::week_of, qz_civil::specs::Fields::size, qz_civil::specs::Fields::is_value, qz_civil::specs::Fields::greatest, qz_civil::specs::Fields::least, crate::specs::Forms::week_fault))]
+fn week_of(piece: Piece<'_>) -> Result<WeekField, CronError>
+    requires within { IsWithin (2 ^ 63) piece }
+    ensures value { result ≡ week_of (placed_piece piece.entry) }
+{
+    let found = field_of(Field::DayOfWeek, 0, piece.at, piece.text)?;
+    Ok(match found.week {
+        None => WeekField::Set(found.word as u8),
+        Some(WeekForm::Unnamed) => WeekField::Any,
+        Some(WeekForm::Saturday) => WeekField::Set(SATURDAY),
+        Some(WeekForm::LastOf(day)) => WeekField::Last { day: day as u8 },
+        Some(WeekForm::Nth(day, nth)) => WeekField::Nth {
+            day: day as u8,
+            nth: nth as u8,
+        },
+    })
+}
+
+/// The years, all where the field is absent.
+#[tactic(auto, unfolding(crate::specs::Reading::years_of))]
+fn years_of(piece: Option<Piece<'_>>) -> Result<[u64; 4], CronError>
+    requires within { IfSome piece (λ p. IsWithin (2 ^ 63) p) }
+    ensures value { result ≡ years_of (option_map placed_piece piece.entry) }
+{
+    let Some(piece) = piece else {
+        return Ok(ALL_YEARS);
+    };
+    let first = word_at(Field::Year, 0, piece)?;
+    let second = word_at(Field::Year, 64, piece)?;
+    let third = word_at(Field::Year, 128, piece)?;
+    Ok([first, second, third, 0])
+}
+
+/// Exactly one of the two day fields names no value.
+#[tactic(auto, unfolding(crate::specs::Reading::days_checked))]
+fn days_checked(fields: CronFields) -> Result<CronFields, CronError>
+    ensures { result ≡ days_checked fields }
+{
+    let any_day = matches!(fields.day, DayField::Any);
+    let any_week = matches!(fields.week, WeekField::Any);
+    if !any_day && !any_week {
+        Err(CronError::BothDays)
+    } else if any_day && any_week {
+        Err(CronError::NoDays)
+    } else {
+        Ok(fields)
+    }
+}
+
+/// The fields from the left.
+#[tactic(auto, unfolding(crate::specs::Reading::fields_of, qz_civil::specs::Fields::size))]
+fn fields_of(pieces: Pieces<'_>) -> Result<CronFields, CronError>
+    requires within { AreWithin (2 ^ 63) pieces }
+    ensures { result ≡ fields_of (whole_pieces pieces.entry) }
+{
+    let seconds = word_at(Field::Seconds, 0, pieces.seconds)?;
+    let minutes = word_at(Field::Minutes, 0, pieces.minutes)?;
+    let hours = word_at(Field::Hours, 0, pieces.hours)? as u32;
+    let day = day_of(pieces.day)?;
+    let months = word_at(Field::Month, 0, pieces.months)? as u16;
+    let week = week_of(pieces.week)?;
+    let years = years_of(pieces.years)?;
+    days_checked(CronFields {
+        seconds,
+        minutes,
+        hours,
+        day,
+        months,
+        week,
+        years,
+    })
+}
+
+/// What a cron text means, or what is first wrong with it.
+#[tactic(auto, unfolding(crate::specs::Reading::reading))]
+fn read(text: &str) -> Result<CronFields, CronError>
+    ensures { result ≡ reading text.now }
+{
+    let pieces = pieces_of(text.as_bytes())?;
+    fields_of(pieces)
+}
+
+/// Reads a cron text, as Quartz's `CronExpression` has them: six or seven fields of seconds, minutes, hours, day of month,
+/// month, day of week and, if there is a seventh, year. Letters are read in either case. No memory.
+pub fn parse(text: &str) -> Result<CronFields, CronError>
+    // What is read is what the text says.
+    ensures found { IfOk result (λ fields. IsText text.now fields) }
+    // What a text says is read.
+    ensures only { (fields : CronFields) → IsText text.now fields → result ≡ Ok fields }
+    // Which fault it is: the first one.
+    ensures exact { result ≡ reading text.now }
+    ensures valid { IfOk result (λ fields. IsTrue (is_cron_fields fields)) }
+{
+    read(text)
+}
