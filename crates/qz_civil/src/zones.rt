@@ -92,6 +92,8 @@ impl Zone {
         ensures value { result ≡ spec.offset_at self.now ms }
         ensures low { neg_ℤ OFFSET_LIMIT ≤ℤ result }
         ensures high { result ≤ℤ OFFSET_LIMIT }
+        // The table is one at every call, so that callers know all offsets to be within their limit.
+        ensures valid { spec.bad_zone self.now ≡ None }
     {
         self.offset_in(self.stretch_at(ms) as usize)
     }
