@@ -1,0 +1,6 @@
+pub mod BitSets
+pub mod Calendar
+pub mod Clocks
+pub mod Firsts
+pub mod Parts
+pub mod Weeks

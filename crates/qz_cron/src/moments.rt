@@ -1,0 +1,149 @@
+//! The next moment at which a zone's local time meets the fields.
+ghost use Rattle.std.specs.Prelude.{◌≡◌, ℕ, Bool, ◌+◌, ◌*◌, ◌<◌, ◌≤◌, IfSome, None, pos, negsuc, ◌≤ℤ◌, ◌<ℤ◌, ◌+ℤ◌};
+ghost use Rattle.qz_civil.specs.Least.{IsFirst, IsNext, NoneIn};
+ghost use Rattle.qz_civil.specs.Zones.{bad_zone, offset_at};
+ghost use Rattle.qz_cron.specs.Moments.{IsMatch};
+ghost use Rattle.qz_cron.specs.Search.{IsShiftOf, Stays, meets_at};
+
+use crate::seconds::next_second;
+use qz_civil::{CronFields, LAST, Zone};
+
+// How many seconds have a moment from 0 to LAST at their begin.
+const SECONDS: u64 = 4_102_444_800;
+
+// A local clock is 18 hours behind UTC at most, or as many before it. Both are counted from 1970-01-01T00:00:00Z and
+// 1969-12-31T00:00:00, so that the local number is the greater one, by 6 to 42 hours.
+const LEAST_SHIFT: u64 = 21600;
+
+const GREATEST_SHIFT: u64 = 151_200;
+
+fn shift_at(zone: &Zone, second: u64) -> u64
+    requires { second < SECONDS }
+    ensures value { pos result ≡ offset_at zone.now (pos (second * 1000)) +ℤ pos 86400 }
+    ensures low { LEAST_SHIFT ≤ result }
+    ensures high { result ≤ GREATEST_SHIFT }
+    ensures valid { bad_zone zone.now ≡ None }
+{
+    let offset = zone.offset_at(moment_of(second));
+    (i64::from(offset) + 86400) as u64
+}
+
+// The first second that doesn't begin before the moment.
+#[tactic(auto, using(std::proofs::lemmas::Int::ints))]
+fn second_from(ms: i64) -> u64
+    requires low { pos 0 ≤ℤ ms }
+    requires high { ms ≤ℤ LAST }
+    ensures before { (s : ℕ) → s < result → pos (s * 1000) <ℤ ms }
+    ensures after { ms ≤ℤ pos (result * 1000) }
+    ensures bound { result ≤ SECONDS }
+{
+    (ms as u64).div_ceil(1000)
+}
+
+// The first second behind the moment.
+#[tactic(auto, using(std::proofs::lemmas::Int::ints))]
+fn second_after(ms: i64) -> u64
+    requires low { negsuc 0 ≤ℤ ms }
+    requires high { ms ≤ℤ LAST }
+    ensures later { ms <ℤ pos (result * 1000) }
+    ensures first { pos (result * 1000) ≤ℤ (ms +ℤ pos 1000) }
+    ensures bound { result ≤ SECONDS }
+{
+    (ms + 1000) as u64 / 1000
+}
+
+fn moment_of(second: u64) -> i64
+    requires { second < SECONDS }
+    ensures { result ≡ pos (second * 1000) }
+{
+    second as i64 * 1000
+}
+
+// Where the next stretch begins.
+fn next_start(zone: &Zone, second: u64) -> Option<i64>
+    requires { second < SECONDS }
+    ensures later { IfSome result (λ start. pos (second * 1000) <ℤ start) }
+    ensures high { IfSome result (λ start. start ≤ℤ LAST) }
+    ensures stays { (s : ℕ) → second ≤ s → IfSome result (λ start. pos (s * 1000) <ℤ start)
+        → offset_at zone.now (pos (s * 1000)) ≡ offset_at zone.now (pos (second * 1000)) }
+{
+    zone.next_start(moment_of(second))
+}
+
+// The first second behind this one's stretch.
+fn stretch_end(zone: &Zone, second: u64) -> u64
+    requires { second < SECONDS }
+    ensures low { second < result }
+    ensures high { result ≤ SECONDS }
+    ensures stays { Stays zone.now second result }
+{
+    match next_start(zone, second) {
+        Some(start) => second_from(start),
+        None => SECONDS,
+    }
+}
+
+// What the local clock's next match is in a stretch that ends at `end`.
+fn cut_at(found: Option<u64>, shift: u64, end: u64) -> Option<u64>
+    requires shift { shift ≤ GREATEST_SHIFT }
+    requires end { end ≤ SECONDS }
+    ensures { (p q : ℕ → Bool) (start : ℕ) → start ≤ end → ((s : ℕ) → start ≤ s → s < end → q s ≡ p (s + shift)) → IsFirst p (start + shift) 4_233_600_000 found → IsFirst q start end result }
+{
+    match found {
+        Some(local) if local < end + shift => Some(local.saturating_sub(shift)),
+        _ => None,
+    }
+}
+
+// Where the search goes on behind a stretch without a match: before the second from which a local clock may show the
+// next match, whatever the stretches are, nothing is to be found.
+fn resume(found: Option<u64>, shift: u64, start: u64, end: u64) -> u64
+    requires shift { shift ≤ GREATEST_SHIFT }
+    requires start { start ≤ end }
+    requires end { end ≤ SECONDS }
+    ensures low { end ≤ result }
+    ensures none { (p q : ℕ → Bool) → IsShiftOf p q → IsFirst p (start + shift) 4_233_600_000 found → NoneIn q start end → NoneIn q start result }
+{
+    // A fold may show local times from before `start` again.
+    if end + LEAST_SHIFT < start + shift {
+        return end;
+    }
+    match found {
+        Some(local) => end.max(local.saturating_sub(GREATEST_SHIFT)),
+        None => SECONDS,
+    }
+}
+
+// The first second from `from` on whose local time meets the fields, stretch by stretch.
+fn next_whole(fields: &CronFields, zone: &Zone, from: u64) -> Option<u64>
+    requires { from ≤ SECONDS }
+    ensures first { IsFirst (meets_at fields.now zone.now) from SECONDS result }
+    ensures bound { IfSome result (λ v. v < SECONDS) }
+{
+    let mut start = from;
+    while start < SECONDS {
+        let shift = shift_at(zone, start);
+        let end = stretch_end(zone, start);
+        let found = next_second(fields, start + shift);
+        if let Some(second) = cut_at(found, shift, end) {
+            return Some(second);
+        }
+        start = resume(found, shift, start, end);
+    }
+    None
+}
+
+/// The least whole second after `after` whose local time meets the fields, in ms since 1970-01-01T00:00:00Z, and
+/// `None` where none comes by LAST. In a gap of the zone no time matches; in a fold a time matches twice. No memory.
+///
+/// The rules of the fields are those of Quartz's CronExpression, read in the zone of the trigger.
+pub fn next(fields: &CronFields, zone: &Zone, after: i64) -> Option<i64>
+    requires low { negsuc 0 ≤ℤ after }
+    requires high { after ≤ℤ LAST }
+    ensures { IsNext LAST (IsMatch fields.now zone.now) after result }
+{
+    match next_whole(fields, zone, second_after(after)) {
+        Some(second) => Some(moment_of(second)),
+        None => None,
+    }
+}
