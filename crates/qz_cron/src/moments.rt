@@ -1,12 +1,13 @@
 //! The next moment at which a zone's local time meets the fields.
-ghost use Rattle.std.specs.Prelude.{◌≡◌, ℕ, Bool, ◌+◌, ◌*◌, ◌<◌, ◌≤◌, IfSome, None, pos, negsuc, ◌≤ℤ◌, ◌<ℤ◌, ◌+ℤ◌};
+ghost use Rattle.std.specs.Prelude.{◌≡◌, ℕ, Bool, ◌+◌, ◌*◌, ◌<◌, ◌≤◌, IfSome, None, pos, negsuc, neg_ℤ, ◌≤ℤ◌, ◌<ℤ◌, ◌+ℤ◌};
+ghost use Rattle.std.specs.Option.{ForSome};
 ghost use Rattle.qz_civil.specs.Least.{IsFirst, IsNext, NoneIn};
 ghost use Rattle.qz_civil.specs.Zones.{bad_zone, offset_at};
 ghost use Rattle.qz_cron.specs.Moments.{IsMatch};
 ghost use Rattle.qz_cron.specs.Search.{IsShiftOf, Stays, meets_at};
 
 use crate::seconds::next_second;
-use qz_civil::{CronFields, LAST, Zone};
+use qz_civil::{CronFields, LAST, OFFSET_LIMIT, Zone};
 
 // How many seconds have a moment from 0 to LAST at their begin.
 const SECONDS: u64 = 4_102_444_800;
@@ -17,15 +18,11 @@ const LEAST_SHIFT: u64 = 21600;
 
 const GREATEST_SHIFT: u64 = 151_200;
 
-fn shift_at(zone: &Zone, second: u64) -> u64
-    requires { second < SECONDS }
-    ensures value { pos result ≡ offset_at zone.now (pos (second * 1000)) +ℤ pos 86400 }
-    ensures low { LEAST_SHIFT ≤ result }
-    ensures high { result ≤ GREATEST_SHIFT }
-    ensures valid { bad_zone zone.now ≡ None }
-{
-    let offset = zone.offset_at(moment_of(second));
-    (i64::from(offset) + 86400) as u64
+/// How far a local clock is ahead of UTC, and the first second behind those that it is so.
+#[derive(Clone, Copy)]
+struct Span {
+    shift: u64,
+    end: u64,
 }
 
 // The first second that doesn't begin before the moment.
@@ -59,27 +56,44 @@ fn moment_of(second: u64) -> i64
     second as i64 * 1000
 }
 
-// Where the next stretch begins.
-fn next_start(zone: &Zone, second: u64) -> Option<i64>
-    requires { second < SECONDS }
-    ensures later { IfSome result (λ start. pos (second * 1000) <ℤ start) }
-    ensures high { IfSome result (λ start. start ≤ℤ LAST) }
-    ensures stays { (s : ℕ) → second ≤ s → IfSome result (λ start. pos (s * 1000) <ℤ start)
-        → offset_at zone.now (pos (s * 1000)) ≡ offset_at zone.now (pos (second * 1000)) }
+fn shift_of(offset: i32) -> u64
+    requires low { neg_ℤ OFFSET_LIMIT ≤ℤ offset }
+    requires high { offset ≤ℤ OFFSET_LIMIT }
+    ensures value { pos result ≡ offset +ℤ pos 86400 }
+    ensures low { LEAST_SHIFT ≤ result }
+    ensures high { result ≤ GREATEST_SHIFT }
 {
-    zone.next_start(moment_of(second))
+    (i64::from(offset) + 86400) as u64
 }
 
-// The first second behind this one's stretch.
-fn stretch_end(zone: &Zone, second: u64) -> u64
-    requires { second < SECONDS }
-    ensures low { second < result }
-    ensures high { result ≤ SECONDS }
-    ensures stays { Stays zone.now second result }
+// The first second that isn't before the start of the next stretch.
+fn end_of(next_start: Option<i64>) -> u64
+    requires low { ForSome next_start (λ start. pos 0 ≤ℤ start) }
+    requires high { ForSome next_start (λ start. start ≤ℤ LAST) }
+    ensures before { (s : ℕ) → s < result → IfSome next_start (λ start. pos (s * 1000) <ℤ start) }
+    ensures after { (s : ℕ) → s < SECONDS → IfSome next_start (λ start. pos (s * 1000) <ℤ start) → s < result }
+    ensures bound { result ≤ SECONDS }
 {
-    match next_start(zone, second) {
+    match next_start {
         Some(start) => second_from(start),
         None => SECONDS,
+    }
+}
+
+fn span_at(zone: &Zone, second: u64) -> Span
+    requires { second < SECONDS }
+    ensures shift { pos result.shift ≡ offset_at zone.now (pos (second * 1000)) +ℤ pos 86400 }
+    ensures low { LEAST_SHIFT ≤ result.shift }
+    ensures high { result.shift ≤ GREATEST_SHIFT }
+    ensures begins { second < result.end }
+    ensures ends { result.end ≤ SECONDS }
+    ensures stays { Stays zone.now second result.end }
+    ensures valid { bad_zone zone.now ≡ None }
+{
+    let (offset, next_start) = zone.offset_until(moment_of(second));
+    Span {
+        shift: shift_of(offset),
+        end: end_of(next_start),
     }
 }
 
@@ -122,8 +136,7 @@ fn next_whole(fields: &CronFields, zone: &Zone, from: u64) -> Option<u64>
 {
     let mut start = from;
     while start < SECONDS {
-        let shift = shift_at(zone, start);
-        let end = stretch_end(zone, start);
+        let Span { shift, end } = span_at(zone, start);
         let found = next_second(fields, start + shift);
         if let Some(second) = cut_at(found, shift, end) {
             return Some(second);
