@@ -1,16 +1,16 @@
 -- Days by their months.
-use Rattle.std.proofs.Common.{◌≡◌, ℕ, zero, suc, ◌+◌, ◌-◌, ◌*◌, ◌/◌, ◌%◌, ◌<◌, ◌≤◌, inl, inr, true, false, ◌&&◌, refl, ap, ◌∙◌, arith, rules, max, Option, Some, None, IsSome, IfNone, ◌≢◌}
+use Rattle.std.proofs.Common.{◌≡◌, ℕ, zero, suc, ◌+◌, ◌-◌, ◌*◌, ◌/◌, ◌%◌, ◌<◌, ◌≤◌, inl, inr, Bool, true, false, ◌&&◌, refl, ap, ◌∙◌, arith, rules, max, Option, Some, None, IsSome, IfNone, ◌≢◌}
 use Rattle.std.specs.Int.{IsInRange}
 use Rattle.std.proofs.lemmas.Bool.{cases_lt, and_left}
 use Rattle.qz_civil.specs.declared.dates.Date.{Date}
 use Rattle.qz_civil.specs.declared.fields.CronFields.{CronFields}
 use Rattle.qz_civil.specs.declared.limits.TheConstants.{LAST_DAY}
-use Rattle.qz_civil.specs.Dates.{date_of, days_in_month, next_date, next_month, IsDate}
-use Rattle.qz_civil.specs.Fields.{meets_date, in_years, in_months, is_value, least, greatest, size}
+use Rattle.qz_civil.specs.Dates.{date_of, days_in_month, next_date, next_month, month_length, weekday_of, IsDate}
+use Rattle.qz_civil.specs.Fields.{meets_date, in_years, in_months, in_week, is_value, least, greatest, size}
 use Rattle.qz_civil.specs.Least.{NoneIn, IsLeastIn, IsFirst}
 use Rattle.qz_civil.proofs.DateLemmas.{date_of-valid, days_in_month-bound, next_date-day, next_date-last, next_month-month, next_month-year, follows, Follows, same_parts}
 use Rattle.qz_civil.proofs.DateLemmas.Follows.{in_month, in_year, in_next}
-use Rattle.qz_cron.specs.Search.{first_of, meets_day, meets_in_month, meets_month, month_days, month_number}
+use Rattle.qz_cron.specs.Search.{first_of, IsBare, meets_day, meets_in_month, meets_month, month_days, month_number}
 use Rattle.qz_cron.proofs.Firsts.{first_same}
 
 -- the number of the month in which day n lies
@@ -162,6 +162,15 @@ start-bound number start h e =
 
 -- the test of a day, by its month
 
+month_days-number : (d : Date) → IsInRange 1 12 d.month → month_days (month_number d) ≡ month_length d
+month_days-number d h =
+    let year : month_number d / 12 ≡ d.year = omega arith in
+    let month : month_number d % 12 + 1 ≡ d.month = omega arith in
+    rw (year, month) refl
+
+bare_date : (y m month d w : Bool) → (y && m) ≡ month → (month && d) ≡ false → ((y && m) && (d && w)) ≡ false
+bare_date y m month d w e none = grind arith
+
 of_parts : (f : CronFields) (d : Date) → IsInRange 1 12 d.month → (in_years f d.year && in_months f d.month) ≡ meets_month f (month_number d)
 unfolding in_months
 of_parts f d h =
@@ -169,11 +178,14 @@ of_parts f d h =
     let month : month_number d % 12 ≡ d.month - 1 = omega arith in
     rw (year, month) refl
 
--- no day of a month passes that doesn't
-pub meets_day-month : (f : CronFields) (k : ℕ) → meets_month f (month_of k) ≡ false → meets_day f k ≡ false
+-- no day of a bare month passes
+pub meets_day-bare : (f : CronFields) (k : ℕ) → IsBare f (month_of k) → meets_day f k ≡ false
 unfolding meets_date
-meets_day-month f k unset =
-    and_left _ _ (of_parts f (date_of k) (date_of-valid k).0 ∙ unset)
+meets_day-bare f k bare =
+    let valid = date_of-valid k in
+    let length : month_days (month_of k) ≡ month_length (date_of k) = month_days-number (date_of k) valid.0 in
+    let none = rw length at (bare (date_of k).day (weekday_of k)) in
+    bare_date (in_years f (date_of k).year) (in_months f (date_of k).month) (meets_month f (month_of k)) _ (in_week f.week (month_length (date_of k)) (date_of k).day (weekday_of k)) (of_parts f (date_of k) valid.0) (none valid.1)
 
 meets_by : (f : CronFields) (start number k : ℕ) → date_of start ≡ first_of number → meets_month f number ≡ true → start ≤ k → k < start + month_days number → meets_day f k ≡ meets_in_month f (month_days number) start (k + 1 - start)
 unfolding meets_date
@@ -196,26 +208,30 @@ NoneBefore f from number = (k : ℕ) → from ≤ k → month_of k < number → 
 pub none_at_start : (f : CronFields) (from : ℕ) → NoneBefore f from (month_of from)
 none_at_start f from k low lt = absurd (omega (arith, month_of-rises from k low))
 
-none_up_to : (f : CronFields) (from number found : ℕ) → NoneBefore f from number → NoneIn (meets_month f) number found → NoneBefore f from found
-none_up_to f from number found none skipped k low lt =
+-- months that don't pass have no day that does
+abbrev pub LeavesBare : CronFields → (ℕ → Bool) → Type 0
+LeavesBare f months = (number : ℕ) → months number ≡ false → IsBare f number
+
+none_up_to : (f : CronFields) (months : ℕ → Bool) (from number found : ℕ) → LeavesBare f months → NoneBefore f from number → NoneIn months number found → NoneBefore f from found
+none_up_to f months from number found bare none skipped k low lt =
     elim (cases_lt (month_of k) number) [
       | inl less ↦ none k low less
-      | inr ge ↦ meets_day-month f k (skipped (month_of k) ge lt)
+      | inr ge ↦ meets_day-bare f k (bare (month_of k) (skipped (month_of k) ge lt))
     ]
 
 -- the search finds no day in the month: it goes on behind it
-pub none_behind : (f : CronFields) (from number end found start : ℕ) → NoneBefore f from number → IsLeastIn (meets_month f) number end found → date_of start ≡ first_of found → NoneIn (meets_day f) (max from start) (start + month_days found) → NoneBefore f from (found + 1)
-none_behind f from number end found start none next e here k low lt =
+pub none_behind : (f : CronFields) (months : ℕ → Bool) (from number end found start : ℕ) → LeavesBare f months → NoneBefore f from number → IsLeastIn months number end found → date_of start ≡ first_of found → NoneIn (meets_day f) (max from start) (start + month_days found) → NoneBefore f from (found + 1)
+none_behind f months from number end found start bare none next e here k low lt =
     elim (cases_lt (month_of k) found) [
-      | inl less ↦ none_up_to f from number found none next.none k low less
+      | inl less ↦ none_up_to f months from number found bare none next.none k low less
       | inr ge ↦
           let within = within_month start found k e (omega arith) in
           here k (omega (arith, within.0)) within.1
     ]
 
 -- it finds a day
-pub first_in_month : (f : CronFields) (from number end found start v to : ℕ) → NoneBefore f from number → IsLeastIn (meets_month f) number end found → date_of start ≡ first_of found → IsLeastIn (meets_day f) (max from start) (start + month_days found) v → v < to → IsLeastIn (meets_day f) from to v
-first_in_month f from number end found start v to none next e here within = record {
+pub first_in_month : (f : CronFields) (months : ℕ → Bool) (from number end found start v to : ℕ) → LeavesBare f months → NoneBefore f from number → IsLeastIn months number end found → date_of start ≡ first_of found → IsLeastIn (meets_day f) (max from start) (start + month_days found) v → v < to → IsLeastIn (meets_day f) from to v
+first_in_month f months from number end found start v to bare none next e here within = record {
   low = (let a = here.low in omega arith);
   high = within;
   passes = here.passes;
@@ -224,7 +240,7 @@ first_in_month f from number end found start v to none next e here within = reco
       let b = here.high in
       let at : month_of v ≡ found = month_of-within start found v e (omega arith) b in
       elim (cases_lt (month_of k) found) [
-        | inl less ↦ none_up_to f from number found none next.none k low less
+        | inl less ↦ none_up_to f months from number found bare none next.none k low less
         | inr ge ↦
             let inside = within_month start found k e (omega (arith, month_of-rises k v (omega arith))) in
             here.none k (omega (arith, inside.0)) lt
@@ -236,9 +252,12 @@ in_years-late : (f : CronFields) (y : ℕ) → 2100 ≤ y → in_years f y ≡ f
 unfolding in_years is_value least greatest size
 in_years-late f y late = grind arith
 
-pub none_left : (f : CronFields) (from number to : ℕ) → NoneBefore f from number → NoneIn (meets_month f) number 25200 → NoneIn (meets_day f) from to
-none_left f from number to none skipped k low high =
+late_is_bare : (f : CronFields) (number : ℕ) → 25200 ≤ number → IsBare f number
+late_is_bare f number late d w h = and_left _ _ (and_left _ _ (in_years-late f (number / 12) (omega arith)))
+
+pub none_left : (f : CronFields) (months : ℕ → Bool) (from number to : ℕ) → LeavesBare f months → NoneBefore f from number → NoneIn months number 25200 → NoneIn (meets_day f) from to
+none_left f months from number to bare none skipped k low high =
     elim (cases_lt (month_of k) 25200) [
-      | inl lt ↦ none_up_to f from number 25200 none skipped k low lt
-      | inr ge ↦ meets_day-month f k (and_left _ _ (in_years-late f (month_of k / 12) (omega arith)))
+      | inl lt ↦ none_up_to f months from number 25200 bare none skipped k low lt
+      | inr ge ↦ meets_day-bare f k (late_is_bare f (month_of k) ge)
     ]

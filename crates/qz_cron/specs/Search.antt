@@ -1,6 +1,7 @@
 -- What each level of the search looks for. Days, seconds and months of the local clock are counted: days and seconds
 -- from 1969-12-31T00:00:00 on, months from January of the year 0 on.
-use Rattle.std.specs.Prelude.{◌≡◌, ℕ, ◌+◌, ◌-◌, ◌*◌, ◌/◌, ◌%◌, ◌<◌, ◌≤◌, Bool, ◌&&◌, pos, List}
+use Rattle.std.specs.Prelude.{◌≡◌, ℕ, ◌+◌, ◌-◌, ◌*◌, ◌/◌, ◌%◌, ◌<◌, ◌≤◌, Bool, false, ◌&&◌, pos, List}
+use Rattle.std.specs.Int.{IsInRange}
 use Rattle.qz_civil.specs.declared.dates.Date.{Date}
 use Rattle.qz_civil.specs.declared.fields.CronFields.{CronFields}
 use Rattle.qz_civil.specs.declared.stretches.Stretch.{Stretch}
@@ -40,6 +41,10 @@ first_of number = record { year = number / 12; month = number % 12 + 1; day = 1 
 
 abbrev pub month_days : ℕ → ℕ
 month_days number = days_in_month (number / 12) (number % 12 + 1)
+
+-- no day of the month meets the day of the month, or the month isn't met
+abbrev pub IsBare : CronFields → ℕ → Type 0
+IsBare f number = (d w : ℕ) → IsInRange 1 (month_days number) d → (meets_month f number && in_days f.day (month_days number) d w) ≡ false
 
 -- the weekday of day d of the month that begins with day `start`
 abbrev pub weekday_in : ℕ → ℕ → ℕ

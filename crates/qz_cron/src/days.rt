@@ -4,6 +4,7 @@ ghost use Rattle.qz_civil.specs.Dates.{date_of as date_after};
 ghost use Rattle.qz_civil.specs.Least.{IsFirst};
 ghost use Rattle.qz_cron.specs.Search.{meets_day as passes, month_number};
 
+use crate::lengths::narrowed;
 use crate::month::Month;
 use crate::months::next_month;
 use qz_civil::{CronFields, date_of, weekday_of};
@@ -35,8 +36,9 @@ pub fn next_day(fields: &CronFields, from: u64) -> Option<u64>
     ensures first { IsFirst (passes fields.now) from 49000 result }
     ensures bound { IfSome result (λ v. v < 49000) }
 {
+    let listed = narrowed(fields);
     let mut number = month_of(from);
-    while let Some(found) = next_month(fields, number) {
+    while let Some(found) = next_month(&listed, number) {
         let month = Month::numbered(found);
         if let Some(day) = month.next_from(fields, from) {
             return Some(day);

@@ -3,6 +3,7 @@
 
 mod bits;
 mod days;
+mod lengths;
 mod moments;
 mod month;
 mod months;
