@@ -23,6 +23,13 @@ first_then p from mid to v le a f = record {
   none = none_then p from mid v a f.none;
 }
 
+-- a range that begins later, where that leaves out nothing that passes
+pub none_from : (p : ℕ → Bool) (sought from to : ℕ) → sought ≤ from → NoneIn p sought to → NoneIn p from to
+none_from p sought from to le none k low high = none k (omega arith) high
+
+pub first_from : (p : ℕ → Bool) (sought from to v : ℕ) → sought ≤ from → from ≤ v → IsLeastIn p sought to v → IsLeastIn p from to v
+first_from p sought from to v le before f = record { low = before; high = f.high; passes = f.passes; none = none_from p sought from v le f.none }
+
 -- a range that ends elsewhere
 pub first_before : (p : ℕ → Bool) (from end to v : ℕ) → IsLeastIn p from end v → v < to → IsLeastIn p from to v
 first_before p from end to v f lt = record { low = f.low; high = lt; passes = f.passes; none = f.none }

@@ -9,10 +9,13 @@ use crate::month::Month;
 use crate::months::next_month;
 use qz_civil::{CronFields, date_of, weekday_of};
 
+/// A day behind all that a local clock shows up to the end of 2099, counted from 1969-12-31.
+pub const END_DAY: u64 = 49000;
+
 #[tactic(auto, using(qz_civil::proofs::DateLemmas::date_facts))]
 // The number of the month in which the day lies.
 fn month_of(day: u64) -> u64
-    requires { day ≤ 49000 }
+    requires { day ≤ END_DAY }
     ensures value { result ≡ month_number (date_after day) }
     ensures bound { result < 2 ^ 17 }
 {
@@ -23,7 +26,7 @@ fn month_of(day: u64) -> u64
 #[tactic(auto, using(qz_civil::proofs::DateLemmas::date_facts))]
 /// Whether the day meets the four fields.
 pub fn meets_day(fields: &CronFields, day: u64) -> bool
-    requires { day ≤ 49000 }
+    requires { day ≤ END_DAY }
     ensures { result ≡ passes fields.now day }
 {
     let date = date_of(day as u32);
@@ -32,9 +35,9 @@ pub fn meets_day(fields: &CronFields, day: u64) -> bool
 
 /// The first day from `from` on that meets the four fields. Days are counted from 1969-12-31 on.
 pub fn next_day(fields: &CronFields, from: u64) -> Option<u64>
-    requires { from ≤ 49000 }
-    ensures first { IsFirst (passes fields.now) from 49000 result }
-    ensures bound { IfSome result (λ v. v < 49000) }
+    requires { from ≤ END_DAY }
+    ensures first { IsFirst (passes fields.now) from END_DAY result }
+    ensures bound { IfSome result (λ v. v < END_DAY) }
 {
     let listed = narrowed(fields);
     let mut number = month_of(from);

@@ -1,12 +1,12 @@
 //! The next moment at which a zone's local time meets the fields.
-ghost use Rattle.std.specs.Prelude.{◌≡◌, ℕ, Bool, ◌+◌, ◌*◌, ◌<◌, ◌≤◌, IfSome, None, pos, negsuc, neg_ℤ, ◌≤ℤ◌, ◌<ℤ◌, ◌+ℤ◌};
+ghost use Rattle.std.specs.Prelude.{◌≡◌, ℕ, Bool, ◌+◌, ◌*◌, ◌<◌, ◌≤◌, IfSome, None, true, pos, negsuc, neg_ℤ, ◌≤ℤ◌, ◌<ℤ◌, ◌+ℤ◌};
 ghost use Rattle.std.specs.Option.{ForSome};
 ghost use Rattle.qz_civil.specs.Least.{IsFirst, IsNext, NoneIn};
 ghost use Rattle.qz_civil.specs.Zones.{bad_zone, offset_at};
 ghost use Rattle.qz_cron.specs.Moments.{IsMatch};
-ghost use Rattle.qz_cron.specs.Search.{IsShiftOf, Stays, meets_at};
+ghost use Rattle.qz_cron.specs.Search.{IsShiftOf, Stays, meets_at, meets_second};
 
-use crate::seconds::next_second;
+use crate::seconds::{END_SECOND, next_second};
 use qz_civil::{CronFields, LAST, OFFSET_LIMIT, Zone};
 
 // How many seconds have a moment from 0 to LAST at their begin.
@@ -97,11 +97,35 @@ fn span_at(zone: &Zone, second: u64) -> Span
     }
 }
 
+// Whether the match that was found from the second `sought` on is the next one from `from` on too.
+fn is_ahead(sought: u64, found: Option<u64>, from: u64) -> bool
+    ensures { result ≡ true → (p : ℕ → Bool) → IsFirst p sought END_SECOND found → IsFirst p from END_SECOND found }
+{
+    sought <= from
+        && match found {
+            Some(local) => from <= local,
+            None => true,
+        }
+}
+
+// The next match of the local clock from `from` on, where one was found from the second `sought` on.
+fn next_local(fields: &CronFields, sought: u64, found: Option<u64>, from: u64) -> Option<u64>
+    requires from { from < END_SECOND }
+    requires found { IsFirst (meets_second fields.now) sought END_SECOND found }
+    ensures { IsFirst (meets_second fields.now) from END_SECOND result }
+{
+    if is_ahead(sought, found, from) {
+        found
+    } else {
+        next_second(fields, from)
+    }
+}
+
 // What the local clock's next match is in a stretch that ends at `end`.
 fn cut_at(found: Option<u64>, shift: u64, end: u64) -> Option<u64>
     requires shift { shift ≤ GREATEST_SHIFT }
     requires end { end ≤ SECONDS }
-    ensures { (p q : ℕ → Bool) (start : ℕ) → start ≤ end → ((s : ℕ) → start ≤ s → s < end → q s ≡ p (s + shift)) → IsFirst p (start + shift) 4_233_600_000 found → IsFirst q start end result }
+    ensures { (p q : ℕ → Bool) (start : ℕ) → start ≤ end → ((s : ℕ) → start ≤ s → s < end → q s ≡ p (s + shift)) → IsFirst p (start + shift) END_SECOND found → IsFirst q start end result }
 {
     match found {
         Some(local) if local < end + shift => Some(local.saturating_sub(shift)),
@@ -116,7 +140,7 @@ fn resume(found: Option<u64>, shift: u64, start: u64, end: u64) -> u64
     requires start { start ≤ end }
     requires end { end ≤ SECONDS }
     ensures low { end ≤ result }
-    ensures none { (p q : ℕ → Bool) → IsShiftOf p q → IsFirst p (start + shift) 4_233_600_000 found → NoneIn q start end → NoneIn q start result }
+    ensures none { (p q : ℕ → Bool) → IsShiftOf p q → IsFirst p (start + shift) END_SECOND found → NoneIn q start end → NoneIn q start result }
 {
     // A fold may show local times from before `start` again.
     if end + LEAST_SHIFT < start + shift {
@@ -134,10 +158,11 @@ fn next_whole(fields: &CronFields, zone: &Zone, from: u64) -> Option<u64>
     ensures first { IsFirst (meets_at fields.now zone.now) from SECONDS result }
     ensures bound { IfSome result (λ v. v < SECONDS) }
 {
-    let mut start = from;
+    let (mut start, mut sought, mut found) = (from, END_SECOND, None);
     while start < SECONDS {
         let Span { shift, end } = span_at(zone, start);
-        let found = next_second(fields, start + shift);
+        found = next_local(fields, sought, found, start + shift);
+        sought = start + shift;
         if let Some(second) = cut_at(found, shift, end) {
             return Some(second);
         }

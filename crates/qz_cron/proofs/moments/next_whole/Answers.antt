@@ -12,7 +12,7 @@ returns-in-Some-clause-first c =
     let offset : ℤ = offset_at c.args.zone.now (pos (c.loop-start.start * 1000)) in
     let here = c.in-Some.ensures p q c.loop-start.start (omega arith)
     (λ s a b. meets_at-shifted c.args.fields.now c.args.zone.now s c.span_at-shift.result.shift offset (c.span_at-shift.ensures.stays s a b) c.span_at-shift.ensures.shift)
-    c.next_second-found.ensures.first in
+    c.next_local-found.ensures in
     first_before q c.args.from c.span_at-shift.result.end 4102444800 c.in-Some.second
     (first_then q c.args.from c.loop-start.start c.span_at-shift.result.end c.in-Some.second c.loop-start.invariant.1 c.loop-start.invariant.0 here)
     (let high = here.high in omega arith)
@@ -24,9 +24,9 @@ loop-start-preserved c =
     let offset : ℤ = offset_at c.args.zone.now (pos (c.loop-start.start * 1000)) in
     let here = c.in_default.ensures p q c.loop-start.start (omega arith)
     (λ s a b. meets_at-shifted c.args.fields.now c.args.zone.now s c.span_at-shift.result.shift offset (c.span_at-shift.ensures.stays s a b) c.span_at-shift.ensures.shift)
-    c.next_second-found.ensures.first in
-    let skipped = c.resume-start.ensures.none p q (meets_at-shifts c.args.fields.now c.args.zone.now c.span_at-shift.ensures.valid) c.next_second-found.ensures.first here in
-    (none_then q c.args.from c.loop-start.start c.resume-start.result c.loop-start.invariant.0 skipped, omega (arith, c.loop-start.invariant.1))
+    c.next_local-found.ensures in
+    let skipped = c.resume-start.ensures.none p q (meets_at-shifts c.args.fields.now c.args.zone.now c.span_at-shift.ensures.valid) c.next_local-found.ensures here in
+    (none_then q c.args.from c.loop-start.start c.resume-start.result c.loop-start.invariant.0 skipped, omega (arith, c.loop-start.invariant.1), c.next_local-found.ensures)
 
 pub returns-in-Some-clause-bound : goal.returns-in-Some-clause-bound
 returns-in-Some-clause-bound c = (returns-in-Some-clause-first c).high
