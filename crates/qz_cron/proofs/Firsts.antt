@@ -1,6 +1,6 @@
 -- The first number of a range that passes a test: other ranges and other tests.
-use Rattle.std.proofs.Common.{◌≡◌, ℕ, ◌+◌, ◌-◌, ◌<◌, ◌≤◌, ◌⊎◌, inl, inr, Bool, true, false, ◌&&◌, Option, Some, None, IfSome, ◌∙◌, arith}
-use Rattle.std.proofs.lemmas.Bool.{and_from, and_left, cases_lt}
+use Rattle.std.proofs.Common.{◌≡◌, ℕ, ◌+◌, ◌-◌, ◌<◌, ◌≤◌, ◌⊎◌, inl, inr, Bool, false, Option, Some, None, IfSome, ◌∙◌, arith}
+use Rattle.std.proofs.lemmas.Bool.{cases_lt}
 use Rattle.qz_civil.specs.Least.{NoneIn, IsLeastIn, IsFirst}
 
 pub bound_of : (p : ℕ → Bool) (from to : ℕ) (r : Option ℕ) → IsFirst p from to r → IfSome r (λ v. v < to)
@@ -75,15 +75,6 @@ first_within p q from start end to (Some v) a b out same f =
         | inr ge ↦ same k ge (omega arith) ∙ f.none k ge to_k
       ];
     }
-
--- two tests, of which the first passes first
-pub first_of_both : (p q : ℕ → Bool) (from mid to v : ℕ) → from ≤ mid → NoneIn (λ k. p k && q k) from mid → IsLeastIn p mid to v → q v ≡ true → IsLeastIn (λ k. p k && q k) from to v
-first_of_both p q from mid to v le none f too = record {
-  low = (let low = f.low in omega arith);
-  high = f.high;
-  passes = and_from _ _ f.passes too;
-  none = none_then (λ k. p k && q k) from mid v none (λ k a b. and_left _ _ (f.none k a b));
-}
 
 -- a range whose numbers are shifted
 pub first_shifted : (p q : ℕ → Bool) (from to shift v : ℕ) → ((k : ℕ) → from ≤ k → k < to → q k ≡ p (k + shift)) → IsLeastIn p (from + shift) (to + shift) v → IsLeastIn q from to (v - shift)

@@ -149,13 +149,15 @@ impl Month {
         requires { IsInRange 1 (2 ^ 32) low }
         ensures { IsFirst (meets_in_month fields.now self.length self.start) low (self.length + 1) result }
     {
-        let mut day = low;
-        while let Some(here) = self.next_by_day(fields.day, day) {
-            let there = self.next_by_week(fields.week, here)?;
-            if there == here {
-                return Some(here);
+        let mut day = self.next_by_day(fields.day, low)?;
+        while let Some(there) = self.next_by_week(fields.week, day) {
+            if there == day {
+                return Some(day);
             }
-            day = there;
+            day = self.next_by_day(fields.day, there)?;
+            if day == there {
+                return Some(there);
+            }
         }
         None
     }

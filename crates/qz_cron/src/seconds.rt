@@ -18,8 +18,9 @@ fn next_today(fields: &CronFields, day: u64, second: u64) -> Option<u64>
     ensures first { IsFirst (λ v. passes fields.now day && meets_time fields.now v) second 86400 result }
     ensures bound { IfSome result (λ v. v < 86400) }
 {
+    let low = next_time(fields, second)?;
     if meets_day(fields, day) {
-        next_time(fields, second)
+        Some(low)
     } else {
         None
     }
