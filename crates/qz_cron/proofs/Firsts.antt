@@ -1,11 +1,7 @@
 -- The first number of a range that passes a test: other ranges and other tests.
-use Rattle.std.proofs.Common.{◌≡◌, ℕ, ◌+◌, ◌-◌, ◌<◌, ◌≤◌, ◌⊎◌, inl, inr, Bool, false, Option, Some, None, IfSome, ◌∙◌, arith}
+use Rattle.std.proofs.Common.{◌≡◌, ℕ, ◌<◌, ◌≤◌, ◌⊎◌, inl, inr, Bool, false, Option, Some, None, ◌∙◌, arith}
 use Rattle.std.proofs.lemmas.Bool.{cases_lt}
 use Rattle.qz_civil.specs.Least.{NoneIn, IsLeastIn, IsFirst}
-
-pub bound_of : (p : ℕ → Bool) (from to : ℕ) (r : Option ℕ) → IsFirst p from to r → IfSome r (λ v. v < to)
-bound_of p from to None h = tt
-bound_of p from to (Some v) h = h.high
 
 -- ranges behind one another
 pub none_then : (p : ℕ → Bool) (from mid to : ℕ) → NoneIn p from mid → NoneIn p mid to → NoneIn p from to
@@ -22,13 +18,6 @@ first_then p from mid to v le a f = record {
   passes = f.passes;
   none = none_then p from mid v a f.none;
 }
-
--- a range that begins later, where that leaves out nothing that passes
-pub none_from : (p : ℕ → Bool) (sought from to : ℕ) → sought ≤ from → NoneIn p sought to → NoneIn p from to
-none_from p sought from to le none k low high = none k (omega arith) high
-
-pub first_from : (p : ℕ → Bool) (sought from to v : ℕ) → sought ≤ from → from ≤ v → IsLeastIn p sought to v → IsLeastIn p from to v
-first_from p sought from to v le before f = record { low = before; high = f.high; passes = f.passes; none = none_from p sought from v le f.none }
 
 -- a range that ends elsewhere
 pub first_before : (p : ℕ → Bool) (from end to v : ℕ) → IsLeastIn p from end v → v < to → IsLeastIn p from to v
@@ -75,19 +64,3 @@ first_within p q from start end to (Some v) a b out same f =
         | inr ge ↦ same k ge (omega arith) ∙ f.none k ge to_k
       ];
     }
-
--- a range whose numbers are shifted
-pub first_shifted : (p q : ℕ → Bool) (from to shift v : ℕ) → ((k : ℕ) → from ≤ k → k < to → q k ≡ p (k + shift)) → IsLeastIn p (from + shift) (to + shift) v → IsLeastIn q from to (v - shift)
-first_shifted p q from to shift v same f =
-    let low = f.low in
-    let high = f.high in
-    let back : v - shift + shift ≡ v = omega arith in
-    record {
-      low = omega arith;
-      high = omega arith;
-      passes = same (v - shift) (omega arith) (omega arith) ∙ (rw back f.passes);
-      none = λ k a b. same k a (omega arith) ∙ f.none (k + shift) (omega arith) (omega arith);
-    }
-
-pub none_shifted : (p q : ℕ → Bool) (from to shift : ℕ) → ((k : ℕ) → from ≤ k → k < to → q k ≡ p (k + shift)) → NoneIn p (from + shift) (to + shift) → NoneIn q from to
-none_shifted p q from to shift same none k a b = same k a b ∙ none (k + shift) (omega arith) (omega arith)

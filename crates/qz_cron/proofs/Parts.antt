@@ -1,9 +1,9 @@
 -- The first number whose quotient and remainder pass.
-use Rattle.std.proofs.Common.{◌≡◌, ℕ, ◌+◌, ◌*◌, ◌/◌, ◌%◌, ◌<◌, ◌≤◌, ◌⊎◌, inl, inr, Bool, true, ◌&&◌, refl, ap, arith, mul-le-mul_left}
-use Rattle.std.proofs.lemmas.Bool.{cases_order, and_left, and_right}
+use Rattle.std.proofs.Common.{◌≡◌, ℕ, ◌+◌, ◌*◌, ◌/◌, ◌%◌, ◌<◌, ◌≤◌, ◌⊎◌, inl, inr, Bool, true, ◌&&◌, ap, arith, mul-le-mul_left}
+use Rattle.std.proofs.lemmas.Bool.{cases_order}
 use Rattle.std.proofs.Math.Nat.{div-add-mod}
 use Rattle.std.proofs.lemmas.Nat.{div-mul-add, mod-mul-add, div-add-mod'}
-use Rattle.qz_civil.specs.Least.{NoneIn, IsLeastIn}
+use Rattle.qz_civil.specs.Least.{IsLeastIn}
 use Rattle.qz_cron.specs.Search.{both_parts}
 
 -- a number from h * n + l on has a greater quotient, or this one and a remainder from l on
@@ -25,13 +25,6 @@ before n h s k some fits lt =
       | inl same ↦ inr (same, (let e : n * (k / n) ≡ n * h = ap (λ x. n * x) same in omega arith))
       | inr (inl less) ↦ inl less
       | inr (inr gt) ↦ absurd (let m : n * (h + 1) ≤ n * (k / n) = mul-le-mul_left n (omega arith) in omega arith)
-    ]
-
-before_end : (n e k : ℕ) → 0 < n → k < e * n → k / n < e
-before_end n e k some lt =
-    elim (before n e 0 k some (omega arith) (omega arith)) [
-      | inl less ↦ less
-      | inr same ↦ absurd (omega arith)
     ]
 
 fits_end : (n h s e : ℕ) → h < e → s < n → h * n + s < e * n
@@ -60,48 +53,9 @@ joined_here n p q h l e v some lt f = record {
       ];
 }
 
-none_between : (n : ℕ) (p q : ℕ → Bool) (h l h' s : ℕ) → 0 < n → s ≤ n → NoneIn (λ x. p h && q x) l n → NoneIn p (h + 1) h' → NoneIn q 0 s → NoneIn (both_parts n p q) (h * n + l) (h' * n + s)
-none_between n p q h l h' s some fits here later first k from to =
-    elim (at_or_past n h l k some from) [
-      | inr same ↦ rw same.0 (here (k % n) same.1 (omega arith))
-      | inl gt ↦ elim (before n h' s k some fits to) [
-        | inl less ↦ and_left _ _ (later (k / n) (omega arith) less)
-        | inr same ↦ and_right _ _ (first (k % n) (omega arith) same.1)
-      ]
-    ]
-
-joined_later : (n : ℕ) (p q : ℕ → Bool) (h l e h' s : ℕ) → 0 < n → NoneIn (λ x. p h && q x) l n → l < n → IsLeastIn p (h + 1) e h' → IsLeastIn q 0 n s → IsLeastIn (both_parts n p q) (h * n + l) (e * n) (h' * n + s)
-joined_later n p q h l e h' s some here small later first = record {
-  low = (let a = later.low in let m : n * (h + 1) ≤ n * h' = mul-le-mul_left n a in omega arith);
-  high = fits_end n h' s e later.high first.high;
-  passes = at_parts n p q h' s first.high (rw (later.passes, first.passes) refl);
-  none = (let a = first.high in none_between n p q h l h' s some (omega arith) here later.none first.none);
-}
-
-joined_none : (n : ℕ) (p q : ℕ → Bool) (h l e : ℕ) → 0 < n → NoneIn (λ x. p h && q x) l n → NoneIn p (h + 1) e → NoneIn (both_parts n p q) (h * n + l) (e * n)
-joined_none n p q h l e some here later k from to =
-    elim (at_or_past n h l k some from) [
-      | inr same ↦ rw same.0 (here (k % n) same.1 (omega arith))
-      | inl gt ↦ and_left _ _ (later (k / n) (omega arith) (before_end n e k some to))
-    ]
-
 -- the search from a number on: with its quotient, with a later one, and where there is none
 
 pub first_here : (n : ℕ) (p q : ℕ → Bool) (from e v : ℕ) → 0 < n → from / n < e → IsLeastIn (λ x. p (from / n) && q x) (from % n) n v → IsLeastIn (both_parts n p q) from (e * n) (from / n * n + v)
 first_here n p q from e v some lt f =
     let whole : from / n * n + from % n ≡ from = div-add-mod' from n in
     rw whole at (joined_here n p q (from / n) (from % n) e v some lt f)
-
-pub first_later : (n : ℕ) (p q : ℕ → Bool) (from e h s : ℕ) → 0 < n → NoneIn (λ x. p (from / n) && q x) (from % n) n → IsLeastIn p (from / n + 1) e h → IsLeastIn q 0 n s → IsLeastIn (both_parts n p q) from (e * n) (h * n + s)
-first_later n p q from e h s some here later first =
-    let whole : from / n * n + from % n ≡ from = div-add-mod' from n in
-    let small : from % n < n = omega arith in
-    rw whole at (joined_later n p q (from / n) (from % n) e h s some here small later first)
-
-pub none_later : (n : ℕ) (p q : ℕ → Bool) (from e : ℕ) → 0 < n → NoneIn (λ x. p (from / n) && q x) (from % n) n → NoneIn p (from / n + 1) e → NoneIn (both_parts n p q) from (e * n)
-none_later n p q from e some here later =
-    let whole : from / n * n + from % n ≡ from = div-add-mod' from n in
-    rw whole at (joined_none n p q (from / n) (from % n) e some here later)
-
-pub none_first : (n : ℕ) (p q : ℕ → Bool) (from to : ℕ) → 0 < n → NoneIn q 0 n → NoneIn (both_parts n p q) from to
-none_first n p q from to some first k low high = and_right _ _ (first (k % n) (omega arith) (omega arith))

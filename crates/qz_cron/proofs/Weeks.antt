@@ -1,50 +1,21 @@
 -- The days of one month that meet the two fields on days.
-use Rattle.std.proofs.Common.{◌≡◌, ℕ, ◌+◌, ◌-◌, ◌*◌, ◌/◌, ◌%◌, ◌<◌, ◌≤◌, ◌⊎◌, inl, inr, Bool, true, false, ◌&&◌, ◌==◌, nat_lt, nat_le, Option, Some, None, option_map, refl, arith, max, min}
+use Rattle.std.proofs.Common.{◌≡◌, ℕ, ◌+◌, ◌-◌, ◌*◌, ◌/◌, ◌<◌, ◌≤◌, ◌⊎◌, inl, inr, Bool, true, false, ◌&&◌, ◌==◌, nat_lt, nat_le, Option, Some, None, option_map, refl, arith, max, min}
 use Rattle.std.specs.Int.{IsInRange}
 use Rattle.std.proofs.lemmas.Bool.{and_left, and_right}
 use Rattle.qz_civil.specs.declared.fields.DayField.TheVariants as days
 use Rattle.qz_civil.specs.declared.fields.WeekField.TheVariants as weeks
 use Rattle.qz_civil.specs.Fields.{has, in_days, in_week, nearest, weekday_at}
-use Rattle.qz_civil.specs.Least.{NoneIn, IsLeastIn, IsFirst}
+use Rattle.qz_civil.specs.Least.{NoneIn, IsFirst}
 use Rattle.qz_cron.specs.Search.{weekday_in}
 use Rattle.qz_cron.proofs.Firsts.{first_same, first_within}
 
 -- weekdays
-
-pub weekday_in-sum : (start d : ℕ) → 1 ≤ d → (start + d + 2) % 7 + 1 ≡ weekday_in start d
-weekday_in-sum start d some = let e : start + d - 1 + 3 ≡ start + d + 2 = omega arith in rw e refl
-
--- the first day from `low` on with weekday a
-abbrev pub first_weekday : ℕ → ℕ → ℕ → ℕ
-first_weekday start low a = low + (a + 7 - weekday_in start low) % 7
-
-weekday_in-first : (start low a : ℕ) → 1 ≤ low → IsInRange 1 7 a → weekday_in start (first_weekday start low a) ≡ a
-weekday_in-first start low a some h = omega (arith, h.0, h.1)
-
-not_before : (start low a k : ℕ) → 1 ≤ low → IsInRange 1 7 a → low ≤ k → k < first_weekday start low a → weekday_in start k ≡ a → ⊥
-not_before start low a k some h from to e = omega (arith, h.0, h.1)
 
 differs : (a b : ℕ) → (a ≡ b → ⊥) → (a == b) ≡ false
 differs a b h = grind arith
 
 same : (a b : ℕ) → a ≡ b → (a == b) ≡ true
 same a b h = grind arith
-
-pub first_is_weekday : (start low end a : ℕ) → 1 ≤ low → IsInRange 1 7 a → first_weekday start low a < end → IsLeastIn (λ d. weekday_in start d == a) low end (first_weekday start low a)
-first_is_weekday start low end a some h lt = record {
-  low = omega arith;
-  high = lt;
-  passes = same _ _ (weekday_in-first start low a some h);
-  none = λ k from to. differs _ _ (not_before start low a k some h from to);
-}
-
--- a week has each weekday at most once
-pub none_is_weekday : (start low end a : ℕ) → 1 ≤ low → IsInRange 1 7 a → end ≤ first_weekday start low a → NoneIn (λ d. weekday_in start d == a) low end
-none_is_weekday start low end a some h le k from to = differs _ _ (not_before start low a k some h from (omega arith))
-
-pub none_is_no_weekday : (start low end a : ℕ) → (a < 1) ⊎ (7 < a) → NoneIn (λ d. weekday_in start d == a) low end
-none_is_no_weekday start low end a (inl h) k from to = differs _ _ (λ e. omega arith)
-none_is_no_weekday start low end a (inr h) k from to = differs _ _ (λ e. omega arith)
 
 -- the day of the week
 

@@ -9,11 +9,11 @@ use crate::month::Month;
 use crate::months::next_month;
 use qz_civil::{CronFields, date_of, weekday_of};
 
-/// A day behind all that a local clock shows up to the end of 2099, counted from 1969-12-31.
+/// A day behind all that a local clock shows at a timestamp, counted from 1969-12-31.
 pub const END_DAY: u64 = 49000;
 
-#[tactic(auto, using(qz_civil::proofs::DateLemmas::date_facts))]
 // The number of the month in which the day lies.
+#[tactic(auto, using(qz_civil::proofs::DateLemmas::date_facts))]
 fn month_of(day: u64) -> u64
     requires { day ≤ END_DAY }
     ensures value { result ≡ month_number (date_after day) }
@@ -23,8 +23,8 @@ fn month_of(day: u64) -> u64
     u64::from(date.year) * 12 + u64::from(date.month) - 1
 }
 
-#[tactic(auto, using(qz_civil::proofs::DateLemmas::date_facts))]
 /// Whether the day meets the four fields.
+#[tactic(auto, using(qz_civil::proofs::DateLemmas::date_facts))]
 pub fn meets_day(fields: &CronFields, day: u64) -> bool
     requires { day ≤ END_DAY }
     ensures { result ≡ passes fields.now day }

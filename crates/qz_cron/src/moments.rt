@@ -9,16 +9,16 @@ ghost use Rattle.qz_cron.specs.Search.{IsShiftOf, Stays, meets_at, meets_second}
 use crate::seconds::{END_SECOND, next_second};
 use qz_civil::{CronFields, LAST, OFFSET_LIMIT, Zone};
 
-// How many seconds have a moment from 0 to LAST at their begin.
+// How many seconds begin at a timestamp from 0 to `LAST`.
 const SECONDS: u64 = 4_102_444_800;
 
-// A local clock is 18 hours behind UTC at most, or as many before it. Both are counted from 1970-01-01T00:00:00Z and
-// 1969-12-31T00:00:00, so that the local number is the greater one, by 6 to 42 hours.
+// A local clock is up to 18 hours from UTC, either way. It is counted from 1969-12-31T00:00:00 on and UTC from
+// 1970-01-01T00:00:00 on, so that its number is the greater one, by 6 to 42 hours.
 const LEAST_SHIFT: u64 = 21600;
 
 const GREATEST_SHIFT: u64 = 151_200;
 
-/// How far a local clock is ahead of UTC, and the first second behind those that it is so.
+// How far a local clock is ahead of UTC, and the first second behind those at which it is so.
 #[derive(Clone, Copy)]
 struct Span {
     shift: u64,
@@ -121,7 +121,7 @@ fn next_local(fields: &CronFields, sought: u64, found: Option<u64>, from: u64) -
     }
 }
 
-// What the local clock's next match is in a stretch that ends at `end`.
+// The match in UTC, where it comes before the end of the span.
 fn cut_at(found: Option<u64>, shift: u64, end: u64) -> Option<u64>
     requires shift { shift ≤ GREATEST_SHIFT }
     requires end { end ≤ SECONDS }
@@ -133,8 +133,8 @@ fn cut_at(found: Option<u64>, shift: u64, end: u64) -> Option<u64>
     }
 }
 
-// Where the search goes on behind a stretch without a match: before the second from which a local clock may show the
-// next match, whatever the stretches are, nothing is to be found.
+// Where the search goes on behind a span without a match: no clock shows the next match, whatever its stretches are,
+// until 42 hours before its number.
 fn resume(found: Option<u64>, shift: u64, start: u64, end: u64) -> u64
     requires shift { shift ≤ GREATEST_SHIFT }
     requires start { start ≤ end }
@@ -142,7 +142,7 @@ fn resume(found: Option<u64>, shift: u64, start: u64, end: u64) -> u64
     ensures low { end ≤ result }
     ensures none { (p q : ℕ → Bool) → IsShiftOf p q → IsFirst p (start + shift) END_SECOND found → NoneIn q start end → NoneIn q start result }
 {
-    // A fold may show local times from before `start` again.
+    // A fold may show local times again that come before those that were looked at.
     if end + LEAST_SHIFT < start + shift {
         return end;
     }
@@ -171,10 +171,9 @@ fn next_whole(fields: &CronFields, zone: &Zone, from: u64) -> Option<u64>
     None
 }
 
-/// The least whole second after `after` whose local time meets the fields, in ms since 1970-01-01T00:00:00Z, and
-/// `None` where none comes by LAST. In a gap of the zone no time matches; in a fold a time matches twice. No memory.
-///
-/// The rules of the fields are those of Quartz's CronExpression, read in the zone of the trigger.
+/// The least whole second after `after` whose local time meets the fields, in ms since 1970-01-01T00:00:00Z, and `None`
+/// where there is none up to `LAST`. A local time that a gap of the zone leaves out never comes, and one that a fold
+/// repeats comes twice. `after` is a timestamp or -1. No memory.
 pub fn next(fields: &CronFields, zone: &Zone, after: i64) -> Option<i64>
     requires low { negsuc 0 ≤ℤ after }
     requires high { after ≤ℤ LAST }

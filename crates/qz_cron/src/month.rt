@@ -7,7 +7,8 @@ ghost use Rattle.qz_civil.specs.Least.{IsFirst};
 ghost use Rattle.qz_cron.specs.Search.{first_of, meets_in_month, month_days, weekday_in};
 
 use crate::bits::next_bit;
-use crate::months::month_start;
+use crate::days::END_DAY;
+use crate::months::{END_MONTH, FIRST_MONTH, month_start};
 use qz_civil::{CronFields, DayField, WeekField, days_in_month, has};
 
 /// A month of the calendar. Its days are numbered from 1.
@@ -22,9 +23,9 @@ pub struct Month {
 }
 
 impl Month {
-    /// The month of that number, from January 1970 to December 2099. Months are counted from January of the year 0 on.
+    /// The month of that number, counted from January of the year 0 on.
     pub fn numbered(number: u64) -> Month
-        requires { IsInRange 23640 25199 number }
+        requires { IsInRange FIRST_MONTH (END_MONTH - 1) number }
         ensures start { date_of result.start ≡ first_of number }
         ensures length { result.length ≡ month_days number }
     {
@@ -162,9 +163,9 @@ impl Month {
         None
     }
 
-    /// The same among the days that are numbered as months' first days are.
+    /// The same among days that are counted from 1969-12-31 on.
     pub fn next_from(self, fields: &CronFields, from: u64) -> Option<u64>
-        requires { from ≤ 49000 }
+        requires { from ≤ END_DAY }
         ensures { IsFirst (λ k. meets_in_month fields.now self.length self.start (k + 1 - self.start)) (max from self.start) (self.start + self.length) result }
     {
         match self.next_day(fields, from.max(self.start) + 1 - self.start) {

@@ -39,8 +39,8 @@ fn next_in_hour_if(passes: bool, fields: &CronFields, from: u64) -> Option<u64>
     }
 }
 
-#[tactic(auto, unfolding(qz_civil::specs::Fields::meets_time))]
 /// The first second of the day from `from` on that meets the three fields on it.
+#[tactic(auto, unfolding(qz_civil::specs::Fields::meets_time))]
 pub fn next_time(fields: &CronFields, from: u64) -> Option<u64>
     requires { from < 86400 }
     ensures first { IsFirst (spec.meets_time fields.now) from 86400 result }
