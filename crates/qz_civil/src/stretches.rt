@@ -87,15 +87,12 @@ fn is_apart(before: Option<i64>, from: i64) -> bool
     }
 }
 
-// How many stretches have begun.
-#[tactic(auto, unfolding(crate::specs::Zones::begun))]
+// How many stretches have begun, found by halves.
 pub fn count_begun(stretches: &[Stretch], ms: i64) -> usize
+    requires { spec.bad_zone stretches.now ≡ None }
     ensures { result ≡ spec.begun stretches.now ms }
 {
-    stretches
-        .iter()
-        .take_while(|stretch| stretch.from <= ms)
-        .count()
+    stretches.partition_point(|stretch| stretch.from <= ms)
 }
 
 // The offset of the stretch at the place.

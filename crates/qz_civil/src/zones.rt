@@ -70,6 +70,7 @@ impl Zone {
     pub fn begun(&self, ms: i64) -> usize
         ensures { result ≡ spec.begun self.now ms }
     {
+        let _known = self.offset;
         match &self.table {
             Some(stretches) => count_begun(stretches.as_slice(), ms),
             None => if 0 <= ms { 1 } else { 0 },
@@ -107,6 +108,27 @@ impl Zone {
         let _known = self.offset;
         let place = self.begun(ms);
         self.start_of(place)
+    }
+
+    /// The offset at the timestamp and when the next stretch begins, as `offset_at` and `next_start` give them, in one
+    /// look-up. No memory.
+    pub fn offset_until(&self, ms: i64) -> (i32, Option<i64>)
+        ensures offset { result.0 ≡ spec.offset_at self.now ms }
+        ensures offset_low { neg_ℤ OFFSET_LIMIT ≤ℤ result.0 }
+        ensures offset_high { result.0 ≤ℤ OFFSET_LIMIT }
+        ensures later { IfSome result.1 (λ start. ms <ℤ start) }
+        ensures high { IfSome result.1 (λ start. start ≤ℤ LAST) }
+        // Until then the offset stays.
+        ensures stays { (t : ℤ) → ms ≤ℤ t → IfSome result.1 (λ start. t <ℤ start) → spec.offset_at self.now t ≡ spec.offset_at self.now ms }
+        // All offsets are within their limit.
+        ensures valid { spec.bad_zone self.now ≡ None }
+    {
+        let _known = self.offset;
+        let place = self.begun(ms);
+        (
+            self.offset_in(place.saturating_sub(1)),
+            self.start_of(place),
+        )
     }
 
     /// The local clock at the timestamp, in ms since 1969-12-31T00:00:00. No memory.

@@ -208,6 +208,8 @@ fn a_zone_has_at_most_512_stretches(rt: HostRuntime) -> Result<(), Fail> {
     let mut longer = list.clone()?;
     let zone = Zone::table(list)?;
     assert!(rt; zone.stretch_at(511 * 172800000 - 1) == 510 && zone.stretch_at(LAST) == 511);
+    assert_eq!(rt; zone.offset_until(172800000 - 1), (0, Some(172800000)));
+    assert_eq!(rt; zone.offset_until(LAST), (0, None));
     // The last one is bad too.
     longer.push(Stretch {
         from: -1,

@@ -1,0 +1,15 @@
+//! The next time that meets the fields of a cron text: the search goes field by field, so that no text makes it slow.
+#![tactic(auto)]
+
+mod bits;
+mod days;
+mod lengths;
+mod moments;
+mod month;
+mod months;
+mod seconds;
+#[cfg(test)]
+mod tests;
+mod times;
+
+pub use moments::next;
