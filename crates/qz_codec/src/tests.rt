@@ -1,5 +1,5 @@
 use super::*;
-use qz_types::{Actor, Command};
+use qz_types::{Actor, Command, Entry, List};
 use std::alloc::{AllocError, Global};
 use std::test::*;
 
@@ -107,24 +107,46 @@ const CLIENT_FIRE: &[u8; 23] = b"\x01\
     \x12\
     \x00\x00\x00\x00\x00\x00\x00\x01";
 
+// The place at which bytes are no record. An entry is let go here and nowhere else.
+fn place_of(alloc: Global, bytes: &[u8]) -> Option<u32> {
+    match get_command(alloc, bytes) {
+        Err(ReadError::BadRecord { at }) => Some(at),
+        Err(ReadError::NoMemory) | Ok(_) => None,
+    }
+}
+
+fn is_worked_example(entry: &Entry) -> bool {
+    entry.at == 1704067200000
+        && entry.seat == 0
+        && matches!(&entry.actor, Actor::Node(member) if member.epoch == 1 && member.node.as_str() == "A")
+        && matches!(entry.command, Command::Fire { entry: 1 })
+}
+
+fn reads_worked_example(alloc: Global) -> bool {
+    match get_command(alloc, FIRE) {
+        Ok(entry) => is_worked_example(&entry),
+        Err(_) => false,
+    }
+}
+
+// A record, read and written again.
+fn written_again(alloc: Global, record: &[u8]) -> Option<List<u8>> {
+    match get_command(alloc, record) {
+        Ok(entry) => put_command(alloc, &entry).ok(),
+        Err(_) => None,
+    }
+}
+
 #[test]
-fn worked_example(rt: HostRuntime) -> Result<(), Fail> {
-    let entry = get_command(rt.alloc(), FIRE).ok().ok_or("a record")?;
-    assert_eq!(rt; entry.at, 1704067200000);
-    assert!(rt;
-        matches!(&entry.actor, Actor::Node(member) if member.epoch == 1 && member.node.as_str() == "A")
-    );
-    assert_eq!(rt; entry.seat, 0);
-    assert!(rt; matches!(entry.command, Command::Fire { entry: 1 }));
-    Ok(())
+fn worked_example(rt: HostRuntime) {
+    assert!(rt; reads_worked_example(rt.alloc()));
 }
 
 #[test]
 fn each_command_both_ways(rt: HostRuntime) -> Result<(), Fail> {
     let records: [&[u8]; 6] = [FIRE, ADD_JOB, ADD_TRIGGER, JOIN, ACQUIRE, COMPLETE];
     for record in records {
-        let entry = get_command(rt.alloc(), record).ok().ok_or("a record")?;
-        let bytes = put_command(rt.alloc(), &entry).ok().ok_or("no memory")?;
+        let bytes = written_again(rt.alloc(), record).ok_or("a record")?;
         assert_eq!(rt; bytes.as_slice(), record);
     }
     Ok(())
@@ -135,8 +157,7 @@ fn cut_records(rt: HostRuntime) {
     let mut size = 0;
     for at in FIELDS {
         if size < FIRE.len() {
-            let read = get_command(rt.alloc(), &FIRE[..size]);
-            assert!(rt; matches!(read, Err(ReadError::BadRecord { at: found }) if found == at));
+            assert_eq!(rt; place_of(rt.alloc(), &FIRE[..size]), Some(at));
             size += 1;
         }
     }
@@ -284,11 +305,11 @@ const SPOILED: [Spoiled; 18] = [
 fn spoiled_records(rt: HostRuntime) -> Result<(), Fail> {
     for spoiled in &SPOILED {
         let bytes = spoil(rt.alloc(), spoiled)?;
-        let at = spoiled.at;
-        let read = get_command(rt.alloc(), &bytes);
-        assert!(rt;
-            matches!(read, Err(ReadError::BadRecord { at: found }) if found == at),
-            "at {at}"
+        assert_eq!(rt;
+            place_of(rt.alloc(), &bytes),
+            Some(spoiled.at),
+            "from {}",
+            spoiled.from
         );
     }
     Ok(())

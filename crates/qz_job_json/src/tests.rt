@@ -11,6 +11,11 @@ fn meaning(alloc: Global, line: &[u8]) -> Result<String, AllocError> {
     }
 }
 
+// What is wrong with a line. A step is let go here and nowhere else.
+fn fault_of(alloc: Global, line: &[u8]) -> Option<LineFault> {
+    read_step(alloc, line).err()
+}
+
 #[test]
 fn lines_are_steps(rt: HostRuntime) -> Result<(), Fail> {
     let table = [
@@ -108,7 +113,7 @@ fn faults_come_in_their_order(rt: HostRuntime) -> Result<(), Fail> {
     ];
     for (line, want) in table {
         assert_eq!(rt;
-            read_step(rt.alloc(), line.as_bytes()).err(),
+            fault_of(rt.alloc(), line.as_bytes()),
             Some(want),
             "at {line}"
         );
@@ -132,11 +137,7 @@ fn numbers_have_64_bits(rt: HostRuntime) -> Result<(), Fail> {
     ];
     for (number, want) in table {
         let line = format!(in alloc; "{{\"do\":\"join\",\"node\":\"A\",\"at\":{number}}}")?;
-        assert_eq!(rt;
-            read_step(alloc, line.as_bytes()).err(),
-            want,
-            "at {number}"
-        );
+        assert_eq!(rt; fault_of(alloc, line.as_bytes()), want, "at {number}");
     }
     Ok(())
 }
@@ -152,7 +153,7 @@ fn row(alloc: Global, byte: u8, count: usize) -> Result<Vec<u8>, AllocError> {
 
 fn fault_of_row(alloc: Global, byte: u8, count: usize) -> Result<Option<LineFault>, AllocError> {
     let bytes = row(alloc, byte, count)?;
-    Ok(read_step(alloc, &bytes).err())
+    Ok(fault_of(alloc, &bytes))
 }
 
 #[test]
@@ -168,7 +169,7 @@ fn lengths_have_limits(rt: HostRuntime) -> Result<(), Fail> {
 fn fault_of_nested(alloc: Global, depth: usize) -> Result<Option<LineFault>, AllocError> {
     let mut bytes = row(alloc, b'[', depth)?;
     bytes.extend_from_slice(&row(alloc, b']', depth)?)?;
-    Ok(read_step(alloc, &bytes).err())
+    Ok(fault_of(alloc, &bytes))
 }
 
 #[test]
@@ -184,7 +185,7 @@ fn fault_of_node(alloc: Global, count: usize) -> Result<Option<LineFault>, Alloc
     line.extend_from_slice(b"\"}")?;
     let mut bytes = Vec::from_slice(alloc, b"{\"do\":\"join\",\"node\":\"")?;
     bytes.extend_from_slice(&line)?;
-    Ok(read_step(alloc, &bytes).err())
+    Ok(fault_of(alloc, &bytes))
 }
 
 #[test]

@@ -16,74 +16,109 @@ fn key(alloc: Global, group: &str, name: &str) -> Result<Key, AllocError>
     })
 }
 
+// The line of a reply, which is let go here and nowhere else.
+fn line_of(alloc: Global, reply: StepReply) -> Result<Text, NoMemory> {
+    reply_line(alloc, &reply)
+}
+
+fn refused(alloc: Global, refusal: Refusal) -> Result<Text, NoMemory> {
+    line_of(alloc, StepReply::Refused(refusal))
+}
+
 #[test]
-fn replies_without_lists(rt: HostRuntime) -> Result<(), Fail> {
-    let table = [
-        (StepReply::Ok(Reply::Done), "ok\n"),
-        (
-            StepReply::Ok(Reply::Added {
-                next: 1704067200000,
-            }),
-            "ok next 1704067200000\n",
-        ),
-        (
-            StepReply::Ok(Reply::Joined {
-                epoch: 1,
-                executions: 20,
-                triggers: 3,
-            }),
-            "joined 1 executions 20 triggers 3\n",
-        ),
-        (
-            StepReply::Ok(Reply::Completed { entry: u64::MAX }),
-            "completed 18446744073709551615\n",
-        ),
-        (StepReply::Refused(Refusal::Unbuilt), "refused 0\n"),
-        (
-            StepReply::Refused(Refusal::Fenced { live: Some(7) }),
-            "refused 1 live 7\n",
-        ),
-        (
-            StepReply::Refused(Refusal::Fenced { live: None }),
-            "refused 1 live none\n",
-        ),
-        (StepReply::Refused(Refusal::UnknownJob), "refused 3\n"),
-        (StepReply::Refused(Refusal::UnknownEntry), "refused 15\n"),
-        (
-            StepReply::Refused(Refusal::Early { next: -1 }),
-            "refused 19 next -1\n",
-        ),
-        (StepReply::Stopped, "stopped\n"),
-    ];
-    for (reply, want) in &table {
-        let line = reply_line(rt.alloc(), reply)?;
-        assert_eq!(rt; line.as_str(), *want);
-    }
+fn replies_have_their_lines(rt: HostRuntime) -> Result<(), Fail> {
+    let alloc = rt.alloc();
+    let next = 1704067200000;
+    let joined = Reply::Joined {
+        epoch: 1,
+        executions: 20,
+        triggers: 3,
+    };
+    let completed = Reply::Completed { entry: u64::MAX };
+    assert_eq!(rt;
+        line_of(alloc, StepReply::Ok(Reply::Done))?.as_str(),
+        "ok\n"
+    );
+    assert_eq!(rt;
+        line_of(alloc, StepReply::Ok(Reply::Added { next }))?.as_str(),
+        "ok next 1704067200000\n"
+    );
+    assert_eq!(rt;
+        line_of(alloc, StepReply::Ok(joined))?.as_str(),
+        "joined 1 executions 20 triggers 3\n"
+    );
+    assert_eq!(rt;
+        line_of(alloc, StepReply::Ok(completed))?.as_str(),
+        "completed 18446744073709551615\n"
+    );
+    assert_eq!(rt; line_of(alloc, StepReply::Fault)?.as_str(), "fault\n");
+    assert_eq!(rt; line_of(alloc, StepReply::Closed)?.as_str(), "closed\n");
+    assert_eq!(rt; line_of(alloc, StepReply::Stopped)?.as_str(), "stopped\n");
+    Ok(())
+}
+
+#[test]
+fn refusals_have_their_lines(rt: HostRuntime) -> Result<(), Fail> {
+    let alloc = rt.alloc();
+    assert_eq!(rt; refused(alloc, Refusal::Unbuilt)?.as_str(), "refused 0\n");
+    assert_eq!(rt;
+        refused(alloc, Refusal::Fenced { live: Some(7) })?.as_str(),
+        "refused 1 live 7\n"
+    );
+    assert_eq!(rt;
+        refused(alloc, Refusal::Fenced { live: None })?.as_str(),
+        "refused 1 live none\n"
+    );
+    assert_eq!(rt;
+        refused(alloc, Refusal::UnknownJob)?.as_str(),
+        "refused 3\n"
+    );
+    assert_eq!(rt;
+        refused(alloc, Refusal::UnknownEntry)?.as_str(),
+        "refused 15\n"
+    );
+    assert_eq!(rt;
+        refused(alloc, Refusal::Early { next: -1 })?.as_str(),
+        "refused 19 next -1\n"
+    );
     Ok(())
 }
 
 #[test]
 fn acquired_keys_are_escaped(rt: HostRuntime) -> Result<(), Fail> {
     let alloc = rt.alloc();
-    let mut taken = List::new(alloc);
-    let none = reply_line(alloc, &StepReply::Ok(Reply::Acquired(List::new(alloc))))?;
-    assert_eq!(rt; none.as_str(), "acquired none\n");
-    taken.push(Taken {
-        entry: 2,
-        trigger: key(alloc, "a/b", "50% é")?,
-        next: 5,
-    })?;
-    taken.push(Taken {
-        entry: 1,
-        trigger: key(alloc, "!~", "\u{7f}\n")?,
-        next: 4,
-    })?;
-    let line = reply_line(alloc, &StepReply::Ok(Reply::Acquired(taken)))?;
+    let none = Reply::Acquired(List::new(alloc));
     assert_eq!(rt;
-        line.as_str(),
+        line_of(alloc, StepReply::Ok(none))?.as_str(),
+        "acquired none\n"
+    );
+    let two = Reply::Acquired(two_taken(alloc)?);
+    assert_eq!(rt;
+        line_of(alloc, StepReply::Ok(two))?.as_str(),
         "acquired 2 a%2Fb/50%25%20%C3%A9 5 1 !~/%7F%0A 4\n"
     );
     Ok(())
+}
+
+fn two_taken(alloc: Global) -> Result<List<Taken>, NoMemory> {
+    let mut taken = List::new(alloc);
+    taken.push(taken_one(alloc, 2, "a/b", "50% é", 5)?)?;
+    taken.push(taken_one(alloc, 1, "!~", "\u{7f}\n", 4)?)?;
+    Ok(taken)
+}
+
+fn taken_one(
+    alloc: Global,
+    entry: u64,
+    group: &str,
+    name: &str,
+    next: i64,
+) -> Result<Taken, AllocError> {
+    Ok(Taken {
+        entry,
+        trigger: key(alloc, group, name)?,
+        next,
+    })
 }
 
 fn fired(alloc: Global, next: Option<i64>) -> Result<Text, NoMemory> {
@@ -96,9 +131,9 @@ fn fired(alloc: Global, next: Option<i64>) -> Result<Text, NoMemory> {
         payload: Text::new(alloc),
     };
     let trigger = key(alloc, "DEFAULT", "t1")?;
-    reply_line(
+    line_of(
         alloc,
-        &StepReply::Ok(Reply::Fired {
+        StepReply::Ok(Reply::Fired {
             entry: 1,
             scheduled: 10,
             fired: 12,
