@@ -80,7 +80,7 @@ fields_are w f e =
       years = years_are w.years y.value y.is;
       one_named = checked.one_named;
     } in
-    subst (λ (g : CronFields). AreFields w g) checked.same are
+    subst (λ (g : CronFields). AreFields w g) {x = given s.value m.value h.value d.value i.value k.value y.value} checked.same are
 
 fields_read : (w : Whole) (f : CronFields) → AreFields w f → fields_of w ≡ Ok f
 unfolding fields_of

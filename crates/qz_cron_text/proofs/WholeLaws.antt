@@ -1,5 +1,5 @@
 -- Whole texts: reading them agrees with the grammar.
-use Rattle.std.proofs.Common.{◌≡◌, ◌∙◌, ap, sym, refl, subst, ℕ, Bool, true, false, cond, List, [], ◌∷◌, map, inl, inr}
+use Rattle.std.proofs.Common.{◌≡◌, ◌<◌, arith, length, ◌∙◌, ap, sym, refl, subst, ℕ, Bool, true, false, cond, List, [], ◌∷◌, map, inl, inr}
 use Rattle.std.specs.Prelude.{Option, Some, None, Result, Ok, Err, ◌&&◌, not}
 use Rattle.std.specs.Option.{option_map}
 use Rattle.qz_civil.specs.declared.fields.Field.{Field}
@@ -327,33 +327,35 @@ pub record IsWhole (found : ℕ) (ps : List Placed) (a b c d i f : List ℕ) (ye
   pub week : whole.week.text ≡ f
   pub years_text : text_in whole.years ≡ years
 
-extended : {ps qs rs : List Placed} {p : Placed} → ps ≡ p ∷ qs → qs ≡ rs → ps ≡ p ∷ rs
-extended first others = cc
+too_few : (ps : List Placed) (texts : List (List ℕ)) → map text_of ps ≡ texts → length ps < length texts → ⊥
+too_few ps texts e less = omega (arith, less, length-map ps, ap (λ (ts : List (List ℕ)). length ts) e)
+  where
+    length-map : (qs : List Placed) → length (map text_of qs) ≡ length qs
+    length-map [] = refl
+    length-map (q ∷ qs) = grind (arith, length-map qs)
 
 pub whole_read : (found : ℕ) (ps : List Placed) (a b c d i f : List ℕ) (years : Option (List ℕ)) → map text_of ps ≡ a ∷ b ∷ c ∷ d ∷ i ∷ f ∷ years_list years
     → IsWhole found ps a b c d i f years
-whole_read found ps a b c d i f years e =
-    let p1 : HasText ps a (b ∷ c ∷ d ∷ i ∷ f ∷ years_list years) = has_text ps a (b ∷ c ∷ d ∷ i ∷ f ∷ years_list years) e in
-    let p2 : HasText p1.others b (c ∷ d ∷ i ∷ f ∷ years_list years) = has_text p1.others b (c ∷ d ∷ i ∷ f ∷ years_list years) p1.other_texts in
-    let p3 : HasText p2.others c (d ∷ i ∷ f ∷ years_list years) = has_text p2.others c (d ∷ i ∷ f ∷ years_list years) p2.other_texts in
-    let p4 : HasText p3.others d (i ∷ f ∷ years_list years) = has_text p3.others d (i ∷ f ∷ years_list years) p3.other_texts in
-    let p5 : HasText p4.others i (f ∷ years_list years) = has_text p4.others i (f ∷ years_list years) p4.other_texts in
-    let p6 : HasText p5.others f (years_list years) = has_text p5.others f (years_list years) p5.other_texts in
-    let y : HasYears p6.others years = has_years p6.others years p6.other_texts in
-    let from_six : p5.others ≡ p6.first ∷ p6.others = p6.is in
-    let from_five : p4.others ≡ p5.first ∷ p6.first ∷ p6.others = extended p5.is from_six in
-    let from_four : p3.others ≡ p4.first ∷ p5.first ∷ p6.first ∷ p6.others = extended p4.is from_five in
-    let from_three : p2.others ≡ p3.first ∷ p4.first ∷ p5.first ∷ p6.first ∷ p6.others = extended p3.is from_four in
-    let from_two : p1.others ≡ p2.first ∷ p3.first ∷ p4.first ∷ p5.first ∷ p6.first ∷ p6.others = extended p2.is from_three in
-    let all : ps ≡ p1.first ∷ p2.first ∷ p3.first ∷ p4.first ∷ p5.first ∷ p6.first ∷ p6.others = extended p1.is from_two in
-    record {
-      whole = six_and y.field p1.first p2.first p3.first p4.first p5.first p6.first;
-      is = ap (λ (qs : List Placed). whole_by found qs) all ∙ y.is_six p1.first p2.first p3.first p4.first p5.first p6.first found;
-      seconds = p1.first_text;
-      minutes = p2.first_text;
-      hours = p3.first_text;
-      day = p4.first_text;
-      months = p5.first_text;
-      week = p6.first_text;
+whole_read found [] a b c d i f years e = absurd (too_few [] _ e (grind arith))
+whole_read found (p ∷ []) a b c d i f years e = absurd (too_few (p ∷ []) _ e (grind arith))
+whole_read found (p ∷ q ∷ []) a b c d i f years e = absurd (too_few (p ∷ q ∷ []) _ e (grind arith))
+whole_read found (p ∷ q ∷ r ∷ []) a b c d i f years e = absurd (too_few (p ∷ q ∷ r ∷ []) _ e (grind arith))
+whole_read found (p ∷ q ∷ r ∷ s ∷ []) a b c d i f years e = absurd (too_few (p ∷ q ∷ r ∷ s ∷ []) _ e (grind arith))
+whole_read found (p ∷ q ∷ r ∷ s ∷ t ∷ []) a b c d i f years e = absurd (too_few (p ∷ q ∷ r ∷ s ∷ t ∷ []) _ e (grind arith))
+whole_read found (p ∷ q ∷ r ∷ s ∷ t ∷ u ∷ ps) a b c d i f years e = with_years (has_years ps years rest)
+  where
+    rest : map text_of ps ≡ years_list years
+    rest = cc
+
+    with_years : HasYears ps years → IsWhole found (p ∷ q ∷ r ∷ s ∷ t ∷ u ∷ ps) a b c d i f years
+    with_years y = record {
+      whole = six_and y.field p q r s t u;
+      is = y.is_six p q r s t u found;
+      seconds = cc;
+      minutes = cc;
+      hours = cc;
+      day = cc;
+      months = cc;
+      week = cc;
       years_text = y.text;
     }

@@ -164,8 +164,8 @@ fn push_fields(text: &mut String, fields: &CronFields) -> Result<(), AllocError>
 }
 
 /// The canonical text: single spaces, a set as `*` where it has each value and else as its ascending values, weekdays and
-/// months as numbers, and no year field where all years are meant. Where the fields have a bit beyond a field's values,
-/// it isn't printed.
+/// months as numbers, and no year field where all years are meant. Fields that no text says, as those with an empty set,
+/// are printed too, but the text doesn't say them.
 pub fn print(alloc: Global, fields: &CronFields) -> Result<Text, NoMemory>
     ensures text { IfOk result (λ text. text ≡ canonical_text fields.now) }
     // Valid fields are read again.
