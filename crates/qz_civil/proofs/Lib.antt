@@ -1,4 +1,5 @@
 pub mod DateLemmas
+pub mod FieldLaws
 pub mod InstantLemmas
 pub mod ZoneLaws
 pub mod ZoneLemmas
