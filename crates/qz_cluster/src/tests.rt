@@ -1,9 +1,10 @@
 //! Steps over a disk that fails.
 ghost use Rattle.std.specs.Prelude.{IsTrue, IfOk};
+ghost use Rattle.qz_types.specs.Rows.{is_node};
 ghost use Rattle.qz_types.specs.Steps.{is_step};
 
 use crate::{Cluster, StepEnd};
-use qz_disk::{FaultDisk, MemDisk};
+use qz_disk::{Disk, FaultDisk, MemDisk};
 use qz_journal::{TRIGGERS, create};
 use qz_types::{Command, List, Step, StepReply, Text};
 use std::alloc::{AllocError, Global};
@@ -31,7 +32,10 @@ fn reason(answer: Result<StepReply, StepEnd>) -> Came {
     }
 }
 
-fn join(alloc: Global, name: &str) -> Result<Step, AllocError> {
+fn join(alloc: Global, name: &str) -> Result<Step, AllocError>
+    requires { IsTrue (is_node name.now) }
+    ensures { IfOk result (λ step. IsTrue (is_step step)) }
+{
     let node = Text::from_str(alloc, name)?;
     Ok(Step::Join {
         node,
@@ -39,7 +43,10 @@ fn join(alloc: Global, name: &str) -> Result<Step, AllocError> {
     })
 }
 
-fn fire(alloc: Global, name: &str) -> Result<Step, AllocError> {
+fn fire(alloc: Global, name: &str) -> Result<Step, AllocError>
+    requires { IsTrue (is_node name.now) }
+    ensures { IfOk result (λ step. IsTrue (is_step step)) }
+{
     let node = Text::from_str(alloc, name)?;
     Ok(Step::Node {
         node,
@@ -56,21 +63,49 @@ fn failing_disk(alloc: Global) -> Result<FaultDisk<MemDisk>, Fail> {
     Ok(FaultDisk::new(disk, List::from_vec(failing)))
 }
 
+// Lets a value go. The cases of its drop are looked at here and nowhere else.
+fn let_go<T: Drop>(_value: T) {}
+
+fn answered<D: Disk>(cluster: &mut Cluster<D>, step: Step) -> Came
+    requires { IsTrue (is_step step) }
+{
+    reason(cluster.step(step, 5))
+}
+
+// A node that joins and finds nothing to fire, and one that never joined.
+fn begins<D: Disk>(alloc: Global, cluster: &mut Cluster<D>) -> Result<bool, AllocError> {
+    let joined = answered(cluster, join(alloc, "A")?);
+    let stranger = answered(cluster, fire(alloc, "B")?);
+    let refused = answered(cluster, fire(alloc, "A")?);
+    Ok(joined == Came::Accepted && stranger == Came::Stopped && refused == Came::Refused)
+}
+
+// A step whose disk fails, and one behind it.
+fn fails<D: Disk>(alloc: Global, cluster: &mut Cluster<D>) -> Result<bool, AllocError> {
+    let failed = answered(cluster, join(alloc, "B")?);
+    let closed = answered(cluster, fire(alloc, "B")?);
+    Ok(failed == Came::Failed && closed == Came::Closed)
+}
+
+// Whether the second commit's fault closes the store.
+fn is_closed_by_a_fault(alloc: Global, disk: FaultDisk<MemDisk>) -> bool {
+    match Cluster::mount(alloc, disk) {
+        Ok(mut cluster) => {
+            let begun = matches!(begins(alloc, &mut cluster), Ok(true)) && !cluster.closed();
+            let failed = matches!(fails(alloc, &mut cluster), Ok(true)) && cluster.closed();
+            let_go(cluster.into_disk());
+            begun && failed
+        }
+        Err(error) => {
+            let_go(error);
+            false
+        }
+    }
+}
+
 #[test]
 fn a_fault_closes_the_store(rt: HostRuntime) -> Result<(), Fail> {
-    let alloc = rt.alloc();
-    let opened = Cluster::mount(alloc, failing_disk(alloc)?).ok();
-    let mut cluster = opened.expect(&rt, "it opens");
-    let first = reason(cluster.step(join(alloc, "A")?, 5));
-    let early = reason(cluster.step(fire(alloc, "B")?, 5));
-    let refused = reason(cluster.step(fire(alloc, "A")?, 5));
-    let second = reason(cluster.step(join(alloc, "B")?, 5));
-    let third = reason(cluster.step(fire(alloc, "B")?, 5));
-    assert!(rt; first == Came::Accepted);
-    assert!(rt; early == Came::Stopped);
-    assert!(rt; refused == Came::Refused);
-    assert!(rt; second == Came::Failed);
-    assert!(rt; third == Came::Closed);
-    assert!(rt; cluster.closed());
+    let disk = failing_disk(rt.alloc())?;
+    assert!(rt; is_closed_by_a_fault(rt.alloc(), disk));
     Ok(())
 }
