@@ -1,6 +1,10 @@
 pub mod DateLemmas
+pub mod EarliestLemmas
 pub mod FieldLaws
+pub mod HalvingLemmas
 pub mod InstantLemmas
+pub mod MonthLemmas
+pub mod StepLemmas
+pub mod TurnLemmas
 pub mod ZoneLaws
 pub mod ZoneLemmas
-pub mod HalvingLemmas

@@ -1,7 +1,10 @@
 pub mod Causes
 pub mod Dates
+pub mod Earliest
 pub mod Fields
 pub mod Instants
 pub mod Least
+pub mod Months
 pub mod Timings
+pub mod Turns
 pub mod Zones

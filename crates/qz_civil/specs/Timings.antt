@@ -1,10 +1,13 @@
 -- Which kinds and timings are valid. Times are in ms.
-use Rattle.std.specs.Prelude.{ℤ, pos, negsuc, Bool, true, ◌&&◌, ◌||◌, int_le, Option, Some, None}
+use Rattle.std.specs.Prelude.{ℕ, ◌*◌, ◌^◌, ℤ, pos, negsuc, Bool, true, ◌&&◌, ◌||◌, nat_lt, nat_le, int_le, List, length, Option, Some, None}
 use Rattle.std.specs.Ordering.{int_eq}
-use Rattle.qz_civil.specs.declared.limits.TheConstants.{LAST, LONGEST}
+use Rattle.qz_civil.specs.declared.limits.TheConstants.{LAST, LONGEST, NAME_LIMIT}
 use Rattle.qz_civil.specs.declared.timings.Kind.{Kind}
-use Rattle.qz_civil.specs.declared.timings.Kind.TheVariants.{Simple}
+use Rattle.qz_civil.specs.declared.timings.Kind.TheVariants.{Simple, Cron, Interval, Daily}
 use Rattle.qz_civil.specs.declared.timings.Timing.{Timing}
+use Rattle.qz_civil.specs.declared.timings.Unit.{Unit}
+use Rattle.qz_civil.specs.declared.timings.Unit.TheVariants.{Second, Minute, Hour, Day, Week, Month, Year}
+use Rattle.qz_civil.specs.Fields.{is_cron_fields}
 
 -- from low to high, both included
 abbrev pub is_within : ℤ → ℤ → ℤ → Bool
@@ -18,15 +21,51 @@ is_timestamp t = is_within (pos 0) LAST t
 abbrev pub is_span : ℤ → Bool
 is_span t = is_within (pos 0) LONGEST t
 
+-- a group, name, class, calendar or zone name
+abbrev pub is_name : List ℕ → Bool
+is_name s = nat_lt 0 (length s) && nat_le (length s) NAME_LIMIT
+
+-- the units that always have as many seconds; 0 for the others
+unfoldable pub seconds : Unit → ℕ
+seconds Second = 1
+seconds Minute = 60
+seconds Hour = 3600
+seconds Day = 0
+seconds Week = 0
+seconds Month = 0
+seconds Year = 0
+
 -- once, or with an interval of at least 1 ms and a count from -1 (without end) to 2147483647
-abbrev pub is_kind : Kind → Bool
-is_kind (Simple interval count) =
+abbrev pub is_simple : ℤ → ℤ → Bool
+is_simple interval count =
     (int_eq interval (pos 0) && int_eq count (pos 0))
     || (is_within (pos 1) LONGEST interval && is_within (negsuc 0) (pos 2147483647) count)
+
+-- at least one unit, and no more than 2147483647
+abbrev pub is_every : ℕ → Bool
+is_every every = nat_le 1 every && nat_le every 2147483647
+
+-- a step of a second to a day, from one second of the day to a later one or the same
+abbrev pub is_daily_time : Unit → ℕ → ℕ → ℕ → Bool
+is_daily_time unit every from to =
+    (nat_le 1 (every * seconds unit) && nat_le (every * seconds unit) 86400) && (nat_le from to && nat_lt to 86400)
+
+-- some of the seven days
+abbrev pub is_day_set : ℕ → Bool
+is_day_set days = nat_lt 0 days && nat_lt days (2 ^ 7)
+
+abbrev pub is_kind : Kind → Bool
+is_kind (Simple interval count) = is_simple interval count
+is_kind (Cron fields zone) = is_cron_fields fields && is_name zone
+is_kind (Interval unit every zone) = is_every every && is_name zone
+is_kind (Daily unit every from to days zone) = is_daily_time unit every from to && (is_day_set days && is_name zone)
 
 -- the misfire instructions of a kind
 abbrev pub is_misfire : Kind → ℤ → Bool
 is_misfire (Simple interval count) code = is_within (negsuc 0) (pos 5) code
+is_misfire (Cron fields zone) code = is_within (negsuc 0) (pos 2) code
+is_misfire (Interval unit every zone) code = is_within (negsuc 0) (pos 2) code
+is_misfire (Daily unit every from to days zone) code = is_within (negsuc 0) (pos 2) code
 
 abbrev pub is_end : Option ℤ → Bool
 is_end None = true

@@ -4,25 +4,34 @@
 #![tactic(auto)]
 
 mod dates;
+mod earliest;
 mod failures;
+mod field_rules;
 mod fields;
 mod limits;
 mod lists;
+mod spans;
 mod stretches;
 #[cfg(test)]
 mod tests;
 mod texts;
 mod times;
 mod timings;
+mod turns;
 mod zones;
 
 pub use dates::{Civil, Date, date_of, day_of, days_in_month, weekday_of};
 pub use failures::{Failed, NoMemory};
+pub use field_rules::is_year_set;
 pub use fields::{CronFields, DayField, Field, WeekField, has};
-pub use limits::{LAST, LAST_DAY, LAST_YEAR, LONGEST, OFFSET_LIMIT, STRETCH_LENGTH, STRETCH_LIMIT};
+pub use limits::{
+    LAST, LAST_DAY, LAST_YEAR, LONGEST, NAME_LIMIT, OFFSET_LIMIT, STRETCH_LENGTH, STRETCH_LIMIT,
+};
 pub use lists::List;
+pub use spans::{GREATEST_SHIFT, SECONDS, Span, second_from};
 pub use stretches::{BadZone, Stretch};
 pub use texts::Text;
 pub use times::Times;
-pub use timings::{Kind, Timing};
+pub use timings::{Kind, Timing, Unit};
+pub use turns::{Turn, cut, first_turn, natural};
 pub use zones::Zone;

@@ -1,4 +1,7 @@
-//! Limits on timestamps, spans of time, years and zones.
+//! Limits on names, timestamps, spans of time, years and zones.
+
+/// Bytes of a group, name, class, calendar or zone name, which has at least one.
+pub const NAME_LIMIT: u64 = 200;
 
 /// The last timestamp that the scheduler knows, 2099-12-31T23:59:59.999Z, in ms since 1970-01-01T00:00:00Z.
 pub const LAST: i64 = 4102444799999;

@@ -1,5 +1,6 @@
 //! Lists and texts on their happy path; the tables of zones and fields.
 mod fields;
+mod rules;
 mod zones;
 
 use crate::{List, NoMemory, Text};

@@ -1,14 +1,73 @@
 //! When a trigger fires.
+ghost use Rattle.std.specs.Prelude.{◌≡◌};
+ghost use Rattle.qz_civil.specs.Timings as spec;
 
-/// A trigger's kind, which gives its schedule.
+use crate::fields::CronFields;
+use crate::texts::Text;
+use std::alloc::AllocError;
+
+/// What an interval is counted in, as Quartz's `DateBuilder.IntervalUnit`.
 #[derive(Clone, Copy, PartialEq, Eq, Debug)]
+pub enum Unit {
+    Second,
+    Minute,
+    Hour,
+    Day,
+    Week,
+    Month,
+    Year,
+}
+
+impl Unit {
+    /// How many seconds it has, where it has always as many as a second, a minute or an hour; otherwise 0. No memory.
+    #[tactic(auto, unfolding(crate::specs::Timings::seconds))]
+    pub fn seconds(self) -> u64
+        ensures { result ≡ spec.seconds self }
+    {
+        match self {
+            Unit::Second => 1,
+            Unit::Minute => 60,
+            Unit::Hour => 3600,
+            Unit::Day | Unit::Week | Unit::Month | Unit::Year => 0,
+        }
+    }
+}
+
+/// A trigger's kind, which gives its schedule. Zones are named: `UTC`, or a zone that is stored.
+#[derive(Debug, Drop)]
 pub enum Kind {
     /// Fires at the start and then every `interval` ms, `count` times more; -1 is without end.
-    Simple { interval: i64, count: i64 },
+    Simple {
+        interval: i64,
+        count: i64,
+    },
+    /// Fires at the seconds whose local time meets the fields.
+    Cron {
+        fields: CronFields,
+        zone: Text,
+    },
+    /// Fires at the start and then every so many units, as the zone's calendar counts them.
+    Interval {
+        unit: Unit,
+        every: u32,
+        zone: Text,
+    },
+    /// Fires on the chosen days at `from` and then every so many seconds, minutes or hours up to `to`.
+    Daily {
+        unit: Unit,
+        every: u32,
+        /// A second of the day.
+        from: u32,
+        /// A second of the day, at which it still fires.
+        to: u32,
+        /// Bit 0 is Sunday.
+        days: u8,
+        zone: Text,
+    },
 }
 
 /// A trigger's schedule with its bounds, and what is done about a firing that was missed.
-#[derive(Clone, Copy, PartialEq, Eq, Debug)]
+#[derive(Debug, Drop)]
 pub struct Timing {
     pub kind: Kind,
     /// The misfire instruction: -1 ignores misfires, 0 chooses by the kind, and the others are the kind's own.
@@ -17,4 +76,54 @@ pub struct Timing {
     pub start: i64,
     /// In ms since 1970-01-01T00:00:00Z.
     pub end: Option<i64>,
+}
+
+impl Clone for Kind {
+    ghost is_clone = { λ a b. b ≡ a };
+
+    fn clone(&self) -> Result<Self, AllocError> {
+        Ok(match self {
+            Kind::Simple { interval, count } => Kind::Simple {
+                interval: *interval,
+                count: *count,
+            },
+            Kind::Cron { fields, zone } => Kind::Cron {
+                fields: *fields,
+                zone: zone.clone()?,
+            },
+            Kind::Interval { unit, every, zone } => Kind::Interval {
+                unit: *unit,
+                every: *every,
+                zone: zone.clone()?,
+            },
+            Kind::Daily {
+                unit,
+                every,
+                from,
+                to,
+                days,
+                zone,
+            } => Kind::Daily {
+                unit: *unit,
+                every: *every,
+                from: *from,
+                to: *to,
+                days: *days,
+                zone: zone.clone()?,
+            },
+        })
+    }
+}
+
+impl Clone for Timing {
+    ghost is_clone = { λ a b. b ≡ a };
+
+    fn clone(&self) -> Result<Self, AllocError> {
+        Ok(Timing {
+            kind: self.kind.clone()?,
+            misfire: self.misfire,
+            start: self.start,
+            end: self.end,
+        })
+    }
 }

@@ -113,7 +113,7 @@ fn list_of(alloc: Global, stretches: &[Begin]) -> Result<List<Stretch>, Fail> {
     Ok(list)
 }
 
-// Each local time has the row's timestamps, and each of these shows it.
+// Each local time has the row's timestamps, of which the first is its earliest, and the last shows it.
 fn find(rt: &impl Abort, zone: &Zone, rows: &[Row]) {
     for &((year, month, day, weekday, second), first, last) in rows.iter() {
         let civil = Civil {
@@ -128,6 +128,7 @@ fn find(rt: &impl Abort, zone: &Zone, rows: &[Row]) {
         if let Some(ms) = last.or(first) {
             assert!(rt; 0 <= ms && ms <= LAST);
             assert_eq!(rt; zone.civil(ms), civil);
+            assert_eq!(rt; zone.earliest_at(zone.local(ms)), first);
         }
     }
 }

@@ -1,0 +1,3 @@
+pub mod DayTimes
+pub mod LocalSeconds
+pub mod Fires

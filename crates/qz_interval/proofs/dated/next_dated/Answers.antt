@@ -1,0 +1,23 @@
+use Rattle.std.proofs.Common.{◌≡◌, ◌∙◌, arith, rules, pos, w64, FitsSigned}
+use Rattle.std.proofs.lemmas.Int.{ints, to_z-of_z}
+use Rattle.qz_interval.proofs.DatedLemmas.{turn_next, turn_none}
+use Rattle.qz_interval.proofs.dated.next_dated.Goals as goal
+
+pub returns-in-Some : goal.returns-in-Some
+returns-in-Some c =
+    let f : FitsSigned w64 c.in-Some.ms = search rules in
+    let start = to_z-of_z w64 c.args.start c.ranges.start in
+    let after = to_z-of_z w64 c.args.after c.ranges.after in
+    let ms = to_z-of_z w64 c.in-Some.ms f in
+    let clock = rw start at c.clock_of.ensures.value in
+    let same = rw clock at c.from_clock.ensures in
+    let natural : pos c.natural-in-Some.result ≡ c.in-Some.ms = c.natural-in-Some.ensures.value ∙ ms in
+    turn_next c.args.zone.now _ _ c.args.start c.args.end c.args.after c.in-Some.ms c.natural-in-Some.result c.cut-in-Some.result same (omega (arith, ints)) natural (rw after at c.in-Some.ensures) c.cut-in-Some.ensures.kept c.cut-in-Some.ensures.gone
+
+pub returns-in-None : goal.returns-in-None
+returns-in-None c =
+    let start = to_z-of_z w64 c.args.start c.ranges.start in
+    let after = to_z-of_z w64 c.args.after c.ranges.after in
+    let clock = rw start at c.clock_of.ensures.value in
+    let same = rw clock at c.from_clock.ensures in
+    turn_none c.args.zone.now _ _ c.args.start c.args.end c.args.after same (omega (arith, ints)) (rw after at c.in-None.ensures)

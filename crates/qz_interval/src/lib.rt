@@ -1,0 +1,14 @@
+//! The fire times of a calendar-interval trigger: even steps of the clock or of the calendar, as of Quartz's
+//! `CalendarIntervalTrigger`.
+#![tactic(auto)]
+
+mod dated;
+mod intervals;
+mod numbers;
+#[cfg(test)]
+mod tests;
+mod times;
+mod turns;
+
+pub use intervals::next;
+pub use times::IntervalTimes;

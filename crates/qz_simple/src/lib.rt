@@ -1,0 +1,10 @@
+//! The fire times of a simple trigger: a start, and repeats at even intervals, as of Quartz's `SimpleTrigger`.
+#![tactic(auto)]
+
+mod repeats;
+#[cfg(test)]
+mod tests;
+mod times;
+
+pub use repeats::next;
+pub use times::SimpleTimes;
