@@ -1,5 +1,5 @@
 -- Commands: each is written and read so, where its actor may give it, and none else is read.
-use Rattle.std.proofs.Common.{◌≡◌, ℕ, suc, ◌^◌, ◌<◌, ◌≤◌, ◌+◌, ℤ, Bool, true, false, cond, List, [], ◌∷◌, ◌++◌, length, Option, Some, None, Ok, Err, refl, sym, ap, subst, ◌∙◌, arith, ◌==◌, ◌⊎◌, inl, inr}
+use Rattle.std.proofs.Common.{◌≡◌, ℕ, suc, ◌^◌, ◌<◌, ◌≤◌, ◌+◌, ℤ, Bool, true, false, List, [], ◌∷◌, ◌++◌, length, Option, Some, None, Ok, Err, refl, sym, ap, subst, ◌∙◌, arith, ◌==◌, inl, inr}
 use Rattle.std.specs.Int.{w32, w64}
 use Rattle.std.proofs.lemmas.Bool.{eqb-true}
 use Rattle.qz_types.specs.Rows.{JobData}
@@ -12,15 +12,12 @@ use Rattle.qz_types.specs.declared.commands.Command.{Command}
 use Rattle.qz_types.specs.declared.commands.Command.TheVariants.{AddJob, AddTrigger, Join, Acquire, Fire, Complete}
 use Rattle.qz_codec.specs.Layout.{number, integer, flag, text, job, spec, code_place, command}
 use Rattle.qz_codec.specs.Values.{is_long, IsText, IsSpan, IsJob, IsSpec, IsCommand}
-use Rattle.qz_codec.specs.Reading.{◌>>=◌, Read, checked, byte_at, number_at, flag_at, span_at, job_at, spec_at, code_of, chosen, code_at, add_job_at, add_trigger_at, join_at, acquire_at, fire_at, complete_at, client_command_at, node_command_at}
+use Rattle.qz_codec.specs.Reading.{Read, checked, byte_at, number_at, flag_at, span_at, job_at, spec_at, code_of, chosen, code_at, add_job_at, add_trigger_at, join_at, acquire_at, fire_at, complete_at, client_command_at, node_command_at}
 use Rattle.qz_codec.proofs.Formats.{IsBytes, EndsNear, Takes, IsFormat, Any, Both, Passes, ok_is, no_value, those}
 use Rattle.qz_codec.proofs.SingleFields.{IsBytes-rest, wide32, wide64, number_format, flag_format}
-use Rattle.qz_codec.proofs.RowFormats.{node_format, span_format, job_format, spec_format, IsVariant, as_variant, variant, read_so, pair, regroup}
-
--- which way a choice went
-choice : {A : Type 0} (b : Bool) (x y z : A) → cond b x y ≡ z → ((b ≡ true) × (x ≡ z)) ⊎ (y ≡ z)
-choice true x y z e = inl (refl, e)
-choice false x y z e = inr e
+use Rattle.qz_codec.proofs.NameFormats.{node_format, span_format}
+use Rattle.qz_codec.proofs.RowFormats.{job_format, spec_format}
+use Rattle.qz_codec.proofs.VariantFormats.{IsVariant, variant, read_so, pair, regroup, choice, chosen_one}
 
 -- ---- codes
 
@@ -107,11 +104,11 @@ make_acquire x = Acquire x.0 x.1.0 x.1.1
 
 add_job : IsVariant make_add_job (λ (x : JobData × Bool). job x.0 ++ flag x.1) (λ (x : JobData × Bool). Both (IsJob x.0) (Any x.1)) add_job_at 4708
 unfolding add_job_at
-add_job = read_so add_job_at (variant make_add_job (pair job_format flag_format)) (λ bytes. regroup make_add_job (job_at bytes) flag_at)
+add_job = read_so add_job_at (variant make_add_job (pair job_format flag_format)) (λ bytes. regroup make_add_job (job_at bytes) (λ job. flag_at job.1) _ (λ job. refl))
 
-add_trigger : IsVariant make_add_trigger (λ (x : TriggerSpec × Bool). spec x.0 ++ flag x.1) (λ (x : TriggerSpec × Bool). Both (IsSpec x.0) (Any x.1)) add_trigger_at 1051
+add_trigger : IsVariant make_add_trigger (λ (x : TriggerSpec × Bool). spec x.0 ++ flag x.1) (λ (x : TriggerSpec × Bool). Both (IsSpec x.0) (Any x.1)) add_trigger_at 1299
 unfolding add_trigger_at
-add_trigger = read_so add_trigger_at (variant make_add_trigger (pair spec_format flag_format)) (λ bytes. regroup make_add_trigger (spec_at bytes) flag_at)
+add_trigger = read_so add_trigger_at (variant make_add_trigger (pair spec_format flag_format)) (λ bytes. regroup make_add_trigger (spec_at bytes) (λ spec. flag_at spec.1) _ (λ spec. refl))
 
 join : IsVariant Join text (IsText 1 NODE_LIMIT) join_at 122
 unfolding join_at
@@ -123,7 +120,7 @@ fire = variant Fire (number_format wide64)
 
 complete : IsVariant make_complete (λ (x : ℕ × Code). number w64 x.0 ++ code_byte x.1) (λ (x : ℕ × Code). Both (x.0 < 2 ^ 64) (Any x.1)) complete_at 9
 unfolding complete_at
-complete = read_so complete_at (variant make_complete (pair (number_format wide64) code_format)) (λ bytes. regroup make_complete (number_at w64 bytes) code_at)
+complete = read_so complete_at (variant make_complete (pair (number_format wide64) code_format)) (λ bytes. regroup make_complete (number_at w64 bytes) (λ entry. code_at entry.1) _ (λ entry. refl))
 
 max_at : List ℕ → Read ℕ
 max_at bytes = checked (is_long 1 ACQUIRE_LIMIT) (number_at w32) bytes
@@ -132,27 +129,9 @@ max_format : IsFormat (number w32) Any (Passes (λ n. n < 2 ^ 32) (is_long 1 ACQ
 unfolding max_at
 max_format = those (is_long 1 ACQUIRE_LIMIT) (number_format wide32)
 
-abbrev both_at : {A B : Type 0} → Read A → (List ℕ → Read B) → Read (A × B)
-both_at r s = r >>= λ a. (s a.1 >>= λ b. Ok ((a.0, b.0), b.1))
-
-abbrev then_both : ℤ → Read (ℤ × ℕ) → Read (ℤ × (ℤ × ℕ))
-then_both no_later r = r >>= λ x. Ok ((no_later, x.0), x.1)
-
-acquire_last : (no_later window : ℤ) (r : Read ℕ) → as_variant make_acquire (then_both no_later (r >>= λ c. Ok ((window, c.0), c.1))) ≡ (r >>= λ c. Ok (Acquire no_later window c.0, c.1))
-acquire_last no_later window (Ok c) = refl
-acquire_last no_later window (Err left) = refl
-
-acquire_inner : (no_later : ℤ) (r : Read ℤ) (s : List ℕ → Read ℕ) → as_variant make_acquire (then_both no_later (both_at r s)) ≡ (r >>= λ b. (s b.1 >>= λ c. Ok (Acquire no_later b.0 c.0, c.1)))
-acquire_inner no_later (Err left) s = refl
-acquire_inner no_later (Ok b) s = acquire_last no_later b.0 (s b.1)
-
-acquire_regroup : (r : Read ℤ) (s : List ℕ → Read ℤ) (t : List ℕ → Read ℕ) → as_variant make_acquire (both_at r (λ bytes. both_at (s bytes) t)) ≡ (r >>= λ a. (s a.1 >>= λ b. (t b.1 >>= λ c. Ok (Acquire a.0 b.0 c.0, c.1))))
-acquire_regroup (Err left) s t = refl
-acquire_regroup (Ok a) s t = acquire_inner a.0 (s a.1) t
-
 acquire : IsVariant make_acquire (λ (x : ℤ × (ℤ × ℕ)). integer w64 x.0 ++ (integer w64 x.1.0 ++ number w32 x.1.1)) (λ (x : ℤ × (ℤ × ℕ)). Both (IsSpan x.0) (Both (IsSpan x.1.0) (Passes (λ n. n < 2 ^ 32) (is_long 1 ACQUIRE_LIMIT) x.1.1))) acquire_at 20
 unfolding acquire_at max_at
-acquire = read_so acquire_at (variant make_acquire (pair span_format (pair span_format max_format))) (λ bytes. acquire_regroup (span_at bytes) span_at max_at)
+acquire = read_so acquire_at (variant make_acquire (pair span_format (pair span_format max_format))) (λ bytes. regroup make_acquire (span_at bytes) _ _ (λ no_later. regroup (λ x. make_acquire (no_later.0, x)) (span_at no_later.1) (λ window. max_at window.1) _ (λ window. refl)))
 
 -- ---- commands of a client and of a node
 
@@ -238,17 +217,13 @@ near_of : (m n size : ℕ) (r : Read Command) → m ≤ n → EndsNear m size r 
 near_of m n size (Ok x) le p = record { within = omega (arith, p.within); near = omega (arith, p.near) }
 near_of m n size (Err left) le p = record { within = omega (arith, p.within); near = omega (arith, p.near) }
 
-chosen_one : {A : Type 0} (P : A → Type 0) (b : Bool) (x y : A) → P x → P y → P (cond b x y)
-chosen_one P true x y p q = p
-chosen_one P false x y p q = q
-
 client_near : (bytes : List ℕ) → EndsNear 4709 (length bytes) (client_command_at bytes)
 unfolding client_command_at byte_at
 client_near [] = record { within = omega arith; near = omega arith }
 client_near (b ∷ bytes) =
     let P = λ (r : Read Command). EndsNear 4709 (suc (length bytes)) r in
     chosen_one P (b == 0) _ _ (near_of 4708 4708 (length bytes) (add_job_at bytes) (omega arith) (add_job.near bytes))
-    (chosen_one P (b == 2) _ _ (near_of 1051 4708 (length bytes) (add_trigger_at bytes) (omega arith) (add_trigger.near bytes))
+    (chosen_one P (b == 2) _ _ (near_of 1299 4708 (length bytes) (add_trigger_at bytes) (omega arith) (add_trigger.near bytes))
     (chosen_one P (b == 14) _ _ (near_of 122 4708 (length bytes) (join_at bytes) (omega arith) (join.near bytes))
     (record { within = omega arith; near = omega arith })))
 

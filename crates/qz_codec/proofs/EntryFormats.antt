@@ -10,11 +10,12 @@ use Rattle.qz_types.specs.declared.commands.Actor.{Actor}
 use Rattle.qz_types.specs.declared.commands.Actor.TheVariants.{Client, Node}
 use Rattle.qz_codec.specs.Layout.{actor, command, entry, record_of}
 use Rattle.qz_codec.specs.Values.{IsActor, IsCommand, IsEntry}
-use Rattle.qz_codec.specs.Reading.{◌>>=◌, Read, byte_at, flag_at, member_at, actor_at, command_at, entry_at, whole_at, placed, reading, Answers}
+use Rattle.qz_codec.specs.Reading.{◌>>=◌, Read, as_variant, byte_at, flag_at, member_at, actor_at, command_at, entry_at, whole_at, placed, reading, Answers}
 use Rattle.qz_codec.specs.declared.errors.ReadError.{ReadError}
 use Rattle.qz_codec.proofs.Formats.{IsBytes, IsNear, EndsNear, Takes, IsFormat, Any, Also, bind_ok, done, ok_is, no_value, guard_ok, near_then, field, last, same}
 use Rattle.qz_codec.proofs.SingleFields.{IsBytes-rest, other_flag, flag_format, wide32, wide64, same64, number_format, integer_format}
-use Rattle.qz_codec.proofs.RowFormats.{member_format, as_variant, variant}
+use Rattle.qz_codec.proofs.RowFormats.{member_format}
+use Rattle.qz_codec.proofs.VariantFormats.{variant}
 use Rattle.qz_codec.proofs.CommandFormats.{client_format, node_command_format}
 
 -- ---- actors

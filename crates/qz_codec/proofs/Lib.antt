@@ -2,6 +2,10 @@ pub mod Texts
 pub mod Formats
 pub mod Signs
 pub mod SingleFields
+pub mod NameFormats
+pub mod VariantFormats
+pub mod CronFormats
+pub mod KindFormats
 pub mod RowFormats
 pub mod CommandFormats
 pub mod EntryFormats

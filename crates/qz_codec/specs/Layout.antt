@@ -3,8 +3,15 @@
 use Rattle.std.specs.Prelude.{ℕ, ℤ, List, [], ◌∷◌, ◌++◌, length, Bool, true, false, Option, Some, None}
 use Rattle.std.specs.Int.{Width, w8, w16, w32, w64, to_be_bytes, cast_unsigned}
 use Rattle.qz_civil.specs.declared.timings.Kind.{Kind}
-use Rattle.qz_civil.specs.declared.timings.Kind.TheVariants.{Simple}
+use Rattle.qz_civil.specs.declared.timings.Kind.TheVariants.{Simple, Cron, Interval, Daily}
 use Rattle.qz_civil.specs.declared.timings.Timing.{Timing}
+use Rattle.qz_civil.specs.declared.timings.Unit.{Unit as Units}
+use Rattle.qz_civil.specs.declared.timings.Unit.TheVariants as units
+use Rattle.qz_civil.specs.declared.fields.CronFields.{CronFields}
+use Rattle.qz_civil.specs.declared.fields.DayField.{DayField}
+use Rattle.qz_civil.specs.declared.fields.DayField.TheVariants as month_days
+use Rattle.qz_civil.specs.declared.fields.WeekField.{WeekField}
+use Rattle.qz_civil.specs.declared.fields.WeekField.TheVariants as week_days
 use Rattle.qz_types.specs.Rows.{JobData, MemberData}
 use Rattle.qz_types.specs.Entries.{EntryData}
 use Rattle.qz_types.specs.declared.keys.Key.{Key}
@@ -48,8 +55,41 @@ unfoldable pub job : JobData → List ℕ
 job j = key j.key ++ (text j.class ++ (flag j.durable ++ (flag j.no_concurrent ++ (flag j.requests_recovery ++ text j.payload))))
 
 -- the variant's place, and its fields
+unfoldable pub day_field : DayField → List ℕ
+day_field month_days.Any = 0 ∷ []
+day_field (month_days.Set set) = 1 ∷ number w32 set
+day_field (month_days.Last back) = 2 ∷ back ∷ []
+day_field month_days.LastWeekday = 3 ∷ []
+day_field (month_days.Nearest day) = 4 ∷ day ∷ []
+
+unfoldable pub week_field : WeekField → List ℕ
+week_field week_days.Any = 0 ∷ []
+week_field (week_days.Set set) = 1 ∷ set ∷ []
+week_field (week_days.Last day) = 2 ∷ day ∷ []
+week_field (week_days.Nth day nth) = 3 ∷ day ∷ nth ∷ []
+
+-- words of 64 years each
+unfoldable pub words : List ℕ → List ℕ
+words [] = []
+words (w ∷ ws) = number w64 w ++ words ws
+
+unfoldable pub cron_fields : CronFields → List ℕ
+cron_fields f = number w64 f.seconds ++ (number w64 f.minutes ++ (number w32 f.hours ++ (day_field f.day ++ (number w16 f.months ++ (week_field f.week ++ words f.years)))))
+
+abbrev pub unit_place : Units → ℕ
+unit_place units.Second = 0
+unit_place units.Minute = 1
+unit_place units.Hour = 2
+unit_place units.Day = 3
+unit_place units.Week = 4
+unit_place units.Month = 5
+unit_place units.Year = 6
+
 unfoldable pub kind : Kind → List ℕ
 kind (Simple interval count) = 0 ∷ (integer w64 interval ++ integer w64 count)
+kind (Cron fields zone) = 1 ∷ (cron_fields fields ++ text zone)
+kind (Interval unit every zone) = 2 ∷ unit_place unit ∷ (number w32 every ++ text zone)
+kind (Daily unit every from to days zone) = 3 ∷ unit_place unit ∷ (number w32 every ++ (number w32 from ++ (number w32 to ++ (days ∷ text zone))))
 
 unfoldable pub timing : Timing → List ℕ
 timing t = kind t.kind ++ (small t.misfire ++ (integer w64 t.start ++ optional (integer w64) t.end))

@@ -1,16 +1,27 @@
 -- Reading a record from left to right. A reader answers the value and the bytes behind it, or how many bytes are left
 -- from the first byte of the first wrong field on. A field is wrong where it isn't whole, is out of its range or breaks a
 -- rule together with the fields before it.
-use Rattle.std.specs.Prelude.{◌≡◌, ℕ, ℤ, ◌-◌, List, [], ◌∷◌, length, take, drop, nat_lt, nat_le, ◌==◌, ◌&&◌, Bool, true, false, Option, Some, None, Result, Ok, Err, if◌then◌else◌}
+use Rattle.std.specs.Prelude.{◌≡◌, ℕ, ℤ, ◌-◌, ◌*◌, ◌^◌, List, [], ◌∷◌, length, take, drop, nat_lt, nat_le, ◌==◌, ◌&&◌, Bool, true, false, Option, Some, None, Result, Ok, Err, if◌then◌else◌}
 use Rattle.std.specs.Int.{Width, w8, w16, w32, w64, byte_len, from_be_bytes, cast_signed}
 use Rattle.std.specs.Str.{is_utf8}
-use Rattle.qz_civil.specs.Timings.{is_span, is_kind, is_misfire}
+use Rattle.qz_civil.specs.declared.fields.CronFields.{CronFields}
+use Rattle.qz_civil.specs.declared.fields.DayField.{DayField}
+use Rattle.qz_civil.specs.declared.fields.DayField.TheVariants as month_days
+use Rattle.qz_civil.specs.declared.fields.Field.{Field}
+use Rattle.qz_civil.specs.declared.fields.Field.TheVariants.{Seconds, Minutes, Hours, DayOfMonth, Month, DayOfWeek, Year}
+use Rattle.qz_civil.specs.declared.fields.WeekField.{WeekField}
+use Rattle.qz_civil.specs.declared.fields.WeekField.TheVariants as week_days
+use Rattle.qz_civil.specs.Fields.{is_set, is_value, is_any_day, is_year_set, size}
+use Rattle.qz_civil.specs.Timings.{is_span, is_kind, is_misfire, is_every, is_day_set, seconds}
 use Rattle.qz_civil.specs.declared.timings.Kind.{Kind}
-use Rattle.qz_civil.specs.declared.timings.Kind.TheVariants.{Simple}
+use Rattle.qz_civil.specs.declared.timings.Kind.TheVariants.{Simple, Cron, Interval, Daily}
 use Rattle.qz_civil.specs.declared.timings.Timing.{Timing}
+use Rattle.qz_civil.specs.declared.timings.Unit.{Unit as Units}
+use Rattle.qz_civil.specs.declared.timings.Unit.TheVariants as units
 use Rattle.qz_types.specs.Rows.{JobData, MemberData}
 use Rattle.qz_types.specs.Entries.{EntryData}
-use Rattle.qz_types.specs.declared.limits.TheConstants.{ACQUIRE_LIMIT, NAME_LIMIT, NODE_LIMIT, PAYLOAD_LIMIT}
+use Rattle.qz_civil.specs.declared.limits.TheConstants.{NAME_LIMIT}
+use Rattle.qz_types.specs.declared.limits.TheConstants.{ACQUIRE_LIMIT, NODE_LIMIT, PAYLOAD_LIMIT}
 use Rattle.qz_types.specs.declared.keys.Key.{Key}
 use Rattle.qz_types.specs.declared.triggers.TriggerSpec.{TriggerSpec}
 use Rattle.qz_types.specs.declared.commands.Code.{Code}
@@ -120,12 +131,139 @@ job_at bytes = do
     payload.1,
   )
 
-unfoldable pub kind_at : List ℕ → Read Kind
-kind_at bytes = do
-  place ← checked (λ n. n == 0) byte_at bytes
-  interval ← span_at place.1
+-- a set of a field's values
+abbrev pub set_at : Field → Width → List ℕ → Read ℕ
+set_at f w bytes = checked (is_set f) (number_at w) bytes
+
+-- what was read, as a variant's fields
+abbrev pub as_variant : {A B : Type 0} → (A → B) → Read A → Read B
+as_variant make r = r >>= λ x. Ok (make x.0, x.1)
+
+unfoldable pub day_at : List ℕ → Read DayField
+day_at bytes = do
+  place ← byte_at bytes
+  if place.0 == 0 then Ok (month_days.Any, place.1)
+      else if place.0 == 1 then as_variant month_days.Set (set_at DayOfMonth w32 place.1)
+      else if place.0 == 2 then as_variant month_days.Last (checked (λ n. nat_le n 30) byte_at place.1)
+      else if place.0 == 3 then Ok (month_days.LastWeekday, place.1)
+      else if place.0 == 4 then as_variant month_days.Nearest (checked (is_value DayOfMonth) byte_at place.1)
+      else Err (length bytes)
+
+unfoldable pub nth_at : List ℕ → Read WeekField
+nth_at bytes = do
+  day ← checked (is_value DayOfWeek) byte_at bytes
+  nth ← checked (λ n. nat_le 1 n && nat_le n 5) byte_at day.1
+  Ok (week_days.Nth day.0 nth.0, nth.1)
+
+-- Of the month's days and the week's just one says nothing: where the month's do, the week's don't.
+unfoldable pub named_week_at : List ℕ → Read WeekField
+named_week_at bytes = do
+  place ← byte_at bytes
+  if place.0 == 1 then as_variant week_days.Set (checked (is_set DayOfWeek) byte_at place.1)
+      else if place.0 == 2 then as_variant week_days.Last (checked (is_value DayOfWeek) byte_at place.1)
+      else if place.0 == 3 then nth_at place.1
+      else Err (length bytes)
+
+unfoldable pub any_week_at : List ℕ → Read WeekField
+any_week_at bytes = do
+  place ← byte_at bytes
+  if place.0 == 0 then Ok (week_days.Any, place.1) else Err (length bytes)
+
+abbrev pub week_at : DayField → List ℕ → Read WeekField
+week_at day bytes = if is_any_day day then named_week_at bytes else any_week_at bytes
+
+-- The third word has no bit beyond the last year, and the fourth has none. It is wrong too where no word has a year.
+unfoldable pub years_at : List ℕ → Read (List ℕ)
+years_at bytes = do
+  first ← number_at w64 bytes
+  second ← number_at w64 first.1
+  third ← checked (λ w. nat_lt w (2 ^ (size Year - 128))) (number_at w64) second.1
+  fourth ← checked (λ w. is_year_set (first.0 ∷ second.0 ∷ third.0 ∷ w ∷ [])) (number_at w64) third.1
+  Ok (first.0 ∷ second.0 ∷ third.0 ∷ fourth.0 ∷ [], fourth.1)
+
+unfoldable pub cron_fields_at : List ℕ → Read CronFields
+cron_fields_at bytes = do
+  seconds ← set_at Seconds w64 bytes
+  minutes ← set_at Minutes w64 seconds.1
+  hours ← set_at Hours w32 minutes.1
+  day ← day_at hours.1
+  months ← set_at Month w16 day.1
+  week ← week_at day.0 months.1
+  years ← years_at week.1
+  Ok (
+    record {
+      seconds = seconds.0;
+      minutes = minutes.0;
+      hours = hours.0;
+      day = day.0;
+      months = months.0;
+      week = week.0;
+      years = years.0;
+    },
+    years.1,
+  )
+
+unfoldable pub unit_at : List ℕ → Read Units
+unit_at bytes = do
+  place ← byte_at bytes
+  if place.0 == 0 then Ok (units.Second, place.1)
+      else if place.0 == 1 then Ok (units.Minute, place.1)
+      else if place.0 == 2 then Ok (units.Hour, place.1)
+      else if place.0 == 3 then Ok (units.Day, place.1)
+      else if place.0 == 4 then Ok (units.Week, place.1)
+      else if place.0 == 5 then Ok (units.Month, place.1)
+      else if place.0 == 6 then Ok (units.Year, place.1)
+      else Err (length bytes)
+
+unfoldable pub simple_at : List ℕ → Read Kind
+simple_at bytes = do
+  interval ← span_at bytes
   count ← checked (λ n. is_kind (Simple interval.0 n)) (integer_at w64) interval.1
   Ok (Simple interval.0 count.0, count.1)
+
+unfoldable pub cron_at : List ℕ → Read Kind
+cron_at bytes = do
+  fields ← cron_fields_at bytes
+  zone ← name_at fields.1
+  Ok (Cron fields.0 zone.0, zone.1)
+
+unfoldable pub interval_at : List ℕ → Read Kind
+interval_at bytes = do
+  unit ← unit_at bytes
+  every ← checked is_every (number_at w32) unit.1
+  zone ← name_at every.1
+  Ok (Interval unit.0 every.0 zone.0, zone.1)
+
+-- a second, a minute or an hour
+abbrev pub is_even : Units → Bool
+is_even unit = nat_lt 0 (seconds unit)
+
+-- a step of a second to a day
+abbrev pub is_step : Units → ℕ → Bool
+is_step unit every = nat_le 1 (every * seconds unit) && nat_le (every * seconds unit) 86400
+
+-- a second of the day that isn't before `from`
+abbrev pub is_second_from : ℕ → ℕ → Bool
+is_second_from from n = nat_le from n && nat_lt n 86400
+
+unfoldable pub daily_at : List ℕ → Read Kind
+daily_at bytes = do
+  unit ← checked is_even unit_at bytes
+  every ← checked (is_step unit.0) (number_at w32) unit.1
+  from ← checked (is_second_from 0) (number_at w32) every.1
+  to ← checked (is_second_from from.0) (number_at w32) from.1
+  days ← checked is_day_set byte_at to.1
+  zone ← name_at days.1
+  Ok (Daily unit.0 every.0 from.0 to.0 days.0 zone.0, zone.1)
+
+unfoldable pub kind_at : List ℕ → Read Kind
+kind_at bytes = do
+  place ← byte_at bytes
+  if place.0 == 0 then simple_at place.1
+      else if place.0 == 1 then cron_at place.1
+      else if place.0 == 2 then interval_at place.1
+      else if place.0 == 3 then daily_at place.1
+      else Err (length bytes)
 
 unfoldable pub timing_at : List ℕ → Read Timing
 timing_at bytes = do

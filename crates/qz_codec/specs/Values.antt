@@ -2,13 +2,17 @@
 use Rattle.std.specs.Prelude.{◌≡◌, ℕ, ℤ, ◌^◌, ◌<◌, List, length, nat_le, ◌&&◌, Bool, true, IfSome, FitsSigned}
 use Rattle.std.specs.Int.{Width, w8, w32, w64}
 use Rattle.std.specs.Str.{IsUtf8}
-use Rattle.qz_civil.specs.Timings.{is_span, is_kind, is_misfire}
+use Rattle.qz_civil.specs.declared.fields.CronFields.{CronFields}
+use Rattle.qz_civil.specs.Fields.{is_cron_fields}
+use Rattle.qz_civil.specs.Timings.{is_span, is_kind, is_misfire, is_every, is_daily_time, is_day_set}
 use Rattle.qz_civil.specs.declared.timings.Kind.{Kind}
-use Rattle.qz_civil.specs.declared.timings.Kind.TheVariants.{Simple}
+use Rattle.qz_civil.specs.declared.timings.Kind.TheVariants.{Simple, Cron, Interval, Daily}
 use Rattle.qz_civil.specs.declared.timings.Timing.{Timing}
+use Rattle.qz_civil.specs.declared.timings.Unit.{Unit as Units}
 use Rattle.qz_types.specs.Rows.{JobData, MemberData}
 use Rattle.qz_types.specs.Entries.{EntryData, has_actor, is_of_node}
-use Rattle.qz_types.specs.declared.limits.TheConstants.{ACQUIRE_LIMIT, NAME_LIMIT, NODE_LIMIT, PAYLOAD_LIMIT}
+use Rattle.qz_civil.specs.declared.limits.TheConstants.{NAME_LIMIT}
+use Rattle.qz_types.specs.declared.limits.TheConstants.{ACQUIRE_LIMIT, NODE_LIMIT, PAYLOAD_LIMIT}
 use Rattle.qz_types.specs.declared.keys.Key.{Key}
 use Rattle.qz_types.specs.declared.triggers.TriggerSpec.{TriggerSpec}
 use Rattle.qz_types.specs.declared.commands.Command.{Command}
@@ -46,8 +50,25 @@ pub record IsJob (j : JobData) : Type 0 where
   pub class : IsName j.class
   pub payload : IsText 0 PAYLOAD_LIMIT j.payload
 
+pub record IsCron (f : CronFields) (z : List ℕ) : Type 0 where
+  pub fields : is_cron_fields f ≡ true
+  pub words : length f.years ≡ 4
+  pub zone : IsName z
+
+pub record IsInterval (n : ℕ) (z : List ℕ) : Type 0 where
+  pub every : is_every n ≡ true
+  pub zone : IsName z
+
+pub record IsDaily (unit : Units) (every from to set : ℕ) (z : List ℕ) : Type 0 where
+  pub time : is_daily_time unit every from to ≡ true
+  pub days : is_day_set set ≡ true
+  pub zone : IsName z
+
 abbrev pub IsKind : Kind → Type 0
 IsKind (Simple interval count) = IsSpan interval × IsNumber w64 (λ n. is_kind (Simple interval n)) count
+IsKind (Cron fields zone) = IsCron fields zone
+IsKind (Interval unit every zone) = IsInterval every zone
+IsKind (Daily unit every from to days zone) = IsDaily unit every from to days zone
 
 pub record IsTiming (t : Timing) : Type 0 where
   pub kind : IsKind t.kind

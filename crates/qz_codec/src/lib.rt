@@ -2,9 +2,11 @@
 #![tactic(auto)]
 
 mod commands;
+mod cron_fields;
 mod entries;
 mod errors;
 mod fields;
+mod kinds;
 mod limits;
 mod rows;
 #[cfg(test)]

@@ -1,22 +1,20 @@
 //! Reading keys, jobs, triggers and members. A row's fields are read before memory is taken for its texts.
 ghost use Rattle.std.specs.Prelude.{◌≡◌, ℕ, ℤ, ◌==◌, IsTrue, IfOk, Some, None, option_map};
 ghost use Rattle.std.specs.Int.{w32, w64};
-ghost use Rattle.qz_civil.specs.Timings.{is_span, is_kind, is_misfire, is_timing, is_end};
-ghost use Rattle.qz_types.specs.Rows.{is_key, is_name, is_node, is_job, is_trigger_spec, is_member, is_calendar};
+ghost use Rattle.qz_civil.specs.Timings.{is_timing, is_name};
+ghost use Rattle.qz_types.specs.Rows.{is_key, is_node, is_job, is_trigger_spec, is_member, is_calendar};
 ghost use Rattle.qz_types.specs.declared.commands.Actor.TheVariants.{Client, Node};
-ghost use Rattle.qz_codec.specs.Reading.{Gives, checked, byte_at, integer_at, small_at, name_at, node_at, optional_at, span_at, key_at, job_at, kind_at, timing_at, spec_at, member_at, actor_at};
+ghost use Rattle.qz_codec.specs.Reading.{Gives, name_at, node_at, optional_at, key_at, job_at, timing_at, spec_at, member_at, actor_at};
 
 use crate::errors::Fault;
-use crate::fields::{
-    bool_at, end_of, i8_at, i32_at, i64_at, is_between, span_of, str_at, u8_at, u64_at,
-};
+use crate::fields::{bool_at, end_of, i32_at, span_of, str_at, u64_at};
+use crate::kinds::{kind_of, misfire_of};
 use qz_types::{
-    Actor, JobRow, Key, Kind, LONGEST, MemberRow, NAME_LIMIT, NODE_LIMIT, PAYLOAD_LIMIT, Text,
-    Timing, TriggerSpec,
+    Actor, JobRow, Key, MemberRow, NAME_LIMIT, NODE_LIMIT, PAYLOAD_LIMIT, Text, Timing, TriggerSpec,
 };
 use std::alloc::{AllocError, Global};
 
-fn name_of(bytes: &[u8]) -> Result<(&str, &[u8]), Fault>
+pub(crate) fn name_of(bytes: &[u8]) -> Result<(&str, &[u8]), Fault>
     ensures exact { Gives (λ x. (x.0.now, x.1.now)) result (name_at bytes.now) }
     ensures valid { IfOk result (λ x. IsTrue (is_name x.0.now)) }
 {
@@ -71,70 +69,13 @@ pub(crate) fn job_of(alloc: Global, bytes: &[u8]) -> Result<(JobRow, &[u8]), Fau
     Ok((job, rest))
 }
 
-/// The place of the kind among all kinds. Only the first is built.
-fn kind_place_of(bytes: &[u8]) -> Result<(u8, &[u8]), Fault>
-    ensures { Gives (λ x. (x.0, x.1.now)) result (checked (λ n. n == 0) byte_at bytes.now) }
-{
-    let (place, rest) = u8_at(bytes)?;
-    if place != 0 {
-        return Err(Fault::at(bytes));
-    }
-    Ok((place, rest))
-}
-
-/// Once, or with an interval of at least 1 ms and a count from -1 to 2147483647.
-fn is_simple(interval: i64, count: i64) -> bool
-    ensures { result ≡ is_kind (Kind.Simple interval count) }
-{
-    (interval == 0 && count == 0)
-        || (is_between(1, LONGEST, interval) && is_between(-1, 2147483647, count))
-}
-
-/// The count of a trigger with this interval.
-fn count_of(interval: i64, bytes: &[u8]) -> Result<(i64, &[u8]), Fault>
-    ensures exact { Gives (λ x. (x.0, x.1.now)) result (checked (λ n. is_kind (Kind.Simple interval n)) (integer_at w64) bytes.now) }
-    ensures valid { IfOk result (λ x. IsTrue (is_kind (Kind.Simple interval x.0))) }
-{
-    let (count, rest) = i64_at(bytes)?;
-    if !is_simple(interval, count) {
-        return Err(Fault::at(bytes));
-    }
-    Ok((count, rest))
-}
-
-#[tactic(auto, unfolding(crate::specs::Reading::kind_at))]
-fn kind_of(bytes: &[u8]) -> Result<(Kind, &[u8]), Fault>
-    ensures exact { Gives (λ x. (x.0, x.1.now)) result (kind_at bytes.now) }
-    ensures valid { IfOk result (λ x. IsTrue (is_kind x.0)) }
-{
-    let (_, rest) = kind_place_of(bytes)?;
-    let (interval, rest) = span_of(rest)?;
-    let (count, rest) = count_of(interval, rest)?;
-    Ok((Kind::Simple { interval, count }, rest))
-}
-
-/// The misfire instruction of a trigger of this kind.
-fn misfire_of(kind: Kind, bytes: &[u8]) -> Result<(i8, &[u8]), Fault>
-    ensures exact { Gives (λ x. (x.0, x.1.now)) result (checked (is_misfire kind) small_at bytes.now) }
-    ensures valid { IfOk result (λ x. IsTrue (is_misfire kind x.0)) }
-{
-    let (code, rest) = i8_at(bytes)?;
-    let most = match kind {
-        Kind::Simple { .. } => 5,
-    };
-    if code < -1 || code > most {
-        return Err(Fault::at(bytes));
-    }
-    Ok((code, rest))
-}
-
 #[tactic(auto, unfolding(crate::specs::Reading::timing_at))]
-fn timing_of(bytes: &[u8]) -> Result<(Timing, &[u8]), Fault>
+fn timing_of(alloc: Global, bytes: &[u8]) -> Result<(Timing, &[u8]), Fault>
     ensures exact { Gives (λ x. (x.0, x.1.now)) result (timing_at bytes.now) }
     ensures valid { IfOk result (λ x. IsTrue (is_timing x.0)) }
 {
-    let (kind, rest) = kind_of(bytes)?;
-    let (misfire, rest) = misfire_of(kind, rest)?;
+    let (kind, rest) = kind_of(alloc, bytes)?;
+    let (misfire, rest) = misfire_of(&kind, rest)?;
     let (start, rest) = span_of(rest)?;
     let (end, rest) = end_of(rest)?;
     let timing = Timing {
@@ -168,7 +109,7 @@ pub(crate) fn spec_of(alloc: Global, bytes: &[u8]) -> Result<(TriggerSpec, &[u8]
     let (job, rest) = key_of(alloc, rest)?;
     let (priority, rest) = i32_at(rest)?;
     let (calendar, rest) = calendar_of(alloc, rest)?;
-    let (timing, rest) = timing_of(rest)?;
+    let (timing, rest) = timing_of(alloc, rest)?;
     let spec = TriggerSpec {
         key,
         job,

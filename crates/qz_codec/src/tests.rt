@@ -1,6 +1,9 @@
+mod kinds;
+
 use super::*;
 use qz_types::{Actor, Command, Entry, List};
 use std::alloc::{AllocError, Global};
+use std::process::Abort;
 use std::test::*;
 
 /// Fire of entry 1 by the member A of epoch 1, at 2024-01-01T00:00:00Z.
@@ -267,11 +270,11 @@ const SPOILED: [Spoiled; 18] = [
         bytes: &[0, 200],
         at: 17,
     },
-    // Another kind, an interval of 0 with a count of 5, no misfire instruction, a flag that is none.
+    // No kind, an interval of 0 with a count of 5, no misfire instruction, a flag that is none.
     Spoiled {
         record: ADD_TRIGGER,
         from: 35,
-        bytes: &[1],
+        bytes: &[4],
         at: 35,
     },
     Spoiled {
@@ -301,16 +304,21 @@ const SPOILED: [Spoiled; 18] = [
     },
 ];
 
-#[test]
-fn spoiled_records(rt: HostRuntime) -> Result<(), Fail> {
-    for spoiled in &SPOILED {
-        let bytes = spoil(rt.alloc(), spoiled)?;
+// Each is wrong at its place.
+fn are_wrong_there(rt: &impl Abort, alloc: Global, rows: &[Spoiled]) -> Result<(), Fail> {
+    for spoiled in rows {
+        let bytes = spoil(alloc, spoiled)?;
         assert_eq!(rt;
-            place_of(rt.alloc(), &bytes),
+            place_of(alloc, &bytes),
             Some(spoiled.at),
             "from {}",
             spoiled.from
         );
     }
     Ok(())
+}
+
+#[test]
+fn spoiled_records(rt: HostRuntime) -> Result<(), Fail> {
+    are_wrong_there(&rt, rt.alloc(), &SPOILED)
 }

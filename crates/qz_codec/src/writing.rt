@@ -2,17 +2,20 @@
 ghost use Rattle.std.specs.Prelude.{◌≡◌, ◌≤◌, ◌<◌, ◌^◌, ◌++◌, ◌∷◌, [], ℕ, ℤ, length, OnOk, IfOk, IfSome, IsTrue, true, FitsSigned};
 ghost use Rattle.std.specs.Int.{w8, w16, w32, w64};
 ghost use Rattle.std.specs.Str.{IsUtf8};
-ghost use Rattle.qz_civil.specs.Timings.{is_span, is_kind, is_misfire, is_timing, is_end};
-ghost use Rattle.qz_types.specs.Rows.{is_name, is_node, is_key, is_job, is_trigger_spec, is_member, is_calendar};
+ghost use Rattle.qz_civil.specs.Timings.{is_timing, is_end, is_name};
+ghost use Rattle.qz_types.specs.Rows.{is_node, is_key, is_job, is_trigger_spec, is_member, is_calendar};
 ghost use Rattle.qz_types.specs.Entries.{EntryData, is_command, is_entry};
 ghost use Rattle.qz_codec.specs.declared.limits.TheConstants.{RECORD_LIMIT};
-ghost use Rattle.qz_codec.specs.Values.{is_long, IsText, IsName, IsNumber, IsSpan, IsKey, IsJob, IsKind, IsTiming, IsSpec, IsMember, IsActor, IsCommand, IsEntry};
-ghost use Rattle.qz_codec.specs.Layout.{number, integer, small, flag, text, optional, key, job, kind, timing, spec, member, actor, code_place, command, entry, record_of};
+ghost use Rattle.qz_codec.specs.Values.{IsText, IsName, IsSpan, IsKey, IsJob, IsTiming, IsSpec, IsMember, IsActor, IsCommand, IsEntry};
+ghost use Rattle.qz_codec.specs.Layout.{number, integer, small, flag, text, optional, key, job, timing, spec, member, actor, code_place, command, entry, record_of};
+
+mod kinds;
 
 use crate::limits::VERSION;
+use kinds::put_kind;
 use qz_types::{
-    Actor, Code, Command, Entry, JobRow, Key, Kind, List, MemberRow, NODE_LIMIT, NoMemory, Text,
-    Timing, TriggerSpec,
+    Actor, Code, Command, Entry, JobRow, Key, List, MemberRow, NODE_LIMIT, NoMemory, Text, Timing,
+    TriggerSpec,
 };
 use std::alloc::{AllocError, Global};
 
@@ -112,21 +115,6 @@ fn put_job(out: &mut Vec<u8>, row: &JobRow) -> Result<(), AllocError>
     put_bool(out, row.no_concurrent)?;
     put_bool(out, row.requests_recovery)?;
     put_str(out, row.payload.as_str())
-}
-
-#[tactic(auto, unfolding(crate::specs::Layout::kind), using(crate::proofs::Signs::signs))]
-fn put_kind(out: &mut Vec<u8>, k: &Kind) -> Result<(), AllocError>
-    requires { IsTrue (is_kind k.now) }
-    ensures bytes { OnOk result (out.new.items ≡ out.old.items ++ kind k.now) }
-    ensures valid { OnOk result (IsKind k.now) }
-{
-    match k {
-        Kind::Simple { interval, count } => {
-            put_u8(out, 0)?;
-            put_i64(out, *interval)?;
-            put_i64(out, *count)
-        }
-    }
 }
 
 #[tactic(auto, using(crate::proofs::Signs::signs))]

@@ -1,10 +1,10 @@
 -- The transactions of clients: jobs and triggers.
-use Rattle.std.specs.Prelude.{ℕ, ℤ, pos, List, Bool, not, ◌&&◌, ◌||◌, ◌==◌, length, nat_le, int_le, codes, if◌then◌else◌, Option, Some, None, is_some, is_none}
+use Rattle.std.specs.Prelude.{ℕ, ℤ, pos, List, Bool, false, not, ◌&&◌, ◌||◌, ◌==◌, length, nat_le, int_le, codes, if◌then◌else◌, Option, Some, None, is_some, is_none}
 use Rattle.std.specs.Ordering.{int_eq}
 use Rattle.qz_types.specs.Rows.{JobData, TriggerData}
 use Rattle.qz_types.specs.declared.limits.TheConstants.{JOB_LIMIT, TRIGGER_LIMIT}
 use Rattle.qz_civil.specs.declared.timings.Kind.{Kind}
-use Rattle.qz_civil.specs.declared.timings.Kind.TheVariants.{Simple}
+use Rattle.qz_civil.specs.declared.timings.Kind.TheVariants.{Simple, Cron, Interval, Daily}
 use Rattle.qz_types.specs.declared.triggers.TriggerSpec.{TriggerSpec}
 use Rattle.qz_types.specs.declared.triggers.TriggerState.TheVariants.{Waiting}
 use Rattle.qz_types.specs.declared.replies.Reply.TheVariants.{Done, Added}
@@ -33,6 +33,9 @@ add_job T m job replace = unless (add_job_refusal T job replace)
 -- it fires once, at its start
 abbrev pub is_one_shot : Kind → Bool
 is_one_shot (Simple interval count) = int_eq interval (pos 0) && int_eq count (pos 0)
+is_one_shot (Cron fields zone) = false
+is_one_shot (Interval unit every zone) = false
+is_one_shot (Daily unit every from to days zone) = false
 
 -- a trigger that fires once and is else at its defaults, the only one that is built
 unfoldable pub is_plain_trigger : TriggerSpec → Bool

@@ -21,7 +21,7 @@ use std::alloc::{AllocError, AllocFailed, Global};
 use std::marker::Model;
 
 /// Why a transaction wasn't done.
-#[derive(Clone, PartialEq, Eq, Debug, Drop)]
+#[derive(Debug, Drop)]
 pub enum StepRefused {
     Refused(Refusal),
     NoMemory,
@@ -53,7 +53,7 @@ impl From<NoMemory> for StepRefused {
 
 /// The trigger store as its tables alone, each a list in the order of its ids. It computes transactions as they are
 /// defined, and is slow: it is what other stores are compared with.
-#[derive(Debug, Drop)]
+#[derive(Drop)]
 pub struct PlainStore {
     jobs: Vec<JobRow>,
     triggers: Vec<TriggerRow>,

@@ -1,13 +1,15 @@
 //! The worked examples.
 ghost use Rattle.std.specs.Prelude.{IsTrue, IfOk};
-ghost use Rattle.qz_types.specs.Rows.{is_name, is_key};
+ghost use Rattle.qz_civil.specs.Timings.{is_name};
+ghost use Rattle.qz_types.specs.Rows.{is_key};
 
 use crate::{PlainStore, StepRefused};
 use qz_types::{
-    Actor, Code, Command, Entry, JobRow, Key, Kind, List, MemberRow, Refusal, Reply, Taken, Text,
-    Timing, TriggerSpec,
+    Actor, Code, Command, Entry, JobRow, Key, Kind, MemberRow, Reply, Text, Timing, TriggerSpec,
+    find, insert,
 };
 use std::alloc::{AllocError, Global};
+use std::test::Fail;
 
 const T0: i64 = 1704067200000;
 
@@ -21,9 +23,11 @@ fn key(alloc: Global, name: &str) -> Result<Key, AllocError>
     })
 }
 
-fn report(alloc: Global) -> Result<JobRow, AllocError> {
+fn job(alloc: Global, name: &str) -> Result<JobRow, AllocError>
+    requires { IsTrue (is_name name.now) }
+{
     Ok(JobRow {
-        key: key(alloc, "report")?,
+        key: key(alloc, name)?,
         class: Text::from_str(alloc, "ok")?,
         durable: false,
         no_concurrent: false,
@@ -34,7 +38,7 @@ fn report(alloc: Global) -> Result<JobRow, AllocError> {
 
 #[tactic(auto, unfolding(qz_types::specs::Entries::is_entry))]
 fn add_job(alloc: Global, at: i64) -> Result<Entry, AllocError> {
-    let job = report(alloc)?;
+    let job = job(alloc, "report")?;
     Ok(Entry {
         at,
         actor: Actor::Client,
@@ -131,72 +135,84 @@ fn complete(alloc: Global, at: i64, entry: u64) -> Result<Entry, AllocError> {
     })
 }
 
-// The reply to acquire.
-fn taken(alloc: Global) -> Result<Reply, AllocError> {
-    let trigger = key(alloc, "t1")?;
-    let mut taken = List::new(alloc);
-    taken.push(Taken {
-        entry: 1,
-        trigger,
-        next: T0,
-    })?;
-    Ok(Reply::Acquired(taken))
-}
-
-// The reply to fire.
-fn fired(alloc: Global) -> Result<Reply, AllocError> {
-    let trigger = key(alloc, "t1")?;
-    let job = report(alloc)?;
-    Ok(Reply::Fired {
-        entry: 1,
-        scheduled: T0,
-        fired: T0,
-        next: None,
-        trigger,
-        job,
-    })
-}
-
-// Whether the store does what is asked, and answers so.
-fn answers(
-    store: &mut PlainStore,
-    entry: Result<Entry, AllocError>,
-    wanted: Result<Reply, AllocError>,
-) -> bool {
+// What the store answers to what is asked. None is a refusal, or want of memory.
+fn answer(store: &mut PlainStore, entry: Result<Entry, AllocError>) -> Option<Reply> {
     match entry {
-        Ok(entry) => is_reply(&store.step(entry), &wanted),
-        Err(_) => false,
+        Ok(entry) => store.step(entry).ok(),
+        Err(_) => None,
     }
 }
 
-fn is_reply(answer: &Result<Reply, StepRefused>, wanted: &Result<Reply, AllocError>) -> bool {
-    match (answer, wanted) {
-        (Ok(reply), Ok(wanted)) => *reply == *wanted,
-        _ => false,
-    }
+fn is_done(answer: Option<Reply>) -> bool {
+    matches!(answer, Some(Reply::Done))
 }
 
-// Whether the store refuses what is asked for this reason.
-fn refuses(store: &mut PlainStore, entry: Result<Entry, AllocError>, wanted: &Refusal) -> bool {
-    match entry {
-        Ok(entry) => is_refusal(&store.step(entry), wanted),
-        Err(_) => false,
-    }
+fn is_added(answer: Option<Reply>) -> bool {
+    matches!(answer, Some(Reply::Added { next }) if next == T0)
 }
 
-fn is_refusal(answer: &Result<Reply, StepRefused>, wanted: &Refusal) -> bool {
+fn is_joined(answer: Option<Reply>) -> bool {
     match answer {
-        Err(StepRefused::Refused(refusal)) => *refusal == *wanted,
+        Some(
+            Reply::Joined {
+                epoch,
+                executions,
+                triggers,
+            },
+        ) => epoch == 1 && executions == 0 && triggers == 0,
         _ => false,
     }
 }
 
-// The reply to join.
-fn joined() -> Reply {
-    Reply::Joined {
-        epoch: 1,
-        executions: 0,
-        triggers: 0,
+fn is_taken(answer: Option<Reply>) -> bool {
+    match answer {
+        Some(Reply::Acquired(taken)) => match taken.as_slice() {
+            [one] => one.entry == 1 && one.next == T0 && one.trigger.name.as_str() == "t1",
+            _ => false,
+        },
+        _ => false,
+    }
+}
+
+fn is_fired(answer: Option<Reply>) -> bool {
+    match answer {
+        Some(
+            Reply::Fired {
+                entry,
+                scheduled,
+                fired,
+                next,
+                trigger,
+                job,
+            },
+        ) => {
+            entry == 1
+                && scheduled == T0
+                && fired == T0
+                && next.is_none()
+                && trigger.name.as_str() == "t1"
+                && job.key.name.as_str() == "report"
+        }
+        _ => false,
+    }
+}
+
+fn is_completed(answer: Option<Reply>) -> bool {
+    matches!(answer, Some(Reply::Completed { entry }) if entry == 1)
+}
+
+// The number under which the store refuses what is asked, and 99 where it doesn't.
+fn refusal(store: &mut PlainStore, entry: Result<Entry, AllocError>) -> u8 {
+    match entry {
+        Ok(entry) => number_of(store.step(entry)),
+        Err(_) => 99,
+    }
+}
+
+fn number_of(answer: Result<Reply, StepRefused>) -> u8 {
+    match answer {
+        Err(StepRefused::Refused(refusal)) => refusal.number(),
+        _ => 99,
     }
 }
 
@@ -204,24 +220,12 @@ fn joined() -> Reply {
 fn six_commands(rt: HostRuntime) {
     let alloc = rt.alloc();
     let mut store = PlainStore::new(alloc);
-    assert!(rt; answers(&mut store, add_job(alloc, T0), Ok(Reply::Done)));
-    assert!(rt;
-        answers(
-            &mut store,
-            add_trigger(alloc, T0),
-            Ok(Reply::Added { next: T0 })
-        )
-    );
-    assert!(rt; answers(&mut store, join(alloc, T0), Ok(joined())));
-    assert!(rt; answers(&mut store, acquire(alloc, T0), taken(alloc)));
-    assert!(rt; answers(&mut store, fire(alloc, T0, 1), fired(alloc)));
-    assert!(rt;
-        answers(
-            &mut store,
-            complete(alloc, T0, 1),
-            Ok(Reply::Completed { entry: 1 })
-        )
-    );
+    assert!(rt; is_done(answer(&mut store, add_job(alloc, T0))));
+    assert!(rt; is_added(answer(&mut store, add_trigger(alloc, T0))));
+    assert!(rt; is_joined(answer(&mut store, join(alloc, T0))));
+    assert!(rt; is_taken(answer(&mut store, acquire(alloc, T0))));
+    assert!(rt; is_fired(answer(&mut store, fire(alloc, T0, 1))));
+    assert!(rt; is_completed(answer(&mut store, complete(alloc, T0, 1))));
     assert!(rt; store.jobs().is_empty() && store.triggers().is_empty() && store.fired().is_empty());
     assert_eq!(rt; store.members().len(), 1);
 }
@@ -231,41 +235,39 @@ fn fires_no_earlier_than_planned(rt: HostRuntime) {
     let alloc = rt.alloc();
     let at = T0 - 10000;
     let mut store = PlainStore::new(alloc);
-    assert!(rt; answers(&mut store, add_job(alloc, at), Ok(Reply::Done)));
-    assert!(rt;
-        answers(
-            &mut store,
-            add_trigger(alloc, at),
-            Ok(Reply::Added { next: T0 })
-        )
-    );
-    assert!(rt; answers(&mut store, join(alloc, at), Ok(joined())));
-    assert!(rt; answers(&mut store, acquire(alloc, at), taken(alloc)));
-    assert!(rt;
-        refuses(
-            &mut store,
-            fire(alloc, T0 - 1, 1),
-            &Refusal::Early { next: T0 }
-        )
-    );
+    assert!(rt; is_done(answer(&mut store, add_job(alloc, at))));
+    assert!(rt; is_added(answer(&mut store, add_trigger(alloc, at))));
+    assert!(rt; is_joined(answer(&mut store, join(alloc, at))));
+    assert!(rt; is_taken(answer(&mut store, acquire(alloc, at))));
+    assert_eq!(rt; refusal(&mut store, fire(alloc, T0 - 1, 1)), 19);
     assert_eq!(rt; store.last_moment(), at);
-    assert!(rt; answers(&mut store, fire(alloc, T0, 1), fired(alloc)));
+    assert!(rt; is_fired(answer(&mut store, fire(alloc, T0, 1))));
 }
 
 #[test]
 fn refusals(rt: HostRuntime) {
     let alloc = rt.alloc();
     let mut store = PlainStore::new(alloc);
-    assert!(rt;
-        refuses(
-            &mut store,
-            fire(alloc, T0, 1),
-            &Refusal::Fenced { live: None }
-        )
-    );
-    assert!(rt; refuses(&mut store, add_trigger(alloc, T0), &Refusal::UnknownJob));
-    assert!(rt; answers(&mut store, add_job(alloc, T0), Ok(Reply::Done)));
-    assert!(rt; refuses(&mut store, add_job(alloc, T0), &Refusal::Unbuilt));
-    assert!(rt; answers(&mut store, join(alloc, T0), Ok(joined())));
-    assert!(rt; refuses(&mut store, fire(alloc, T0, 1), &Refusal::UnknownEntry));
+    assert_eq!(rt; refusal(&mut store, fire(alloc, T0, 1)), 1);
+    assert_eq!(rt; refusal(&mut store, add_trigger(alloc, T0)), 3);
+    assert!(rt; is_done(answer(&mut store, add_job(alloc, T0))));
+    assert_eq!(rt; refusal(&mut store, add_job(alloc, T0)), 0);
+    assert!(rt; is_joined(answer(&mut store, join(alloc, T0))));
+    assert_eq!(rt; refusal(&mut store, fire(alloc, T0, 1)), 15);
+}
+
+#[test]
+fn rows_stand_in_the_order_of_their_keys(rt: HostRuntime) -> Result<(), Fail> {
+    let alloc = rt.alloc();
+    let mut rows = Vec::new(alloc);
+    insert(&mut rows, job(alloc, "b")?)?;
+    insert(&mut rows, job(alloc, "c")?)?;
+    insert(&mut rows, job(alloc, "a")?)?;
+    for (place, name) in ["a", "b", "c"].iter().enumerate() {
+        let row = rows.get(place).ok_or("a row is missing")?;
+        assert_eq!(rt; row.key.name.as_str(), *name);
+    }
+    assert!(rt; find(&rows, &key(alloc, "b")?).is_some());
+    assert!(rt; find(&rows, &key(alloc, "d")?).is_none());
+    Ok(())
 }

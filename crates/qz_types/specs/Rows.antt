@@ -1,7 +1,7 @@
 -- What contracts see of rows, and which rows are valid. Limits are the constants of `limits`.
 use Rattle.std.specs.Prelude.{ℕ, ℤ, List, Bool, true, Option, Some, None, nat_lt, nat_le, ◌&&◌, length}
-use Rattle.qz_civil.specs.Timings.{is_timing}
-use Rattle.qz_types.specs.declared.limits.TheConstants.{NAME_LIMIT, NODE_LIMIT, PAYLOAD_LIMIT, TIMES_LIMIT}
+use Rattle.qz_civil.specs.Timings.{is_name, is_timing}
+use Rattle.qz_types.specs.declared.limits.TheConstants.{NODE_LIMIT, PAYLOAD_LIMIT, TIMES_LIMIT}
 use Rattle.qz_types.specs.declared.keys.Key.{Key}
 use Rattle.qz_types.specs.declared.triggers.TriggerSpec.{TriggerSpec}
 use Rattle.qz_types.specs.declared.triggers.TriggerState.{TriggerState}
@@ -38,10 +38,6 @@ pub record FiredData : Type 0 where
 pub record MemberData : Type 0 where
   pub node : List ℕ
   pub epoch : ℕ
-
--- a group, name, class, calendar or zone name
-abbrev pub is_name : List ℕ → Bool
-is_name s = nat_lt 0 (length s) && nat_le (length s) NAME_LIMIT
 
 abbrev pub is_node : List ℕ → Bool
 is_node s = nat_lt 0 (length s) && nat_le (length s) NODE_LIMIT

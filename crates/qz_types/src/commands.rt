@@ -16,7 +16,7 @@ pub enum Code {
 }
 
 /// One transaction of the trigger store, without its reading and actor.
-#[derive(Clone, PartialEq, Eq, Debug, Drop)]
+#[derive(Clone, Debug, Drop)]
 pub enum Command {
     /// Stores a job.
     AddJob {
@@ -50,7 +50,7 @@ pub enum Command {
 }
 
 /// Who asks for a transaction.
-#[derive(Clone, PartialEq, Eq, Debug, Drop)]
+#[derive(Clone, Drop)]
 pub enum Actor {
     Client,
     /// A node under the epoch that it holds.
@@ -58,7 +58,7 @@ pub enum Actor {
 }
 
 /// A transaction as histories keep it. Acquire, Fire and Complete have a node as actor, the others a client.
-#[derive(Clone, PartialEq, Eq, Debug, Drop)]
+#[derive(Clone, Drop)]
 pub struct Entry {
     /// The reading of the clock, in ms since 1970-01-01T00:00:00Z. Any number: it is clamped when it is recorded.
     pub at: i64,

@@ -14,7 +14,7 @@ pub enum FiredState {
 }
 
 /// What a node has in its hands: a trigger that it acquired, or an execution that it began.
-#[derive(Clone, PartialEq, Eq, Debug, Drop)]
+#[derive(Clone, Drop)]
 pub struct FiredRow {
     /// The entry number, which no other row ever had.
     pub entry: u64,

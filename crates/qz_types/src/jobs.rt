@@ -7,7 +7,7 @@ use std::alloc::AllocError;
 use std::marker::Model;
 
 /// A stored job.
-#[derive(Clone, PartialEq, Eq, Debug, Drop)]
+#[derive(Clone, Debug, Drop)]
 pub struct JobRow {
     pub key: Key,
     /// What executes it, by name.

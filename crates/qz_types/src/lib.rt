@@ -11,8 +11,6 @@ mod replies;
 mod sorted;
 mod steps;
 mod stores;
-#[cfg(test)]
-mod tests;
 mod triggers;
 
 pub use commands::{Actor, Code, Command, Entry};
@@ -21,10 +19,10 @@ pub use jobs::JobRow;
 pub use keys::Key;
 pub use limits::{
     ACQUIRE_LIMIT, FIRED_LIMIT, FIRST_THRESHOLD, INTERVAL_LIMIT, JOB_LIMIT, MEMBER_LIMIT,
-    NAME_LIMIT, NODE_LIMIT, NUMBER_LIMIT, PAYLOAD_LIMIT, TIMES_LIMIT, TRIGGER_LIMIT,
+    NODE_LIMIT, NUMBER_LIMIT, PAYLOAD_LIMIT, TIMES_LIMIT, TRIGGER_LIMIT, ZONE_LIMIT,
 };
 pub use members::MemberRow;
-pub use qz_civil::{Failed, Kind, LAST, LONGEST, List, NoMemory, Text, Timing};
+pub use qz_civil::{Failed, Kind, LAST, LONGEST, List, NAME_LIMIT, NoMemory, Text, Timing, Unit};
 pub use replies::{Refusal, Reply, Taken};
 pub use sorted::{Keyed, find, insert, place};
 pub use steps::{Step, StepReply};

@@ -1,7 +1,5 @@
 //! How long a name may be, how many rows a table may have, and how far its numbers go.
 
-/// Bytes of a group, name, class, calendar or zone name, which has at least one.
-pub const NAME_LIMIT: u64 = 200;
 /// Bytes of a node's name, which has at least one.
 pub const NODE_LIMIT: u64 = 120;
 /// Bytes of a job's payload.
@@ -11,6 +9,8 @@ pub const PAYLOAD_LIMIT: u64 = 4096;
 pub const JOB_LIMIT: u64 = 65536;
 /// Stored triggers.
 pub const TRIGGER_LIMIT: u64 = 262144;
+/// Stored zones.
+pub const ZONE_LIMIT: u64 = 4096;
 /// Rows of acquired triggers and executions together.
 pub const FIRED_LIMIT: u64 = 16384;
 /// Members of the cluster.

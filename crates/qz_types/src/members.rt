@@ -7,7 +7,7 @@ use std::marker::Model;
 
 /// A node that joined the cluster, with the epoch number that it got. A node that was declared failed and goes on
 /// is known by its epoch: it isn't that of the member.
-#[derive(Clone, PartialEq, Eq, Debug, Drop)]
+#[derive(Clone, Drop)]
 pub struct MemberRow {
     pub node: Text,
     pub epoch: u64,

@@ -6,7 +6,7 @@ use crate::{JobRow, Key};
 use qz_civil::List;
 
 /// A trigger that was acquired.
-#[derive(Clone, PartialEq, Eq, Debug, Drop)]
+#[derive(Clone, Drop)]
 pub struct Taken {
     pub entry: u64,
     pub trigger: Key,
@@ -15,7 +15,7 @@ pub struct Taken {
 }
 
 /// What an accepted transaction answers. Times are in ms since 1970-01-01T00:00:00Z.
-#[derive(Clone, PartialEq, Eq, Debug, Drop)]
+#[derive(Clone, Drop)]
 pub enum Reply {
     Done,
     /// A trigger was stored, with this next fire time.
@@ -46,7 +46,7 @@ pub enum Reply {
 }
 
 /// Why a transaction was refused. A refusal changes nothing.
-#[derive(Clone, PartialEq, Eq, Debug, Drop)]
+#[derive(Clone, Debug, Drop)]
 pub enum Refusal {
     /// The scheduler doesn't do this yet.
     Unbuilt,
@@ -54,10 +54,18 @@ pub enum Refusal {
     Fenced { live: Option<u64> },
     /// The job isn't stored.
     UnknownJob,
+    /// The calendar isn't stored.
+    UnknownCalendar,
+    /// The zone isn't stored.
+    UnknownZone,
+    /// A zone of that name is stored. `UTC` counts as stored.
+    ZoneExists,
     /// No fired row has that entry number.
     UnknownEntry,
     /// The recorded moment lies before the trigger's next time, which is given in ms since 1970-01-01T00:00:00Z.
     Early { next: i64 },
+    /// A limit would be passed, which is `count`.
+    TooMany { count: u64 },
 }
 
 impl Refusal {
@@ -69,8 +77,12 @@ impl Refusal {
             Refusal::Unbuilt => 0,
             Refusal::Fenced { live: _ } => 1,
             Refusal::UnknownJob => 3,
+            Refusal::UnknownCalendar => 5,
+            Refusal::UnknownZone => 6,
+            Refusal::ZoneExists => 10,
             Refusal::UnknownEntry => 15,
             Refusal::Early { next: _ } => 19,
+            Refusal::TooMany { count: _ } => 22,
         }
     }
 }

@@ -4,7 +4,7 @@ use qz_civil::Text;
 
 /// What one script line asks for. A client's command is none that a node gives and no Join; a node's command is one
 /// that has a node as actor.
-#[derive(Clone, PartialEq, Eq, Debug, Drop)]
+#[derive(Debug, Drop)]
 pub enum Step {
     Client(Command),
     /// The node joins, and from then on holds the epoch that it got. It will check in each `interval` ms.
@@ -14,7 +14,7 @@ pub enum Step {
 }
 
 /// What a script step answers.
-#[derive(Clone, PartialEq, Eq, Debug, Drop)]
+#[derive(Drop)]
 pub enum StepReply {
     Ok(Reply),
     Refused(Refusal),

@@ -7,7 +7,7 @@ use std::alloc::AllocError;
 use std::marker::Model;
 
 /// A trigger as a client gives it.
-#[derive(Clone, PartialEq, Eq, Debug, Drop)]
+#[derive(Clone, Debug, Drop)]
 pub struct TriggerSpec {
     pub key: Key,
     pub job: Key,
@@ -31,7 +31,7 @@ pub enum TriggerState {
 }
 
 /// A stored trigger.
-#[derive(Clone, PartialEq, Eq, Debug, Drop)]
+#[derive(Clone, Drop)]
 pub struct TriggerRow {
     pub spec: TriggerSpec,
     /// Its next fire time, in ms since 1970-01-01T00:00:00Z.

@@ -101,6 +101,7 @@ fn is_one_shot(kind: &Kind) -> bool
 {
     match kind {
         Kind::Simple { interval, count } => *interval == 0 && *count == 0,
+        Kind::Cron { .. } | Kind::Interval { .. } | Kind::Daily { .. } => false,
     }
 }
 

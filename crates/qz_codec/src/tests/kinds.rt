@@ -1,0 +1,317 @@
+//! Records of the kinds of triggers.
+use super::{Spoiled, are_wrong_there, written_again};
+use std::alloc::{AllocError, Global};
+use std::test::*;
+
+/// AddTrigger as `ADD_TRIGGER` of 0 30 8 ? * MON-FRI in UTC.
+const ADD_CRON: &[u8; 109] = b"\x01\
+    \x00\x00\x01\x8c\xc2\x51\xf4\x00\
+    \x00\
+    \x00\x00\x00\x00\
+    \x02\
+    \x00\x01\
+    \x67\
+    \x00\x01\
+    \x74\
+    \x00\x01\
+    \x67\
+    \x00\x01\
+    \x6e\
+    \xff\xff\xff\xff\
+    \x01\
+    \x00\x01\
+    \x68\
+    \x01\
+    \x00\x00\x00\x00\x00\x00\x00\x01\
+    \x00\x00\x00\x00\x40\x00\x00\x00\
+    \x00\x00\x01\x00\
+    \x00\
+    \x0f\xff\
+    \x01\x3e\
+    \xff\xff\xff\xff\xff\xff\xff\xff\
+    \xff\xff\xff\xff\xff\xff\xff\xff\
+    \x00\x00\x00\x00\x00\x00\x00\x03\
+    \x00\x00\x00\x00\x00\x00\x00\x00\
+    \x00\x03\
+    \x55\x54\x43\
+    \x00\
+    \x00\x00\x01\x8c\xc2\x51\xf4\x00\
+    \x00\
+    \x01";
+
+/// The same of each month in UTC.
+const ADD_INTERVAL: &[u8; 57] = b"\x01\
+    \x00\x00\x01\x8c\xc2\x51\xf4\x00\
+    \x00\
+    \x00\x00\x00\x00\
+    \x02\
+    \x00\x01\
+    \x67\
+    \x00\x01\
+    \x74\
+    \x00\x01\
+    \x67\
+    \x00\x01\
+    \x6e\
+    \xff\xff\xff\xff\
+    \x01\
+    \x00\x01\
+    \x68\
+    \x02\
+    \x05\
+    \x00\x00\x00\x01\
+    \x00\x03\
+    \x55\x54\x43\
+    \x00\
+    \x00\x00\x01\x8c\xc2\x51\xf4\x00\
+    \x00\
+    \x01";
+
+/// The same of every 72 minutes from 8:00 to 17:00 of all days in UTC.
+const ADD_DAILY: &[u8; 66] = b"\x01\
+    \x00\x00\x01\x8c\xc2\x51\xf4\x00\
+    \x00\
+    \x00\x00\x00\x00\
+    \x02\
+    \x00\x01\
+    \x67\
+    \x00\x01\
+    \x74\
+    \x00\x01\
+    \x67\
+    \x00\x01\
+    \x6e\
+    \xff\xff\xff\xff\
+    \x01\
+    \x00\x01\
+    \x68\
+    \x03\
+    \x01\
+    \x00\x00\x00\x48\
+    \x00\x00\x70\x80\
+    \x00\x00\xef\x10\
+    \x7f\
+    \x00\x03\
+    \x55\x54\x43\
+    \x00\
+    \x00\x00\x01\x8c\xc2\x51\xf4\x00\
+    \x00\
+    \x01";
+
+/// Other days of the month and of the week in `ADD_CRON`.
+const DAYS: [(&[u8], &[u8]); 6] = [
+    (&[1, 0x7f, 0xff, 0xff, 0xff], &[0]),
+    (&[2, 30], &[0]),
+    (&[3], &[0]),
+    (&[4, 31], &[0]),
+    (&[0], &[2, 7]),
+    (&[0], &[3, 6, 5]),
+];
+
+fn with_days(alloc: Global, month: &[u8], week: &[u8]) -> Result<Vec<u8>, AllocError> {
+    let record: &[u8] = ADD_CRON;
+    let mut bytes = Vec::from_slice(alloc, record)?;
+    bytes.truncate(56);
+    bytes.extend_from_slice(month)?;
+    bytes.extend_from_slice(&[0x0f, 0xff])?;
+    bytes.extend_from_slice(week)?;
+    if let Some(rest) = record.get(61..) {
+        bytes.extend_from_slice(rest)?;
+    }
+    Ok(bytes)
+}
+
+#[test]
+fn each_kind_both_ways(rt: HostRuntime) -> Result<(), Fail> {
+    let records: [&[u8]; 3] = [ADD_CRON, ADD_INTERVAL, ADD_DAILY];
+    for record in records {
+        let bytes = written_again(rt.alloc(), record).ok_or("a record")?;
+        assert_eq!(rt; bytes.as_slice(), record);
+    }
+    Ok(())
+}
+
+#[test]
+fn days_both_ways(rt: HostRuntime) -> Result<(), Fail> {
+    for (month, week) in DAYS {
+        let record = with_days(rt.alloc(), month, week)?;
+        let bytes = written_again(rt.alloc(), &record).ok_or("a record")?;
+        assert_eq!(rt; bytes.as_slice(), record.as_slice());
+    }
+    Ok(())
+}
+
+#[test]
+fn units_both_ways(rt: HostRuntime) -> Result<(), Fail> {
+    let mut record = Vec::from_slice(rt.alloc(), ADD_INTERVAL)?;
+    for unit in 0..7 {
+        record[36] = unit;
+        let bytes = written_again(rt.alloc(), &record).ok_or("a record")?;
+        assert_eq!(rt; bytes.as_slice(), record.as_slice());
+    }
+    Ok(())
+}
+
+const SPOILED_KINDS: [Spoiled; 25] = [
+    // No second, one beyond 59, an hour beyond 23, a form of days that isn't there, a month beyond 12.
+    Spoiled {
+        record: ADD_CRON,
+        from: 43,
+        bytes: &[0],
+        at: 36,
+    },
+    Spoiled {
+        record: ADD_CRON,
+        from: 36,
+        bytes: &[0x10],
+        at: 36,
+    },
+    Spoiled {
+        record: ADD_CRON,
+        from: 52,
+        bytes: &[1],
+        at: 52,
+    },
+    Spoiled {
+        record: ADD_CRON,
+        from: 56,
+        bytes: &[5],
+        at: 56,
+    },
+    Spoiled {
+        record: ADD_CRON,
+        from: 57,
+        bytes: &[0x10],
+        at: 57,
+    },
+    // Days of the month and of the week, neither of them, an eighth day of the week, the sixth Friday.
+    Spoiled {
+        record: ADD_CRON,
+        from: 56,
+        bytes: &[3],
+        at: 59,
+    },
+    Spoiled {
+        record: ADD_CRON,
+        from: 59,
+        bytes: &[0],
+        at: 59,
+    },
+    Spoiled {
+        record: ADD_CRON,
+        from: 60,
+        bytes: &[0x80],
+        at: 60,
+    },
+    Spoiled {
+        record: ADD_CRON,
+        from: 59,
+        bytes: &[3, 6, 6],
+        at: 61,
+    },
+    // A year beyond the last one in the third word and in the fourth, no year, a zone without a name, no misfire instruction.
+    Spoiled {
+        record: ADD_CRON,
+        from: 84,
+        bytes: &[4],
+        at: 77,
+    },
+    Spoiled {
+        record: ADD_CRON,
+        from: 92,
+        bytes: &[1],
+        at: 85,
+    },
+    Spoiled {
+        record: ADD_CRON,
+        from: 61,
+        bytes: &[0; 24],
+        at: 85,
+    },
+    Spoiled {
+        record: ADD_CRON,
+        from: 93,
+        bytes: &[0, 0],
+        at: 93,
+    },
+    Spoiled {
+        record: ADD_CRON,
+        from: 98,
+        bytes: &[3],
+        at: 98,
+    },
+    // A unit that isn't there, no unit, too many of them.
+    Spoiled {
+        record: ADD_INTERVAL,
+        from: 36,
+        bytes: &[7],
+        at: 36,
+    },
+    Spoiled {
+        record: ADD_INTERVAL,
+        from: 40,
+        bytes: &[0],
+        at: 37,
+    },
+    Spoiled {
+        record: ADD_INTERVAL,
+        from: 37,
+        bytes: &[0x80],
+        at: 37,
+    },
+    // A unit of days, no minute, 72 hours, a first second beyond the day, a last one before it and beyond the day.
+    Spoiled {
+        record: ADD_DAILY,
+        from: 36,
+        bytes: &[3],
+        at: 36,
+    },
+    Spoiled {
+        record: ADD_DAILY,
+        from: 40,
+        bytes: &[0],
+        at: 37,
+    },
+    Spoiled {
+        record: ADD_DAILY,
+        from: 36,
+        bytes: &[2],
+        at: 37,
+    },
+    Spoiled {
+        record: ADD_DAILY,
+        from: 41,
+        bytes: &[0, 1, 0x51, 0x80],
+        at: 41,
+    },
+    Spoiled {
+        record: ADD_DAILY,
+        from: 45,
+        bytes: &[0, 0, 0x70, 0x7f],
+        at: 45,
+    },
+    Spoiled {
+        record: ADD_DAILY,
+        from: 45,
+        bytes: &[0, 1, 0x51, 0x80],
+        at: 45,
+    },
+    // No day, and an eighth one.
+    Spoiled {
+        record: ADD_DAILY,
+        from: 49,
+        bytes: &[0],
+        at: 49,
+    },
+    Spoiled {
+        record: ADD_DAILY,
+        from: 49,
+        bytes: &[0x80],
+        at: 49,
+    },
+];
+
+#[test]
+fn spoiled_kinds(rt: HostRuntime) -> Result<(), Fail> {
+    are_wrong_there(&rt, rt.alloc(), &SPOILED_KINDS)
+}
