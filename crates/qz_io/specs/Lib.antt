@@ -1,3 +1,4 @@
+pub mod Ahead
 pub mod Clocks
 pub mod Lines
 pub mod Memory

@@ -18,6 +18,6 @@ pub use faulty::{FaultSink, FaultSource};
 pub use memory::{MemSink, MemSource};
 pub use pieces::write_all;
 pub use qz_civil::Failed;
-pub use readers::{LINE_LIMIT, LineReader, Seen};
+pub use readers::{LINE_COUNT_LIMIT, LINE_LIMIT, LineReader, Seen};
 pub use system::{RealClock, StdSink, StdSource};
 pub use traits::{Clock, Sink, Source};

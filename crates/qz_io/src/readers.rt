@@ -13,6 +13,9 @@ use std::marker::Model;
 /// The greatest number of bytes of a line, without its line feed.
 pub const LINE_LIMIT: usize = 65536;
 
+/// The greatest number of lines of an input that is answered line by line.
+pub const LINE_COUNT_LIMIT: u64 = 1048576;
+
 /// The size of a reader's buffer in bytes. A read asks for at least half of it.
 const BLOCK: usize = 131072;
 

@@ -1,11 +1,26 @@
 -- The table of the format: which members each object has. An object is a line, named by the word of its member
 -- `do`, or the job or the trigger in one.
-use Rattle.std.specs.Prelude.{ℕ, List, [], ◌∷◌, if◌then◌else◌, Option, Some, None, codes}
+use Rattle.std.specs.Prelude.{ℕ, List, [], ◌∷◌, ◌++◌, if◌then◌else◌, Option, Some, None, codes}
 use Rattle.qz_job_json.specs.Members.{is_text}
 use Rattle.qz_job_json.specs.declared.forms.Word.{Word}
 use Rattle.qz_job_json.specs.declared.forms.Word.TheVariants.{AddJob, AddTrigger, Join, Acquire, Fire, Complete}
+use Rattle.qz_job_json.specs.declared.forms.KindWord.{KindWord}
+use Rattle.qz_job_json.specs.declared.forms.KindWord.TheVariants.{Simple, Cron, Interval, Daily}
 use Rattle.qz_job_json.specs.declared.forms.Form.{Form}
-use Rattle.qz_job_json.specs.declared.forms.Form.TheVariants.{Line, Job, Trigger}
+use Rattle.qz_job_json.specs.declared.forms.Form.TheVariants.{Line, Job, Trigger, ZoneLine, TriggerLine, TriggerOf}
+
+-- the members of a trigger in a line of `times`, of whichever kind
+abbrev pub shared : List (List ℕ)
+shared =
+    codes "name" ∷ codes "group" ∷ codes "job" ∷ codes "job_group" ∷ codes "priority" ∷ codes "calendar"
+    ∷ codes "misfire" ∷ codes "start" ∷ codes "end" ∷ codes "kind" ∷ []
+
+-- those of one kind
+abbrev pub own : KindWord → List (List ℕ)
+own Simple = codes "interval" ∷ codes "count" ∷ []
+own Cron = codes "cron" ∷ codes "zone" ∷ []
+own Interval = codes "unit" ∷ codes "every" ∷ codes "zone" ∷ []
+own Daily = codes "unit" ∷ codes "every" ∷ codes "from" ∷ codes "to" ∷ codes "days" ∷ codes "zone" ∷ []
 
 -- the members that are read
 abbrev pub built : Form → List (List ℕ)
@@ -18,6 +33,9 @@ built (Line Complete) = codes "do" ∷ codes "at" ∷ codes "node" ∷ codes "en
 built Job = codes "name" ∷ codes "group" ∷ codes "class" ∷ []
 built Trigger =
     codes "name" ∷ codes "group" ∷ codes "job" ∷ codes "job_group" ∷ codes "start" ∷ codes "kind" ∷ []
+built ZoneLine = codes "do" ∷ codes "at" ∷ codes "name" ∷ codes "stretches" ∷ []
+built TriggerLine = codes "do" ∷ codes "at" ∷ codes "trigger" ∷ codes "replace" ∷ []
+built (TriggerOf kind) = shared ++ own kind
 
 -- the members of the format that aren't built yet
 abbrev pub unbuilt : Form → List (List ℕ)
@@ -31,6 +49,9 @@ unbuilt Job = codes "durable" ∷ codes "no_concurrent" ∷ codes "requests_reco
 unbuilt Trigger =
     codes "priority" ∷ codes "calendar" ∷ codes "misfire" ∷ codes "end" ∷ codes "interval" ∷ codes "count"
     ∷ codes "cron" ∷ codes "zone" ∷ codes "unit" ∷ codes "every" ∷ codes "from" ∷ codes "to" ∷ codes "days" ∷ []
+unbuilt ZoneLine = []
+unbuilt TriggerLine = []
+unbuilt (TriggerOf kind) = []
 
 -- the kinds of triggers that aren't built yet
 abbrev pub unbuilt_kinds : List (List ℕ)
@@ -54,4 +75,13 @@ word_of text =
     else if is_text text (codes "acquire") then Some Acquire
     else if is_text text (codes "fire") then Some Fire
     else if is_text text (codes "complete") then Some Complete
+    else None
+
+-- the kind that a text names
+unfoldable pub kind_word_of : List ℕ → Option KindWord
+kind_word_of text =
+    if is_text text (codes "simple") then Some Simple
+    else if is_text text (codes "cron") then Some Cron
+    else if is_text text (codes "interval") then Some Interval
+    else if is_text text (codes "daily") then Some Daily
     else None

@@ -4,9 +4,9 @@ use Rattle.std.specs.Prelude.{ℕ, ℤ, List, [], ◌∷◌, Bool, if◌then◌e
 use Rattle.std.specs.Cmp.Lexicographic.{pointwise}
 use Rattle.std.specs.List.{list_any, list_all}
 use Rattle.serde_json.specs.Data.{Data, Members, no_members, member}
-use Rattle.serde_json.specs.Find.{get, as_str, as_number, as_u64, as_i64, as_object}
-use Rattle.qz_civil.specs.Timings.{is_span}
-use Rattle.qz_types.specs.Rows.{is_name, is_node}
+use Rattle.serde_json.specs.Find.{get, as_str, as_bool, as_number, as_u64, as_i64, as_object}
+use Rattle.qz_civil.specs.Timings.{is_within, is_span, is_name}
+use Rattle.qz_types.specs.Rows.{is_node}
 
 abbrev pub is_text : List ℕ → List ℕ → Bool
 is_text a b = pointwise nat_eq a b
@@ -62,18 +62,48 @@ name_at name d = kept is_name (text_at name d)
 abbrev pub node_at : List ℕ → Data → Option (List ℕ)
 node_at name d = kept is_node (text_at name d)
 
-abbrev pub group_if : Option Data → Option (List ℕ)
-group_if None = Some (codes "DEFAULT")
-group_if (Some d) = kept is_name (as_str d)
+-- what a member says, and the default only where there is none
+abbrev pub said_or : {T : Type 0} → T → (Data → Option T) → Option Data → Option T
+said_or default says None = Some default
+said_or default says (Some d) = says d
+
+-- what a member says, and Some None only where there is none
+abbrev pub said_if : {T : Type 0} → (Data → Option T) → Option Data → Option (Option T)
+said_if says None = Some None
+said_if says (Some d) = option_map Some (says d)
+
+abbrev pub name_of : Data → Option (List ℕ)
+name_of d = kept is_name (as_str d)
+
+abbrev pub span_of : Data → Option ℤ
+span_of d = kept is_span (integer_of d)
+
+-- a name with a default
+abbrev pub name_or : List ℕ → List ℕ → Data → Option (List ℕ)
+name_or default name d = said_or default name_of (get name d)
 
 -- a group: a name, and DEFAULT only where there is no such member
 abbrev pub group_at : List ℕ → Data → Option (List ℕ)
-group_at name d = group_if (get name d)
+group_at name d = name_or (codes "DEFAULT") name d
 
-abbrev pub integer_if : Option Data → Option (Option ℤ)
-integer_if None = Some None
-integer_if (Some d) = option_map Some (integer_of d)
+-- a whole number from low to high
+abbrev pub integer_in : ℤ → ℤ → Data → Option ℤ
+integer_in low high d = kept (is_within low high) (integer_of d)
 
--- any whole number from -2^63 to 2^63 - 1, and Some None only where there is no such member
+-- such a number with a default
+abbrev pub integer_or : ℤ → ℤ → ℤ → List ℕ → Data → Option ℤ
+integer_or low high default name d = said_or default (integer_in low high) (get name d)
+
+-- any whole number from -2^63 to 2^63 - 1, if there is one
 abbrev pub optional_integer_at : List ℕ → Data → Option (Option ℤ)
-optional_integer_at name d = integer_if (get name d)
+optional_integer_at name d = said_if integer_of (get name d)
+
+-- a time or a span of time in ms, if there is one
+abbrev pub optional_span_at : List ℕ → Data → Option (Option ℤ)
+optional_span_at name d = said_if span_of (get name d)
+
+abbrev pub optional_name_at : List ℕ → Data → Option (Option (List ℕ))
+optional_name_at name d = said_if name_of (get name d)
+
+abbrev pub optional_bool_at : List ℕ → Data → Option (Option Bool)
+optional_bool_at name d = said_if as_bool (get name d)

@@ -1,6 +1,6 @@
 //! The table of the format: which members each object has.
 ghost use Rattle.std.specs.Prelude.{◌≡◌};
-ghost use Rattle.qz_job_json.specs.Forms.{built, unbuilt, unbuilt_kinds, unbuilt_words, word_of};
+ghost use Rattle.qz_job_json.specs.Forms.{built, unbuilt, unbuilt_kinds, unbuilt_words, word_of, shared, own, kind_word_of};
 ghost use Rattle.qz_job_json.specs.Members.{is_among};
 
 /// The lines that are built, by the word of their member `do`.
@@ -32,16 +32,81 @@ impl Word {
     }
 }
 
+/// The kinds of triggers, by the word of the member `kind`.
+#[derive(Clone, Copy, PartialEq, Eq, Debug)]
+pub(crate) enum KindWord {
+    Simple,
+    Cron,
+    Interval,
+    Daily,
+}
+
+impl KindWord {
+    /// The kind that a text names.
+    #[tactic(auto, unfolding(crate::specs::Forms::kind_word_of))]
+    pub(crate) fn of(text: &str) -> Option<KindWord>
+        ensures { result ≡ kind_word_of text.now }
+    {
+        match text {
+            "simple" => Some(KindWord::Simple),
+            "cron" => Some(KindWord::Cron),
+            "interval" => Some(KindWord::Interval),
+            "daily" => Some(KindWord::Daily),
+            _ => None,
+        }
+    }
+
+    /// Whether triggers of this kind have a member of this name, which not all triggers have.
+    fn has_own(self, name: &str) -> bool
+        ensures { result ≡ is_among (own self) name.now }
+    {
+        match self {
+            KindWord::Simple => matches!(name, "interval" | "count"),
+            KindWord::Cron => matches!(name, "cron" | "zone"),
+            KindWord::Interval => matches!(name, "unit" | "every" | "zone"),
+            KindWord::Daily => {
+                matches!(name, "unit" | "every" | "from" | "to" | "days" | "zone")
+            }
+        }
+    }
+}
+
+/// Whether triggers of each kind have a member of this name.
+fn is_shared(name: &str) -> bool
+    ensures { result ≡ is_among shared name.now }
+{
+    matches!(
+        name,
+        "name"
+            | "group"
+            | "job"
+            | "job_group"
+            | "priority"
+            | "calendar"
+            | "misfire"
+            | "start"
+            | "end"
+            | "kind"
+    )
+}
+
 /// An object of the format: a line, or the job or the trigger in one.
 #[derive(Clone, Copy, PartialEq, Eq, Debug)]
 pub(crate) enum Form {
     Line(Word),
     Job,
     Trigger,
+    /// A line of `times` with a zone.
+    ZoneLine,
+    /// A line of `times` with a trigger.
+    TriggerLine,
+    /// The trigger of this kind in such a line.
+    TriggerOf(KindWord),
 }
 
 impl Form {
     /// Whether the object has a member of this name that is read.
+    #[tactic(auto, using(crate::proofs::Names::among_either))]
     pub(crate) fn is_built(self, name: &str) -> bool
         ensures { result ≡ is_among (built self) name.now }
     {
@@ -60,6 +125,9 @@ impl Form {
                     "name" | "group" | "job" | "job_group" | "start" | "kind"
                 )
             }
+            Form::ZoneLine => matches!(name, "do" | "at" | "name" | "stretches"),
+            Form::TriggerLine => matches!(name, "do" | "at" | "trigger" | "replace"),
+            Form::TriggerOf(kind) => is_shared(name) || kind.has_own(name),
         }
     }
 
@@ -80,6 +148,7 @@ impl Form {
                 )
             }
             Form::Trigger => is_unbuilt_in_trigger(name),
+            Form::ZoneLine | Form::TriggerLine | Form::TriggerOf(_) => false,
         }
     }
 }

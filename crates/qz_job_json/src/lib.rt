@@ -1,12 +1,17 @@
-//! What a line of a script says. A line is one JSON object, which `serde_json` reads.
+//! What a line of a script, or of `times`, says. A line is one JSON object, which `serde_json` reads.
 #![tactic(auto)]
 
+mod asked;
+mod clocks;
 mod forms;
 mod lines;
 mod members;
 mod objects;
+mod schedules;
 mod steps;
 #[cfg(test)]
 mod tests;
+mod zones;
 
+pub use asked::{Asked, read_asked};
 pub use lines::{Given, LINE_LIMIT, LineFault, read_step};

@@ -8,16 +8,17 @@ ghost use Rattle.qz_job_json.specs.Lines.{is_blank, value_of, is_unbuilt, is_unb
 use crate::forms::{Form, Word, is_unbuilt_kind, is_unbuilt_word};
 use crate::members::{has_only, has_unbuilt, optional_integer_at, text_at};
 use crate::steps::step_of;
+use qz_cron_text::CronError;
 use qz_types::{NoMemory, Step};
 use serde_json::Value;
-use std::alloc::Global;
+use std::alloc::{AllocError, Global};
 use thiserror::Error;
 
 /// Bytes of a line, its line feed not counted.
 pub const LINE_LIMIT: u64 = 65536;
 
 /// What a line asks for.
-#[derive(Clone, PartialEq, Eq, Debug, Drop)]
+#[derive(Debug, Drop)]
 pub struct Given {
     /// The line's own reading in place of one of the clock, in ms since 1970-01-01T00:00:00Z. Any number.
     pub at: Option<i64>,
@@ -39,9 +40,32 @@ pub enum LineFault {
     /// An unknown or missing member, a value of another type, `null`, or a value out of its range.
     #[error("not a step")]
     Shape,
+    /// The line is right but for its cron text. Script lines have none yet.
+    #[error("bad cron")]
+    Cron(CronError),
     /// Memory ran out. Nothing is known of the line.
     #[error("no memory")]
     NoMemory,
+}
+
+impl From<NoMemory> for LineFault {
+    ghost use Rattle.qz_job_json.specs.declared.lines.LineFault.TheVariants as faults;
+
+    ghost from_gives = { λ _ e. e ≡ faults.NoMemory };
+
+    fn from(_error: NoMemory) -> LineFault {
+        LineFault::NoMemory
+    }
+}
+
+impl From<AllocError> for LineFault {
+    ghost use Rattle.qz_job_json.specs.declared.lines.LineFault.TheVariants as faults;
+
+    ghost from_gives = { λ _ e. e ≡ faults.NoMemory };
+
+    fn from(_error: AllocError) -> LineFault {
+        LineFault::NoMemory
+    }
 }
 
 /// Reads a line, which has no line feed. None is a blank line: it has only spaces, tabs and carriage returns.
@@ -61,7 +85,7 @@ pub fn read_step(alloc: Global, line: &[u8]) -> Result<Option<Given>, LineFault>
     }
 }
 
-fn is_blank(line: &[u8]) -> bool
+pub(crate) fn is_blank(line: &[u8]) -> bool
     ensures { result ≡ list_all is_blank line.now }
 {
     line.iter()
@@ -69,7 +93,7 @@ fn is_blank(line: &[u8]) -> bool
 }
 
 /// The JSON value that the bytes are.
-fn value_of(alloc: Global, line: &[u8]) -> Result<Option<Value>, NoMemory>
+pub(crate) fn value_of(alloc: Global, line: &[u8]) -> Result<Option<Value>, NoMemory>
     ensures { IfOk result (λ value. option_map view value ≡ value_of line.now) }
 {
     match Value::from_slice(alloc, line) {

@@ -1,12 +1,12 @@
 //! What the members of an object say.
-ghost use Rattle.std.specs.Prelude.{◌≡◌, IsTrue, IfSome, option_map, string_bytes};
+ghost use Rattle.std.specs.Prelude.{◌≡◌, ◌≤ℤ◌, IsTrue, IfSome, option_map, string_bytes};
 ghost use Rattle.std.specs.List.{list_all, list_any};
 ghost use Rattle.std.specs.BTreeMap.{keys};
 ghost use Rattle.serde_json.specs.View.{view};
-ghost use Rattle.qz_civil.specs.Timings.{is_span};
-ghost use Rattle.qz_types.specs.Rows.{is_name, is_node};
+ghost use Rattle.qz_civil.specs.Timings.{is_span, is_name, is_end};
+ghost use Rattle.qz_types.specs.Rows.{is_node};
 ghost use Rattle.qz_job_json.specs.Forms.{built, unbuilt};
-ghost use Rattle.qz_job_json.specs.Members.{is_among, has_any, has_only, text_at, number_at, span_at, name_at, node_at, group_at, optional_integer_at};
+ghost use Rattle.qz_job_json.specs.Members.{is_among, has_any, has_only, text_at, number_at, span_at, name_at, node_at, name_or, group_at, integer_in, integer_or, optional_integer_at, optional_span_at, optional_bool_at};
 
 use crate::forms::Form;
 use qz_types::{LONGEST, NAME_LIMIT, NODE_LIMIT};
@@ -113,13 +113,73 @@ pub(crate) fn node_at<'v>(value: &'v Value, name: &str) -> Option<&'v str>
     if is_node(text) { Some(text) } else { None }
 }
 
+/// The name under this name, and the default where there is no such member.
+pub(crate) fn name_or<'v>(value: &'v Value, name: &str, default: &'v str) -> Option<&'v str>
+    requires { IsTrue (is_name default.now) }
+    ensures value { option_map (λ text. text.now) result ≡ name_or default.now name.now (view value.now) }
+    ensures valid { IfSome result (λ text. IsTrue (is_name text.now)) }
+{
+    match value.get(name) {
+        Some(_) => name_at(value, name),
+        None => Some(default),
+    }
+}
+
 /// The group under this name, and `DEFAULT` where there is no such member.
 pub(crate) fn group_at<'v>(value: &'v Value, name: &str) -> Option<&'v str>
     ensures value { option_map (λ text. text.now) result ≡ group_at name.now (view value.now) }
     ensures valid { IfSome result (λ text. IsTrue (is_name text.now)) }
 {
+    name_or(value, name, "DEFAULT")
+}
+
+/// The whole number that the value is, if it is one from `low` to `high`.
+pub(crate) fn integer_in(value: &Value, low: i64, high: i64) -> Option<i64>
+    ensures value { result ≡ integer_in low high (view value.now) }
+    ensures low { IfSome result (λ n. low ≤ℤ n) }
+    ensures high { IfSome result (λ n. n ≤ℤ high) }
+{
+    let n = value.as_i64()?;
+    if low <= n && n <= high { Some(n) } else { None }
+}
+
+/// The whole number from `low` to `high` under this name, and the default where there is no such member.
+pub(crate) fn integer_or(
+    value: &Value,
+    name: &str,
+    low: i64,
+    high: i64,
+    default: i64,
+) -> Option<i64>
+    requires low { low ≤ℤ default }
+    requires high { default ≤ℤ high }
+    ensures value { result ≡ integer_or low high default name.now (view value.now) }
+    ensures low { IfSome result (λ n. low ≤ℤ n) }
+    ensures high { IfSome result (λ n. n ≤ℤ high) }
+{
     match value.get(name) {
-        Some(_) => name_at(value, name),
-        None => Some("DEFAULT"),
+        Some(member) => integer_in(member, low, high),
+        None => Some(default),
+    }
+}
+
+/// The time or span of time under this name, in ms, which may be missing. None is a member that is no such number.
+pub(crate) fn optional_span_at(value: &Value, name: &str) -> Option<Option<i64>>
+    ensures value { result ≡ optional_span_at name.now (view value.now) }
+    ensures valid { IfSome result (λ end. IsTrue (is_end end)) }
+{
+    match value.get(name) {
+        Some(_) => span_at(value, name).map(Some),
+        None => Some(None),
+    }
+}
+
+/// The truth value under this name, which may be missing. None is a member that is none.
+pub(crate) fn optional_bool_at(value: &Value, name: &str) -> Option<Option<bool>>
+    ensures { result ≡ optional_bool_at name.now (view value.now) }
+{
+    match value.get(name) {
+        Some(member) => member.as_bool().map(Some),
+        None => Some(None),
     }
 }

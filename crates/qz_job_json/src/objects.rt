@@ -13,7 +13,12 @@ use std::alloc::Global;
 
 /// The key of the members under these names.
 #[tactic(auto, unfolding(crate::specs::Objects::key_at))]
-fn key_at(alloc: Global, value: &Value, group: &str, name: &str) -> Result<Option<Key>, NoMemory>
+pub(crate) fn key_at(
+    alloc: Global,
+    value: &Value,
+    group: &str,
+    name: &str,
+) -> Result<Option<Key>, NoMemory>
     ensures value { IfOk result (λ key. key ≡ key_at group.now name.now (view value.now)) }
     ensures valid { IfOk result (λ key. IfSome key (λ k. IsTrue (is_key k))) }
 {

@@ -1,2 +1,3 @@
 pub mod Names
 pub mod Replies
+pub mod Times

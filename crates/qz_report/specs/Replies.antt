@@ -5,7 +5,7 @@ use Rattle.std.specs.Fmt.{decimal, signed_decimal}
 use Rattle.qz_types.specs.Refusals.{number_of}
 use Rattle.qz_types.specs.declared.replies.Taken.{Taken}
 use Rattle.qz_types.specs.declared.replies.Refusal.{Refusal}
-use Rattle.qz_types.specs.declared.replies.Refusal.TheVariants.{Unbuilt, Fenced, UnknownJob, UnknownEntry, Early}
+use Rattle.qz_types.specs.declared.replies.Refusal.TheVariants.{Unbuilt, Fenced, UnknownJob, UnknownCalendar, UnknownZone, ZoneExists, UnknownEntry, Early, TooMany}
 use Rattle.qz_types.specs.declared.replies.Reply.{Reply}
 use Rattle.qz_types.specs.declared.replies.Reply.TheVariants.{Done, Added, Joined, Acquired, Fired, Completed}
 use Rattle.qz_types.specs.declared.steps.StepReply.{StepReply}
@@ -56,8 +56,12 @@ abbrev pub refusal_field : Refusal → List ℕ
 refusal_field Unbuilt = []
 refusal_field (Fenced live) = codes " live " ++ live_text live
 refusal_field UnknownJob = []
+refusal_field UnknownCalendar = []
+refusal_field UnknownZone = []
+refusal_field ZoneExists = []
 refusal_field UnknownEntry = []
 refusal_field (Early next) = codes " next " ++ signed_decimal next
+refusal_field (TooMany count) = codes " count " ++ decimal count
 
 abbrev pub refusal_text : Refusal → List ℕ
 refusal_text refusal = codes "refused " ++ decimal (number_of refusal) ++ refusal_field refusal

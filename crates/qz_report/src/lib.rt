@@ -5,5 +5,7 @@ mod names;
 mod replies;
 #[cfg(test)]
 mod tests;
+mod times;
 
 pub use replies::reply_line;
+pub use times::times_line;

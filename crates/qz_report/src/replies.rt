@@ -151,6 +151,12 @@ fn push_field(text: &mut String, refusal: &Refusal) -> Result<(), AllocError>
         Refusal::Fenced { live: Some(epoch) } => write!(text, " live {epoch}"),
         Refusal::Fenced { live: None } => text.push_str(" live none"),
         Refusal::Early { next } => write!(text, " next {next}"),
-        Refusal::Unbuilt | Refusal::UnknownJob | Refusal::UnknownEntry => Ok(()),
+        Refusal::TooMany { count } => write!(text, " count {count}"),
+        Refusal::Unbuilt
+        | Refusal::UnknownJob
+        | Refusal::UnknownCalendar
+        | Refusal::UnknownZone
+        | Refusal::ZoneExists
+        | Refusal::UnknownEntry => Ok(()),
     }
 }

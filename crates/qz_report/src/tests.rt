@@ -1,7 +1,7 @@
 //! Replies with their lines.
 ghost use Rattle.std.specs.Prelude.{◌≡◌, IfOk};
 
-use crate::reply_line;
+use crate::{reply_line, times_line};
 use qz_types::{JobRow, Key, List, NoMemory, Refusal, Reply, StepReply, Taken, Text};
 use std::alloc::{AllocError, Global};
 use std::test::Fail;
@@ -81,6 +81,14 @@ fn refusals_have_their_lines(rt: HostRuntime) -> Result<(), Fail> {
         refused(alloc, Refusal::Early { next: -1 })?.as_str(),
         "refused 19 next -1\n"
     );
+    assert_eq!(rt;
+        refused(alloc, Refusal::ZoneExists)?.as_str(),
+        "refused 10\n"
+    );
+    assert_eq!(rt;
+        refused(alloc, Refusal::TooMany { count: 4096 })?.as_str(),
+        "refused 22 count 4096\n"
+    );
     Ok(())
 }
 
@@ -150,5 +158,20 @@ fn fired_tells_the_next_time(rt: HostRuntime) -> Result<(), Fail> {
     assert_eq!(rt; none.as_str(), "fired 1 scheduled 10 at 12 next none\n");
     let some = fired(rt.alloc(), Some(20))?;
     assert_eq!(rt; some.as_str(), "fired 1 scheduled 10 at 12 next 20\n");
+    Ok(())
+}
+
+#[test]
+fn times_have_their_lines(rt: HostRuntime) -> Result<(), Fail> {
+    let alloc = rt.alloc();
+    let key = key(alloc, "a b", "t1")?;
+    assert_eq!(rt;
+        times_line(alloc, &key, &[])?.as_str(),
+        "times a%20b/t1 none\n"
+    );
+    assert_eq!(rt;
+        times_line(alloc, &key, &[0, 1704067200000])?.as_str(),
+        "times a%20b/t1 0 1704067200000\n"
+    );
     Ok(())
 }

@@ -1,0 +1,73 @@
+-- What a line of `times` says, and which fault it has.
+use Rattle.std.specs.Prelude.{ℕ, List, length, Bool, ◌||◌, nat_lt, is_some, if◌then◌else◌, Option, Some, None, Result, Ok, Err, option_and_then, codes}
+use Rattle.std.specs.List.{list_all}
+use Rattle.serde_json.specs.Data.{Data}
+use Rattle.serde_json.specs.Find.{get}
+use Rattle.qz_civil.specs.Timings.{is_name}
+use Rattle.qz_types.specs.Rows.{is_trigger_spec}
+use Rattle.qz_job_json.specs.declared.asked.Asked.{Asked}
+use Rattle.qz_job_json.specs.declared.asked.Asked.TheVariants.{AddZone, AddTrigger}
+use Rattle.qz_job_json.specs.declared.forms.Form.TheVariants.{ZoneLine, TriggerLine}
+use Rattle.qz_job_json.specs.declared.lines.TheConstants.{LINE_LIMIT}
+use Rattle.qz_job_json.specs.declared.lines.LineFault.{LineFault}
+use Rattle.qz_job_json.specs.declared.lines.LineFault.TheVariants.{TooLong, NotJson, NotHere, Shape}
+use Rattle.qz_job_json.specs.Forms.{built, unbuilt_words, word_of}
+use Rattle.qz_job_json.specs.Lines.{is_blank, value_of}
+use Rattle.qz_job_json.specs.Members.{is_text, is_among, has_only, both, text_at, name_at, optional_integer_at, optional_bool_at}
+use Rattle.qz_job_json.specs.Schedules.{◌>>=◌, or_shape, trigger_by_kind}
+use Rattle.qz_job_json.specs.Zones.{zone_of}
+
+-- the name and the trigger are valid
+abbrev pub is_asked : Asked → Bool
+is_asked (AddZone name zone) = is_name name
+is_asked (AddTrigger spec) = is_trigger_spec spec
+
+abbrev pub add_zone : Data → Option Asked
+add_zone d = both (λ name zone. AddZone name zone) (name_at (codes "name") d) (option_and_then zone_of (get (codes "stretches") d))
+
+-- its member `at` is right and has no meaning
+unfoldable pub zone_line : Data → Option Asked
+zone_line d =
+    if has_only (built ZoneLine) d
+    then both (λ at asked. asked) (optional_integer_at (codes "at") d) (add_zone d)
+    else None
+
+-- its members `at` and `replace` are right and have no meaning
+unfoldable pub trigger_line : Data → Result Asked LineFault
+trigger_line d =
+    if has_only (built TriggerLine) d
+    then (or_shape (optional_integer_at (codes "at") d) >>= λ at.
+    or_shape (optional_bool_at (codes "replace") d) >>= λ replace.
+    or_shape (get (codes "trigger") d) >>= λ trigger.
+    trigger_by_kind trigger >>= λ spec.
+    Ok (AddTrigger spec))
+    else Err Shape
+
+-- a word of the format
+abbrev pub is_word : List ℕ → Bool
+is_word text = is_among unbuilt_words text || is_some (word_of text)
+
+-- the fault of a line that isn't one of `times`
+abbrev pub fault_of_word : List ℕ → LineFault
+fault_of_word text = if is_word text then NotHere else Shape
+
+abbrev pub asked_by : List ℕ → Data → Result Asked LineFault
+asked_by text d =
+    if is_text text (codes "add_zone") then or_shape (zone_line d)
+    else if is_text text (codes "add_trigger") then trigger_line d
+    else Err (fault_of_word text)
+
+abbrev pub asked_by_text : Option (List ℕ) → Data → Result (Option Asked) LineFault
+asked_by_text None d = Err Shape
+asked_by_text (Some text) d = asked_by text d >>= λ asked. Ok (Some asked)
+
+abbrev pub asked_by_value : Option Data → Result (Option Asked) LineFault
+asked_by_value None = Err NotJson
+asked_by_value (Some d) = asked_by_text (text_at (codes "do") d) d
+
+-- a line, without its line feed; Ok None is a blank line
+abbrev pub asked_meaning : List ℕ → Result (Option Asked) LineFault
+asked_meaning line =
+    if nat_lt LINE_LIMIT (length line) then Err TooLong
+    else if list_all is_blank line then Ok None
+    else asked_by_value (value_of line)

@@ -1,0 +1,31 @@
+-- The tables of zones. None is a value of another shape, or a table that is no zone's.
+use Rattle.std.specs.Prelude.{ℤ, pos, negsuc, List, [], ◌∷◌, Bool, if◌then◌else◌, is_none, Option, Some, None, option_and_then}
+use Rattle.serde_json.specs.Data.{Data, Items, no_items, item}
+use Rattle.serde_json.specs.Find.{at, as_array}
+use Rattle.qz_civil.specs.declared.stretches.Stretch.{Stretch}
+use Rattle.qz_civil.specs.Zones.{bad_zone}
+use Rattle.qz_job_json.specs.Members.{kept, both, integer_of, integer_in}
+
+abbrev pub make_stretch : ℤ → ℤ → Stretch
+make_stretch from offset = record { from = from; offset = offset }
+
+-- a number of 32 bits
+abbrev pub offset_of : Data → Option ℤ
+offset_of d = integer_in (negsuc 2147483647) (pos 2147483647) d
+
+-- a list of just the two numbers
+unfoldable pub stretch_of : Data → Option Stretch
+stretch_of d =
+    if is_none (at 2 d)
+    then both make_stretch (option_and_then integer_of (at 0 d)) (option_and_then offset_of (at 1 d))
+    else None
+
+abbrev pub stretches_of : Items → Option (List Stretch)
+stretches_of no_items = Some []
+stretches_of (item d ds) = both (λ s rest. s ∷ rest) (stretch_of d) (stretches_of ds)
+
+abbrev pub is_zone : List Stretch → Bool
+is_zone stretches = is_none (bad_zone stretches)
+
+abbrev pub zone_of : Data → Option (List Stretch)
+zone_of d = kept is_zone (option_and_then stretches_of (as_array d))

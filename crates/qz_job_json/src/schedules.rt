@@ -1,0 +1,239 @@
+//! The triggers in lines of `times`.
+ghost use Rattle.std.specs.Prelude.{◌≡◌, ◌⊎◌, ◌≤ℤ◌, pos, negsuc, Err, IsTrue, IfOk, IfSome, option_map};
+ghost use Rattle.serde_json.specs.View.{view};
+ghost use Rattle.qz_civil.specs.Timings.{is_name, is_every, is_kind, is_misfire, is_timing, is_daily_time};
+ghost use Rattle.qz_types.specs.Rows.{is_calendar, is_trigger_spec};
+ghost use Rattle.qz_job_json.specs.Schedules as spec;
+
+use crate::clocks::{days_at, second_or};
+use crate::forms::{Form, KindWord};
+use crate::lines::LineFault;
+use crate::members::{
+    has_only, integer_or, name_at, name_or, number_at, optional_span_at, span_at, text_at,
+};
+use crate::objects::key_at;
+use qz_civil::{Kind, LONGEST, Timing, Unit};
+use qz_types::{Text, TriggerSpec};
+use serde_json::Value;
+use std::alloc::Global;
+
+/// How many seconds a daily schedule's step has at most.
+const DAY_SECONDS: u64 = 86400;
+
+#[tactic(auto, unfolding(crate::specs::Schedules::unit_of))]
+fn unit_of(text: &str) -> Option<Unit>
+    ensures { result ≡ spec.unit_of text.now }
+{
+    match text {
+        "SECOND" => Some(Unit::Second),
+        "MINUTE" => Some(Unit::Minute),
+        "HOUR" => Some(Unit::Hour),
+        "DAY" => Some(Unit::Day),
+        "WEEK" => Some(Unit::Week),
+        "MONTH" => Some(Unit::Month),
+        "YEAR" => Some(Unit::Year),
+        _ => None,
+    }
+}
+
+fn unit_at(value: &Value) -> Option<Unit>
+    ensures { result ≡ spec.unit_at (view value.now) }
+{
+    unit_of(text_at(value, "unit")?)
+}
+
+fn every_at(value: &Value) -> Option<u32>
+    ensures value { result ≡ spec.every_at (view value.now) }
+    ensures valid { IfSome result (λ every. IsTrue (is_every every)) }
+{
+    let every = number_at(value, "every")?;
+    if 1 <= every && every <= 2147483647 {
+        Some(every as u32)
+    } else {
+        None
+    }
+}
+
+fn zone_at(value: &Value) -> Option<&str>
+    ensures value { option_map (λ text. text.now) result ≡ spec.zone_at (view value.now) }
+    ensures valid { IfSome result (λ text. IsTrue (is_name text.now)) }
+{
+    name_or(value, "zone", "UTC")
+}
+
+#[tactic(auto, unfolding(crate::specs::Schedules::simple_of))]
+fn simple_of(value: &Value) -> Result<Kind, LineFault>
+    ensures value { result ≡ spec.simple_of (view value.now) }
+    ensures valid { IfOk result (λ kind. IsTrue (is_kind kind)) }
+    ensures last { IfOk result (λ kind. spec.last_of kind ≡ pos 5) }
+{
+    let interval = integer_or(value, "interval", 0, LONGEST, 0).ok_or(LineFault::Shape)?;
+    let count = integer_or(value, "count", -1, 2147483647, 0).ok_or(LineFault::Shape)?;
+    if interval == 0 && count != 0 {
+        return Err(LineFault::Shape);
+    }
+    Ok(Kind::Simple { interval, count })
+}
+
+#[tactic(auto, unfolding(crate::specs::Schedules::cron_of))]
+fn cron_of(alloc: Global, value: &Value) -> Result<Kind, LineFault>
+    ensures value { (result ≡ Err LineFault.NoMemory) ⊎ (result ≡ spec.cron_of (view value.now)) }
+    ensures valid { IfOk result (λ kind. IsTrue (is_kind kind)) }
+    ensures last { IfOk result (λ kind. spec.last_of kind ≡ pos 2) }
+{
+    let text = text_at(value, "cron").ok_or(LineFault::Shape)?;
+    let zone = zone_at(value).ok_or(LineFault::Shape)?;
+    let fields = qz_cron_text::parse(text).map_err(LineFault::Cron)?;
+    let zone = Text::from_str(alloc, zone)?;
+    Ok(Kind::Cron { fields, zone })
+}
+
+#[tactic(auto, unfolding(crate::specs::Schedules::interval_of))]
+fn interval_of(alloc: Global, value: &Value) -> Result<Kind, LineFault>
+    ensures value { (result ≡ Err LineFault.NoMemory) ⊎ (result ≡ spec.interval_of (view value.now)) }
+    ensures valid { IfOk result (λ kind. IsTrue (is_kind kind)) }
+    ensures last { IfOk result (λ kind. spec.last_of kind ≡ pos 2) }
+{
+    let unit = unit_at(value).ok_or(LineFault::Shape)?;
+    let every = every_at(value).ok_or(LineFault::Shape)?;
+    let zone = zone_at(value).ok_or(LineFault::Shape)?;
+    let zone = Text::from_str(alloc, zone)?;
+    Ok(Kind::Interval { unit, every, zone })
+}
+
+/// Whether the step is one of a second to a day, and the times are in their order.
+#[tactic(auto, using(crate::proofs::Units::seconds_small))]
+fn is_daily_time(unit: Unit, every: u32, from: u32, to: u32) -> bool
+    ensures { result ≡ is_daily_time unit every from to }
+{
+    let step = u64::from(every) * unit.seconds();
+    1 <= step && step <= DAY_SECONDS && from <= to && to < 86400
+}
+
+#[tactic(auto, unfolding(crate::specs::Schedules::daily_of))]
+fn daily_of(alloc: Global, value: &Value) -> Result<Kind, LineFault>
+    ensures value { (result ≡ Err LineFault.NoMemory) ⊎ (result ≡ spec.daily_of (view value.now)) }
+    ensures valid { IfOk result (λ kind. IsTrue (is_kind kind)) }
+    ensures last { IfOk result (λ kind. spec.last_of kind ≡ pos 2) }
+{
+    let unit = unit_at(value).ok_or(LineFault::Shape)?;
+    let every = every_at(value).ok_or(LineFault::Shape)?;
+    let from = second_or(value, "from", 0).ok_or(LineFault::Shape)?;
+    let to = second_or(value, "to", 86399).ok_or(LineFault::Shape)?;
+    let days = days_at(value).ok_or(LineFault::Shape)?;
+    let zone = zone_at(value).ok_or(LineFault::Shape)?;
+    if !is_daily_time(unit, every, from, to) {
+        return Err(LineFault::Shape);
+    }
+    let zone = Text::from_str(alloc, zone)?;
+    Ok(Kind::Daily {
+        unit,
+        every,
+        from,
+        to,
+        days,
+        zone,
+    })
+}
+
+fn kind_of(alloc: Global, value: &Value, word: KindWord) -> Result<Kind, LineFault>
+    ensures value { (result ≡ Err LineFault.NoMemory) ⊎ (result ≡ spec.kind_of word (view value.now)) }
+    ensures valid { IfOk result (λ kind. IsTrue (is_kind kind)) }
+    ensures last { IfOk result (λ kind. spec.last_of kind ≡ spec.last_misfire word) }
+{
+    match word {
+        KindWord::Simple => simple_of(value),
+        KindWord::Cron => cron_of(alloc, value),
+        KindWord::Interval => interval_of(alloc, value),
+        KindWord::Daily => daily_of(alloc, value),
+    }
+}
+
+fn misfire_at(value: &Value, word: KindWord) -> Option<i8>
+    ensures value { result ≡ spec.misfire_at word (view value.now) }
+    ensures low { IfSome result (λ code. negsuc 0 ≤ℤ code) }
+    ensures high { IfSome result (λ code. code ≤ℤ spec.last_misfire word) }
+{
+    let last = match word {
+        KindWord::Simple => 5,
+        KindWord::Cron | KindWord::Interval | KindWord::Daily => 2,
+    };
+    let code = integer_or(value, "misfire", -1, last, 0)?;
+    Some(code as i8)
+}
+
+#[tactic(auto, using(crate::proofs::Units::misfires_to_last), unfolding(crate::specs::Schedules::timing_of))]
+fn timing_of(alloc: Global, value: &Value, word: KindWord) -> Result<Timing, LineFault>
+    ensures value { (result ≡ Err LineFault.NoMemory) ⊎ (result ≡ spec.timing_of word (view value.now)) }
+    ensures valid { IfOk result (λ timing. IsTrue (is_timing timing)) }
+{
+    let misfire = misfire_at(value, word).ok_or(LineFault::Shape)?;
+    let start = span_at(value, "start").ok_or(LineFault::Shape)?;
+    let end = optional_span_at(value, "end").ok_or(LineFault::Shape)?;
+    let kind = kind_of(alloc, value, word)?;
+    Ok(Timing {
+        kind,
+        misfire,
+        start,
+        end,
+    })
+}
+
+fn priority_at(value: &Value) -> Option<i32>
+    ensures { result ≡ spec.priority_at (view value.now) }
+{
+    let (low, high) = (i64::from(i32::MIN), i64::from(i32::MAX));
+    let priority = integer_or(value, "priority", low, high, 5)?;
+    Some(priority as i32)
+}
+
+fn calendar_at(alloc: Global, value: &Value) -> Result<Option<Text>, LineFault>
+    ensures value { (result ≡ Err LineFault.NoMemory) ⊎ (result ≡ spec.or_shape (spec.calendar_at (view value.now))) }
+    ensures valid { IfOk result (λ calendar. IsTrue (is_calendar calendar)) }
+{
+    match value.get("calendar") {
+        Some(_) => {
+            let name = name_at(value, "calendar").ok_or(LineFault::Shape)?;
+            Ok(Some(Text::from_str(alloc, name)?))
+        }
+        None => Ok(None),
+    }
+}
+
+/// A trigger of that kind.
+#[tactic(auto, unfolding(crate::specs::Schedules::timed_trigger_of))]
+fn timed_trigger_of(alloc: Global, value: &Value, word: KindWord) -> Result<TriggerSpec, LineFault>
+    ensures value { (result ≡ Err LineFault.NoMemory) ⊎ (result ≡ spec.timed_trigger_of word (view value.now)) }
+    ensures valid { IfOk result (λ trigger. IsTrue (is_trigger_spec trigger)) }
+{
+    let key = key_at(alloc, value, "group", "name")?.ok_or(LineFault::Shape)?;
+    let job = key_at(alloc, value, "job_group", "job")?.ok_or(LineFault::Shape)?;
+    let priority = priority_at(value).ok_or(LineFault::Shape)?;
+    let calendar = calendar_at(alloc, value)?;
+    let timing = timing_of(alloc, value, word)?;
+    Ok(TriggerSpec {
+        key,
+        job,
+        priority,
+        calendar,
+        timing,
+    })
+}
+
+fn kind_word_at(value: &Value) -> Option<KindWord>
+    ensures { result ≡ spec.kind_word_at (view value.now) }
+{
+    KindWord::of(text_at(value, "kind")?)
+}
+
+/// The trigger that the object is.
+pub(crate) fn trigger_by_kind(alloc: Global, value: &Value) -> Result<TriggerSpec, LineFault>
+    ensures value { (result ≡ Err LineFault.NoMemory) ⊎ (result ≡ spec.trigger_by_kind (view value.now)) }
+    ensures valid { IfOk result (λ trigger. IsTrue (is_trigger_spec trigger)) }
+{
+    let word = kind_word_at(value).ok_or(LineFault::Shape)?;
+    if !has_only(value, Form::TriggerOf(word)) {
+        return Err(LineFault::Shape);
+    }
+    timed_trigger_of(alloc, value, word)
+}

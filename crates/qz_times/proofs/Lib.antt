@@ -1,0 +1,4 @@
+pub mod ChainLaws
+pub mod SaidLaws
+pub mod TurnLaws
+pub mod RunLaws

@@ -1,0 +1,16 @@
+//! `times`: for each trigger that a line gives, its first fire times. Nothing is stored.
+#![tactic(auto)]
+
+mod ends;
+mod queries;
+mod runs;
+mod telling;
+#[cfg(test)]
+mod tests;
+mod turns;
+mod zones;
+
+pub use ends::TimesEnd;
+pub use queries::Query;
+pub use runs::run_times;
+pub use zones::Named;

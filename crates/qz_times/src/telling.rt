@@ -1,0 +1,108 @@
+//! What is said to a line.
+ghost use Rattle.std.specs.Prelude.{◌≡◌, negsuc, ◌≤ℤ◌, Some, IsTrue, IfOk};
+ghost use Rattle.qz_civil.specs.Timings.{is_timing};
+ghost use Rattle.qz_types.specs.Rows.{is_trigger_spec};
+ghost use Rattle.qz_job_json.specs.Asked.{is_asked};
+ghost use Rattle.qz_types.specs.declared.steps.StepReply.TheVariants as reply;
+ghost use Rattle.qz_report.specs.Replies.{reply_text};
+ghost use Rattle.qz_plan.specs.Schedule.{IsScheduled};
+ghost use Rattle.qz_times.specs.Said.{AreFirst, IsTold, IsToldIn, Said, zone_name};
+
+use crate::queries::Query;
+use crate::zones::{Named, add_zone, find};
+use qz_civil::{Kind, LAST, NoMemory, Text, Timing, Zone};
+use qz_job_json::Asked;
+use qz_report::{reply_line, times_line};
+use qz_types::{Refusal, StepReply, TriggerSpec};
+use std::alloc::Global;
+
+/// Says what a line asks for. Where there is no memory, the zones are not to be used further.
+pub(crate) fn say(
+    alloc: Global,
+    asked: Asked,
+    zones: &mut Vec<Named>,
+    query: Query,
+) -> Result<Text, NoMemory>
+    requires asked { IsTrue (is_asked asked) }
+    requires low { negsuc 0 ≤ℤ query.after }
+    requires high { query.after ≤ℤ LAST }
+    ensures { IfOk result (λ text. Said query zones.old.items (Some asked) text zones.new.items) }
+{
+    match asked {
+        Asked::AddZone { name, zone } => add_zone(alloc, zones, name, zone),
+        Asked::AddTrigger { spec } => tell(alloc, zones, &spec, query),
+    }
+}
+
+// The line of a trigger.
+fn tell(alloc: Global, zones: &[Named], spec: &TriggerSpec, query: Query) -> Result<Text, NoMemory>
+    requires spec { IsTrue (is_trigger_spec spec.now) }
+    requires low { negsuc 0 ≤ℤ query.after }
+    requires high { query.after ≤ℤ LAST }
+    ensures { IfOk result (IsTold zones.now query spec.now) }
+{
+    if spec.calendar.is_some() {
+        return refused(alloc, Refusal::UnknownCalendar);
+    }
+    let name = zone_name(&spec.timing.kind);
+    if name == "UTC" {
+        return tell_in(alloc, &Zone::utc(), spec, query);
+    }
+    match find(zones, name) {
+        Some(zone) => tell_in(alloc, zone, spec, query),
+        None => refused(alloc, Refusal::UnknownZone),
+    }
+}
+
+fn refused(alloc: Global, refusal: Refusal) -> Result<Text, NoMemory>
+    ensures { IfOk result (λ text. text ≡ reply_text (reply.Refused refusal)) }
+{
+    reply_line(alloc, &StepReply::Refused(refusal))
+}
+
+// The zone that a kind names.
+fn zone_name(kind: &Kind) -> &str
+    ensures { result.now ≡ zone_name kind.now }
+{
+    match kind {
+        Kind::Simple { .. } => "UTC",
+        Kind::Cron { zone, .. } => zone.as_str(),
+        Kind::Interval { zone, .. } => zone.as_str(),
+        Kind::Daily { zone, .. } => zone.as_str(),
+    }
+}
+
+// The line of a trigger whose zone is known.
+fn tell_in(alloc: Global, zone: &Zone, spec: &TriggerSpec, query: Query) -> Result<Text, NoMemory>
+    requires spec { IsTrue (is_trigger_spec spec.now) }
+    requires low { negsuc 0 ≤ℤ query.after }
+    requires high { query.after ≤ℤ LAST }
+    ensures { IfOk result (IsToldIn (Some zone.now) query spec.now) }
+{
+    let times = first_times(alloc, &spec.timing, zone, query)?;
+    times_line(alloc, &spec.key, &times)
+}
+
+// The first fire times of a trigger.
+fn first_times(
+    alloc: Global,
+    timing: &Timing,
+    zone: &Zone,
+    query: Query,
+) -> Result<Vec<i64>, NoMemory>
+    requires timing { IsTrue (is_timing timing.now) }
+    requires low { negsuc 0 ≤ℤ query.after }
+    requires high { query.after ≤ℤ LAST }
+    ensures { IfOk result (λ times. AreFirst (IsScheduled timing.now zone.now) query.after query.count times.items) }
+{
+    let mut times = Vec::new(alloc);
+    let mut last = query.after;
+    for _place in 0..query.count {
+        let Some(next) = qz_plan::after(timing, zone, last) else {
+            return Ok(times);
+        };
+        times.push(next)?;
+        last = next;
+    }
+    Ok(times)
+}

@@ -1,0 +1,9 @@
+//! The words of the command line.
+#![tactic(auto)]
+
+mod numbers;
+#[cfg(test)]
+mod tests;
+mod wishes;
+
+pub use wishes::{COUNT_LIMIT, Wish, WordFault, read_words};
