@@ -8,9 +8,9 @@ ghost use Rattle.qz_types.specs.declared.commands.Command.TheVariants as command
 ghost use Rattle.qz_types.specs.declared.steps.Step.TheVariants as step_is;
 ghost use Rattle.qz_model.specs.Words.{without_member};
 ghost use Rattle.qz_model.specs.Script.{entry_of};
-ghost use Rattle.qz_trigger_store.specs.Seen.{seen, LeavesEither};
+ghost use Rattle.qz_trigger_store.specs.Seen.{seen, IsAsBefore, LeavesEither};
 ghost use Rattle.qz_cluster.specs.Steps.{Submitted, Refrained, held_behind_join, IsStep, IsCutShort};
-ghost use Rattle.qz_cluster.specs.Seen.{state_of};
+ghost use Rattle.qz_cluster.specs.Seen.{state_of, Leaves};
 
 use crate::entries::{client_entry, node_entry};
 use crate::held::{member_of, others, put_reserved};
@@ -20,11 +20,14 @@ use qz_trigger_store::SubmitError;
 use qz_types::{Command, Entry, MemberRow, NoMemory, Reply, Step, StepReply, Text};
 
 impl<D: Disk> Cluster<D> {
-    /// Does one step at this reading of the clock, in ms since 1970-01-01T00:00:00Z.
+    /// Does one step at this reading of the clock, in ms since 1970-01-01T00:00:00Z. But for an accepted transaction and
+    /// for a fault, the store and its disk stay as they were.
     pub fn step(&mut self, step: Step, at: i64) -> Result<StepReply, StepEnd>
         requires { IsTrue (is_step step) }
         ensures ok { IfOk result (λ r. IsStep (record { step = step; at = at }) r (state_of self.old) (state_of self.new)) }
         ensures err { IfErr result (λ e. IsCutShort (record { step = step; at = at }) e (state_of self.old) (state_of self.new)) }
+        ensures leaves { IfOk result (λ r. Leaves r self.old.triggers self.new.triggers) }
+        ensures unchanged { OnErr result (IsAsBefore self.old.triggers self.new.triggers) }
         ensures any_moment { D.honest → LeavesEither self.old.triggers self.new.triggers }
     {
         match step {
@@ -40,6 +43,8 @@ impl<D: Disk> Cluster<D> {
         requires node { IsTrue (is_of_node command) }
         ensures ok { IfOk result (λ r. IsStep (record { step = step_is.Node node.now command; at = at }) r (state_of self.old) (state_of self.new)) }
         ensures err { IfErr result (λ e. IsCutShort (record { step = step_is.Node node.now command; at = at }) e (state_of self.old) (state_of self.new)) }
+        ensures leaves { IfOk result (λ r. Leaves r self.old.triggers self.new.triggers) }
+        ensures unchanged { OnErr result (IsAsBefore self.old.triggers self.new.triggers) }
         ensures any_moment { D.honest → LeavesEither self.old.triggers self.new.triggers }
     {
         match member_of(&self.held, node) {
@@ -59,6 +64,8 @@ impl<D: Disk> Cluster<D> {
         ensures held { IfOk result (λ r. self.new.held.items ≡ held_behind_join node self.old.held.items r) }
         ensures err { IfErr result (λ e. Refrained (entry_of actor.Client (command_is.Join node) at) e (seen self.old.triggers) (seen self.new.triggers)) }
         ensures held_stays { OnErr result (self.new.held ≡ self.old.held) }
+        ensures leaves { IfOk result (λ r. Leaves r self.old.triggers self.new.triggers) }
+        ensures unchanged { OnErr result (IsAsBefore self.old.triggers self.new.triggers) }
         ensures any_moment { D.honest → LeavesEither self.old.triggers self.new.triggers }
     {
         let rows = others(self.alloc, &self.held, &node)?;
@@ -104,6 +111,8 @@ impl<D: Disk> Cluster<D> {
         ensures ok { IfOk result (λ r. Submitted entry r (seen self.old.triggers) (seen self.new.triggers)) }
         ensures err { IfErr result (λ e. Refrained entry e (seen self.old.triggers) (seen self.new.triggers)) }
         ensures held { self.new.held ≡ self.old.held }
+        ensures leaves { IfOk result (λ r. Leaves r self.old.triggers self.new.triggers) }
+        ensures unchanged { OnErr result (IsAsBefore self.old.triggers self.new.triggers) }
         ensures any_moment { D.honest → LeavesEither self.old.triggers self.new.triggers }
     {
         match self.triggers.submit(entry) {

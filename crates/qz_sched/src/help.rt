@@ -1,10 +1,12 @@
 //! What the program tells of itself.
 
-pub const VERSION: &str = "qz_sched 0.2.0\n";
+pub const VERSION: &str = "qz_sched 0.3.0\n";
 
 pub const HELP: &str = "usage: qz_sched < LINES           a script on new stores in memory
        qz_sched init              new stores in the current folder
        qz_sched script < LINES    a script on the stores of the current folder
+       qz_sched times AFTER COUNT < LINES
+                                  the first COUNT fire times after AFTER of each trigger
 
 Each line of standard input is one JSON object, and each step is answered by one line
 on standard output.
@@ -17,7 +19,12 @@ on standard output.
   {\"do\":\"complete\",\"node\":\"A\",\"entry\":1}
 
 Times are in milliseconds since 1970-01-01T00:00:00Z. A line may have its own clock
-reading as \"at\". The stores are the files qz-triggers.store and qz-states.store; one
+reading as \"at\". A line of times is one of
+
+  {\"do\":\"add_zone\",\"name\":\"CET\",\"stretches\":[[0,3600],[1711846800000,7200]]}
+  {\"do\":\"add_trigger\",\"trigger\":{\"name\":\"c\",\"job\":\"j\",\"start\":0,\"kind\":\"cron\",\"cron\":\"0 0 2 * * ?\",\"zone\":\"CET\"}}
+
+The stores are the files qz-triggers.store and qz-states.store; one
 program at a time may work on them. What ends a call early is told on standard error:
 
   status 1  bad words                  status 6   no store, or a damaged one

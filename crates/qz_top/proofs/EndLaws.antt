@@ -6,8 +6,9 @@ use Rattle.std.proofs.KnownBytes.{Appends-trans}
 use Rattle.std.proofs.lemmas.List.{append-nil}
 use Rattle.qz_types.specs.declared.steps.StepReply.{StepReply}
 use Rattle.qz_io.specs.Clocks.{Tells}
+use Rattle.qz_io.proofs.TakenLaws.{whole_end}
 use Rattle.qz_io.specs.Lines.{IsOneLine, lines_of, with_feeds}
-use Rattle.qz_top.specs.declared.statuses.TheConstants.{LINE_COUNT_LIMIT}
+use Rattle.qz_io.specs.declared.readers.TheConstants.{LINE_COUNT_LIMIT}
 use Rattle.qz_top.specs.declared.statuses.Status.{Status}
 use Rattle.qz_top.specs.declared.statuses.Status.TheVariants as status
 use Rattle.qz_top.specs.Lines.{IsGood, readings_of, first_bad, first_bad_from}
@@ -18,7 +19,6 @@ use Rattle.qz_top.specs.Runs.{Reads, WrotePart, Clocked, IsRun}
 use Rattle.qz_top.proofs.LineLaws.{first_bad_from-append}
 use Rattle.qz_top.proofs.TrailLaws.{Idles-none}
 use Rattle.qz_top.proofs.TurnLaws.{Tells-trans, Ran-none, Ran-more}
-use Rattle.qz_top.proofs.UptoLaws.{whole, told_rest}
 
 -- the readings of the lines, and no more
 pub exact_readings : (s : Status) (a b : Option (List ℤ)) (lines : List (List ℕ)) (readings : List ℤ) → length readings ≡ readings_of lines → Tells a b readings → Clocked s a b lines readings
@@ -42,20 +42,6 @@ wrote_nothing x y z text p q = subst (Appends x z) (append-nil text) (Appends-tr
 none_bad : (lines : List (List ℕ)) → AllByRecursion IsGood lines → length lines ≤ LINE_COUNT_LIMIT → first_bad lines ≡ None
 none_bad lines good low = ap (first_bad_from 1) (sym (append-nil lines)) ∙ first_bad_from-append 1 lines [] good (omega arith)
 
-at_end : (left : Option (List ℕ)) (rest : List ℕ) → IsAtEnd left → left ≡ Some rest → rest ≡ []
-at_end None rest e s = absurd cc
-at_end (Some xs) rest e s = let same : xs ≡ rest = cc in sym same ∙ e
-
--- all lines of a source that tells its bytes
-all_lines : (bytes : List ℕ) (j k : Option (List ℕ)) (lines : List (List ℕ)) (pending : List ℕ) (R R' : RunState) (y z : Option (List ℕ)) (b c : Option (List ℤ))
-    → AllByRecursion IsOneLine lines → Consumes (Some bytes) j (with_feeds lines ++ pending) → (went : WentToEnd j k pending R R' y z b c) → lines_of bytes ≡ lines ++ went.lines
-all_lines bytes j k lines pending R R' y z b c one taken went =
-    let rest = told_rest bytes j k _ _ taken went.taken in
-    whole bytes j k lines pending went.got rest.0 one taken went.taken rest.1
-    ∙ ap (λ r. lines ++ lines_of ((pending ++ went.got) ++ r)) (at_end k rest.0 went.ended rest.1)
-    ∙ ap (λ b. lines ++ lines_of b) (append-nil (pending ++ went.got))
-    ∙ ap (λ l. lines ++ l) went.all
-
 stands_open : (closed now : Bool) → closed ≡ not now → closed ≡ false → now ≡ true
 stands_open closed true tells isnt = refl
 stands_open closed false tells isnt = let bad : true ≡ false = sym tells ∙ isnt in absurd cc
@@ -75,7 +61,7 @@ reads_all : (i j k : Option (List ℕ)) (lines : List (List ℕ)) (pending : Lis
     → AllByRecursion IsGood (lines ++ went.lines) → length (lines ++ went.lines) ≤ LINE_COUNT_LIMIT → AllRead i k (lines ++ went.lines)
 reads_all None j k lines pending R R' y z b c one taken went good low = record { ok = tt; closed = tt; written = tt }
 reads_all (Some bytes) j k lines pending R R' y z b c one taken went good low =
-    let all = all_lines bytes j k lines pending R R' y z b c one taken went in
+    let all = whole_end bytes j k lines went.lines pending went.got one taken went.taken went.ended went.all in
     let no_bad = ap first_bad all ∙ none_bad (lines ++ went.lines) good low in
     record {
       ok = record { all = all; no_bad = no_bad; ended = went.ended };

@@ -6,15 +6,11 @@ use Rattle.std.proofs.lemmas.Bool.Decides.{nat_tests}
 use Rattle.qz_types.specs.declared.steps.Step.{Step}
 use Rattle.qz_model.specs.Script.{TimedStep}
 use Rattle.qz_job_json.specs.declared.lines.LineFault.{LineFault}
-use Rattle.qz_top.specs.declared.statuses.TheConstants.{LINE_COUNT_LIMIT}
+use Rattle.qz_io.specs.declared.readers.TheConstants.{LINE_COUNT_LIMIT}
 use Rattle.qz_top.specs.declared.statuses.Status.{Status}
 use Rattle.qz_top.specs.declared.statuses.Status.TheVariants.{BadLine}
 use Rattle.qz_top.specs.declared.statuses.BadKind.TheVariants as bad
 use Rattle.qz_top.specs.Lines.{Meaning, line_meaning, kind_of, IsGoodMeaning, IsGood, readings_of_at, readings_of_meaning, readings_of, timed, steps_by_meaning, steps_of, bad_by_meaning, first_bad_from}
-
-pub AllByRecursion-append : {A : Type 0} (P : A → Type 0) (xs ys : List A) → AllByRecursion P xs → AllByRecursion P ys → AllByRecursion P (xs ++ ys)
-AllByRecursion-append P [] ys p q = q
-AllByRecursion-append P (x ∷ xs) ys p q = (p.0, AllByRecursion-append P xs ys p.1 q)
 
 -- the first reading goes to a line that takes one, and the others to the rest
 timed_goes_on : (at : Option ℤ) (step : Step) (rs qs : List ℤ) (n : ℕ) (rest : List ℤ → List TimedStep) (more : List TimedStep)

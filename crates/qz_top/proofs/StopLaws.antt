@@ -1,13 +1,15 @@
 -- How a script stops before the end of its input: the run that its lines make, by what stopped it.
-use Rattle.std.proofs.Common.{◌≡◌, ◌⊎◌, inl, inr, ◌≤◌, ℕ, ◌+◌, ℤ, List, [], ◌∷◌, ◌++◌, length, take, drop, Option, Some, None, refl, sym, ap, ◌∙◌, subst, arith, append_assoc}
+use Rattle.std.proofs.Common.{◌≡◌, ◌⊎◌, inl, inr, ◌≤◌, ℕ, ◌+◌, ℤ, List, [], ◌∷◌, ◌++◌, length, take, drop, Option, Some, None, refl, sym, ap, ◌∙◌, subst, arith}
 use Rattle.std.specs.Prelude.{Err}
 use Rattle.std.specs.List.{AllByRecursion}
 use Rattle.std.specs.Io.KnownBytes.{Consumes}
 use Rattle.std.proofs.KnownBytes.{Appends-nil, Appends-trans}
 use Rattle.std.proofs.lemmas.List.{take-append-drop}
 use Rattle.qz_io.specs.Lines.{IsOneLine, lines_of, with_feeds}
+use Rattle.qz_io.specs.Ahead.{Ahead, BeginsWith, BeginsSome}
 use Rattle.qz_io.specs.Reading.{Hands}
-use Rattle.qz_top.specs.declared.statuses.TheConstants.{LINE_COUNT_LIMIT}
+use Rattle.qz_io.proofs.TakenLaws.{taken_more, told_ahead, begins_part, begins_some}
+use Rattle.qz_io.specs.declared.readers.TheConstants.{LINE_COUNT_LIMIT}
 use Rattle.qz_top.specs.declared.statuses.BadKind.{BadKind}
 use Rattle.qz_top.specs.declared.statuses.BadKind.TheVariants as bad
 use Rattle.qz_top.specs.declared.statuses.Status.TheVariants as status
@@ -18,29 +20,12 @@ use Rattle.qz_top.specs.Lines.{IsGood, first_bad}
 use Rattle.qz_types.specs.declared.steps.StepReply.{StepReply}
 use Rattle.qz_top.specs.Trails.{texts, RunState}
 use Rattle.qz_top.specs.Turns.{taken_reading, Ran, RanPart, IsBad, Idles, LineFull}
-use Rattle.qz_top.specs.Inputs.{Ahead, BeginsWith, BeginsSome, BeginsBad, WrotePartOf, TurnDone, Upto, BeyondDone}
-use Rattle.qz_top.specs.Runs.{BeginWith, ReadToBad, Reads, IsNext, WrotePart, IsRun}
+use Rattle.qz_top.specs.Inputs.{BeginsBad, WrotePartOf, TurnDone, Upto, BeyondDone}
+use Rattle.qz_top.specs.Runs.{ReadToBad, Reads, IsNext, WrotePart, IsRun}
 use Rattle.qz_top.proofs.LineLaws.{first_bad_from-append, first_bad_from-bad, first_bad_from-many}
-use Rattle.qz_top.proofs.TurnLaws.{Tells-nil, Tells-trans, Did-more}
-use Rattle.qz_top.proofs.UptoLaws.{taken_more, whole, told_rest}
+use Rattle.qz_top.proofs.TurnLaws.{at_most_one, Tells-nil, Tells-trans, Did-more}
 use Rattle.qz_top.proofs.EndLaws.{exact_readings, told_nothing, wrote_nothing, wrote_whole}
 use Rattle.qz_top.proofs.TrailLaws.{Idles-none, Went-none}
-
--- what is ahead of a source that tells its bytes stands behind the lines that were done
-pub record Told (bytes : List ℕ) (lines : List (List ℕ)) (P : List ℕ → Type 0) : Type 0 where
-  pub ahead : List ℕ
-  pub all : lines_of bytes ≡ lines ++ lines_of ahead
-  pub is : P ahead
-
-told_ahead : (bytes : List ℕ) (j k : Option (List ℕ)) (lines : List (List ℕ)) (pending : List ℕ) (P : List ℕ → Type 0)
-    → AllByRecursion IsOneLine lines → Consumes (Some bytes) j (with_feeds lines ++ pending) → Ahead j k pending P → Told bytes lines P
-told_ahead bytes j k lines pending P one taken ahead =
-    let rest = told_rest bytes j k _ _ taken ahead.taken in
-    record {
-      ahead = (pending ++ ahead.got) ++ rest.0;
-      all = whole bytes j k lines pending ahead.got rest.0 one taken ahead.taken rest.1;
-      is = ahead.ahead rest.0 rest.1;
-    }
 
 -- the first bad line stands behind these lines
 bad_behind : (bytes : List ℕ) (lines more : List (List ℕ)) (line : List ℕ) (kind : BadKind) → lines_of bytes ≡ lines ++ line ∷ more → AllByRecursion IsGood lines
@@ -70,10 +55,6 @@ reads_fault (Some bytes) j k lines pending pending' taken hands one = record {
   no_feed = one;
 }
 
-at_most_one : (own : Option ℤ) (at : ℤ) → length (taken_reading own at) ≤ 1
-at_most_one None at = omega arith
-at_most_one (Some t) at = omega arith
-
 -- a step that finds no room changes nothing
 full_idles : (line : List ℕ) (need room : ℕ) (R R' : RunState) (x y : Option (List ℕ)) (a b : Option (List ℤ)) → LineFull line need room R R' x y a b → Idles R R'
 full_idles line need room R R' x y a b full = record {
@@ -81,12 +62,6 @@ full_idles line need room R R' x y a b full = record {
   own = full.full.is_own;
   stays = λ not_own. record { triggers = full.full.full.full.same; held = full.full.full.held };
 }
-
-begins_part : (bytes : List ℕ) (j k : Option (List ℕ)) (lines : List (List ℕ)) (pending line : List ℕ) → AllByRecursion IsOneLine lines → Consumes (Some bytes) j (with_feeds lines ++ pending)
-    → Ahead j k pending (BeginsWith line) → BeginWith (lines ++ line ∷ []) (lines_of bytes)
-begins_part bytes j k lines pending line one taken ahead =
-    let told = told_ahead bytes j k lines pending (BeginsWith line) one taken ahead in
-    record { rest = told.is.more; all = told.all ∙ ap (λ l. lines ++ l) told.is.lines ∙ sym (append_assoc lines (line ∷ []) told.is.more) }
 
 reads_part : (i j k : Option (List ℕ)) (lines : List (List ℕ)) (pending line : List ℕ) → AllByRecursion IsOneLine lines → Consumes i j (with_feeds lines ++ pending)
     → Ahead j k pending (BeginsWith line) → Reads status.WriteFault i k (lines ++ line ∷ [])
@@ -103,12 +78,6 @@ is_next : (i j k : Option (List ℕ)) (lines : List (List ℕ)) (pending line : 
     → Ahead j k pending (BeginsWith line) → IsNext i lines line
 is_next None j k lines pending line one taken ahead = tt
 is_next (Some bytes) j k lines pending line one taken ahead = begins_part bytes j k lines pending line one taken ahead
-
-begins_some : (bytes : List ℕ) (j k : Option (List ℕ)) (lines : List (List ℕ)) (pending got : List ℕ) → AllByRecursion IsOneLine lines → Consumes (Some bytes) j (with_feeds lines ++ pending) → Consumes j k got
-    → BeginWith lines (lines_of bytes)
-begins_some bytes j k lines pending got one taken more =
-    let rest = told_rest bytes j k _ _ taken more in
-    record { rest = lines_of ((pending ++ got) ++ rest.0); all = whole bytes j k lines pending got rest.0 one taken more rest.1 }
 
 reads_some : (i j k : Option (List ℕ)) (lines : List (List ℕ)) (pending got : List ℕ) → AllByRecursion IsOneLine lines → Consumes i j (with_feeds lines ++ pending) → Consumes j k got
     → Reads status.NoMemory i k lines

@@ -6,9 +6,9 @@ use Rattle.std.specs.Prelude.{None}
 use Rattle.qz_model.specs.History.{new_history}
 use Rattle.qz_model.specs.Script.{TimedStep}
 use Rattle.qz_cluster.specs.Steps.{ClusterState, IsStep, Stays}
+use Rattle.qz_io.proofs.TakenLaws.{AllByRecursion-append}
 use Rattle.qz_top.specs.Trails.{StepsDone, last_of, is_fault, IsNoFault, RunState, Went, new_cluster}
 use Rattle.qz_top.specs.Turns.{Idles}
-use Rattle.qz_top.proofs.LineLaws.{AllByRecursion-append}
 
 pub last_of-append : (S : ClusterState) (xs ys : List ClusterState) → last_of S (xs ++ ys) ≡ last_of (last_of S xs) ys
 last_of-append S [] ys = refl

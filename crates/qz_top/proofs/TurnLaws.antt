@@ -17,7 +17,8 @@ use Rattle.qz_top.specs.declared.turns.LineEnd.{LineEnd}
 use Rattle.qz_top.specs.declared.turns.LineEnd.TheVariants as ends
 use Rattle.qz_job_json.specs.declared.lines.LineFault.{LineFault}
 use Rattle.qz_job_json.specs.declared.lines.LineFault.TheVariants as line_fault
-use Rattle.qz_top.proofs.LineLaws.{AllByRecursion-append, steps_of-append, readings_of-append}
+use Rattle.qz_top.proofs.LineLaws.{steps_of-append, readings_of-append}
+use Rattle.qz_io.proofs.TakenLaws.{AllByRecursion-append}
 use Rattle.qz_top.proofs.TrailLaws.{Went-none, Went-more, Idles-none}
 
 pub Tells-nil : (a : Option (List ℤ)) → Tells a a []
@@ -136,7 +137,7 @@ part_of line given R R' x y a b e p = record {
   written = subst (λ t. Appends x y (take p.count t)) (sym (one_text p.did.reply)) p.written;
 }
 
-at_most_one : (own : Option ℤ) (at : ℤ) → length (taken_reading own at) ≤ 1
+pub at_most_one : (own : Option ℤ) (at : ℤ) → length (taken_reading own at) ≤ 1
 at_most_one None at = omega arith
 at_most_one (Some t) at = omega arith
 
@@ -221,6 +222,7 @@ LineDone-fault line_fault.NoMemory line R held clock read = gave_up R held clock
 LineDone-fault line_fault.TooLong line R held clock read = bad_done line_fault.TooLong line R held clock (fault_meaning line_fault.TooLong (line_meaning line) (λ e. cc) read)
 LineDone-fault line_fault.NotJson line R held clock read = bad_done line_fault.NotJson line R held clock (fault_meaning line_fault.NotJson (line_meaning line) (λ e. cc) read)
 LineDone-fault line_fault.NotHere line R held clock read = bad_done line_fault.NotHere line R held clock (fault_meaning line_fault.NotHere (line_meaning line) (λ e. cc) read)
+LineDone-fault (line_fault.Cron error) line R held clock read = bad_done (line_fault.Cron error) line R held clock (fault_meaning (line_fault.Cron error) (line_meaning line) (λ e. cc) read)
 LineDone-fault line_fault.Shape line R held clock read = bad_done line_fault.Shape line R held clock (fault_meaning line_fault.Shape (line_meaning line) (λ e. cc) read)
 
 pub not_write : (fault : LineFault) → line_end fault ≡ ends.WriteFault → ⊥
@@ -228,4 +230,5 @@ not_write line_fault.NoMemory e = cc
 not_write line_fault.TooLong e = cc
 not_write line_fault.NotJson e = cc
 not_write line_fault.NotHere e = cc
+not_write (line_fault.Cron error) e = cc
 not_write line_fault.Shape e = cc

@@ -1,7 +1,8 @@
 -- The input of the script loop: what was taken from it, what is ahead, and what a turn made of that.
-use Rattle.std.specs.Prelude.{◌≡◌, ◌≤◌, ℕ, ℤ, List, [], ◌∷◌, ◌++◌, length, Bool, true, false, Option, Some, Result, Ok, Err}
+use Rattle.std.specs.Prelude.{◌≡◌, ◌≤◌, ℕ, ℤ, List, [], ◌∷◌, ◌++◌, length, Bool, true, false, Option, Result, Ok, Err}
 use Rattle.std.specs.List.{AllByRecursion}
 use Rattle.std.specs.Io.KnownBytes.{Consumes, IsAtEnd}
+use Rattle.qz_io.specs.Ahead.{Ahead, BeginsWith, BeginsSome}
 use Rattle.qz_io.specs.Lines.{IsOneLine, lines_of, with_feed, with_feeds}
 use Rattle.qz_io.specs.Reading.{Hands}
 use Rattle.qz_top.specs.Trails.{RunState}
@@ -9,22 +10,6 @@ use Rattle.qz_top.specs.Turns.{Ran, RanPart, GaveUp, IsBad, Untouched, LineFull}
 use Rattle.qz_top.specs.declared.statuses.BadKind.{BadKind}
 use Rattle.qz_top.specs.declared.turns.LineEnd.{LineEnd}
 use Rattle.qz_top.specs.declared.turns.LineEnd.TheVariants as ends
-
--- The bytes of the source that were taken, and all that are told of it: these bytes are ahead.
-pub record Ahead (left left' : Option (List ℕ)) (pending : List ℕ) (P : List ℕ → Type 0) : Type 0 where
-  pub got : List ℕ
-  pub taken : Consumes left left' got
-  pub ahead : (rest : List ℕ) → left' ≡ Some rest → P ((pending ++ got) ++ rest)
-
--- these bytes begin with this line
-pub record BeginsWith (line bytes : List ℕ) : Type 0 where
-  pub more : List (List ℕ)
-  pub lines : lines_of bytes ≡ line ∷ more
-
--- these bytes begin with some line
-pub record BeginsSome (bytes : List ℕ) : Type 0 where
-  pub line : List ℕ
-  pub begins : BeginsWith line bytes
 
 -- these bytes begin with a line that is bad
 pub record BeginsBad (kind : BadKind) (bytes : List ℕ) : Type 0 where

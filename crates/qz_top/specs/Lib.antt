@@ -5,6 +5,6 @@ pub mod Making
 pub mod Runs
 pub mod Seen
 pub mod Statuses
+pub mod Times
 pub mod Trails
 pub mod Turns
-pub mod Wishes

@@ -6,7 +6,7 @@ use Rattle.qz_job_json.specs.declared.lines.Given.{Given}
 use Rattle.qz_job_json.specs.declared.lines.LineFault.{LineFault}
 use Rattle.qz_job_json.specs.declared.lines.LineFault.TheVariants as line_fault
 use Rattle.qz_job_json.specs.Lines.{meaning_of}
-use Rattle.qz_top.specs.declared.statuses.TheConstants.{LINE_COUNT_LIMIT}
+use Rattle.qz_io.specs.declared.readers.TheConstants.{LINE_COUNT_LIMIT}
 use Rattle.qz_top.specs.declared.statuses.BadKind.{BadKind}
 use Rattle.qz_top.specs.declared.statuses.BadKind.TheVariants as bad
 use Rattle.qz_top.specs.declared.statuses.Status.{Status}
@@ -24,6 +24,7 @@ kind_of line_fault.TooLong = bad.TooLong
 kind_of line_fault.NotJson = bad.NotJson
 kind_of line_fault.NotHere = bad.NotHere
 kind_of line_fault.Shape = bad.Shape
+kind_of (line_fault.Cron error) = bad.Cron error
 -- no line means this
 kind_of line_fault.NoMemory = bad.Shape
 

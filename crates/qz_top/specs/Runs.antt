@@ -2,6 +2,7 @@
 use Rattle.std.specs.Prelude.{◌≡◌, ⊤, ℕ, ◌+◌, ◌≤◌, ℤ, true, false, List, [], ◌∷◌, ◌++◌, length, Option, Some, None, Ok}
 use Rattle.std.specs.List.{AllByRecursion}
 use Rattle.std.specs.Io.KnownBytes.{Consumes, Appends, IsAtEnd}
+use Rattle.qz_io.specs.Ahead.{BeginWith}
 use Rattle.qz_io.specs.Clocks.{Tells}
 use Rattle.qz_io.specs.Lines.{IsOneLine, lines_of, with_feeds}
 use Rattle.qz_types.specs.declared.steps.StepReply.{StepReply}
@@ -13,11 +14,6 @@ use Rattle.qz_top.specs.Turns.{IsOwn, step_at, Idles}
 use Rattle.qz_top.specs.declared.statuses.BadKind.{BadKind}
 use Rattle.qz_top.specs.declared.statuses.Status.{Status}
 use Rattle.qz_top.specs.declared.statuses.Status.TheVariants as status
-
--- These are the first lines of the input.
-pub record BeginWith (lines input : List (List ℕ)) : Type 0 where
-  pub rest : List (List ℕ)
-  pub all : input ≡ lines ++ rest
 
 -- All lines were done, none is bad, and nothing is left.
 pub record ReadAll (bytes : List ℕ) (left' : Option (List ℕ)) (lines : List (List ℕ)) : Type 0 where

@@ -3,10 +3,11 @@ use Rattle.std.specs.Prelude.{◌≡◌, ◌⊎◌, ℕ, Bool, true, false, List
 use Rattle.std.specs.Io.KnownBytes.{Appends}
 use Rattle.qz_civil.specs.Causes.{Rose}
 use Rattle.std.specs.Fmt.{decimal}
+use Rattle.qz_cron_text.specs.Errors.{error_number}
 use Rattle.qz_types.specs.declared.stores.Store.{Store}
 use Rattle.qz_types.specs.declared.stores.Store.TheVariants.{Triggers, States}
 use Rattle.qz_top.specs.declared.statuses.BadKind.{BadKind}
-use Rattle.qz_top.specs.declared.statuses.BadKind.TheVariants.{TooLong, NotJson, Shape, TooManyLines, NotHere}
+use Rattle.qz_top.specs.declared.statuses.BadKind.TheVariants.{TooLong, NotJson, Shape, Cron, TooManyLines, NotHere}
 use Rattle.qz_top.specs.declared.statuses.Status.{Status}
 use Rattle.qz_top.specs.declared.statuses.Status.TheVariants as status
 use Rattle.qz_top.specs.declared.turns.LineEnd.{LineEnd}
@@ -29,6 +30,7 @@ abbrev pub kind_text : BadKind → List ℕ
 kind_text TooLong = codes "too long"
 kind_text NotJson = codes "not JSON"
 kind_text Shape = codes "not a step"
+kind_text (Cron error) = codes "bad cron " ++ decimal (error_number error)
 kind_text TooManyLines = codes "too many lines"
 kind_text NotHere = codes "not here"
 

@@ -117,6 +117,7 @@ line_end line_fault.NoMemory = ends.NoMemory
 line_end line_fault.TooLong = ends.Bad (kind_of line_fault.TooLong)
 line_end line_fault.NotJson = ends.Bad (kind_of line_fault.NotJson)
 line_end line_fault.NotHere = ends.Bad (kind_of line_fault.NotHere)
+line_end (line_fault.Cron error) = ends.Bad (kind_of (line_fault.Cron error))
 line_end line_fault.Shape = ends.Bad (kind_of line_fault.Shape)
 
 -- a line is bad, of this kind

@@ -1,22 +1,25 @@
 //! The top call.
-ghost use Rattle.std.specs.Prelude.{◌≡◌, ◌⊎◌, [], Ok, Err};
+ghost use Rattle.std.specs.Prelude.{◌≡◌, ◌⊎◌, ℕ, ℤ, [], Ok, Err};
 ghost use Rattle.qz_civil.specs.Causes.{Rose};
 ghost use Rattle.qz_top.specs.Calls.{OwnDone, RanOnDisk, NotOpened, Abstained, trail_of};
-ghost use Rattle.qz_top.specs.Making.{IsInit, SaysMade};
+ghost use Rattle.qz_top.specs.Making.{IsInit, IsOfInit, SaysMade};
 ghost use Rattle.qz_top.specs.Statuses.{error_text, Reported};
-ghost use Rattle.qz_top.specs.Wishes.{wish_of};
-ghost use Rattle.qz_top.specs.declared.statuses.WordFault.{WordFault as Fault};
-ghost use Rattle.qz_top.specs.declared.words.Wish.TheVariants as wish;
+ghost use Rattle.qz_top.specs.Times.{TimesDone};
+ghost use Rattle.qz_words.specs.Wishes.{wish_of};
+ghost use Rattle.qz_words.specs.declared.wishes.WordFault.{WordFault as Fault};
+ghost use Rattle.qz_words.specs.declared.wishes.Wish.TheVariants as wish;
 
-use crate::ended::Ended;
+use crate::ended::{Ended, ran_no_script};
 use crate::making::init;
-use crate::on_disk::{ended, script_on_disk};
+use crate::on_disk::script_on_disk;
 use crate::own::script_in_memory;
-use crate::words::{Wish, read_words};
+use crate::times::times;
 use crate::{Status, Trail, report};
 use qz_disk::Disk;
 use qz_io::{Clock, Sink, Source};
+use qz_times::Query;
 use qz_types::Text;
+use qz_words::{Wish, read_words};
 use std::alloc::Global;
 use std::snapshot::Snapshot;
 
@@ -26,6 +29,7 @@ use std::snapshot::Snapshot;
 ///   `out`. The two disks aren't touched.
 /// - `init` makes the stores that aren't there, and writes `created`.
 /// - `script` opens the trigger store and runs the lines of `input` on it.
+/// - `times AFTER COUNT` writes for each trigger of `input` its first fire times. The two disks aren't touched.
 ///
 /// The disks come back in every case.
 pub fn command<S: Source, K: Sink, E: Sink, D: Disk, C: Clock>(
@@ -56,9 +60,14 @@ pub fn command<S: Source, K: Sink, E: Sink, D: Disk, C: Clock>(
     ensures script_states { wish_of words.now ≡ Ok wish.Script → result.states ≡ states }
 
     ensures init { wish_of words.now ≡ Ok wish.Init → D.honest → IsInit result.status (D.state triggers) (D.state result.triggers) (D.state states) (D.state result.states) }
+    ensures init_ends { wish_of words.now ≡ Ok wish.Init → IsOfInit result.status }
     ensures init_says { wish_of words.now ≡ Ok wish.Init → SaysMade result.status (K.held out.old) (K.held out.new) }
     ensures init_reads { wish_of words.now ≡ Ok wish.Init → (S.left input.new ≡ S.left input.old) × (C.readings clock.new ≡ C.readings clock.old) }
-    ensures no_script { (fault : Fault) → (wish_of words.now ≡ Ok wish.Init) ⊎ (wish_of words.now ≡ Err fault) → trail_of result.trail ≡ [] }
+    ensures times { (after : ℤ) (count : ℕ) → wish_of words.now ≡ Ok (wish.Times after count)
+        → TimesDone result.status (record { after = after; count = count }) (S.left input.old) (S.left input.new) (K.held out.old) (K.held out.new) }
+    ensures times_rest { (after : ℤ) (count : ℕ) → wish_of words.now ≡ Ok (wish.Times after count)
+        → (result.triggers ≡ triggers) × (result.states ≡ states) × (C.readings clock.new ≡ C.readings clock.old) }
+    ensures no_script { (wish_of words.now ≡ Ok wish.Own → ⊥) → (wish_of words.now ≡ Ok wish.Script → ⊥) → trail_of result.trail ≡ [] }
 
     // A fault is answered only where the object's count of faults rose in this call.
     ensures read { result.status ≡ Status.ReadFault → Rose (S.faults input.old) (S.faults input.new) }
@@ -94,15 +103,20 @@ fn work<S: Source, K: Sink, D: Disk, C: Clock>(
         ⊎ NotOpened triggers result (S.left input.old) (S.left input.new) (K.held out.old) (K.held out.new) (C.readings clock.old) (C.readings clock.new) }
     ensures script_states { wish_of words.now ≡ Ok wish.Script → result.states ≡ states }
     ensures init { wish_of words.now ≡ Ok wish.Init → D.honest → IsInit result.status (D.state triggers) (D.state result.triggers) (D.state states) (D.state result.states) }
+    ensures init_ends { wish_of words.now ≡ Ok wish.Init → IsOfInit result.status }
     ensures init_says { wish_of words.now ≡ Ok wish.Init → SaysMade result.status (K.held out.old) (K.held out.new) }
     ensures init_reads { wish_of words.now ≡ Ok wish.Init → (S.left input.new ≡ S.left input.old) × (C.readings clock.new ≡ C.readings clock.old) }
-    ensures no_script { (fault : Fault) → (wish_of words.now ≡ Ok wish.Init) ⊎ (wish_of words.now ≡ Err fault) → trail_of result.trail ≡ [] }
+    ensures times { (after : ℤ) (count : ℕ) → wish_of words.now ≡ Ok (wish.Times after count)
+        → TimesDone result.status (record { after = after; count = count }) (S.left input.old) (S.left input.new) (K.held out.old) (K.held out.new) }
+    ensures times_rest { (after : ℤ) (count : ℕ) → wish_of words.now ≡ Ok (wish.Times after count)
+        → (result.triggers ≡ triggers) × (result.states ≡ states) × (C.readings clock.new ≡ C.readings clock.old) }
+    ensures no_script { (wish_of words.now ≡ Ok wish.Own → ⊥) → (wish_of words.now ≡ Ok wish.Script → ⊥) → trail_of result.trail ≡ [] }
     ensures read { result.status ≡ Status.ReadFault → Rose (S.faults input.old) (S.faults input.new) }
     ensures write { result.status ≡ Status.WriteFault → Rose (K.faults out.old) (K.faults out.new) }
     ensures disk { result.status ≡ Status.DiskFault → Rose (D.faults triggers) (D.faults result.triggers) ⊎ Rose (D.faults states) (D.faults result.states) }
 {
     match read_words(words) {
-        Err(fault) => ended(alloc, Status::BadWords { fault }, triggers, states),
+        Err(fault) => ran_no_script(alloc, Status::BadWords { fault }, triggers, states),
         Ok(Wish::Own) => {
             let own = script_in_memory(alloc, input, out, clock);
             Ended {
@@ -117,8 +131,12 @@ fn work<S: Source, K: Sink, D: Disk, C: Clock>(
         }
         Ok(Wish::Init) => {
             let status = init(out, &mut triggers, &mut states);
-            ended(alloc, status, triggers, states)
+            ran_no_script(alloc, status, triggers, states)
         }
         Ok(Wish::Script) => script_on_disk(alloc, input, out, triggers, states, clock),
+        Ok(Wish::Times { after, count }) => {
+            let status = times(alloc, input, out, Query { after, count });
+            ran_no_script(alloc, status, triggers, states)
+        }
     }
 }

@@ -1,7 +1,11 @@
 //! What a call gives back.
+ghost use Rattle.std.specs.Prelude.{◌≡◌, []};
+ghost use Rattle.qz_top.specs.Calls.{trail_of};
+
 use crate::Status;
 use qz_cluster::Cluster;
 use qz_disk::{Disk, MemDisk};
+use std::alloc::Global;
 use std::snapshot::Snapshot;
 
 /// The states of a script, for contracts alone: they take no bytes. One list is of a script on the handed-in disks,
@@ -21,4 +25,26 @@ pub struct Ended<D: Disk> {
     pub triggers: D,
     pub states: D,
     pub trail: Trail<D>,
+}
+
+/// A call that ran no script.
+pub(crate) fn ran_no_script<D: Disk>(
+    alloc: Global,
+    status: Status,
+    triggers: D,
+    states: D,
+) -> Ended<D>
+    ensures status { result.status ≡ status }
+    ensures disks { (result.triggers ≡ triggers) × (result.states ≡ states) }
+    ensures trail { trail_of result.trail ≡ [] }
+{
+    Ended {
+        status,
+        triggers,
+        states,
+        trail: Trail {
+            on_disk: Snapshot::of(&Vec::new(alloc)),
+            in_memory: Snapshot::of(&Vec::new(alloc)),
+        },
+    }
 }

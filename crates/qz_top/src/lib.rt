@@ -13,10 +13,11 @@ mod scripts;
 mod statuses;
 #[cfg(test)]
 mod tests;
+mod times;
 mod turns;
-mod words;
 
 pub use commands::command;
 pub use ended::{Ended, Trail};
+pub use qz_words::WordFault;
 pub use reports::report;
-pub use statuses::{BadKind, LINE_COUNT_LIMIT, Status, WordFault};
+pub use statuses::{BadKind, Status};

@@ -1,10 +1,10 @@
 //! A script on the stores of two disks.
-ghost use Rattle.std.specs.Prelude.{◌≡◌, ◌⊎◌, []};
+ghost use Rattle.std.specs.Prelude.{◌≡◌, ◌⊎◌};
 ghost use Rattle.qz_civil.specs.Causes.{Rose};
-ghost use Rattle.qz_top.specs.Calls.{RanOnDisk, NotOpened, trail_of, refusal_of};
+ghost use Rattle.qz_top.specs.Calls.{RanOnDisk, NotOpened, refusal_of};
 
 use crate::Status;
-use crate::ended::{Ended, Trail};
+use crate::ended::{Ended, Trail, ran_no_script};
 use crate::runs::Run;
 use crate::scripts::run_lines;
 use qz_cluster::{Cluster, MountError};
@@ -32,11 +32,11 @@ pub(crate) fn script_on_disk<S: Source, K: Sink, D: Disk, C: Clock>(
 {
     let cluster = match Cluster::mount(alloc, triggers) {
         Ok(cluster) => cluster,
-        Err((error, triggers)) => return ended(alloc, refusal_of(error), triggers, states),
+        Err((error, triggers)) => return ran_no_script(alloc, refusal_of(error), triggers, states),
     };
     let mut run = match Run::begin(alloc, cluster, false) {
         Ok(run) => run,
-        Err(cluster) => return ended(alloc, Status::NoMemory, cluster.into_disk(), states),
+        Err(cluster) => return ran_no_script(alloc, Status::NoMemory, cluster.into_disk(), states),
     };
     let status = run_lines(alloc, input, out, &mut run, clock);
     let Run {
@@ -50,23 +50,6 @@ pub(crate) fn script_on_disk<S: Source, K: Sink, D: Disk, C: Clock>(
         states,
         trail: Trail {
             on_disk: Snapshot::of(&trail),
-            in_memory: Snapshot::of(&Vec::new(alloc)),
-        },
-    }
-}
-
-/// A call that ran no script.
-pub(crate) fn ended<D: Disk>(alloc: Global, status: Status, triggers: D, states: D) -> Ended<D>
-    ensures status { result.status ≡ status }
-    ensures disks { (result.triggers ≡ triggers) × (result.states ≡ states) }
-    ensures trail { trail_of result.trail ≡ [] }
-{
-    Ended {
-        status,
-        triggers,
-        states,
-        trail: Trail {
-            on_disk: Snapshot::of(&Vec::new(alloc)),
             in_memory: Snapshot::of(&Vec::new(alloc)),
         },
     }

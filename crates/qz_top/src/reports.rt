@@ -1,5 +1,6 @@
 //! The one line on standard error that tells why a call didn't end well.
-ghost use Rattle.std.specs.Prelude.{◌≡◌, OnOk};
+ghost use Rattle.std.specs.Prelude.{◌≡◌, ◌++◌, codes, OnOk};
+ghost use Rattle.std.specs.Fmt.{decimal};
 ghost use Rattle.std.specs.Io.KnownBytes.{Appends};
 ghost use Rattle.qz_civil.specs.Causes.{HasCause};
 ghost use Rattle.qz_top.specs.Statuses.{kind_text, store_text, need_text, room_text, error_text, Reported};
@@ -100,18 +101,29 @@ fn write_bad_line<E: Sink>(line: u64, kind: BadKind, err: &mut E) -> Result<(), 
     write_all(err, b"qz: line ")?;
     write_all(err, buffer.format(line).as_bytes())?;
     write_all(err, b": ")?;
-    write_all(err, text_of(kind).as_bytes())?;
+    write_kind(kind, err)?;
     write_all(err, b"\n")
 }
 
-fn text_of(kind: BadKind) -> &'static str
-    ensures { result.now ≡ kind_text kind }
+fn write_kind<E: Sink>(kind: BadKind, err: &mut E) -> Result<(), Failed>
+    ensures ok { OnOk result (Appends (E.held err.old) (E.held err.new) (kind_text kind)) }
+    ensures cause { HasCause (E.faults err.old) (E.faults err.new) result }
 {
     match kind {
-        BadKind::TooLong => "too long",
-        BadKind::NotJson => "not JSON",
-        BadKind::Shape => "not a step",
-        BadKind::TooManyLines => "too many lines",
-        BadKind::NotHere => "not here",
+        BadKind::TooLong => write_all(err, b"too long"),
+        BadKind::NotJson => write_all(err, b"not JSON"),
+        BadKind::Shape => write_all(err, b"not a step"),
+        BadKind::Cron(error) => write_cron(error.number(), err),
+        BadKind::TooManyLines => write_all(err, b"too many lines"),
+        BadKind::NotHere => write_all(err, b"not here"),
     }
+}
+
+fn write_cron<E: Sink>(number: u8, err: &mut E) -> Result<(), Failed>
+    ensures ok { OnOk result (Appends (E.held err.old) (E.held err.new) (codes "bad cron " ++ decimal number)) }
+    ensures cause { HasCause (E.faults err.old) (E.faults err.new) result }
+{
+    let mut buffer = Buffer::new();
+    write_all(err, b"bad cron ")?;
+    write_all(err, buffer.format(number).as_bytes())
 }

@@ -9,9 +9,9 @@ ghost use Rattle.qz_top.specs.Statuses.{status_at, Finishes};
 
 use crate::runs::Run;
 use crate::turns::{LineEnd, do_line};
-use crate::{BadKind, LINE_COUNT_LIMIT, Status};
+use crate::{BadKind, Status};
 use qz_disk::Disk;
-use qz_io::{Clock, LineReader, Seen, Sink, Source};
+use qz_io::{Clock, LINE_COUNT_LIMIT, LineReader, Seen, Sink, Source};
 use std::alloc::Global;
 
 /// Runs the lines of the input: each line's step is done and its reply written before the next line is looked at.

@@ -2,19 +2,9 @@
 ghost use Rattle.std.specs.Prelude.{◌≡◌};
 ghost use Rattle.qz_top.specs.Statuses.{exit_number};
 
+use qz_cron_text::CronError;
 use qz_types::Store;
-
-/// Lines of one script.
-pub const LINE_COUNT_LIMIT: u64 = 1048576;
-
-/// What is wrong with the words of the command line.
-#[derive(Clone, Copy, PartialEq, Eq, Debug)]
-pub enum WordFault {
-    /// No call begins with this word.
-    UnknownCommand,
-    /// So many words stand behind the first, and its call takes another number of them.
-    WrongCount { found: u32 },
-}
+use qz_words::WordFault;
 
 /// What is wrong with a line of the input.
 #[derive(Clone, Copy, PartialEq, Eq, Debug)]
@@ -25,9 +15,11 @@ pub enum BadKind {
     NotJson,
     /// It isn't a step: an unknown or missing member, a value of another type, `null`, or a value out of its range.
     Shape,
+    /// A cron text that doesn't parse.
+    Cron(CronError),
     /// More lines begin than a script may have.
     TooManyLines,
-    /// The format has this line or this member, and the scheduler doesn't read it yet.
+    /// The format has this line or this member, and the call doesn't take it.
     NotHere,
 }
 

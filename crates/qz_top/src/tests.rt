@@ -1,5 +1,6 @@
 //! Worked examples through the top call, over objects in memory.
 use crate::{BadKind, Ended, Status, WordFault, command};
+use qz_cron_text::CronError;
 use qz_disk::{Disk, FaultDisk, MemDisk};
 use qz_io::{FaultSink, FaultSource, ListClock, MemSink, MemSource};
 use qz_types::{List, Store, Text};
@@ -45,7 +46,7 @@ const EARLY_REPLIES: &str =
     "ok\nok next 1704067200000\njoined 1 executions 0 triggers 0\nacquired 1 DEFAULT/t1 1704067200000
 refused 19 next 1704067200000\nfired 1 scheduled 1704067200000 at 1704067200000 next none\n";
 
-// A call with one word, or with none, and what it wrote.
+// A call with these words, and what it wrote.
 #[derive(Drop)]
 struct Called<D: Disk> {
     ended: Ended<D>,
@@ -55,21 +56,21 @@ struct Called<D: Disk> {
 
 fn call<D: Disk>(
     alloc: Global,
-    word: &str,
+    words: &[&str],
     script: &str,
     triggers: D,
     states: D,
 ) -> Result<Called<D>, Fail> {
-    let mut words = Vec::new(alloc);
-    if !word.is_empty() {
-        words.push(Text::from_str(alloc, word)?)?;
+    let mut texts = Vec::new(alloc);
+    for word in words {
+        texts.push(Text::from_str(alloc, word)?)?;
     }
     let mut input = MemSource::new(bytes_of(alloc, script)?);
     let mut out = MemSink::new(alloc);
     let mut err = MemSink::new(alloc);
     let mut clock = clock(alloc)?;
     let ended = command(
-        alloc, &words, &mut input, &mut out, &mut err, triggers, states, &mut clock,
+        alloc, &texts, &mut input, &mut out, &mut err, triggers, states, &mut clock,
     );
     Ok(Called { ended, out, err })
 }
@@ -91,7 +92,7 @@ fn check<R: Abort>(
     error: &str,
     status: Status,
 ) -> Result<(), Fail> {
-    let call = call(alloc, "", script, MemDisk::new(alloc), MemDisk::new(alloc))?;
+    let call = call(alloc, &[], script, MemDisk::new(alloc), MemDisk::new(alloc))?;
     assert!(rt; call.is(replies, error, status), "a call on {script}");
     Ok(())
 }
@@ -210,9 +211,45 @@ fn words_are_refused(rt: HostRuntime) -> Result<(), Fail> {
     let alloc = rt.alloc();
     let fault = WordFault::UnknownCommand;
     let (triggers, states) = (MemDisk::new(alloc), MemDisk::new(alloc));
-    let fly = call(alloc, "fly", SIX, triggers, states)?;
+    let fly = call(alloc, &["fly"], SIX, triggers, states)?;
     assert!(rt; fly.is("", "qz: bad words\n", Status::BadWords { fault }));
     assert!(rt; fly.ended.status.exit_number() == 1);
+    Ok(())
+}
+
+#[test]
+fn fire_times_are_told(rt: HostRuntime) -> Result<(), Fail> {
+    let alloc = rt.alloc();
+    let error = CronError::NoDays;
+    let fault = BadKind::Cron(error);
+    for (cron, replies, said, status) in [
+        (
+            "0 0 12 ? * MON-FRI",
+            "times DEFAULT/c 1704715200000\n",
+            "",
+            Status::Ok,
+        ),
+        (
+            "0 0 12 ? * MON-FRI 2023",
+            "times DEFAULT/c none\n",
+            "",
+            Status::Ok,
+        ),
+        (
+            "0 0 12 ? * ?",
+            "",
+            "qz: line 1: bad cron 5\n",
+            Status::BadLine { line: 1, fault },
+        ),
+    ] {
+        let line = format!(in alloc;
+            "{{\"do\":\"add_trigger\",\"trigger\":{{\"name\":\"c\",\"job\":\"j\",\"start\":0,\"kind\":\"cron\",\"cron\":\"{cron}\"}}}}"
+        )?;
+        let (triggers, states) = (MemDisk::new(alloc), MemDisk::new(alloc));
+        let words = ["times", "1704456000000", "1"];
+        let called = call(alloc, &words, line.as_str(), triggers, states)?;
+        assert!(rt; called.is(replies, said, status), "at {cron}");
+    }
     Ok(())
 }
 
@@ -225,7 +262,13 @@ const THREE: &str = r#"{"do":"add_job","job":{"name":"report","class":"ok"}}
 
 // The disks of new stores.
 fn made<R: Abort>(rt: &R, alloc: Global) -> Result<(MemDisk, MemDisk), Fail> {
-    let init = call(alloc, "init", "", MemDisk::new(alloc), MemDisk::new(alloc))?;
+    let init = call(
+        alloc,
+        &["init"],
+        "",
+        MemDisk::new(alloc),
+        MemDisk::new(alloc),
+    )?;
     assert!(rt; init.is("created\n", "", Status::Ok));
     let Called {
         ended,
@@ -245,7 +288,7 @@ fn made<R: Abort>(rt: &R, alloc: Global) -> Result<(MemDisk, MemDisk), Fail> {
 fn stores_are_made_once(rt: HostRuntime) -> Result<(), Fail> {
     let alloc = rt.alloc();
     let (triggers, states) = made(&rt, alloc)?;
-    let again = call(alloc, "init", "", triggers, states)?;
+    let again = call(alloc, &["init"], "", triggers, states)?;
     assert!(rt; again.is("", "qz: store exists\n", Status::Exists));
     Ok(())
 }
@@ -254,7 +297,7 @@ fn stores_are_made_once(rt: HostRuntime) -> Result<(), Fail> {
 fn a_history_goes_on(rt: HostRuntime) -> Result<(), Fail> {
     let alloc = rt.alloc();
     let (triggers, states) = made(&rt, alloc)?;
-    let first = call(alloc, "script", THREE, triggers, states)?;
+    let first = call(alloc, &["script"], THREE, triggers, states)?;
     assert!(rt; first.is(THREE_REPLIES, "", Status::Ok));
     let Called {
         ended,
@@ -269,7 +312,7 @@ fn a_history_goes_on(rt: HostRuntime) -> Result<(), Fail> {
     } = ended;
     let fire =
         "{\"do\":\"fire\",\"node\":\"A\",\"entry\":1}\n{\"do\":\"add_job\",\"job\":{\"name\":\"report\",\"class\":\"ok\"}}\n";
-    let second = call(alloc, "script", fire, triggers, states)?;
+    let second = call(alloc, &["script"], fire, triggers, states)?;
     assert!(rt; second.is("stopped\nrefused 0\n", "", Status::Ok));
     Ok(())
 }
@@ -278,7 +321,7 @@ fn a_history_goes_on(rt: HostRuntime) -> Result<(), Fail> {
 fn an_empty_script_does_nothing(rt: HostRuntime) -> Result<(), Fail> {
     let alloc = rt.alloc();
     let (triggers, states) = made(&rt, alloc)?;
-    assert!(rt; call(alloc, "script", "", triggers, states)?.is("", "", Status::Ok));
+    assert!(rt; call(alloc, &["script"], "", triggers, states)?.is("", "", Status::Ok));
     Ok(())
 }
 
@@ -287,7 +330,7 @@ fn what_is_no_store_is_not_opened(rt: HostRuntime) -> Result<(), Fail> {
     let alloc = rt.alloc();
     let none = call(
         alloc,
-        "script",
+        &["script"],
         THREE,
         MemDisk::new(alloc),
         MemDisk::new(alloc),
@@ -303,7 +346,7 @@ fn what_is_no_store_is_not_opened(rt: HostRuntime) -> Result<(), Fail> {
     let bytes = b"QZ23\x01T\0\0\0\0\0\0\0\0\0\0\xa5\0\0\0\x10\x01\x02\x03";
     let broken = List::from_vec(Vec::from_slice(alloc, bytes)?);
     let disk = MemDisk::with_bytes(alloc, broken);
-    let damaged = call(alloc, "script", THREE, disk, MemDisk::new(alloc))?;
+    let damaged = call(alloc, &["script"], THREE, disk, MemDisk::new(alloc))?;
     assert!(rt;
         damaged.is(
             "",
@@ -321,7 +364,7 @@ fn a_disk_that_fails_closes_the_store(rt: HostRuntime) -> Result<(), Fail> {
     // the first call of the second commit, behind three of the opening and four of the first commit
     let disk = FaultDisk::new(triggers, numbers(alloc, &[8])?);
     let other = FaultDisk::new(states, List::new(alloc));
-    let failed = call(alloc, "script", THREE, disk, other)?;
+    let failed = call(alloc, &["script"], THREE, disk, other)?;
     assert!(rt; failed.is("ok\nfault\nclosed\n", "qz: disk fault\n", Status::DiskFault));
     Ok(())
 }

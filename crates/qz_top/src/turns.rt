@@ -75,6 +75,7 @@ fn fault_of(fault: LineFault) -> LineEnd
         LineFault::NotJson => LineEnd::Bad(BadKind::NotJson),
         LineFault::NotHere => LineEnd::Bad(BadKind::NotHere),
         LineFault::Shape => LineEnd::Bad(BadKind::Shape),
+        LineFault::Cron(error) => LineEnd::Bad(BadKind::Cron(error)),
         LineFault::NoMemory => LineEnd::NoMemory,
     }
 }

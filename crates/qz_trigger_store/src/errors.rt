@@ -6,7 +6,7 @@ use thiserror::Error;
 
 /// Why an entry wasn't accepted. Of several reasons the first in this order is answered, but that want of memory may
 /// come before a refusal and before a full journal. Only `Fault` changes the store.
-#[derive(Clone, PartialEq, Eq, Debug, Drop, Error)]
+#[derive(Debug, Drop, Error)]
 pub enum SubmitError {
     /// An earlier call was answered `Fault`. The offset, in bytes, is that of the gate of the record that failed.
     #[error("the store is closed at {at}")]

@@ -1,6 +1,7 @@
 //! Worked examples: a store that goes on after it was opened again, stores that are damaged, and a disk that fails.
 ghost use Rattle.std.specs.Prelude.{IsTrue, IfOk};
-ghost use Rattle.qz_types.specs.Rows.{is_name, is_key};
+ghost use Rattle.qz_civil.specs.Timings.{is_name};
+ghost use Rattle.qz_types.specs.Rows.{is_key};
 
 use crate::submitting::let_go;
 use crate::{MountError, SubmitError, TriggerStore};

@@ -1,4 +1,4 @@
-use Rattle.qz_top.proofs.InputLaws.{ahead-line, ahead-rest, some_ahead, long_ahead, end_ahead}
+use Rattle.qz_io.proofs.AheadLaws.{ahead-line, ahead-rest, some_ahead, some_long, end_ahead}
 use Rattle.qz_top.proofs.scripts.beyond.Goals as goal
 
 pub returns-in-Ok-End-clause-done : goal.returns-in-Ok-End-clause-done
@@ -11,4 +11,4 @@ pub returns-in-Ok-Rest-clause-done : goal.returns-in-Ok-Rest-clause-done
 returns-in-Ok-Rest-clause-done g c = some_ahead _ _ _ _ (ahead-rest _ _ _ _ (rw c.in-Ok-Rest.field-0-is at c.in-Ok-Rest.ensures.seen))
 
 pub returns-in-Ok-TooLong-clause-done : goal.returns-in-Ok-TooLong-clause-done
-returns-in-Ok-TooLong-clause-done g c = long_ahead _ _ _ _ (rw c.in-Ok-TooLong.field-0-is at c.in-Ok-TooLong.ensures.seen)
+returns-in-Ok-TooLong-clause-done g c = some_long _ _ _ _ (rw c.in-Ok-TooLong.field-0-is at c.in-Ok-TooLong.ensures.seen)

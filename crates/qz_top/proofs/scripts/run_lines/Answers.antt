@@ -1,5 +1,5 @@
 use Rattle.std.proofs.Common.{◌≡◌, ◌+◌, ◌≤◌, ◌++◌, ◌∷◌, [], arith, length, length-append, refl}
-use Rattle.qz_top.specs.declared.statuses.TheConstants.{LINE_COUNT_LIMIT}
+use Rattle.qz_io.specs.declared.readers.TheConstants.{LINE_COUNT_LIMIT}
 use Rattle.qz_top.proofs.UptoLaws.{Upto-none, Upto-more}
 use Rattle.qz_top.proofs.EndLaws.{IsRun-finished, IsRun-full}
 use Rattle.qz_top.proofs.StopLaws.{IsRun-at, IsRun-many, IsRun-beyond, IsRun-nothing}

@@ -1,4 +1,5 @@
-use Rattle.qz_top.proofs.InputLaws.{ahead-line, ahead-rest, MetBad-long, WentToEnd-rest, WentToEnd-end, TurnDone-line}
+use Rattle.qz_io.proofs.AheadLaws.{ahead-line, ahead-rest}
+use Rattle.qz_top.proofs.InputLaws.{MetBad-long, WentToEnd-rest, WentToEnd-end, TurnDone-line}
 use Rattle.qz_top.proofs.scripts.turn.Goals as goal
 
 pub returns-in-Err-do_line-clause-done : goal.returns-in-Err-do_line-clause-done

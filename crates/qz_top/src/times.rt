@@ -1,0 +1,65 @@
+//! `times`: the fire times of the triggers of an input.
+ghost use Rattle.std.specs.Prelude.{◌≡◌, negsuc, ◌≤ℤ◌};
+ghost use Rattle.qz_civil.specs.Causes.{Rose};
+ghost use Rattle.qz_top.specs.Lines.{kind_of};
+ghost use Rattle.qz_top.specs.Times.{IsOfTimes, TimesDone, status_of};
+
+use crate::{BadKind, Status};
+use qz_io::{LINE_COUNT_LIMIT, Sink, Source};
+use qz_job_json::LineFault;
+use qz_times::{Query, TimesEnd, run_times};
+use qz_types::LAST;
+use std::alloc::Global;
+
+/// Answers the lines of the input.
+pub(crate) fn times<S: Source, K: Sink>(
+    alloc: Global,
+    input: &mut S,
+    out: &mut K,
+    query: Query,
+) -> Status
+    requires low { negsuc 0 ≤ℤ query.after }
+    requires high { query.after ≤ℤ LAST }
+    ensures done { TimesDone result query (S.left input.old) (S.left input.new) (K.held out.old) (K.held out.new) }
+    ensures called { IsOfTimes result }
+    ensures read { result ≡ Status.ReadFault → Rose (S.faults input.old) (S.faults input.new) }
+    ensures write { result ≡ Status.WriteFault → Rose (K.faults out.old) (K.faults out.new) }
+{
+    status_of(run_times(alloc, input, out, query))
+}
+
+fn status_of(end: TimesEnd) -> Status
+    ensures value { result ≡ status_of end }
+    ensures called { IsOfTimes result }
+    ensures read { result ≡ Status.ReadFault → end ≡ TimesEnd.ReadFault }
+    ensures write { result ≡ Status.WriteFault → end ≡ TimesEnd.WriteFault }
+{
+    match end {
+        TimesEnd::Done => Status::Ok,
+        TimesEnd::Bad { line, fault } => Status::BadLine {
+            line,
+            fault: kind_of(fault),
+        },
+        TimesEnd::TooManyLines => Status::BadLine {
+            line: LINE_COUNT_LIMIT + 1,
+            fault: BadKind::TooManyLines,
+        },
+        TimesEnd::ReadFault => Status::ReadFault,
+        TimesEnd::WriteFault => Status::WriteFault,
+        TimesEnd::NoMemory => Status::NoMemory,
+    }
+}
+
+/// What is wrong with a line that has this fault.
+fn kind_of(fault: LineFault) -> BadKind
+    ensures { result ≡ kind_of fault }
+{
+    match fault {
+        LineFault::TooLong => BadKind::TooLong,
+        LineFault::NotJson => BadKind::NotJson,
+        LineFault::NotHere => BadKind::NotHere,
+        LineFault::Cron(error) => BadKind::Cron(error),
+        // No line is found to be without memory.
+        LineFault::Shape | LineFault::NoMemory => BadKind::Shape,
+    }
+}
