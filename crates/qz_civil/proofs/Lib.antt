@@ -1,3 +1,4 @@
+pub mod CloneLaws
 pub mod DateLemmas
 pub mod EarliestLemmas
 pub mod FieldLaws

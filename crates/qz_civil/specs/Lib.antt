@@ -1,3 +1,4 @@
+pub mod Calendars
 pub mod Causes
 pub mod Dates
 pub mod Earliest

@@ -1,8 +1,9 @@
 //! What every layer of the scheduler stands on: texts and lists that contracts see as plain lists, the two
-//! failures that any layer may pass on, zones and their local time, the fields of a cron text, and the timing of a
-//! trigger.
+//! failures that any layer may pass on, zones and their local time, the fields of a cron text, the timing of a trigger,
+//! and the kinds of calendars.
 #![tactic(auto)]
 
+mod calendars;
 mod dates;
 mod earliest;
 mod failures;
@@ -20,12 +21,14 @@ mod timings;
 mod turns;
 mod zones;
 
+pub use calendars::CalendarKind;
 pub use dates::{Civil, Date, date_of, day_of, days_in_month, weekday_of};
 pub use failures::{Failed, NoMemory};
 pub use field_rules::is_year_set;
 pub use fields::{CronFields, DayField, Field, WeekField, has};
 pub use limits::{
-    LAST, LAST_DAY, LAST_YEAR, LONGEST, NAME_LIMIT, OFFSET_LIMIT, STRETCH_LENGTH, STRETCH_LIMIT,
+    ANNUAL_LIMIT, HOLIDAY_LIMIT, LAST, LAST_DAY, LAST_YEAR, LONGEST, NAME_LIMIT, OFFSET_LIMIT,
+    STRETCH_LENGTH, STRETCH_LIMIT,
 };
 pub use lists::List;
 pub use spans::{GREATEST_SHIFT, SECONDS, Span, second_from};

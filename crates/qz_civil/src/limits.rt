@@ -25,3 +25,9 @@ pub const STRETCH_LENGTH: i64 = 172800000;
 
 /// How many stretches a zone may have.
 pub const STRETCH_LIMIT: u64 = 512;
+
+/// Days that an annual calendar may exclude.
+pub const ANNUAL_LIMIT: u64 = 366;
+
+/// Dates that a holiday calendar may exclude.
+pub const HOLIDAY_LIMIT: u64 = 4096;

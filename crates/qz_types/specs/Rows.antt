@@ -1,7 +1,11 @@
 -- What contracts see of rows, and which rows are valid. Limits are the constants of `limits`.
-use Rattle.std.specs.Prelude.{ℕ, ℤ, List, Bool, true, Option, Some, None, nat_lt, nat_le, ◌&&◌, length}
-use Rattle.qz_civil.specs.Timings.{is_name, is_timing}
-use Rattle.qz_types.specs.declared.limits.TheConstants.{NODE_LIMIT, PAYLOAD_LIMIT, TIMES_LIMIT}
+use Rattle.std.specs.Prelude.{ℕ, ℤ, pos, List, Bool, true, Option, Some, None, is_none, nat_lt, nat_le, ◌&&◌, length}
+use Rattle.qz_civil.specs.Timings.{is_name, is_timing, is_within}
+use Rattle.qz_civil.specs.Calendars.{is_calendar_kind}
+use Rattle.qz_civil.specs.Zones.{bad_zone}
+use Rattle.qz_civil.specs.declared.calendars.CalendarKind.{CalendarKind}
+use Rattle.qz_civil.specs.declared.stretches.Stretch.{Stretch}
+use Rattle.qz_types.specs.declared.limits.TheConstants.{INTERVAL_LIMIT, NODE_LIMIT, PAYLOAD_LIMIT, TIMES_LIMIT}
 use Rattle.qz_types.specs.declared.keys.Key.{Key}
 use Rattle.qz_types.specs.declared.triggers.TriggerSpec.{TriggerSpec}
 use Rattle.qz_types.specs.declared.triggers.TriggerState.{TriggerState}
@@ -39,6 +43,21 @@ pub record MemberData : Type 0 where
   pub node : List ℕ
   pub epoch : ℕ
 
+pub record CalendarData : Type 0 where
+  pub name : List ℕ
+  pub base : Option (List ℕ)
+  pub zone : List ℕ
+  pub kind : CalendarKind
+
+pub record ZoneData : Type 0 where
+  pub name : List ℕ
+  pub stretches : List Stretch
+
+pub record StateData : Type 0 where
+  pub node : List ℕ
+  pub last : ℤ
+  pub interval : ℤ
+
 abbrev pub is_node : List ℕ → Bool
 is_node s = nat_lt 0 (length s) && nat_le (length s) NODE_LIMIT
 
@@ -64,3 +83,16 @@ is_fired f = is_node f.node && is_key f.trigger && is_key f.job
 
 abbrev pub is_member : MemberData → Bool
 is_member m = is_node m.node
+
+abbrev pub is_calendar_row : CalendarData → Bool
+is_calendar_row c = is_name c.name && is_calendar c.base && is_name c.zone && is_calendar_kind c.kind
+
+abbrev pub is_zone_row : ZoneData → Bool
+is_zone_row z = is_name z.name && is_none (bad_zone z.stretches)
+
+-- a check-in interval or a threshold, in ms
+abbrev pub is_interval : ℤ → Bool
+is_interval ms = is_within (pos 1) INTERVAL_LIMIT ms
+
+abbrev pub is_state : StateData → Bool
+is_state s = is_node s.node && is_interval s.interval

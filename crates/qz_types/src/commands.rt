@@ -1,5 +1,5 @@
 //! Commands to the trigger store.
-use crate::{JobRow, MemberRow, TriggerSpec};
+use crate::{CalendarRow, JobRow, Key, MemberRow, TriggerSpec, ZoneRow};
 use qz_civil::Text;
 use std::marker::Model;
 
@@ -15,28 +15,84 @@ pub enum Code {
     SetAllJobTriggersError,
 }
 
-/// One transaction of the trigger store, without its reading and actor.
-#[derive(Clone, Debug, Drop)]
+/// One transaction of the trigger store, without its reading and actor. Leave, Acquire, Release, Fire, Complete, Misfires
+/// and Recover are a node's, under the epoch that it holds; the others are a client's.
+#[derive(Debug, Drop)]
 pub enum Command {
     /// Stores a job.
     AddJob {
         job: JobRow,
         replace: bool,
     },
+    /// Removes a job with its triggers.
+    DeleteJob {
+        key: Key,
+    },
     /// Stores a trigger.
     AddTrigger {
         spec: TriggerSpec,
         replace: bool,
     },
+    /// Removes a trigger.
+    DeleteTrigger {
+        key: Key,
+    },
+    /// The trigger fires no more until it is resumed.
+    PauseTrigger {
+        key: Key,
+    },
+    /// The trigger fires again.
+    ResumeTrigger {
+        key: Key,
+    },
+    /// Pauses each trigger of the group, and each that is stored in it later.
+    PauseGroup {
+        group: Text,
+    },
+    /// Resumes each trigger of the group.
+    ResumeGroup {
+        group: Text,
+    },
+    /// Stores a calendar.
+    AddCalendar {
+        calendar: CalendarRow,
+        replace: bool,
+    },
+    /// Removes a calendar.
+    DeleteCalendar {
+        name: Text,
+    },
+    /// Stores a zone.
+    AddZone {
+        zone: ZoneRow,
+    },
+    /// Removes a zone.
+    DeleteZone {
+        name: Text,
+    },
+    /// Stores a trigger that fires the job once, now.
+    TriggerNow {
+        job: Key,
+    },
+    /// Sets how far back a next fire time may lie, in ms, before its trigger is misfired.
+    Threshold {
+        ms: i64,
+    },
     /// A node becomes a member.
     Join {
         node: Text,
     },
+    /// The node is a member no more.
+    Leave,
     /// The node takes up to `max` triggers whose next time is at most `no_later + window`, both in ms.
     Acquire {
         no_later: i64,
         window: i64,
         max: u32,
+    },
+    /// The node gives back what it acquired.
+    Release {
+        entry: u64,
     },
     /// The node begins the execution of what it acquired.
     Fire {
@@ -46,6 +102,12 @@ pub enum Command {
     Complete {
         entry: u64,
         code: Code,
+    },
+    /// The node moves the triggers that are misfired, as each one's instruction says.
+    Misfires,
+    /// The node recovers what a failed member, `node`, had in its hands.
+    Recover {
+        node: Text,
     },
 }
 
@@ -57,7 +119,7 @@ pub enum Actor {
     Node(MemberRow),
 }
 
-/// A transaction as histories keep it. Acquire, Fire and Complete have a node as actor, the others a client.
+/// A transaction as histories keep it. A node's commands have a node as actor, the others a client.
 #[derive(Clone, Drop)]
 pub struct Entry {
     /// The reading of the clock, in ms since 1970-01-01T00:00:00Z. Any number: it is clamped when it is recorded.

@@ -1,7 +1,9 @@
 //! The scheduler's plain data: rows, commands, replies and refusals, and lists of rows in the order of their keys.
 #![tactic(auto)]
 
+mod calendars;
 mod commands;
+mod copies;
 mod fired;
 mod jobs;
 mod keys;
@@ -9,10 +11,13 @@ mod limits;
 mod members;
 mod replies;
 mod sorted;
+mod states;
 mod steps;
 mod stores;
 mod triggers;
+mod zones;
 
+pub use calendars::CalendarRow;
 pub use commands::{Actor, Code, Command, Entry};
 pub use fired::{FiredRow, FiredState};
 pub use jobs::JobRow;
@@ -22,9 +27,14 @@ pub use limits::{
     NODE_LIMIT, NUMBER_LIMIT, PAYLOAD_LIMIT, TIMES_LIMIT, TRIGGER_LIMIT, ZONE_LIMIT,
 };
 pub use members::MemberRow;
-pub use qz_civil::{Failed, Kind, LAST, LONGEST, List, NAME_LIMIT, NoMemory, Text, Timing, Unit};
+pub use qz_civil::{
+    CalendarKind, Failed, Kind, LAST, LONGEST, List, NAME_LIMIT, NoMemory, Stretch, Text, Timing,
+    Unit,
+};
 pub use replies::{Refusal, Reply, Taken};
 pub use sorted::{Keyed, find, insert, place};
+pub use states::{StateCommand, StateEntry, StateRow};
 pub use steps::{Step, StepReply};
 pub use stores::Store;
 pub use triggers::{TriggerRow, TriggerSpec, TriggerState};
+pub use zones::ZoneRow;

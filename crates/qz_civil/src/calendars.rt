@@ -1,0 +1,63 @@
+//! The kinds of calendars: what each leaves out of a trigger's schedule.
+ghost use Rattle.std.specs.Prelude.{◌≡◌, IfOk};
+
+use crate::fields::CronFields;
+use crate::lists::List;
+use std::alloc::AllocError;
+
+/// What a calendar excludes, as Quartz's calendars do. Local times are those of the calendar's zone.
+#[derive(Debug, Drop)]
+pub enum CalendarKind {
+    /// Days of each year, as `month * 100 + day`, ascending: Quartz's AnnualCalendar.
+    Annual { days: List<u16> },
+    /// Dates, as `year * 10000 + month * 100 + day`, ascending: Quartz's HolidayCalendar.
+    Holiday { dates: List<u32> },
+    /// Days of the week; bit 0 is Sunday: Quartz's WeeklyCalendar.
+    Weekly { days: u8 },
+    /// Days of the month; bit 0 is the 1st: Quartz's MonthlyCalendar.
+    Monthly { days: u32 },
+    /// The part of each day from `from` to `to`, both included and in ms of the day, or where it is inverted all but
+    /// this part: Quartz's DailyCalendar.
+    Daily { from: u32, to: u32, inverted: bool },
+    /// The seconds that meet a cron text: Quartz's CronCalendar.
+    Cron { fields: CronFields },
+}
+
+/// The same days again.
+#[tactic(auto, using(crate::proofs::CloneLaws::same_items))]
+fn copy_days(days: &List<u16>) -> Result<List<u16>, AllocError>
+    ensures { IfOk result (λ copy. copy ≡ days.now) }
+{
+    days.clone()
+}
+
+/// The same dates again.
+#[tactic(auto, using(crate::proofs::CloneLaws::same_items))]
+fn copy_dates(dates: &List<u32>) -> Result<List<u32>, AllocError>
+    ensures { IfOk result (λ copy. copy ≡ dates.now) }
+{
+    dates.clone()
+}
+
+impl Clone for CalendarKind {
+    ghost is_clone = { λ a b. b ≡ a };
+
+    fn clone(&self) -> Result<Self, AllocError> {
+        Ok(match self {
+            CalendarKind::Annual { days } => CalendarKind::Annual {
+                days: copy_days(days)?,
+            },
+            CalendarKind::Holiday { dates } => CalendarKind::Holiday {
+                dates: copy_dates(dates)?,
+            },
+            CalendarKind::Weekly { days } => CalendarKind::Weekly { days: *days },
+            CalendarKind::Monthly { days } => CalendarKind::Monthly { days: *days },
+            CalendarKind::Daily { from, to, inverted } => CalendarKind::Daily {
+                from: *from,
+                to: *to,
+                inverted: *inverted,
+            },
+            CalendarKind::Cron { fields } => CalendarKind::Cron { fields: *fields },
+        })
+    }
+}

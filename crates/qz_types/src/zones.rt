@@ -1,0 +1,55 @@
+//! Zones.
+ghost use Rattle.std.specs.Prelude.{◌≡◌, IfOk};
+
+use qz_civil::{List, Stretch, Text};
+use std::alloc::AllocError;
+use std::marker::Model;
+
+/// A stored zone. `UTC` is known without a row.
+#[derive(Debug, Drop)]
+pub struct ZoneRow {
+    pub name: Text,
+    /// A table as `qz_civil::Zone::table` takes it.
+    pub stretches: List<Stretch>,
+}
+
+impl Model for ZoneRow {
+    ghost use Rattle.std.specs.Prelude.{IsTrue};
+    ghost use Rattle.qz_types.specs.Rows.{ZoneData, is_zone_row};
+
+    ghost Value = { ZoneData };
+
+    ghost view = { λ a. record { name = a.name; stretches = a.stretches } };
+
+    ghost invariant = { λ a. IsTrue (is_zone_row (record { name = a.name; stretches = a.stretches })) };
+
+    ghost inverse = { λ d. record { name = d.name; stretches = d.stretches } };
+}
+
+/// The same stretches again.
+#[tactic(auto, using(qz_civil::proofs::CloneLaws::same_items))]
+fn copy_stretches(stretches: &List<Stretch>) -> Result<List<Stretch>, AllocError>
+    ensures { IfOk result (λ copy. copy ≡ stretches.now) }
+{
+    stretches.clone()
+}
+
+impl Clone for ZoneRow {
+    ghost is_clone = { λ a b. b ≡ a };
+
+    fn clone(&self) -> Result<Self, AllocError> {
+        Ok(ZoneRow {
+            name: self.name.clone()?,
+            stretches: copy_stretches(&self.stretches)?,
+        })
+    }
+}
+
+impl ZoneRow {
+    /// The same zone again.
+    pub fn copy(&self) -> Result<Self, AllocError>
+        ensures { IfOk result (λ row. row ≡ self.now) }
+    {
+        self.clone()
+    }
+}
