@@ -4,7 +4,8 @@ use Rattle.std.specs.List.{AllByRecursion}
 use Rattle.std.proofs.lemmas.Bool.{and_parts, and_from, not-true}
 use Rattle.qz_types.specs.Rows.{MemberData, is_node}
 use Rattle.qz_types.specs.Entries.{EntryData, is_command, is_of_node, has_actor, is_entry}
-use Rattle.qz_types.specs.Steps.{is_join, is_interval, is_step}
+use Rattle.qz_types.specs.Rows.{is_interval}
+use Rattle.qz_types.specs.Steps.{is_join, is_step}
 use Rattle.qz_types.specs.declared.commands.Command.{Command}
 use Rattle.qz_types.specs.declared.commands.Command.TheVariants as command
 use Rattle.qz_types.specs.declared.commands.Actor.TheVariants as actor

@@ -3,7 +3,7 @@ use Rattle.std.specs.Prelude.{ℤ}
 use Rattle.qz_types.specs.Rows.{MemberData}
 use Rattle.qz_types.specs.Entries.{EntryData}
 use Rattle.qz_types.specs.declared.commands.Command.{Command}
-use Rattle.qz_types.specs.declared.commands.Command.TheVariants.{AddJob, AddTrigger, Join, Acquire, Fire, Complete}
+use Rattle.qz_types.specs.declared.commands.Command.TheVariants.{AddJob, DeleteJob, AddTrigger, DeleteTrigger, PauseTrigger, ResumeTrigger, PauseGroup, ResumeGroup, AddCalendar, DeleteCalendar, AddZone, DeleteZone, TriggerNow, Threshold, Join, Leave, Acquire, Release, Fire, Complete, Misfires, Recover}
 use Rattle.qz_types.specs.declared.commands.Actor.{Actor}
 use Rattle.qz_types.specs.declared.commands.Actor.TheVariants.{Client, Node}
 use Rattle.qz_types.specs.declared.replies.Refusal.TheVariants.{Unbuilt}
@@ -25,6 +25,22 @@ by_command T m actor (Join node) = join T m node
 by_command T m actor (Acquire no_later window max) = as_node actor (λ me. acquire T m me no_later window max)
 by_command T m actor (Fire entry) = as_node actor (λ me. fire T m me entry)
 by_command T m actor (Complete entry code) = as_node actor (λ me. complete T m me entry code)
+by_command T m actor (DeleteJob key) = refused Unbuilt
+by_command T m actor (DeleteTrigger key) = refused Unbuilt
+by_command T m actor (PauseTrigger key) = refused Unbuilt
+by_command T m actor (ResumeTrigger key) = refused Unbuilt
+by_command T m actor (PauseGroup group) = refused Unbuilt
+by_command T m actor (ResumeGroup group) = refused Unbuilt
+by_command T m actor (AddCalendar calendar replace) = refused Unbuilt
+by_command T m actor (DeleteCalendar name) = refused Unbuilt
+by_command T m actor (AddZone zone) = refused Unbuilt
+by_command T m actor (DeleteZone name) = refused Unbuilt
+by_command T m actor (TriggerNow job) = refused Unbuilt
+by_command T m actor (Threshold ms) = refused Unbuilt
+by_command T m actor Leave = refused Unbuilt
+by_command T m actor (Release entry) = refused Unbuilt
+by_command T m actor Misfires = refused Unbuilt
+by_command T m actor (Recover node) = refused Unbuilt
 
 abbrev pub transaction : SchedulerTables → EntryData → Outcome
 transaction T e = by_command T (recorded_moment T e.at) e.actor e.command

@@ -167,43 +167,44 @@ impl PlainStore {
         ensures kept { TablesValid self.old → OnOk result (TablesValid self.new) }
     {
         let mut next = self.copy()?;
-        let reply = next.apply(entry)?;
+        let reply = next.apply(&entry)?;
         *self = next;
         Ok(reply)
     }
 
     // The same, but an error leaves any tables.
-    fn apply(&mut self, entry: Entry) -> Result<Reply, StepRefused>
-        ensures ok { IfOk result (λ reply. transaction self.old entry ≡ accepted self.new reply) }
-        ensures refused { IfErr result (IsCause (transaction self.old entry)) }
+    #[tactic(auto, unfolding(qz_types::specs::Entries::is_entry))]
+    fn apply(&mut self, entry: &Entry) -> Result<Reply, StepRefused>
+        ensures ok { IfOk result (λ reply. transaction self.old entry.now ≡ accepted self.new reply) }
+        ensures refused { IfErr result (IsCause (transaction self.old entry.now)) }
     {
-        let Entry {
-            at,
-            actor,
-            seat: _,
-            command,
-        } = entry;
-        let moment = self.recorded_moment(at);
-        match command {
-            Command::AddJob { job, replace } => self.add_job(moment, job, replace),
-            Command::AddTrigger { spec, replace } => self.add_trigger(moment, spec, replace),
-            Command::Join { node } => self.join(moment, node),
+        let moment = self.recorded_moment(entry.at);
+        match &entry.command {
+            Command::AddJob { job, replace } => self.add_job(moment, job.copy()?, *replace),
+            Command::AddTrigger { spec, replace } => {
+                self.add_trigger(moment, spec.copy()?, *replace)
+            }
+            Command::Join { node } => self.join(moment, node.copy()?),
             Command::Acquire {
                 no_later,
                 window,
                 max,
-            } => match actor {
+            } => match &entry.actor {
                 Actor::Client => Err(StepRefused::Refused(Refusal::Unbuilt)),
-                Actor::Node(me) => self.acquire(moment, &me, no_later, window, max),
+                Actor::Node(me) => self.acquire(moment, me, *no_later, *window, *max),
             },
-            Command::Fire { entry } => match actor {
+            Command::Fire { entry: number } => match &entry.actor {
                 Actor::Client => Err(StepRefused::Refused(Refusal::Unbuilt)),
-                Actor::Node(me) => self.fire(moment, &me, entry),
+                Actor::Node(me) => self.fire(moment, me, *number),
             },
-            Command::Complete { entry, code } => match actor {
+            Command::Complete {
+                entry: number,
+                code,
+            } => match &entry.actor {
                 Actor::Client => Err(StepRefused::Refused(Refusal::Unbuilt)),
-                Actor::Node(me) => self.complete(moment, &me, entry, code),
+                Actor::Node(me) => self.complete(moment, me, *number, *code),
             },
+            _ => Err(StepRefused::Refused(Refusal::Unbuilt)),
         }
     }
 

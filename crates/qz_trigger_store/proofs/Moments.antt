@@ -5,7 +5,7 @@ use Rattle.qz_types.specs.Rows.{TriggerData, FiredData, JobData, MemberData}
 use Rattle.qz_types.specs.Entries.{EntryData}
 use Rattle.qz_types.specs.declared.commands.Code.{Code}
 use Rattle.qz_types.specs.declared.commands.Command.{Command}
-use Rattle.qz_types.specs.declared.commands.Command.TheVariants.{AddJob, AddTrigger, Join, Acquire, Fire, Complete}
+use Rattle.qz_types.specs.declared.commands.Command.TheVariants.{AddJob, DeleteJob, AddTrigger, DeleteTrigger, PauseTrigger, ResumeTrigger, PauseGroup, ResumeGroup, AddCalendar, DeleteCalendar, AddZone, DeleteZone, TriggerNow, Threshold, Join, Leave, Acquire, Release, Fire, Complete, Misfires, Recover}
 use Rattle.qz_types.specs.declared.commands.Actor.{Actor}
 use Rattle.qz_types.specs.declared.commands.Actor.TheVariants.{Client, Node}
 use Rattle.qz_types.specs.declared.replies.Reply.{Reply}
@@ -81,6 +81,22 @@ by_command-records T m Client (Fire entry) = tt
 by_command-records T m (Node me) (Fire entry) = unless-records m (node_refusal T me) _ (fire_row-records T m me (fired_of entry T.fired))
 by_command-records T m Client (Complete entry code) = tt
 by_command-records T m (Node me) (Complete entry code) = unless-records m (node_refusal T me) _ (complete_row-records T m me (fired_of entry T.fired) code)
+by_command-records T m actor (DeleteJob key) = tt
+by_command-records T m actor (DeleteTrigger key) = tt
+by_command-records T m actor (PauseTrigger key) = tt
+by_command-records T m actor (ResumeTrigger key) = tt
+by_command-records T m actor (PauseGroup group) = tt
+by_command-records T m actor (ResumeGroup group) = tt
+by_command-records T m actor (AddCalendar calendar replace) = tt
+by_command-records T m actor (DeleteCalendar name) = tt
+by_command-records T m actor (AddZone zone) = tt
+by_command-records T m actor (DeleteZone name) = tt
+by_command-records T m actor (TriggerNow job) = tt
+by_command-records T m actor (Threshold ms) = tt
+by_command-records T m actor Leave = tt
+by_command-records T m actor (Release entry) = tt
+by_command-records T m actor Misfires = tt
+by_command-records T m actor (Recover node) = tt
 
 pub last_moment-accepted : (T T' : SchedulerTables) (e : EntryData) (r : Reply) → transaction T e ≡ accepted T' r → T'.last_moment ≡ recorded_moment T e.at
 last_moment-accepted T T' e r way = subst (Records (recorded_moment T e.at)) way (by_command-records T (recorded_moment T e.at) e.actor e.command)

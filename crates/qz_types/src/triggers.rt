@@ -18,6 +18,15 @@ pub struct TriggerSpec {
     pub timing: Timing,
 }
 
+impl TriggerSpec {
+    /// The same trigger again.
+    pub fn copy(&self) -> Result<Self, AllocError>
+        ensures { IfOk result (λ spec. spec ≡ self.now) }
+    {
+        self.clone()
+    }
+}
+
 /// Where a trigger stands, as Quartz's job store has it.
 #[derive(Clone, Copy, PartialEq, Eq, Debug)]
 pub enum TriggerState {
