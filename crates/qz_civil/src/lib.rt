@@ -13,8 +13,6 @@ mod limits;
 mod lists;
 mod spans;
 mod stretches;
-#[cfg(test)]
-mod tests;
 mod texts;
 mod times;
 mod timings;

@@ -7,8 +7,6 @@ mod errors;
 mod held;
 mod opening;
 mod steps;
-#[cfg(test)]
-mod tests;
 
 pub use clusters::Cluster;
 pub use errors::StepEnd;

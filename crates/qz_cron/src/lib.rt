@@ -8,8 +8,6 @@ mod moments;
 mod month;
 mod months;
 mod seconds;
-#[cfg(test)]
-mod tests;
 mod times;
 
 pub use moments::next;

@@ -10,8 +10,6 @@ mod parsing;
 mod printing;
 mod runs;
 mod sets;
-#[cfg(test)]
-mod tests;
 mod texts;
 mod values;
 

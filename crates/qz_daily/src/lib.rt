@@ -3,8 +3,6 @@
 
 mod moments;
 mod patterns;
-#[cfg(test)]
-mod tests;
 mod times;
 
 pub use moments::next;

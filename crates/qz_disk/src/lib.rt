@@ -9,8 +9,6 @@ mod fault;
 mod file;
 mod images;
 mod memory;
-#[cfg(test)]
-mod tests;
 
 pub use calls::Call;
 pub use cut::CutDisk;

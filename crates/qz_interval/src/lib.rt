@@ -5,8 +5,6 @@
 mod dated;
 mod intervals;
 mod numbers;
-#[cfg(test)]
-mod tests;
 mod times;
 mod turns;
 

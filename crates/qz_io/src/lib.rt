@@ -9,8 +9,6 @@ mod memory;
 mod pieces;
 mod readers;
 mod system;
-#[cfg(test)]
-mod tests;
 mod traits;
 
 pub use clocks::ListClock;

@@ -9,8 +9,6 @@ mod members;
 mod objects;
 mod schedules;
 mod steps;
-#[cfg(test)]
-mod tests;
 mod zones;
 
 pub use asked::{Asked, read_asked};

@@ -7,5 +7,3 @@ mod rows;
 
 pub use plain::{PlainStore, StepRefused};
 
-#[cfg(test)]
-mod tests;

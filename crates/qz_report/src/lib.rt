@@ -3,8 +3,6 @@
 
 mod names;
 mod replies;
-#[cfg(test)]
-mod tests;
 mod times;
 
 pub use replies::reply_line;

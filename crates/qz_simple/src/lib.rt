@@ -2,8 +2,6 @@
 #![tactic(auto)]
 
 mod repeats;
-#[cfg(test)]
-mod tests;
 mod times;
 
 pub use repeats::next;

@@ -5,8 +5,6 @@ mod ends;
 mod queries;
 mod runs;
 mod telling;
-#[cfg(test)]
-mod tests;
 mod turns;
 mod zones;
 

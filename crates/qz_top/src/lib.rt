@@ -11,8 +11,6 @@ mod reports;
 mod runs;
 mod scripts;
 mod statuses;
-#[cfg(test)]
-mod tests;
 mod times;
 mod turns;
 

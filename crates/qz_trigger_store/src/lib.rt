@@ -8,8 +8,6 @@ mod parts;
 mod replaying;
 mod stores;
 mod submitting;
-#[cfg(test)]
-mod tests;
 
 pub use errors::SubmitError;
 pub use qz_journal::MountError;

@@ -2,8 +2,6 @@
 #![tactic(auto)]
 
 mod numbers;
-#[cfg(test)]
-mod tests;
 mod wishes;
 
 pub use wishes::{COUNT_LIMIT, Wish, WordFault, read_words};

@@ -1,5 +1,5 @@
 //! Words with what they ask for.
-use crate::{Wish, WordFault, read_words};
+use qz_words::{Wish, WordFault, read_words};
 use qz_civil::Text;
 use std::alloc::{AllocError, Global};
 use std::test::Fail;

@@ -1,5 +1,5 @@
 //! Worked examples of crashes, the disks that fail by a rule, and one real file.
-use crate::{Call, CutDisk, Disk, FaultDisk, FileDisk, MemDisk};
+use qz_disk::{Call, CutDisk, Disk, FaultDisk, FileDisk, MemDisk};
 use qz_civil::{List, Text};
 use std::alloc::{AllocError, Global};
 use std::test::Fail;

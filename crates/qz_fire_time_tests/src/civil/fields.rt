@@ -1,5 +1,5 @@
 //! Dates that meet the fields of a cron text, as a calendar has them.
-use crate::{Civil, CronFields, DayField, Field, LAST_YEAR, WeekField, days_in_month};
+use qz_civil::{Civil, CronFields, DayField, Field, LAST_YEAR, WeekField, days_in_month};
 use std::process::Abort;
 use std::test::Fail;
 

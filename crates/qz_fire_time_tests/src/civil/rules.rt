@@ -1,5 +1,5 @@
 //! Which fields a cron text may give, and the spans of a zone.
-use crate::{DayField, Field, List, Stretch, Zone, is_year_set, second_from};
+use qz_civil::{DayField, Field, List, Stretch, Zone, is_year_set, second_from};
 use std::test::Fail;
 
 #[test]

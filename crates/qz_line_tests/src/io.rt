@@ -1,7 +1,7 @@
 //! Worked examples, and each call once.
 ghost use Rattle.std.specs.Prelude.{Some};
 
-use crate::{
+use qz_io::{
     Clock, FaultSink, FaultSource, LINE_LIMIT, LineReader, ListClock, MemSink, MemSource,
     RealClock, Seen, Sink, Source, StdSink, StdSource, write_all,
 };

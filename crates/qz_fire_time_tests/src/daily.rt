@@ -1,7 +1,7 @@
 //! Fire times that were worked out apart from this crate.
 ghost use Rattle.std.specs.Prelude.{negsuc, ◌≤ℤ◌};
 
-use crate::DailyTimes;
+use qz_daily::DailyTimes;
 use qz_civil::{LAST, LONGEST, List, Stretch, Times, Unit, Zone};
 use std::alloc::Global;
 use std::test::Fail;

@@ -1,5 +1,5 @@
 //! Inputs with what is said to them.
-use crate::{Query, TimesEnd, run_times};
+use qz_times::{Query, TimesEnd, run_times};
 use qz_civil::{LAST, List};
 use qz_cron_text::CronError;
 use qz_io::{FaultSink, FaultSource, MemSink, MemSource};

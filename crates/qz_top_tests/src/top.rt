@@ -1,5 +1,5 @@
 //! Worked examples through the top call, over objects in memory.
-use crate::{BadKind, Ended, Status, WordFault, command};
+use qz_top::{BadKind, Ended, Status, WordFault, command};
 use qz_cron_text::CronError;
 use qz_disk::{Disk, FaultDisk, MemDisk};
 use qz_io::{FaultSink, FaultSource, ListClock, MemSink, MemSource};

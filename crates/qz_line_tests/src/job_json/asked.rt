@@ -1,5 +1,5 @@
 //! Lines of `times` with what they say: the timing or the zone as a text, or the fault.
-use crate::{Asked, LineFault, read_asked};
+use qz_job_json::{Asked, LineFault, read_asked};
 use qz_civil::Zone;
 use qz_cron_text::CronError;
 use std::alloc::{AllocError, Global};

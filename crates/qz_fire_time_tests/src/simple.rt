@@ -1,5 +1,5 @@
 //! Fire times that were worked out by hand.
-use crate::{SimpleTimes, next};
+use qz_simple::{SimpleTimes, next};
 use qz_civil::{LAST, LONGEST, Times};
 
 #[test]

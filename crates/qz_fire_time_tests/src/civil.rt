@@ -3,7 +3,7 @@ mod fields;
 mod rules;
 mod zones;
 
-use crate::{List, NoMemory, Text};
+use qz_civil::{List, NoMemory, Text};
 use std::cmp::Ordering;
 use std::test::Fail;
 

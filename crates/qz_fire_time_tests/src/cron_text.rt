@@ -1,5 +1,5 @@
 //! Texts with what they say, and with their faults.
-use crate::{CronError, parse, print};
+use qz_cron_text::{CronError, parse, print};
 use qz_civil::{CronFields, DayField, WeekField};
 use std::test::Fail;
 

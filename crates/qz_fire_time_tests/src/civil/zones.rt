@@ -1,5 +1,5 @@
 //! Local times and their timestamps, as Python's `datetime` has them.
-use crate::{BadZone, Civil, LAST, List, Stretch, Zone};
+use qz_civil::{BadZone, Civil, LAST, List, Stretch, Zone};
 use std::alloc::Global;
 use std::process::Abort;
 use std::test::Fail;

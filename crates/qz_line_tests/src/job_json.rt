@@ -1,7 +1,7 @@
 //! Lines with what they say: the step as its `Debug` text, `blank`, or the fault.
 mod asked;
 
-use crate::{LineFault, read_step};
+use qz_job_json::{LineFault, read_step};
 use std::alloc::{AllocError, Global};
 use std::test::Fail;
 

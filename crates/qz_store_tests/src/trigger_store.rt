@@ -3,8 +3,8 @@ ghost use Rattle.std.specs.Prelude.{IsTrue, IfOk};
 ghost use Rattle.qz_civil.specs.Timings.{is_name};
 ghost use Rattle.qz_types.specs.Rows.{is_key};
 
-use crate::submitting::let_go;
-use crate::{MountError, SubmitError, TriggerStore};
+use qz_trigger_store::submitting::let_go;
+use qz_trigger_store::{MountError, SubmitError, TriggerStore};
 use qz_codec::put_command;
 use qz_disk::{Disk, FaultDisk, MemDisk};
 use qz_journal::{Journal, TRIGGERS, create};

@@ -1,7 +1,7 @@
 //! Fire times that were worked out apart from this crate.
 ghost use Rattle.std.specs.Prelude.{negsuc, ◌≤ℤ◌};
 
-use crate::next;
+use qz_cron::next;
 use qz_civil::{CronFields, DayField, LAST, List, Stretch, WeekField, Zone};
 use std::alloc::Global;
 use std::test::Fail;

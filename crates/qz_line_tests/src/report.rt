@@ -1,7 +1,7 @@
 //! Replies with their lines.
 ghost use Rattle.std.specs.Prelude.{◌≡◌, IfOk};
 
-use crate::{reply_line, times_line};
+use qz_report::{reply_line, times_line};
 use qz_types::{JobRow, Key, List, NoMemory, Refusal, Reply, StepReply, Taken, Text};
 use std::alloc::{AllocError, Global};
 use std::test::Fail;

@@ -3,7 +3,7 @@ ghost use Rattle.std.specs.Prelude.{IsTrue, IfOk};
 ghost use Rattle.qz_civil.specs.Timings.{is_name};
 ghost use Rattle.qz_types.specs.Rows.{is_key};
 
-use crate::{PlainStore, StepRefused};
+use qz_model::{PlainStore, StepRefused};
 use qz_types::{
     Actor, Code, Command, Entry, JobRow, Key, Kind, MemberRow, Reply, Text, Timing, TriggerSpec,
     find, insert,

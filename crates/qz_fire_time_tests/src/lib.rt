@@ -1,0 +1,15 @@
+//! Tests of the crates of fire times: dates and zones, cron texts, and the four kinds.
+#![tactic(auto)]
+
+#[cfg(test)]
+mod civil;
+#[cfg(test)]
+mod cron_text;
+#[cfg(test)]
+mod cron;
+#[cfg(test)]
+mod simple;
+#[cfg(test)]
+mod interval;
+#[cfg(test)]
+mod daily;

@@ -1,0 +1,13 @@
+//! Tests of the crates of input and output: sources and sinks, words, lines, texts and the word `times`.
+#![tactic(auto)]
+
+#[cfg(test)]
+mod io;
+#[cfg(test)]
+mod words;
+#[cfg(test)]
+mod job_json;
+#[cfg(test)]
+mod report;
+#[cfg(test)]
+mod times;

@@ -1,0 +1,13 @@
+//! Tests of the crates of the store: transactions, disks, the journal, records, the trigger store and the cluster.
+#![tactic(auto)]
+
+#[cfg(test)]
+mod model;
+#[cfg(test)]
+mod disk;
+#[cfg(test)]
+mod journal;
+#[cfg(test)]
+mod trigger_store;
+#[cfg(test)]
+mod cluster;
