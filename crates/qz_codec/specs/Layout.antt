@@ -19,7 +19,7 @@ use Rattle.qz_types.specs.declared.triggers.TriggerSpec.{TriggerSpec}
 use Rattle.qz_types.specs.declared.commands.Code.{Code}
 use Rattle.qz_types.specs.declared.commands.Code.TheVariants as code
 use Rattle.qz_types.specs.declared.commands.Command.{Command}
-use Rattle.qz_types.specs.declared.commands.Command.TheVariants.{AddJob, AddTrigger, Join, Acquire, Fire, Complete}
+use Rattle.qz_types.specs.declared.commands.Command.TheVariants.{AddJob, AddTrigger, Join, Acquire, Fire, Complete, DeleteJob, DeleteTrigger, PauseTrigger, ResumeTrigger, PauseGroup, ResumeGroup, AddCalendar, DeleteCalendar, AddZone, DeleteZone, TriggerNow, Threshold, Leave, Release, Misfires, Recover}
 use Rattle.qz_types.specs.declared.commands.Actor.{Actor}
 use Rattle.qz_types.specs.declared.commands.Actor.TheVariants.{Client, Node}
 
@@ -122,6 +122,22 @@ command (Join node) = 14 ∷ text node
 command (Acquire no_later window max) = 16 ∷ (integer w64 no_later ++ (integer w64 window ++ number w32 max))
 command (Fire entry) = 18 ∷ number w64 entry
 command (Complete entry c) = 19 ∷ (number w64 entry ++ code_place c ∷ [])
+command (DeleteJob key) = []
+command (DeleteTrigger key) = []
+command (PauseTrigger key) = []
+command (ResumeTrigger key) = []
+command (PauseGroup group) = []
+command (ResumeGroup group) = []
+command (AddCalendar calendar replace) = []
+command (DeleteCalendar name) = []
+command (AddZone zone) = []
+command (DeleteZone name) = []
+command (TriggerNow job) = []
+command (Threshold ms) = []
+command Leave = []
+command (Release entry) = []
+command Misfires = []
+command (Recover node) = []
 
 unfoldable pub entry : EntryData → List ℕ
 entry e = integer w64 e.at ++ (actor e.actor ++ (number w32 e.seat ++ command e.command))

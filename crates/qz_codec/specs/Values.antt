@@ -16,7 +16,7 @@ use Rattle.qz_types.specs.declared.limits.TheConstants.{ACQUIRE_LIMIT, NODE_LIMI
 use Rattle.qz_types.specs.declared.keys.Key.{Key}
 use Rattle.qz_types.specs.declared.triggers.TriggerSpec.{TriggerSpec}
 use Rattle.qz_types.specs.declared.commands.Command.{Command}
-use Rattle.qz_types.specs.declared.commands.Command.TheVariants.{AddJob, AddTrigger, Join, Acquire, Fire, Complete}
+use Rattle.qz_types.specs.declared.commands.Command.TheVariants.{AddJob, AddTrigger, Join, Acquire, Fire, Complete, DeleteJob, DeleteTrigger, PauseTrigger, ResumeTrigger, PauseGroup, ResumeGroup, AddCalendar, DeleteCalendar, AddZone, DeleteZone, TriggerNow, Threshold, Leave, Release, Misfires, Recover}
 use Rattle.qz_types.specs.declared.commands.Actor.{Actor}
 use Rattle.qz_types.specs.declared.commands.Actor.TheVariants.{Client, Node}
 
@@ -98,6 +98,22 @@ IsCommand (Join node) = IsText 1 NODE_LIMIT node
 IsCommand (Acquire no_later window max) = IsSpan no_later × IsSpan window × (max < 2 ^ 32) × (is_long 1 ACQUIRE_LIMIT max ≡ true)
 IsCommand (Fire entry) = entry < 2 ^ 64
 IsCommand (Complete entry code) = entry < 2 ^ 64
+IsCommand (DeleteJob key) = Unit {0}
+IsCommand (DeleteTrigger key) = Unit {0}
+IsCommand (PauseTrigger key) = Unit {0}
+IsCommand (ResumeTrigger key) = Unit {0}
+IsCommand (PauseGroup group) = Unit {0}
+IsCommand (ResumeGroup group) = Unit {0}
+IsCommand (AddCalendar calendar replace) = Unit {0}
+IsCommand (DeleteCalendar name) = Unit {0}
+IsCommand (AddZone zone) = Unit {0}
+IsCommand (DeleteZone name) = Unit {0}
+IsCommand (TriggerNow job) = Unit {0}
+IsCommand (Threshold ms) = Unit {0}
+IsCommand Leave = Unit {0}
+IsCommand (Release entry) = Unit {0}
+IsCommand Misfires = Unit {0}
+IsCommand (Recover node) = Unit {0}
 
 pub record IsEntry (e : EntryData) : Type 0 where
   pub at : FitsSigned w64 e.at

@@ -266,6 +266,7 @@ fn put_variant(out: &mut Vec<u8>, c: &Command) -> Result<(), AllocError>
             put_u64(out, *entry)?;
             put_u8(out, place_of_code(*code))
         }
+        _ => Ok(()),
     }
 }
 
