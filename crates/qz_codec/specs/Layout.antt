@@ -19,7 +19,7 @@ use Rattle.qz_types.specs.declared.triggers.TriggerSpec.{TriggerSpec}
 use Rattle.qz_types.specs.declared.commands.Code.{Code}
 use Rattle.qz_types.specs.declared.commands.Code.TheVariants as code
 use Rattle.qz_types.specs.declared.commands.Command.{Command}
-use Rattle.qz_types.specs.declared.commands.Command.TheVariants.{AddJob, AddTrigger, Join, Acquire, Fire, Complete, DeleteJob, DeleteTrigger, PauseTrigger, ResumeTrigger, PauseGroup, ResumeGroup, AddCalendar, DeleteCalendar, AddZone, DeleteZone, TriggerNow, Threshold, Leave, Release, Misfires, Recover}
+use Rattle.qz_types.specs.declared.commands.Command.TheVariants.{AddJob, DeleteJob, AddTrigger, DeleteTrigger, PauseTrigger, ResumeTrigger, PauseGroup, ResumeGroup, AddCalendar, DeleteCalendar, AddZone, DeleteZone, TriggerNow, Threshold, Join, Leave, Acquire, Release, Fire, Complete, Misfires, Recover}
 use Rattle.qz_types.specs.declared.commands.Actor.{Actor}
 use Rattle.qz_types.specs.declared.commands.Actor.TheVariants.{Client, Node}
 
@@ -114,30 +114,58 @@ code_place code.SetAllJobTriggersComplete = 4
 code_place code.SetTriggerError = 5
 code_place code.SetAllJobTriggersError = 6
 
--- The place of the command among all twenty-two that the format has, and its fields.
+-- the place of a command among all commands
+abbrev pub command_place : Command → ℕ
+command_place (AddJob row replace) = 0
+command_place (DeleteJob k) = 1
+command_place (AddTrigger row replace) = 2
+command_place (DeleteTrigger k) = 3
+command_place (PauseTrigger k) = 4
+command_place (ResumeTrigger k) = 5
+command_place (PauseGroup group) = 6
+command_place (ResumeGroup group) = 7
+command_place (AddCalendar row replace) = 8
+command_place (DeleteCalendar name) = 9
+command_place (AddZone row) = 10
+command_place (DeleteZone name) = 11
+command_place (TriggerNow k) = 12
+command_place (Threshold ms) = 13
+command_place (Join node) = 14
+command_place Leave = 15
+command_place (Acquire no_later window max) = 16
+command_place (Release entry) = 17
+command_place (Fire entry) = 18
+command_place (Complete entry c) = 19
+command_place Misfires = 20
+command_place (Recover node) = 21
+
+-- its fields, in their order
+abbrev pub command_fields : Command → List ℕ
+command_fields (AddJob row replace) = job row ++ flag replace
+command_fields (DeleteJob k) = key k
+command_fields (AddTrigger row replace) = spec row ++ flag replace
+command_fields (DeleteTrigger k) = key k
+command_fields (PauseTrigger k) = key k
+command_fields (ResumeTrigger k) = key k
+command_fields (PauseGroup group) = text group
+command_fields (ResumeGroup group) = text group
+command_fields (AddCalendar row replace) = []
+command_fields (DeleteCalendar name) = text name
+command_fields (AddZone row) = []
+command_fields (DeleteZone name) = text name
+command_fields (TriggerNow k) = key k
+command_fields (Threshold ms) = integer w64 ms
+command_fields (Join node) = text node
+command_fields Leave = []
+command_fields (Acquire no_later window max) = integer w64 no_later ++ (integer w64 window ++ number w32 max)
+command_fields (Release entry) = number w64 entry
+command_fields (Fire entry) = number w64 entry
+command_fields (Complete entry c) = number w64 entry ++ code_place c ∷ []
+command_fields Misfires = []
+command_fields (Recover node) = text node
+
 unfoldable pub command : Command → List ℕ
-command (AddJob row replace) = 0 ∷ (job row ++ flag replace)
-command (AddTrigger row replace) = 2 ∷ (spec row ++ flag replace)
-command (Join node) = 14 ∷ text node
-command (Acquire no_later window max) = 16 ∷ (integer w64 no_later ++ (integer w64 window ++ number w32 max))
-command (Fire entry) = 18 ∷ number w64 entry
-command (Complete entry c) = 19 ∷ (number w64 entry ++ code_place c ∷ [])
-command (DeleteJob key) = []
-command (DeleteTrigger key) = []
-command (PauseTrigger key) = []
-command (ResumeTrigger key) = []
-command (PauseGroup group) = []
-command (ResumeGroup group) = []
-command (AddCalendar calendar replace) = []
-command (DeleteCalendar name) = []
-command (AddZone zone) = []
-command (DeleteZone name) = []
-command (TriggerNow job) = []
-command (Threshold ms) = []
-command Leave = []
-command (Release entry) = []
-command Misfires = []
-command (Recover node) = []
+command c = command_place c ∷ command_fields c
 
 unfoldable pub entry : EntryData → List ℕ
 entry e = integer w64 e.at ++ (actor e.actor ++ (number w32 e.seat ++ command e.command))

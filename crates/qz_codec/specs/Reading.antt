@@ -18,7 +18,7 @@ use Rattle.qz_civil.specs.declared.timings.Kind.TheVariants.{Simple, Cron, Inter
 use Rattle.qz_civil.specs.declared.timings.Timing.{Timing}
 use Rattle.qz_civil.specs.declared.timings.Unit.{Unit as Units}
 use Rattle.qz_civil.specs.declared.timings.Unit.TheVariants as units
-use Rattle.qz_types.specs.Rows.{JobData, MemberData}
+use Rattle.qz_types.specs.Rows.{JobData, MemberData, is_interval}
 use Rattle.qz_types.specs.Entries.{EntryData}
 use Rattle.qz_civil.specs.declared.limits.TheConstants.{NAME_LIMIT}
 use Rattle.qz_types.specs.declared.limits.TheConstants.{ACQUIRE_LIMIT, NODE_LIMIT, PAYLOAD_LIMIT}
@@ -27,7 +27,7 @@ use Rattle.qz_types.specs.declared.triggers.TriggerSpec.{TriggerSpec}
 use Rattle.qz_types.specs.declared.commands.Code.{Code}
 use Rattle.qz_types.specs.declared.commands.Code.TheVariants as code
 use Rattle.qz_types.specs.declared.commands.Command.{Command}
-use Rattle.qz_types.specs.declared.commands.Command.TheVariants.{AddJob, AddTrigger, Join, Acquire, Fire, Complete}
+use Rattle.qz_types.specs.declared.commands.Command.TheVariants.{AddJob, DeleteJob, AddTrigger, DeleteTrigger, PauseTrigger, ResumeTrigger, PauseGroup, ResumeGroup, AddCalendar, DeleteCalendar, AddZone, DeleteZone, TriggerNow, Threshold, Join, Leave, Acquire, Release, Fire, Complete, Misfires, Recover}
 use Rattle.qz_types.specs.declared.commands.Actor.{Actor}
 use Rattle.qz_types.specs.declared.commands.Actor.TheVariants.{Client, Node}
 use Rattle.qz_codec.specs.Values.{is_long}
@@ -99,6 +99,9 @@ node_at bytes = text_at 1 NODE_LIMIT bytes
 
 abbrev pub span_at : List ℕ → Read ℤ
 span_at bytes = checked is_span (integer_at w64) bytes
+
+abbrev pub threshold_at : List ℕ → Read ℤ
+threshold_at bytes = checked is_interval (integer_at w64) bytes
 
 abbrev pub optional_at : {A : Type 0} → (List ℕ → Read A) → List ℕ → Read (Option A)
 optional_at read bytes = do
@@ -327,22 +330,12 @@ add_trigger_at bytes = do
   replace ← flag_at spec.1
   Ok (AddTrigger spec.0 replace.0, replace.1)
 
-unfoldable pub join_at : List ℕ → Read Command
-join_at bytes = do
-  node ← node_at bytes
-  Ok (Join node.0, node.1)
-
 unfoldable pub acquire_at : List ℕ → Read Command
 acquire_at bytes = do
   no_later ← span_at bytes
   window ← span_at no_later.1
   max ← checked (is_long 1 ACQUIRE_LIMIT) (number_at w32) window.1
   Ok (Acquire no_later.0 window.0 max.0, max.1)
-
-unfoldable pub fire_at : List ℕ → Read Command
-fire_at bytes = do
-  entry ← number_at w64 bytes
-  Ok (Fire entry.0, entry.1)
 
 unfoldable pub complete_at : List ℕ → Read Command
 complete_at bytes = do
@@ -355,17 +348,31 @@ unfoldable pub client_command_at : List ℕ → Read Command
 client_command_at bytes = do
   place ← byte_at bytes
   if place.0 == 0 then add_job_at place.1
+      else if place.0 == 1 then as_variant DeleteJob (key_at place.1)
       else if place.0 == 2 then add_trigger_at place.1
-      else if place.0 == 14 then join_at place.1
+      else if place.0 == 3 then as_variant DeleteTrigger (key_at place.1)
+      else if place.0 == 4 then as_variant PauseTrigger (key_at place.1)
+      else if place.0 == 5 then as_variant ResumeTrigger (key_at place.1)
+      else if place.0 == 6 then as_variant PauseGroup (name_at place.1)
+      else if place.0 == 7 then as_variant ResumeGroup (name_at place.1)
+      else if place.0 == 9 then as_variant DeleteCalendar (name_at place.1)
+      else if place.0 == 11 then as_variant DeleteZone (name_at place.1)
+      else if place.0 == 12 then as_variant TriggerNow (key_at place.1)
+      else if place.0 == 13 then as_variant Threshold (threshold_at place.1)
+      else if place.0 == 14 then as_variant Join (node_at place.1)
       else Err (length bytes)
 
 -- a command that a node gives under its epoch
 unfoldable pub node_command_at : List ℕ → Read Command
 node_command_at bytes = do
   place ← byte_at bytes
-  if place.0 == 16 then acquire_at place.1
-      else if place.0 == 18 then fire_at place.1
+  if place.0 == 15 then Ok (Leave, place.1)
+      else if place.0 == 16 then acquire_at place.1
+      else if place.0 == 17 then as_variant Release (number_at w64 place.1)
+      else if place.0 == 18 then as_variant Fire (number_at w64 place.1)
       else if place.0 == 19 then complete_at place.1
+      else if place.0 == 20 then Ok (Misfires, place.1)
+      else if place.0 == 21 then as_variant Recover (node_at place.1)
       else Err (length bytes)
 
 abbrev pub command_at : Actor → List ℕ → Read Command

@@ -9,14 +9,14 @@ use Rattle.qz_civil.specs.declared.timings.Kind.{Kind}
 use Rattle.qz_civil.specs.declared.timings.Kind.TheVariants.{Simple, Cron, Interval, Daily}
 use Rattle.qz_civil.specs.declared.timings.Timing.{Timing}
 use Rattle.qz_civil.specs.declared.timings.Unit.{Unit as Units}
-use Rattle.qz_types.specs.Rows.{JobData, MemberData}
+use Rattle.qz_types.specs.Rows.{JobData, MemberData, is_interval}
 use Rattle.qz_types.specs.Entries.{EntryData, has_actor, is_of_node}
 use Rattle.qz_civil.specs.declared.limits.TheConstants.{NAME_LIMIT}
 use Rattle.qz_types.specs.declared.limits.TheConstants.{ACQUIRE_LIMIT, NODE_LIMIT, PAYLOAD_LIMIT}
 use Rattle.qz_types.specs.declared.keys.Key.{Key}
 use Rattle.qz_types.specs.declared.triggers.TriggerSpec.{TriggerSpec}
 use Rattle.qz_types.specs.declared.commands.Command.{Command}
-use Rattle.qz_types.specs.declared.commands.Command.TheVariants.{AddJob, AddTrigger, Join, Acquire, Fire, Complete, DeleteJob, DeleteTrigger, PauseTrigger, ResumeTrigger, PauseGroup, ResumeGroup, AddCalendar, DeleteCalendar, AddZone, DeleteZone, TriggerNow, Threshold, Leave, Release, Misfires, Recover}
+use Rattle.qz_types.specs.declared.commands.Command.TheVariants.{AddJob, DeleteJob, AddTrigger, DeleteTrigger, PauseTrigger, ResumeTrigger, PauseGroup, ResumeGroup, AddCalendar, DeleteCalendar, AddZone, DeleteZone, TriggerNow, Threshold, Join, Leave, Acquire, Release, Fire, Complete, Misfires, Recover}
 use Rattle.qz_types.specs.declared.commands.Actor.{Actor}
 use Rattle.qz_types.specs.declared.commands.Actor.TheVariants.{Client, Node}
 
@@ -93,27 +93,27 @@ IsActor (Node m) = IsMember m
 
 abbrev pub IsCommand : Command → Type 0
 IsCommand (AddJob job replace) = IsJob job
+IsCommand (DeleteJob key) = IsKey key
 IsCommand (AddTrigger spec replace) = IsSpec spec
+IsCommand (DeleteTrigger key) = IsKey key
+IsCommand (PauseTrigger key) = IsKey key
+IsCommand (ResumeTrigger key) = IsKey key
+IsCommand (PauseGroup group) = IsName group
+IsCommand (ResumeGroup group) = IsName group
+IsCommand (AddCalendar calendar replace) = Unit {0}
+IsCommand (DeleteCalendar name) = IsName name
+IsCommand (AddZone zone) = Unit {0}
+IsCommand (DeleteZone name) = IsName name
+IsCommand (TriggerNow job) = IsKey job
+IsCommand (Threshold ms) = IsNumber w64 is_interval ms
 IsCommand (Join node) = IsText 1 NODE_LIMIT node
+IsCommand Leave = Unit {0}
 IsCommand (Acquire no_later window max) = IsSpan no_later × IsSpan window × (max < 2 ^ 32) × (is_long 1 ACQUIRE_LIMIT max ≡ true)
+IsCommand (Release entry) = entry < 2 ^ 64
 IsCommand (Fire entry) = entry < 2 ^ 64
 IsCommand (Complete entry code) = entry < 2 ^ 64
-IsCommand (DeleteJob key) = Unit {0}
-IsCommand (DeleteTrigger key) = Unit {0}
-IsCommand (PauseTrigger key) = Unit {0}
-IsCommand (ResumeTrigger key) = Unit {0}
-IsCommand (PauseGroup group) = Unit {0}
-IsCommand (ResumeGroup group) = Unit {0}
-IsCommand (AddCalendar calendar replace) = Unit {0}
-IsCommand (DeleteCalendar name) = Unit {0}
-IsCommand (AddZone zone) = Unit {0}
-IsCommand (DeleteZone name) = Unit {0}
-IsCommand (TriggerNow job) = Unit {0}
-IsCommand (Threshold ms) = Unit {0}
-IsCommand Leave = Unit {0}
-IsCommand (Release entry) = Unit {0}
 IsCommand Misfires = Unit {0}
-IsCommand (Recover node) = Unit {0}
+IsCommand (Recover node) = IsText 1 NODE_LIMIT node
 
 pub record IsEntry (e : EntryData) : Type 0 where
   pub at : FitsSigned w64 e.at
