@@ -1,3 +1,6 @@
 pub mod Layout
 pub mod Reading
 pub mod Values
+pub mod Lists
+pub mod Zones
+pub mod Calendars

@@ -10,7 +10,7 @@ ghost use Rattle.qz_codec.specs.Values.{IsText, IsName, IsSpan, IsKey, IsJob, Is
 ghost use Rattle.qz_codec.specs.Layout.{number, integer, small, flag, text, optional, key, job, timing, spec, member, actor, code_place, command, entry, record_of};
 
 mod commands;
-mod kinds;
+pub(crate) mod kinds;
 
 use crate::limits::VERSION;
 use commands::put_variant;
@@ -24,7 +24,7 @@ use std::alloc::{AllocError, Global};
 /// Bytes that most records have room in, so that few buffers grow.
 const USUAL_SIZE: usize = 256;
 
-fn put_u8(out: &mut Vec<u8>, n: u8) -> Result<(), AllocError>
+pub(crate) fn put_u8(out: &mut Vec<u8>, n: u8) -> Result<(), AllocError>
     ensures { OnOk result (out.new.items ≡ out.old.items ++ n ∷ []) }
 {
     out.push(n)?;
@@ -32,7 +32,7 @@ fn put_u8(out: &mut Vec<u8>, n: u8) -> Result<(), AllocError>
 }
 
 #[tactic(auto, unfolding(crate::specs::Layout::number))]
-fn put_u32(out: &mut Vec<u8>, n: u32) -> Result<(), AllocError>
+pub(crate) fn put_u32(out: &mut Vec<u8>, n: u32) -> Result<(), AllocError>
     ensures bytes { OnOk result (out.new.items ≡ out.old.items ++ number w32 n) }
     ensures valid { n < 2 ^ 32 }
 {
@@ -56,7 +56,7 @@ fn put_i8(out: &mut Vec<u8>, n: i8) -> Result<(), AllocError>
 }
 
 #[tactic(auto, unfolding(crate::specs::Layout::integer, crate::specs::Layout::number))]
-fn put_i32(out: &mut Vec<u8>, n: i32) -> Result<(), AllocError>
+pub(crate) fn put_i32(out: &mut Vec<u8>, n: i32) -> Result<(), AllocError>
     ensures bytes { OnOk result (out.new.items ≡ out.old.items ++ integer w32 n) }
     ensures valid { FitsSigned w32 n }
 {
@@ -64,14 +64,14 @@ fn put_i32(out: &mut Vec<u8>, n: i32) -> Result<(), AllocError>
 }
 
 #[tactic(auto, unfolding(crate::specs::Layout::integer, crate::specs::Layout::number))]
-fn put_i64(out: &mut Vec<u8>, n: i64) -> Result<(), AllocError>
+pub(crate) fn put_i64(out: &mut Vec<u8>, n: i64) -> Result<(), AllocError>
     ensures bytes { OnOk result (out.new.items ≡ out.old.items ++ integer w64 n) }
     ensures valid { FitsSigned w64 n }
 {
     out.extend_from_slice(&n.to_be_bytes())
 }
 
-fn put_bool(out: &mut Vec<u8>, b: bool) -> Result<(), AllocError>
+pub(crate) fn put_bool(out: &mut Vec<u8>, b: bool) -> Result<(), AllocError>
     ensures { OnOk result (out.new.items ≡ out.old.items ++ flag b) }
 {
     out.push(if b { 1 } else { 0 })?;
@@ -88,7 +88,7 @@ fn put_str(out: &mut Vec<u8>, s: &str) -> Result<(), AllocError>
     out.extend_from_slice(s.as_bytes())
 }
 
-fn put_name(out: &mut Vec<u8>, name: &Text) -> Result<(), AllocError>
+pub(crate) fn put_name(out: &mut Vec<u8>, name: &Text) -> Result<(), AllocError>
     requires { IsTrue (is_name name.now) }
     ensures bytes { OnOk result (out.new.items ≡ out.old.items ++ text name.now) }
     ensures valid { IsName name.now }
@@ -146,7 +146,7 @@ fn put_timing(out: &mut Vec<u8>, t: &Timing) -> Result<(), AllocError>
     put_end(out, &t.end)
 }
 
-fn put_calendar(out: &mut Vec<u8>, calendar: &Option<Text>) -> Result<(), AllocError>
+pub(crate) fn put_calendar(out: &mut Vec<u8>, calendar: &Option<Text>) -> Result<(), AllocError>
     requires { IsTrue (is_calendar calendar.now) }
     ensures bytes { OnOk result (out.new.items ≡ out.old.items ++ optional text calendar.now) }
     ensures valid { OnOk result (IfSome calendar.now IsName) }
