@@ -22,59 +22,16 @@ use Rattle.qz_types.specs.declared.commands.Command.{Command}
 use Rattle.qz_types.specs.declared.commands.Command.TheVariants.{AddJob, DeleteJob, AddTrigger, DeleteTrigger, PauseTrigger, ResumeTrigger, PauseGroup, ResumeGroup, AddCalendar, DeleteCalendar, AddZone, DeleteZone, TriggerNow, Threshold, Join, Leave, Acquire, Release, Fire, Complete, Misfires, Recover}
 use Rattle.qz_types.specs.declared.commands.Actor.{Actor}
 use Rattle.qz_types.specs.declared.commands.Actor.TheVariants.{Client, Node}
-
--- an unsigned number
-unfoldable pub number : Width → ℕ → List ℕ
-number w n = to_be_bytes w n
-
--- a signed number
-unfoldable pub integer : Width → ℤ → List ℕ
-integer w z = number w (cast_unsigned w z)
-
--- a signed number of one byte
-unfoldable pub small : ℤ → List ℕ
-small z = cast_unsigned w8 z ∷ []
-
-abbrev pub flag : Bool → List ℕ
-flag false = 0 ∷ []
-flag true = 1 ∷ []
-
--- the length in two bytes, and the bytes
-unfoldable pub text : List ℕ → List ℕ
-text s = number w16 (length s) ++ s
-
--- a flag, and the value where there is one
-abbrev pub optional : {A : Type 0} → (A → List ℕ) → Option A → List ℕ
-optional value None = 0 ∷ []
-optional value (Some x) = 1 ∷ value x
+use Rattle.qz_codec.specs.Zones.{zone_row}
+use Rattle.qz_codec.specs.Calendars.{calendar_row}
+unfoldable pub use Rattle.qz_codec.specs.Fields.{number, integer, small, flag, text, optional}
+unfoldable pub use Rattle.qz_codec.specs.CronFields.{day_field, week_field, words, cron_fields}
 
 unfoldable pub key : Key → List ℕ
 key k = text k.group ++ text k.name
 
 unfoldable pub job : JobData → List ℕ
 job j = key j.key ++ (text j.class ++ (flag j.durable ++ (flag j.no_concurrent ++ (flag j.requests_recovery ++ text j.payload))))
-
--- the variant's place, and its fields
-unfoldable pub day_field : DayField → List ℕ
-day_field month_days.Any = 0 ∷ []
-day_field (month_days.Set set) = 1 ∷ number w32 set
-day_field (month_days.Last back) = 2 ∷ back ∷ []
-day_field month_days.LastWeekday = 3 ∷ []
-day_field (month_days.Nearest day) = 4 ∷ day ∷ []
-
-unfoldable pub week_field : WeekField → List ℕ
-week_field week_days.Any = 0 ∷ []
-week_field (week_days.Set set) = 1 ∷ set ∷ []
-week_field (week_days.Last day) = 2 ∷ day ∷ []
-week_field (week_days.Nth day nth) = 3 ∷ day ∷ nth ∷ []
-
--- words of 64 years each
-unfoldable pub words : List ℕ → List ℕ
-words [] = []
-words (w ∷ ws) = number w64 w ++ words ws
-
-unfoldable pub cron_fields : CronFields → List ℕ
-cron_fields f = number w64 f.seconds ++ (number w64 f.minutes ++ (number w32 f.hours ++ (day_field f.day ++ (number w16 f.months ++ (week_field f.week ++ words f.years)))))
 
 abbrev pub unit_place : Units → ℕ
 unit_place units.Second = 0
@@ -149,9 +106,9 @@ command_fields (PauseTrigger k) = key k
 command_fields (ResumeTrigger k) = key k
 command_fields (PauseGroup group) = text group
 command_fields (ResumeGroup group) = text group
-command_fields (AddCalendar row replace) = []
+command_fields (AddCalendar row replace) = calendar_row row ++ flag replace
 command_fields (DeleteCalendar name) = text name
-command_fields (AddZone row) = []
+command_fields (AddZone row) = zone_row row
 command_fields (DeleteZone name) = text name
 command_fields (TriggerNow k) = key k
 command_fields (Threshold ms) = integer w64 ms

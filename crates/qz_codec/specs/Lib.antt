@@ -1,3 +1,5 @@
+pub mod Fields
+pub mod CronFields
 pub mod Layout
 pub mod Reading
 pub mod Values

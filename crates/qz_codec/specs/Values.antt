@@ -19,23 +19,9 @@ use Rattle.qz_types.specs.declared.commands.Command.{Command}
 use Rattle.qz_types.specs.declared.commands.Command.TheVariants.{AddJob, DeleteJob, AddTrigger, DeleteTrigger, PauseTrigger, ResumeTrigger, PauseGroup, ResumeGroup, AddCalendar, DeleteCalendar, AddZone, DeleteZone, TriggerNow, Threshold, Join, Leave, Acquire, Release, Fire, Complete, Misfires, Recover}
 use Rattle.qz_types.specs.declared.commands.Actor.{Actor}
 use Rattle.qz_types.specs.declared.commands.Actor.TheVariants.{Client, Node}
-
--- a text of at least and at most so many bytes
-abbrev pub is_long : ℕ → ℕ → ℕ → Bool
-is_long least most n = nat_le least n && nat_le n most
-
-pub record IsText (least most : ℕ) (s : List ℕ) : Type 0 where
-  pub size : is_long least most (length s) ≡ true
-  pub utf8 : IsUtf8 s
-
--- a group, name, class or calendar
-abbrev pub IsName : List ℕ → Type 0
-IsName s = IsText 1 NAME_LIMIT s
-
--- a signed number of this width that a test lets pass
-pub record IsNumber (w : Width) (passes : ℤ → Bool) (z : ℤ) : Type 0 where
-  pub fits : FitsSigned w z
-  pub passed : passes z ≡ true
+use Rattle.qz_codec.specs.Zones.{IsZoneRow}
+use Rattle.qz_codec.specs.Calendars.{IsCalendarRow}
+pub use Rattle.qz_codec.specs.Fields.{is_long, IsText, IsName, IsNumber}
 
 -- a start, an end or a span of time
 abbrev pub IsSpan : ℤ → Type 0
@@ -100,9 +86,9 @@ IsCommand (PauseTrigger key) = IsKey key
 IsCommand (ResumeTrigger key) = IsKey key
 IsCommand (PauseGroup group) = IsName group
 IsCommand (ResumeGroup group) = IsName group
-IsCommand (AddCalendar calendar replace) = Unit {0}
+IsCommand (AddCalendar calendar replace) = IsCalendarRow calendar
 IsCommand (DeleteCalendar name) = IsName name
-IsCommand (AddZone zone) = Unit {0}
+IsCommand (AddZone zone) = IsZoneRow zone
 IsCommand (DeleteZone name) = IsName name
 IsCommand (TriggerNow job) = IsKey job
 IsCommand (Threshold ms) = IsNumber w64 is_interval ms

@@ -9,9 +9,9 @@ mod node;
 use crate::errors::Fault;
 use crate::fields::u8_at;
 use client::{
-    add_job_of, add_trigger_of, delete_calendar_of, delete_job_of, delete_trigger_of,
-    delete_zone_of, join_of, pause_group_of, pause_trigger_of, resume_group_of, resume_trigger_of,
-    threshold_of, trigger_now_of,
+    add_calendar_of, add_job_of, add_trigger_of, add_zone_of, delete_calendar_of, delete_job_of,
+    delete_trigger_of, delete_zone_of, join_of, pause_group_of, pause_trigger_of, resume_group_of,
+    resume_trigger_of, threshold_of, trigger_now_of,
 };
 use node::{acquire_of, complete_of, fire_of, recover_of, release_of};
 use qz_types::{Actor, Command};
@@ -32,7 +32,9 @@ fn client_command_of(alloc: Global, bytes: &[u8]) -> Result<(Command, &[u8]), Fa
         5 => resume_trigger_of(alloc, rest),
         6 => pause_group_of(alloc, rest),
         7 => resume_group_of(alloc, rest),
+        8 => add_calendar_of(alloc, rest),
         9 => delete_calendar_of(alloc, rest),
+        10 => add_zone_of(alloc, rest),
         11 => delete_zone_of(alloc, rest),
         12 => trigger_now_of(alloc, rest),
         13 => threshold_of(rest),

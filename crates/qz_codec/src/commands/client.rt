@@ -3,12 +3,15 @@ ghost use Rattle.std.specs.Prelude.{◌≡◌, ℤ, IsTrue, IfOk, true, false};
 ghost use Rattle.std.specs.Int.{w64};
 ghost use Rattle.qz_types.specs.Rows.{is_interval};
 ghost use Rattle.qz_types.specs.Entries.{is_command, is_of_node};
-ghost use Rattle.qz_types.specs.declared.commands.Command.TheVariants.{DeleteJob, DeleteTrigger, PauseTrigger, ResumeTrigger, PauseGroup, ResumeGroup, DeleteCalendar, DeleteZone, TriggerNow, Threshold, Join};
-ghost use Rattle.qz_codec.specs.Reading.{Gives, as_variant, key_at, name_at, node_at, threshold_at, add_job_at, add_trigger_at};
+ghost use Rattle.qz_types.specs.declared.commands.Command.TheVariants.{DeleteJob, DeleteTrigger, PauseTrigger, ResumeTrigger, PauseGroup, ResumeGroup, DeleteCalendar, AddZone, DeleteZone, TriggerNow, Threshold, Join};
+ghost use Rattle.qz_codec.specs.Reading.{Gives, as_variant, key_at, name_at, node_at, threshold_at, add_job_at, add_trigger_at, add_calendar_at};
+ghost use Rattle.qz_codec.specs.Zones.{zone_row_at};
 
+use crate::calendars::calendar_row_of;
 use crate::errors::Fault;
 use crate::fields::{bool_at, i64_at, is_between};
 use crate::rows::{job_of, key_of, name_of, node_of, spec_of};
+use crate::zones::zone_row_of;
 use qz_types::{Command, INTERVAL_LIMIT, Text};
 use std::alloc::Global;
 
@@ -82,6 +85,16 @@ pub(super) fn resume_group_of(alloc: Global, bytes: &[u8]) -> Result<(Command, &
     Ok((Command::ResumeGroup { group }, rest))
 }
 
+#[tactic(auto, unfolding(crate::specs::Reading::add_calendar_at))]
+pub(super) fn add_calendar_of(alloc: Global, bytes: &[u8]) -> Result<(Command, &[u8]), Fault>
+    ensures exact { Gives (λ x. (x.0, x.1.now)) result (add_calendar_at bytes.now) }
+    ensures valid { IfOk result (λ x. IsTrue (is_command x.0) × (is_of_node x.0 ≡ false)) }
+{
+    let (calendar, rest) = calendar_row_of(alloc, bytes)?;
+    let (replace, rest) = bool_at(rest)?;
+    Ok((Command::AddCalendar { calendar, replace }, rest))
+}
+
 pub(super) fn delete_calendar_of(alloc: Global, bytes: &[u8]) -> Result<(Command, &[u8]), Fault>
     ensures exact { Gives (λ x. (x.0, x.1.now)) result (as_variant DeleteCalendar (name_at bytes.now)) }
     ensures valid { IfOk result (λ x. IsTrue (is_command x.0) × (is_of_node x.0 ≡ false)) }
@@ -89,6 +102,14 @@ pub(super) fn delete_calendar_of(alloc: Global, bytes: &[u8]) -> Result<(Command
     let (name, rest) = name_of(bytes)?;
     let name = Text::from_str(alloc, name)?;
     Ok((Command::DeleteCalendar { name }, rest))
+}
+
+pub(super) fn add_zone_of(alloc: Global, bytes: &[u8]) -> Result<(Command, &[u8]), Fault>
+    ensures exact { Gives (λ x. (x.0, x.1.now)) result (as_variant AddZone (zone_row_at bytes.now)) }
+    ensures valid { IfOk result (λ x. IsTrue (is_command x.0) × (is_of_node x.0 ≡ false)) }
+{
+    let (zone, rest) = zone_row_of(alloc, bytes)?;
+    Ok((Command::AddZone { zone }, rest))
 }
 
 pub(super) fn delete_zone_of(alloc: Global, bytes: &[u8]) -> Result<(Command, &[u8]), Fault>

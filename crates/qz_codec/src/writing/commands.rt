@@ -4,11 +4,14 @@ ghost use Rattle.std.specs.Int.{w32, w64};
 ghost use Rattle.qz_types.specs.Entries.{is_command};
 ghost use Rattle.qz_codec.specs.Values.{IsSpan, IsCommand};
 ghost use Rattle.qz_codec.specs.Layout.{number, integer, flag, text, key, job, spec, code_place, command_place, command_fields, command};
+ghost use Rattle.qz_codec.specs.Calendars.{calendar_row};
 
+use crate::calendars::put_calendar_row;
 use crate::writing::{
     put_bool, put_i64, put_job, put_key, put_name, put_node, put_spec, put_u8, put_u32, put_u64,
 };
-use qz_types::{Code, Command, JobRow, TriggerSpec};
+use crate::zones::put_zone_row;
+use qz_types::{CalendarRow, Code, Command, JobRow, TriggerSpec};
 use std::alloc::AllocError;
 
 /// The place of the code among all codes.
@@ -73,6 +76,14 @@ fn put_add_trigger(out: &mut Vec<u8>, row: &TriggerSpec, replace: bool) -> Resul
     put_bool(out, replace)
 }
 
+fn put_add_calendar(out: &mut Vec<u8>, row: &CalendarRow, replace: bool) -> Result<(), AllocError>
+    ensures bytes { OnOk result (out.new.items ≡ out.old.items ++ (calendar_row row.now ++ flag replace)) }
+    ensures valid { OnOk result (IsCommand (Command.AddCalendar row.now replace)) }
+{
+    put_calendar_row(out, row)?;
+    put_bool(out, replace)
+}
+
 fn put_complete(out: &mut Vec<u8>, entry: u64, code: Code) -> Result<(), AllocError>
     ensures bytes { OnOk result (out.new.items ≡ out.old.items ++ (number w64 entry ++ code_place code ∷ [])) }
     ensures valid { OnOk result (IsCommand (Command.Complete entry code)) }
@@ -110,6 +121,8 @@ fn put_fields(out: &mut Vec<u8>, c: &Command) -> Result<(), AllocError>
         | Command::ResumeGroup { group: name }
         | Command::DeleteCalendar { name }
         | Command::DeleteZone { name } => put_name(out, name),
+        Command::AddCalendar { calendar, replace } => put_add_calendar(out, calendar, *replace),
+        Command::AddZone { zone } => put_zone_row(out, zone),
         Command::Threshold { ms } => put_i64(out, *ms),
         Command::Join { node } | Command::Recover { node } => put_node(out, node),
         Command::Acquire {
@@ -120,7 +133,6 @@ fn put_fields(out: &mut Vec<u8>, c: &Command) -> Result<(), AllocError>
         Command::Release { entry } | Command::Fire { entry } => put_u64(out, *entry),
         Command::Complete { entry, code } => put_complete(out, *entry, *code),
         Command::Leave | Command::Misfires => Ok(()),
-        _ => Ok(()),
     }
 }
 
