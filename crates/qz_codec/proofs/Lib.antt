@@ -11,5 +11,6 @@ pub mod ReaderLaws
 pub mod ListLoops
 pub mod ListFormats
 pub mod ZoneFormats
+pub mod CalendarFormats
 pub mod CommandFormats
 pub mod EntryFormats
