@@ -2,7 +2,7 @@
 use Rattle.std.proofs.Common.{◌≡◌, ℕ, suc, ◌^◌, ◌<◌, ◌≤◌, ◌+◌, ℤ, Bool, true, false, List, [], ◌∷◌, ◌++◌, length, Option, Some, None, Ok, Err, refl, sym, ap, subst, ◌∙◌, arith, ◌==◌, inl, inr}
 use Rattle.std.specs.Int.{w32, w64}
 use Rattle.std.proofs.lemmas.Bool.{eqb-true}
-use Rattle.qz_types.specs.Rows.{JobData, is_interval}
+use Rattle.qz_types.specs.Rows.{JobData, CalendarData, is_interval}
 use Rattle.qz_types.specs.Entries.{is_of_node}
 use Rattle.qz_types.specs.declared.limits.TheConstants.{ACQUIRE_LIMIT, NODE_LIMIT}
 use Rattle.qz_types.specs.declared.keys.Key.{Key}
@@ -12,12 +12,16 @@ use Rattle.qz_types.specs.declared.commands.Code.TheVariants as code
 use Rattle.qz_types.specs.declared.commands.Command.{Command}
 use Rattle.qz_types.specs.declared.commands.Command.TheVariants.{AddJob, DeleteJob, AddTrigger, DeleteTrigger, PauseTrigger, ResumeTrigger, PauseGroup, ResumeGroup, AddCalendar, DeleteCalendar, AddZone, DeleteZone, TriggerNow, Threshold, Join, Leave, Acquire, Release, Fire, Complete, Misfires, Recover}
 use Rattle.qz_codec.specs.Layout.{number, integer, flag, text, key, job, spec, code_place, command}
+use Rattle.qz_codec.specs.Zones.{zone_row, IsZoneRow, zone_row_at}
+use Rattle.qz_codec.specs.Calendars.{calendar_row, IsCalendarRow, calendar_row_at}
 use Rattle.qz_codec.specs.Values.{is_long, IsText, IsName, IsNumber, IsSpan, IsKey, IsJob, IsSpec, IsCommand}
-use Rattle.qz_codec.specs.Reading.{Read, as_variant, checked, byte_at, number_at, flag_at, name_at, node_at, span_at, threshold_at, key_at, job_at, spec_at, code_of, chosen, code_at, add_job_at, add_trigger_at, acquire_at, complete_at, client_command_at, node_command_at}
+use Rattle.qz_codec.specs.Reading.{Read, as_variant, checked, byte_at, number_at, flag_at, name_at, node_at, span_at, threshold_at, key_at, job_at, spec_at, code_of, chosen, code_at, add_job_at, add_trigger_at, add_calendar_at, acquire_at, complete_at, client_command_at, node_command_at}
 use Rattle.qz_codec.proofs.Formats.{IsBytes, EndsNear, Takes, IsFormat, Any, Both, Passes, ok_is, no_value, those}
 use Rattle.qz_codec.proofs.SingleFields.{IsBytes-rest, wide32, wide64, number_format, flag_format}
 use Rattle.qz_codec.proofs.NameFormats.{name_format, node_format, span_format, tested}
 use Rattle.qz_codec.proofs.RowFormats.{key_format, job_format, spec_format}
+use Rattle.qz_codec.proofs.ZoneFormats.{zone_row_format}
+use Rattle.qz_codec.proofs.CalendarFormats.{calendar_row_format}
 use Rattle.qz_codec.proofs.VariantFormats.{IsVariant, variant, read_so, pair, regroup, Part, part, bare, choices_of, are_parts, tagged, choice}
 
 -- ---- codes
@@ -97,6 +101,9 @@ make_add_job x = AddJob x.0 x.1
 abbrev make_add_trigger : TriggerSpec × Bool → Command
 make_add_trigger x = AddTrigger x.0 x.1
 
+abbrev make_add_calendar : CalendarData × Bool → Command
+make_add_calendar x = AddCalendar x.0 x.1
+
 abbrev make_complete : ℕ × Code → Command
 make_complete x = Complete x.0 x.1
 
@@ -125,6 +132,13 @@ max_format = those (is_long 1 ACQUIRE_LIMIT) (number_format wide32)
 acquire : IsVariant make_acquire (λ (x : ℤ × (ℤ × ℕ)). integer w64 x.0 ++ (integer w64 x.1.0 ++ number w32 x.1.1)) (λ (x : ℤ × (ℤ × ℕ)). Both (IsSpan x.0) (Both (IsSpan x.1.0) (Passes (λ n. n < 2 ^ 32) (is_long 1 ACQUIRE_LIMIT) x.1.1))) acquire_at 20
 unfolding acquire_at max_at
 acquire = read_so acquire_at (variant make_acquire (pair span_format (pair span_format max_format))) (λ bytes. regroup make_acquire (span_at bytes) _ _ (λ no_later. regroup (λ x. make_acquire (no_later.0, x)) (span_at no_later.1) (λ window. max_at window.1) _ (λ window. refl)))
+
+add_calendar : IsVariant make_add_calendar (λ (x : CalendarData × Bool). calendar_row x.0 ++ flag x.1) (λ (x : CalendarData × Bool). Both (IsCalendarRow x.0) (Any x.1)) add_calendar_at 16995
+unfolding add_calendar_at
+add_calendar = read_so add_calendar_at (variant make_add_calendar (pair calendar_row_format flag_format)) (λ bytes. regroup make_add_calendar (calendar_row_at bytes) (λ calendar. flag_at calendar.1) _ (λ calendar. refl))
+
+add_zone : IsVariant AddZone zone_row IsZoneRow (λ bytes. as_variant AddZone (zone_row_at bytes)) 6348
+add_zone = variant AddZone zone_row_format
 
 of_key : (make : Key → Command) → IsVariant make key IsKey (λ bytes. as_variant make (key_at bytes)) 404
 of_key make = variant make key_format
@@ -161,7 +175,9 @@ again (PauseTrigger k) rest is = (of_key PauseTrigger).again k rest is
 again (ResumeTrigger k) rest is = (of_key ResumeTrigger).again k rest is
 again (PauseGroup group) rest is = (of_name PauseGroup).again group rest is
 again (ResumeGroup group) rest is = (of_name ResumeGroup).again group rest is
+again (AddCalendar row replace) rest is = add_calendar.again (row, replace) rest (record { first = is; others = tt })
 again (DeleteCalendar name) rest is = (of_name DeleteCalendar).again name rest is
+again (AddZone row) rest is = add_zone.again row rest is
 again (DeleteZone name) rest is = (of_name DeleteZone).again name rest is
 again (TriggerNow k) rest is = (of_key TriggerNow).again k rest is
 again (Threshold ms) rest is = threshold.again ms rest is
@@ -179,10 +195,10 @@ given_again by_node c rest is = subst (λ (b : Bool). given_at b (command c ++ r
 
 -- A command behind its place, whose fields are all that it asks for.
 abbrev given : {A : Type 0} {make : A → Command} {write : A → List ℕ} {Is : A → Type 0} {read : List ℕ → Read Command} {m : ℕ} {by_node : Bool} (place : ℕ)
-    → IsVariant make write Is read m → m ≤ 4708 → ((x : A) → place ∷ write x ≡ command (make x)) → ((x : A) → Is x → IsGiven by_node (make x)) → Part command (IsGiven by_node) 4708
+    → IsVariant make write Is read m → m ≤ 16995 → ((x : A) → place ∷ write x ≡ command (make x)) → ((x : A) → Is x → IsGiven by_node (make x)) → Part command (IsGiven by_node) 16995
 given {A} {make} {write} {Is} {read} {m} {by_node} place v le spelled valid = record { place = place; read = read; is = part place v le spelled valid }
 
-client_parts : List (Part command (IsGiven false) 4708)
+client_parts : List (Part command (IsGiven false) 16995)
 unfolding command
 client_parts =
     given 0 add_job (omega arith) (λ x. refl) (λ x is. record { actor = refl; valid = is.first })
@@ -193,18 +209,20 @@ client_parts =
     ∷ given 5 (of_key ResumeTrigger) (omega arith) (λ x. refl) (λ x is. record { actor = refl; valid = is })
     ∷ given 6 (of_name PauseGroup) (omega arith) (λ x. refl) (λ x is. record { actor = refl; valid = is })
     ∷ given 7 (of_name ResumeGroup) (omega arith) (λ x. refl) (λ x is. record { actor = refl; valid = is })
+    ∷ given 8 add_calendar (omega arith) (λ x. refl) (λ x is. record { actor = refl; valid = is.first })
     ∷ given 9 (of_name DeleteCalendar) (omega arith) (λ x. refl) (λ x is. record { actor = refl; valid = is })
+    ∷ given 10 add_zone (omega arith) (λ x. refl) (λ x is. record { actor = refl; valid = is })
     ∷ given 11 (of_name DeleteZone) (omega arith) (λ x. refl) (λ x is. record { actor = refl; valid = is })
     ∷ given 12 (of_key TriggerNow) (omega arith) (λ x. refl) (λ x is. record { actor = refl; valid = is })
     ∷ given 13 threshold (omega arith) (λ x. refl) (λ x is. record { actor = refl; valid = is })
     ∷ given 14 (of_node Join) (omega arith) (λ x. refl) (λ x is. record { actor = refl; valid = is })
     ∷ []
 
-pub client_format : IsFormat command Any (IsGiven false) client_command_at 4709
+pub client_format : IsFormat command Any (IsGiven false) client_command_at 16996
 unfolding client_command_at byte_at client_parts
-client_format = tagged 4708 (choices_of client_parts) (are_parts client_parts) refl (λ b bytes. refl) (given_again false)
+client_format = tagged 16995 (choices_of client_parts) (are_parts client_parts) refl (λ b bytes. refl) (given_again false)
 
-node_parts : List (Part command (IsGiven true) 4708)
+node_parts : List (Part command (IsGiven true) 16995)
 unfolding command
 node_parts =
     record { place = 15; read = λ rest. Ok (Leave, rest); is = bare 15 Leave refl (record { actor = refl; valid = tt }) }
@@ -216,6 +234,6 @@ node_parts =
     ∷ given 21 (of_node Recover) (omega arith) (λ x. refl) (λ x is. record { actor = refl; valid = is })
     ∷ []
 
-pub node_command_format : IsFormat command Any (IsGiven true) node_command_at 4709
+pub node_command_format : IsFormat command Any (IsGiven true) node_command_at 16996
 unfolding node_command_at byte_at node_parts
-node_command_format = tagged 4708 (choices_of node_parts) (are_parts node_parts) refl (λ b bytes. refl) (given_again true)
+node_command_format = tagged 16995 (choices_of node_parts) (are_parts node_parts) refl (λ b bytes. refl) (given_again true)
