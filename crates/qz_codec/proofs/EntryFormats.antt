@@ -61,7 +61,7 @@ of_node : (b : Bool) (m : MemberData) → has_actor b (Node m) ≡ true → b �
 of_node true m e = refl
 of_node false m e = e
 
-command_format : (a : Actor) → IsFormat command Any (IsFrom a) (command_at a) 4709
+command_format : (a : Actor) → IsFormat command Any (IsFrom a) (command_at a) 16996
 command_format Client = same {Is' = IsFrom Client} client_format (λ c k. refl) (λ c k p. record { asked = ap (λ (b : Bool). has_actor b Client) p.actor; valid = p.valid }) (λ c k p. record { actor = of_client (is_of_node c) p.asked; valid = p.valid })
 command_format (Node m) = same {Is' = IsFrom (Node m)} node_command_format (λ c k. refl) (λ c k p. record { asked = ap (λ (b : Bool). has_actor b (Node m)) p.actor; valid = p.valid }) (λ c k p. record { actor = of_node (is_of_node c) m p.asked; valid = p.valid })
 
@@ -75,7 +75,7 @@ pub record IsRestOfEntry (e : EntryData) : Type 0 where
 abbrev Free : {A : Type 0} → A → Type 0
 Free x = Unit {0}
 
-pub entry_format : IsFormat entry Any IsEntry entry_at 4852
+pub entry_format : IsFormat entry Any IsEntry entry_at 17139
 unfolding entry entry_at
 entry_format = same {write' = entry} {Is' = IsEntry}
     (field Free (λ (e : EntryData). e.at) (integer_format wide64 same64) (λ at.
@@ -121,9 +121,9 @@ whole_takes (b ∷ bytes) e fits h =
 -- how far the fault of a record is from its front
 pub FaultsNear : ℕ → Result EntryData ℕ → Type 0
 FaultsNear size (Ok e) = Unit {0}
-FaultsNear size (Err left) = IsNear 4853 size left
+FaultsNear size (Err left) = IsNear 17140 size left
 
-ended_near : (size : ℕ) (r : Read EntryData) → EndsNear 4852 size r → FaultsNear (suc size) (r >>= λ x. cond (length x.1 == 0) (Ok x.0) (Err (length x.1)))
+ended_near : (size : ℕ) (r : Read EntryData) → EndsNear 17139 size r → FaultsNear (suc size) (r >>= λ x. cond (length x.1 == 0) (Ok x.0) (Err (length x.1)))
 unfolding FaultsNear
 ended_near size (Err left) p = record { within = omega (arith, p.within); near = omega (arith, p.near) }
 ended_near size (Ok x) p = ends (length x.1 == 0) where
@@ -145,19 +145,19 @@ whole_near (b ∷ bytes) = ends (b == 1) where
   ends true = ended_near (length bytes) (entry_at bytes) (entry_format.near bytes)
   ends false = record { within = omega arith; near = omega arith }
 
-fault_near : (size left : ℕ) (r : Result EntryData ℕ) → FaultsNear size r → r ≡ Err left → IsNear 4853 size left
+fault_near : (size left : ℕ) (r : Result EntryData ℕ) → FaultsNear size r → r ≡ Err left → IsNear 17140 size left
 unfolding FaultsNear
 fault_near size left r p e = subst (λ (s : Result EntryData ℕ). FaultsNear size s) e p
 
 -- The fault of a record lies among its bytes, and not far from its front.
-pub place_near : (bytes : List ℕ) (left : ℕ) → whole_at bytes ≡ Err left → IsNear 4853 (length bytes) left
+pub place_near : (bytes : List ℕ) (left : ℕ) → whole_at bytes ≡ Err left → IsNear 17140 (length bytes) left
 place_near bytes left e = fault_near (length bytes) left (whole_at bytes) (whole_near bytes) e
 
-entry_near : (e : EntryData) (r : Read EntryData) (size : ℕ) → EndsNear 4852 size r → r ≡ Ok (e, []) → size ≤ 4852
-entry_near e r size p h = let q : IsNear 4852 size 0 = subst (λ (s : Read EntryData). EndsNear 4852 size s) h p in omega (arith, q.near)
+entry_near : (e : EntryData) (r : Read EntryData) (size : ℕ) → EndsNear 17139 size r → r ≡ Ok (e, []) → size ≤ 17139
+entry_near e r size p h = let q : IsNear 17139 size 0 = subst (λ (s : Read EntryData). EndsNear 17139 size s) h p in omega (arith, q.near)
 
 -- No record of an entry is longer.
-pub record_short : (e : EntryData) → IsEntry e → length (record_of e) ≤ 4853
+pub record_short : (e : EntryData) → IsEntry e → length (record_of e) ≤ 17140
 record_short e is =
     let one : entry_at (entry e) ≡ Ok (e, []) = ap entry_at (sym (append-nil (entry e))) ∙ entry_format.again e [] tt is in
     omega (arith, entry_near e (entry_at (entry e)) (length (entry e)) (entry_format.near (entry e)) one)

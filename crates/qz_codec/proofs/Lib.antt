@@ -7,5 +7,10 @@ pub mod VariantFormats
 pub mod CronFormats
 pub mod KindFormats
 pub mod RowFormats
+pub mod ReaderLaws
+pub mod ListLoops
+pub mod ListFormats
+pub mod ZoneFormats
+pub mod CalendarFormats
 pub mod CommandFormats
 pub mod EntryFormats

@@ -64,7 +64,7 @@ pub record IsPart {C : Type 0} (write : C → List ℕ) (Is : C → Type 0) (mos
   pub takes : (bytes : List ℕ) (y : C × List ℕ) → IsBytes bytes → read bytes ≡ Ok y → Takes write Any Is (place ∷ bytes) y
   pub near : (bytes : List ℕ) → EndsNear most (length bytes) (read bytes)
 
-nearer : {A : Type 0} (m n size : ℕ) (r : Read A) → m ≤ n → EndsNear m size r → EndsNear n size r
+pub nearer : {A : Type 0} (m n size : ℕ) (r : Read A) → m ≤ n → EndsNear m size r → EndsNear n size r
 nearer m n size (Ok x) le p = record { within = p.within; near = omega (arith, p.near) }
 nearer m n size (Err left) le p = record { within = p.within; near = omega (arith, p.near) }
 
@@ -109,6 +109,20 @@ by_place (c ∷ cs) b bytes = cond (b == c.0) (c.1 bytes) (by_place cs b bytes)
 abbrev pub AreParts : {C : Type 0} → (C → List ℕ) → (C → Type 0) → ℕ → Choices C → Type 0
 AreParts write Is most [] = Unit {0}
 AreParts write Is most (c ∷ cs) = IsPart write Is most c.0 c.1 × AreParts write Is most cs
+
+-- a place, what reads behind it, and that it does
+pub record Part {C : Type 0} (write : C → List ℕ) (Is : C → Type 0) (most : ℕ) : Type 0 where
+  pub place : ℕ
+  pub read : List ℕ → Read C
+  pub is : IsPart write Is most place read
+
+abbrev pub choices_of : {C : Type 0} {write : C → List ℕ} {Is : C → Type 0} {most : ℕ} → List (Part write Is most) → Choices C
+choices_of [] = []
+choices_of (p ∷ ps) = (p.place, p.read) ∷ choices_of ps
+
+pub are_parts : {C : Type 0} {write : C → List ℕ} {Is : C → Type 0} {most : ℕ} (ps : List (Part write Is most)) → AreParts write Is most (choices_of ps)
+are_parts [] = tt
+are_parts (p ∷ ps) = (p.is, are_parts ps)
 
 -- which way a choice went
 pub choice : {A : Type 0} (b : Bool) (x y z : A) → cond b x y ≡ z → ((b ≡ true) × (x ≡ z)) ⊎ (y ≡ z)

@@ -9,9 +9,11 @@ ghost use Rattle.qz_codec.specs.declared.limits.TheConstants.{RECORD_LIMIT};
 ghost use Rattle.qz_codec.specs.Values.{IsText, IsName, IsSpan, IsKey, IsJob, IsTiming, IsSpec, IsMember, IsActor, IsCommand, IsEntry};
 ghost use Rattle.qz_codec.specs.Layout.{number, integer, small, flag, text, optional, key, job, timing, spec, member, actor, code_place, command, entry, record_of};
 
-mod kinds;
+mod commands;
+pub(crate) mod kinds;
 
 use crate::limits::VERSION;
+use commands::put_variant;
 use kinds::put_kind;
 use qz_types::{
     Actor, Code, Command, Entry, JobRow, Key, List, MemberRow, NODE_LIMIT, NoMemory, Text, Timing,
@@ -22,7 +24,7 @@ use std::alloc::{AllocError, Global};
 /// Bytes that most records have room in, so that few buffers grow.
 const USUAL_SIZE: usize = 256;
 
-fn put_u8(out: &mut Vec<u8>, n: u8) -> Result<(), AllocError>
+pub(crate) fn put_u8(out: &mut Vec<u8>, n: u8) -> Result<(), AllocError>
     ensures { OnOk result (out.new.items ≡ out.old.items ++ n ∷ []) }
 {
     out.push(n)?;
@@ -30,7 +32,7 @@ fn put_u8(out: &mut Vec<u8>, n: u8) -> Result<(), AllocError>
 }
 
 #[tactic(auto, unfolding(crate::specs::Layout::number))]
-fn put_u32(out: &mut Vec<u8>, n: u32) -> Result<(), AllocError>
+pub(crate) fn put_u32(out: &mut Vec<u8>, n: u32) -> Result<(), AllocError>
     ensures bytes { OnOk result (out.new.items ≡ out.old.items ++ number w32 n) }
     ensures valid { n < 2 ^ 32 }
 {
@@ -54,7 +56,7 @@ fn put_i8(out: &mut Vec<u8>, n: i8) -> Result<(), AllocError>
 }
 
 #[tactic(auto, unfolding(crate::specs::Layout::integer, crate::specs::Layout::number))]
-fn put_i32(out: &mut Vec<u8>, n: i32) -> Result<(), AllocError>
+pub(crate) fn put_i32(out: &mut Vec<u8>, n: i32) -> Result<(), AllocError>
     ensures bytes { OnOk result (out.new.items ≡ out.old.items ++ integer w32 n) }
     ensures valid { FitsSigned w32 n }
 {
@@ -62,14 +64,14 @@ fn put_i32(out: &mut Vec<u8>, n: i32) -> Result<(), AllocError>
 }
 
 #[tactic(auto, unfolding(crate::specs::Layout::integer, crate::specs::Layout::number))]
-fn put_i64(out: &mut Vec<u8>, n: i64) -> Result<(), AllocError>
+pub(crate) fn put_i64(out: &mut Vec<u8>, n: i64) -> Result<(), AllocError>
     ensures bytes { OnOk result (out.new.items ≡ out.old.items ++ integer w64 n) }
     ensures valid { FitsSigned w64 n }
 {
     out.extend_from_slice(&n.to_be_bytes())
 }
 
-fn put_bool(out: &mut Vec<u8>, b: bool) -> Result<(), AllocError>
+pub(crate) fn put_bool(out: &mut Vec<u8>, b: bool) -> Result<(), AllocError>
     ensures { OnOk result (out.new.items ≡ out.old.items ++ flag b) }
 {
     out.push(if b { 1 } else { 0 })?;
@@ -86,7 +88,7 @@ fn put_str(out: &mut Vec<u8>, s: &str) -> Result<(), AllocError>
     out.extend_from_slice(s.as_bytes())
 }
 
-fn put_name(out: &mut Vec<u8>, name: &Text) -> Result<(), AllocError>
+pub(crate) fn put_name(out: &mut Vec<u8>, name: &Text) -> Result<(), AllocError>
     requires { IsTrue (is_name name.now) }
     ensures bytes { OnOk result (out.new.items ≡ out.old.items ++ text name.now) }
     ensures valid { IsName name.now }
@@ -144,7 +146,7 @@ fn put_timing(out: &mut Vec<u8>, t: &Timing) -> Result<(), AllocError>
     put_end(out, &t.end)
 }
 
-fn put_calendar(out: &mut Vec<u8>, calendar: &Option<Text>) -> Result<(), AllocError>
+pub(crate) fn put_calendar(out: &mut Vec<u8>, calendar: &Option<Text>) -> Result<(), AllocError>
     requires { IsTrue (is_calendar calendar.now) }
     ensures bytes { OnOk result (out.new.items ≡ out.old.items ++ optional text calendar.now) }
     ensures valid { OnOk result (IfSome calendar.now IsName) }
@@ -198,73 +200,6 @@ fn put_actor(out: &mut Vec<u8>, who: &Actor) -> Result<(), AllocError>
         Actor::Node(row) => {
             put_bool(out, true)?;
             put_member(out, row)
-        }
-    }
-}
-
-/// The place of the code among all codes.
-fn place_of_code(code: Code) -> u8
-    ensures { result ≡ code_place code }
-{
-    match code {
-        Code::Noop => 0,
-        Code::ReExecuteJob => 1,
-        Code::SetTriggerComplete => 2,
-        Code::DeleteTrigger => 3,
-        Code::SetAllJobTriggersComplete => 4,
-        Code::SetTriggerError => 5,
-        Code::SetAllJobTriggersError => 6,
-    }
-}
-
-#[tactic(auto, using(crate::proofs::Signs::signs))]
-fn put_acquire(out: &mut Vec<u8>, no_later: i64, window: i64, max: u32) -> Result<(), AllocError>
-    requires { IsTrue (is_command (Command.Acquire no_later window max)) }
-    ensures bytes { OnOk result (out.new.items ≡ out.old.items ++ (integer w64 no_later ++ (integer w64 window ++ number w32 max))) }
-    ensures valid { OnOk result (IsCommand (Command.Acquire no_later window max)) }
-{
-    put_i64(out, no_later)?;
-    put_i64(out, window)?;
-    put_u32(out, max)
-}
-
-#[tactic(auto, unfolding(crate::specs::Layout::command), using(crate::proofs::Signs::signs))]
-fn put_variant(out: &mut Vec<u8>, c: &Command) -> Result<(), AllocError>
-    requires { IsTrue (is_command c.now) }
-    ensures bytes { OnOk result (out.new.items ≡ out.old.items ++ command c.now) }
-    ensures valid { OnOk result (IsCommand c.now) }
-{
-    match c {
-        Command::AddJob { job, replace } => {
-            put_u8(out, 0)?;
-            put_job(out, job)?;
-            put_bool(out, *replace)
-        }
-        Command::AddTrigger { spec, replace } => {
-            put_u8(out, 2)?;
-            put_spec(out, spec)?;
-            put_bool(out, *replace)
-        }
-        Command::Join { node } => {
-            put_u8(out, 14)?;
-            put_node(out, node)
-        }
-        Command::Acquire {
-            no_later,
-            window,
-            max,
-        } => {
-            put_u8(out, 16)?;
-            put_acquire(out, *no_later, *window, *max)
-        }
-        Command::Fire { entry } => {
-            put_u8(out, 18)?;
-            put_u64(out, *entry)
-        }
-        Command::Complete { entry, code } => {
-            put_u8(out, 19)?;
-            put_u64(out, *entry)?;
-            put_u8(out, place_of_code(*code))
         }
     }
 }
