@@ -48,12 +48,21 @@ impl<D: Disk> Cluster<D> {
         ensures any_moment { D.honest → LeavesEither self.old.triggers self.new.triggers }
     {
         match member_of(&self.held, node) {
-            None if self.triggers.closed() => Ok(StepReply::Closed),
-            None => Ok(StepReply::Stopped),
-            Some(member) => {
-                let entry = node_entry(member.copy()?, command, at);
-                self.submit(entry)
+            None => {
+                let_go(command);
+                Ok(if self.triggers.closed() {
+                    StepReply::Closed
+                } else {
+                    StepReply::Stopped
+                })
             }
+            Some(member) => match member.copy() {
+                Ok(me) => self.submit(node_entry(me, command, at)),
+                Err(_) => {
+                    let_go(command);
+                    Err(StepEnd::NoMemory)
+                }
+            },
         }
     }
 
@@ -128,3 +137,6 @@ impl<D: Disk> Cluster<D> {
         }
     }
 }
+
+// Lets a value go. The cases of its drop are looked at here and nowhere else.
+fn let_go<T: Drop>(_value: T) {}
