@@ -1,27 +1,18 @@
 -- Reading a record from left to right. A reader answers the value and the bytes behind it, or how many bytes are left
 -- from the first byte of the first wrong field on. A field is wrong where it isn't whole, is out of its range or breaks a
 -- rule together with the fields before it.
-use Rattle.std.specs.Prelude.{◌≡◌, ℕ, ℤ, ◌-◌, ◌*◌, ◌^◌, List, [], ◌∷◌, length, take, drop, nat_lt, nat_le, ◌==◌, ◌&&◌, Bool, true, false, Option, Some, None, Result, Ok, Err, if◌then◌else◌}
-use Rattle.std.specs.Int.{Width, w8, w16, w32, w64, byte_len, from_be_bytes, cast_signed}
-use Rattle.std.specs.Str.{is_utf8}
-use Rattle.qz_civil.specs.declared.fields.CronFields.{CronFields}
-use Rattle.qz_civil.specs.declared.fields.DayField.{DayField}
-use Rattle.qz_civil.specs.declared.fields.DayField.TheVariants as month_days
-use Rattle.qz_civil.specs.declared.fields.Field.{Field}
-use Rattle.qz_civil.specs.declared.fields.Field.TheVariants.{Seconds, Minutes, Hours, DayOfMonth, Month, DayOfWeek, Year}
-use Rattle.qz_civil.specs.declared.fields.WeekField.{WeekField}
-use Rattle.qz_civil.specs.declared.fields.WeekField.TheVariants as week_days
-use Rattle.qz_civil.specs.Fields.{is_set, is_value, is_any_day, is_year_set, size}
-use Rattle.qz_civil.specs.Timings.{is_span, is_kind, is_misfire, is_every, is_day_set, seconds}
+use Rattle.std.specs.Prelude.{◌≡◌, ℕ, ◌-◌, ◌*◌, List, length, nat_lt, nat_le, ◌==◌, ◌&&◌, Bool, Option, Some, None, Result, Ok, Err, if◌then◌else◌}
+use Rattle.std.specs.Int.{w32, w64}
+use Rattle.qz_civil.specs.Fields.{size}
+use Rattle.qz_civil.specs.Timings.{is_kind, is_misfire, is_every, is_day_set, seconds}
 use Rattle.qz_civil.specs.declared.timings.Kind.{Kind}
 use Rattle.qz_civil.specs.declared.timings.Kind.TheVariants.{Simple, Cron, Interval, Daily}
 use Rattle.qz_civil.specs.declared.timings.Timing.{Timing}
 use Rattle.qz_civil.specs.declared.timings.Unit.{Unit as Units}
 use Rattle.qz_civil.specs.declared.timings.Unit.TheVariants as units
-use Rattle.qz_types.specs.Rows.{JobData, MemberData, is_interval}
+use Rattle.qz_types.specs.Rows.{JobData, MemberData}
 use Rattle.qz_types.specs.Entries.{EntryData}
-use Rattle.qz_civil.specs.declared.limits.TheConstants.{NAME_LIMIT}
-use Rattle.qz_types.specs.declared.limits.TheConstants.{ACQUIRE_LIMIT, NODE_LIMIT, PAYLOAD_LIMIT}
+use Rattle.qz_types.specs.declared.limits.TheConstants.{ACQUIRE_LIMIT, PAYLOAD_LIMIT}
 use Rattle.qz_types.specs.declared.keys.Key.{Key}
 use Rattle.qz_types.specs.declared.triggers.TriggerSpec.{TriggerSpec}
 use Rattle.qz_types.specs.declared.commands.Code.{Code}
