@@ -22,19 +22,21 @@ use std::alloc::{AllocError, Global};
 fn is_day_behind(before: Option<u16>, day: u16) -> bool
     ensures { result ≡ format.is_next spec.is_annual_day before day }
 {
-    is_annual_day(day) && match before {
-        None => true,
-        Some(before) => before < day,
-    }
+    is_annual_day(day)
+        && match before {
+            None => true,
+            Some(before) => before < day,
+        }
 }
 
 fn is_date_behind(before: Option<u32>, date: u32) -> bool
     ensures { result ≡ format.is_next spec.is_holiday before date }
 {
-    is_holiday(date) && match before {
-        None => true,
-        Some(before) => before < date,
-    }
+    is_holiday(date)
+        && match before {
+            None => true,
+            Some(before) => before < date,
+        }
 }
 
 /// A day of the year right behind this one.
@@ -60,11 +62,7 @@ fn date_of(before: Option<u32>, bytes: &[u8]) -> Result<(u32, &[u8]), Fault>
 }
 
 /// So many days.
-fn counted_days_of(
-    alloc: Global,
-    count: usize,
-    bytes: &[u8],
-) -> Result<(List<u16>, &[u8]), Fault>
+fn counted_days_of(alloc: Global, count: usize, bytes: &[u8]) -> Result<(List<u16>, &[u8]), Fault>
     ensures { Gives (λ x. (x.0, x.1.now)) result (items_at format.next_day_at count None bytes.now) }
 {
     let mut days = Vec::new(alloc);
@@ -80,11 +78,7 @@ fn counted_days_of(
 }
 
 /// So many dates.
-fn counted_dates_of(
-    alloc: Global,
-    count: usize,
-    bytes: &[u8],
-) -> Result<(List<u32>, &[u8]), Fault>
+fn counted_dates_of(alloc: Global, count: usize, bytes: &[u8]) -> Result<(List<u32>, &[u8]), Fault>
     ensures { Gives (λ x. (x.0, x.1.now)) result (items_at format.next_date_at count None bytes.now) }
 {
     let mut dates = Vec::new(alloc);
