@@ -1,5 +1,4 @@
--- The bytes of an entry's record, type by type. Numbers are big-endian of their type's width, and signed ones in two's
--- complement.
+-- The bytes of an entry's record, type by type. `Fields` has those of single fields.
 use Rattle.std.specs.Prelude.{ℕ, List, [], ◌∷◌, ◌++◌}
 use Rattle.std.specs.Int.{w32, w64}
 use Rattle.qz_civil.specs.declared.timings.Kind.{Kind}

@@ -1,6 +1,4 @@
--- Reading a record from left to right. A reader answers the value and the bytes behind it, or how many bytes are left
--- from the first byte of the first wrong field on. A field is wrong where it isn't whole, is out of its range or breaks a
--- rule together with the fields before it.
+-- Reading a record from left to right. `Fields` says what a reader answers.
 use Rattle.std.specs.Prelude.{◌≡◌, ℕ, ◌-◌, ◌*◌, List, length, nat_lt, nat_le, ◌==◌, ◌&&◌, Bool, Option, Some, None, Result, Ok, Err, if◌then◌else◌}
 use Rattle.std.specs.Int.{w32, w64}
 use Rattle.qz_civil.specs.Fields.{size}
