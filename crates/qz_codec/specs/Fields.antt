@@ -5,7 +5,7 @@
 -- first byte of the first wrong field on. A field is wrong where it isn't whole, is out of its range or breaks a rule
 -- together with the fields before it.
 use Rattle.std.specs.Prelude.{◌≡◌, ℕ, ℤ, List, [], ◌∷◌, ◌++◌, length, take, drop, nat_lt, nat_le, ◌==◌, ◌&&◌, Bool, true, false, Option, Some, None, Result, Ok, Err, FitsSigned, if◌then◌else◌}
-use Rattle.std.specs.Int.{Width, w8, w16, w32, w64, byte_len, to_be_bytes, from_be_bytes, cast_signed, cast_unsigned}
+use Rattle.std.specs.Int.{Width, w8, w16, w64, byte_len, to_be_bytes, from_be_bytes, cast_signed, cast_unsigned}
 use Rattle.std.specs.Str.{IsUtf8, is_utf8}
 use Rattle.qz_civil.specs.Timings.{is_span}
 use Rattle.qz_civil.specs.declared.limits.TheConstants.{NAME_LIMIT}

@@ -1,27 +1,16 @@
--- Reading a record from left to right. A reader answers the value and the bytes behind it, or how many bytes are left
--- from the first byte of the first wrong field on. A field is wrong where it isn't whole, is out of its range or breaks a
--- rule together with the fields before it.
-use Rattle.std.specs.Prelude.{◌≡◌, ℕ, ℤ, ◌-◌, ◌*◌, ◌^◌, List, [], ◌∷◌, length, take, drop, nat_lt, nat_le, ◌==◌, ◌&&◌, Bool, true, false, Option, Some, None, Result, Ok, Err, if◌then◌else◌}
-use Rattle.std.specs.Int.{Width, w8, w16, w32, w64, byte_len, from_be_bytes, cast_signed}
-use Rattle.std.specs.Str.{is_utf8}
-use Rattle.qz_civil.specs.declared.fields.CronFields.{CronFields}
-use Rattle.qz_civil.specs.declared.fields.DayField.{DayField}
-use Rattle.qz_civil.specs.declared.fields.DayField.TheVariants as month_days
-use Rattle.qz_civil.specs.declared.fields.Field.{Field}
-use Rattle.qz_civil.specs.declared.fields.Field.TheVariants.{Seconds, Minutes, Hours, DayOfMonth, Month, DayOfWeek, Year}
-use Rattle.qz_civil.specs.declared.fields.WeekField.{WeekField}
-use Rattle.qz_civil.specs.declared.fields.WeekField.TheVariants as week_days
-use Rattle.qz_civil.specs.Fields.{is_set, is_value, is_any_day, is_year_set, size}
-use Rattle.qz_civil.specs.Timings.{is_span, is_kind, is_misfire, is_every, is_day_set, seconds}
+-- Reading a record from left to right. `Fields` says what a reader answers.
+use Rattle.std.specs.Prelude.{◌≡◌, ℕ, ◌-◌, ◌*◌, List, length, nat_lt, nat_le, ◌==◌, ◌&&◌, Bool, Option, Some, None, Result, Ok, Err, if◌then◌else◌}
+use Rattle.std.specs.Int.{w32, w64}
+use Rattle.qz_civil.specs.Fields.{size}
+use Rattle.qz_civil.specs.Timings.{is_kind, is_misfire, is_every, is_day_set, seconds}
 use Rattle.qz_civil.specs.declared.timings.Kind.{Kind}
 use Rattle.qz_civil.specs.declared.timings.Kind.TheVariants.{Simple, Cron, Interval, Daily}
 use Rattle.qz_civil.specs.declared.timings.Timing.{Timing}
 use Rattle.qz_civil.specs.declared.timings.Unit.{Unit as Units}
 use Rattle.qz_civil.specs.declared.timings.Unit.TheVariants as units
-use Rattle.qz_types.specs.Rows.{JobData, MemberData, is_interval}
+use Rattle.qz_types.specs.Rows.{JobData, MemberData}
 use Rattle.qz_types.specs.Entries.{EntryData}
-use Rattle.qz_civil.specs.declared.limits.TheConstants.{NAME_LIMIT}
-use Rattle.qz_types.specs.declared.limits.TheConstants.{ACQUIRE_LIMIT, NODE_LIMIT, PAYLOAD_LIMIT}
+use Rattle.qz_types.specs.declared.limits.TheConstants.{ACQUIRE_LIMIT, PAYLOAD_LIMIT}
 use Rattle.qz_types.specs.declared.keys.Key.{Key}
 use Rattle.qz_types.specs.declared.triggers.TriggerSpec.{TriggerSpec}
 use Rattle.qz_types.specs.declared.commands.Code.{Code}
@@ -187,23 +176,12 @@ code_at bytes = do
   n ← byte_at bytes
   chosen (code_of n.0) (length bytes) n.1
 
-unfoldable pub add_job_at : List ℕ → Read Command
-add_job_at bytes = do
-  job ← job_at bytes
-  replace ← flag_at job.1
-  Ok (AddJob job.0 replace.0, replace.1)
-
-unfoldable pub add_trigger_at : List ℕ → Read Command
-add_trigger_at bytes = do
-  spec ← spec_at bytes
-  replace ← flag_at spec.1
-  Ok (AddTrigger spec.0 replace.0, replace.1)
-
-unfoldable pub add_calendar_at : List ℕ → Read Command
-add_calendar_at bytes = do
-  calendar ← calendar_row_at bytes
-  replace ← flag_at calendar.1
-  Ok (AddCalendar calendar.0 replace.0, replace.1)
+-- a row, and whether it may replace another one
+abbrev pub replacing_at : {A : Type 0} → (A → Bool → Command) → (List ℕ → Read A) → List ℕ → Read Command
+replacing_at make read bytes = do
+  row ← read bytes
+  replace ← flag_at row.1
+  Ok (make row.0 replace.0, replace.1)
 
 unfoldable pub acquire_at : List ℕ → Read Command
 acquire_at bytes = do
@@ -222,15 +200,15 @@ complete_at bytes = do
 unfoldable pub client_command_at : List ℕ → Read Command
 client_command_at bytes = do
   place ← byte_at bytes
-  if place.0 == 0 then add_job_at place.1
+  if place.0 == 0 then replacing_at AddJob job_at place.1
       else if place.0 == 1 then as_variant DeleteJob (key_at place.1)
-      else if place.0 == 2 then add_trigger_at place.1
+      else if place.0 == 2 then replacing_at AddTrigger spec_at place.1
       else if place.0 == 3 then as_variant DeleteTrigger (key_at place.1)
       else if place.0 == 4 then as_variant PauseTrigger (key_at place.1)
       else if place.0 == 5 then as_variant ResumeTrigger (key_at place.1)
       else if place.0 == 6 then as_variant PauseGroup (name_at place.1)
       else if place.0 == 7 then as_variant ResumeGroup (name_at place.1)
-      else if place.0 == 8 then add_calendar_at place.1
+      else if place.0 == 8 then replacing_at AddCalendar calendar_row_at place.1
       else if place.0 == 9 then as_variant DeleteCalendar (name_at place.1)
       else if place.0 == 10 then as_variant AddZone (zone_row_at place.1)
       else if place.0 == 11 then as_variant DeleteZone (name_at place.1)

@@ -1,7 +1,6 @@
 -- Which entries have a record: numbers fit their types, texts are UTF-8, and everything is within its limits.
-use Rattle.std.specs.Prelude.{◌≡◌, ℕ, ℤ, ◌^◌, ◌<◌, List, length, nat_le, ◌&&◌, Bool, true, IfSome, FitsSigned}
-use Rattle.std.specs.Int.{Width, w8, w32, w64}
-use Rattle.std.specs.Str.{IsUtf8}
+use Rattle.std.specs.Prelude.{◌≡◌, ℕ, ℤ, ◌^◌, ◌<◌, List, length, true, IfSome, FitsSigned}
+use Rattle.std.specs.Int.{w8, w32, w64}
 use Rattle.qz_civil.specs.declared.fields.CronFields.{CronFields}
 use Rattle.qz_civil.specs.Fields.{is_cron_fields}
 use Rattle.qz_civil.specs.Timings.{is_span, is_kind, is_misfire, is_every, is_daily_time, is_day_set}
@@ -11,7 +10,6 @@ use Rattle.qz_civil.specs.declared.timings.Timing.{Timing}
 use Rattle.qz_civil.specs.declared.timings.Unit.{Unit as Units}
 use Rattle.qz_types.specs.Rows.{JobData, MemberData, is_interval}
 use Rattle.qz_types.specs.Entries.{EntryData, has_actor, is_of_node}
-use Rattle.qz_civil.specs.declared.limits.TheConstants.{NAME_LIMIT}
 use Rattle.qz_types.specs.declared.limits.TheConstants.{ACQUIRE_LIMIT, NODE_LIMIT, PAYLOAD_LIMIT}
 use Rattle.qz_types.specs.declared.keys.Key.{Key}
 use Rattle.qz_types.specs.declared.triggers.TriggerSpec.{TriggerSpec}

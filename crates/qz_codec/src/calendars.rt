@@ -1,11 +1,11 @@
 //! Records of calendars, both ways.
-ghost use Rattle.std.specs.Prelude.{◌≡◌, ◌≤◌, ◌<◌, ◌^◌, ◌++◌, ℕ, IsTrue, IfOk, OnOk, length, Some, None};
+ghost use Rattle.std.specs.Prelude.{◌≡◌, ◌++◌, IsTrue, IfOk, OnOk, None};
 ghost use Rattle.std.specs.Int.{w16, w32};
 ghost use Rattle.std.specs.List.{flat_map};
 ghost use Rattle.qz_civil.specs.Calendars as spec;
 ghost use Rattle.qz_civil.specs.declared.limits.TheConstants.{ANNUAL_LIMIT, HOLIDAY_LIMIT};
 ghost use Rattle.qz_codec.specs.Layout.{number};
-ghost use Rattle.qz_codec.specs.Lists.{list, items_at, list_at};
+ghost use Rattle.qz_codec.specs.Lists.{items_at, list_at};
 ghost use Rattle.qz_codec.specs.Reading.{Gives, checked, byte_at, number_at};
 ghost use Rattle.qz_codec.specs.Calendars as format;
 
@@ -22,19 +22,21 @@ use std::alloc::{AllocError, Global};
 fn is_day_behind(before: Option<u16>, day: u16) -> bool
     ensures { result ≡ format.is_next spec.is_annual_day before day }
 {
-    is_annual_day(day) && match before {
-        None => true,
-        Some(before) => before < day,
-    }
+    is_annual_day(day)
+        && match before {
+            None => true,
+            Some(before) => before < day,
+        }
 }
 
 fn is_date_behind(before: Option<u32>, date: u32) -> bool
     ensures { result ≡ format.is_next spec.is_holiday before date }
 {
-    is_holiday(date) && match before {
-        None => true,
-        Some(before) => before < date,
-    }
+    is_holiday(date)
+        && match before {
+            None => true,
+            Some(before) => before < date,
+        }
 }
 
 /// A day of the year right behind this one.
@@ -60,11 +62,7 @@ fn date_of(before: Option<u32>, bytes: &[u8]) -> Result<(u32, &[u8]), Fault>
 }
 
 /// So many days.
-fn counted_days_of(
-    alloc: Global,
-    count: usize,
-    bytes: &[u8],
-) -> Result<(List<u16>, &[u8]), Fault>
+fn counted_days_of(alloc: Global, count: usize, bytes: &[u8]) -> Result<(List<u16>, &[u8]), Fault>
     ensures { Gives (λ x. (x.0, x.1.now)) result (items_at format.next_day_at count None bytes.now) }
 {
     let mut days = Vec::new(alloc);
@@ -80,11 +78,7 @@ fn counted_days_of(
 }
 
 /// So many dates.
-fn counted_dates_of(
-    alloc: Global,
-    count: usize,
-    bytes: &[u8],
-) -> Result<(List<u32>, &[u8]), Fault>
+fn counted_dates_of(alloc: Global, count: usize, bytes: &[u8]) -> Result<(List<u32>, &[u8]), Fault>
     ensures { Gives (λ x. (x.0, x.1.now)) result (items_at format.next_date_at count None bytes.now) }
 {
     let mut dates = Vec::new(alloc);
