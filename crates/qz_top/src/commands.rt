@@ -10,18 +10,17 @@ ghost use Rattle.qz_words.specs.declared.wishes.WordFault.{WordFault as Fault};
 ghost use Rattle.qz_words.specs.declared.wishes.Wish.TheVariants as wish;
 
 use crate::ended::{Ended, ran_no_script};
-use crate::making::init;
+use crate::making::make_stores;
 use crate::on_disk::script_on_disk;
-use crate::own::script_in_memory;
-use crate::times::times;
-use crate::{Status, Trail, report};
+use crate::own::own_script;
+use crate::times::tell_times;
+use crate::{Status, report};
 use qz_disk::Disk;
 use qz_io::{Clock, Sink, Source};
 use qz_times::Query;
 use qz_types::Text;
 use qz_words::{Wish, read_words};
 use std::alloc::Global;
-use std::snapshot::Snapshot;
 
 /// Does what the words of the command line ask for, and writes a line on `err` where that didn't end well.
 ///
@@ -87,8 +86,8 @@ fn work<S: Source, K: Sink, D: Disk, C: Clock>(
     words: &[Text],
     input: &mut S,
     out: &mut K,
-    mut triggers: D,
-    mut states: D,
+    triggers: D,
+    states: D,
     clock: &mut C,
 ) -> Ended<D>
     ensures bad_words { (fault : Fault) → wish_of words.now ≡ Err fault → result.status ≡ Status.BadWords fault }
@@ -117,26 +116,11 @@ fn work<S: Source, K: Sink, D: Disk, C: Clock>(
 {
     match read_words(words) {
         Err(fault) => ran_no_script(alloc, Status::BadWords { fault }, triggers, states),
-        Ok(Wish::Own) => {
-            let own = script_in_memory(alloc, input, out, clock);
-            Ended {
-                status: own.status,
-                triggers,
-                states,
-                trail: Trail {
-                    on_disk: Snapshot::of(&Vec::new(alloc)),
-                    in_memory: own.trail,
-                },
-            }
-        }
-        Ok(Wish::Init) => {
-            let status = init(out, &mut triggers, &mut states);
-            ran_no_script(alloc, status, triggers, states)
-        }
+        Ok(Wish::Own) => own_script(alloc, input, out, triggers, states, clock),
+        Ok(Wish::Init) => make_stores(alloc, out, triggers, states),
         Ok(Wish::Script) => script_on_disk(alloc, input, out, triggers, states, clock),
         Ok(Wish::Times { after, count }) => {
-            let status = times(alloc, input, out, Query { after, count });
-            ran_no_script(alloc, status, triggers, states)
+            tell_times(alloc, input, out, triggers, states, Query { after, count })
         }
     }
 }

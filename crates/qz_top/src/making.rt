@@ -1,13 +1,16 @@
 //! `init`: new stores on the disks.
-ghost use Rattle.std.specs.Prelude.{◌≡◌, ◌⊎◌, ◌≤◌, Err};
+ghost use Rattle.std.specs.Prelude.{◌≡◌, ◌⊎◌, ◌≤◌, [], Err};
 ghost use Rattle.qz_civil.specs.Causes.{Rose};
+ghost use Rattle.qz_top.specs.Calls.{trail_of};
 ghost use Rattle.qz_top.specs.Making.{Makes, IsInit, IsOfInit, SaysMade};
 
 use crate::Status;
+use crate::ended::{Ended, ran_no_script};
 use qz_disk::Disk;
 use qz_io::{Sink, write_all};
 use qz_journal::{CreateError, STATES, TRIGGERS, create};
 use qz_types::Store;
+use std::alloc::Global;
 
 /// Why there is no new store on a disk, and none that was left.
 #[derive(Clone, Copy, PartialEq, Eq, Debug)]
@@ -18,7 +21,25 @@ pub(crate) enum Unmade {
 }
 
 /// Makes the stores on the disks that don't begin with their header, the trigger store first, and says so.
-pub(crate) fn init<K: Sink, D: Disk>(out: &mut K, triggers: &mut D, states: &mut D) -> Status
+pub(crate) fn make_stores<K: Sink, D: Disk>(
+    alloc: Global,
+    out: &mut K,
+    mut triggers: D,
+    mut states: D,
+) -> Ended<D>
+    ensures told { D.honest → IsInit result.status (D.state triggers) (D.state result.triggers) (D.state states) (D.state result.states) }
+    ensures called { IsOfInit result.status }
+    ensures written { SaysMade result.status (K.held out.old) (K.held out.new) }
+    ensures trail { trail_of result.trail ≡ [] }
+    ensures disk { result.status ≡ Status.DiskFault → Rose (D.faults triggers) (D.faults result.triggers) ⊎ Rose (D.faults states) (D.faults result.states) }
+    ensures write { result.status ≡ Status.WriteFault → Rose (K.faults out.old) (K.faults out.new) }
+{
+    let status = init(out, &mut triggers, &mut states);
+    ran_no_script(alloc, status, triggers, states)
+}
+
+// The same, on the disks where they are.
+fn init<K: Sink, D: Disk>(out: &mut K, triggers: &mut D, states: &mut D) -> Status
     ensures told { D.honest → IsInit result (D.state triggers.old) (D.state triggers.new) (D.state states.old) (D.state states.new) }
     ensures called { IsOfInit result }
     ensures written { SaysMade result (K.held out.old) (K.held out.new) }

@@ -2,15 +2,16 @@
 ghost use Rattle.std.specs.Prelude.{◌≡◌, IfSome, true};
 ghost use Rattle.qz_civil.specs.Causes.{Rose};
 ghost use Rattle.qz_cluster.specs.Seen.{state_of};
-ghost use Rattle.qz_top.specs.Calls.{begun, OwnDone};
+ghost use Rattle.qz_top.specs.Calls.{begun, trail_of, OwnDone};
 ghost use Rattle.qz_top.specs.Seen.{run_of, states_in};
 ghost use Rattle.qz_top.specs.Trails.{new_cluster};
 
 use crate::Status;
+use crate::ended::{Ended, Trail};
 use crate::runs::Run;
 use crate::scripts::run_lines;
 use qz_cluster::Cluster;
-use qz_disk::MemDisk;
+use qz_disk::{Disk, MemDisk};
 use qz_io::{Clock, Sink, Source};
 use qz_journal::{STATES, TRIGGERS, create};
 use std::alloc::Global;
@@ -18,13 +19,39 @@ use std::snapshot::Snapshot;
 
 /// How a script in memory ended, and the states that it went through.
 #[derive(Drop)]
-pub(crate) struct OwnEnded {
-    pub(crate) status: Status,
-    pub(crate) trail: Snapshot<Vec<Snapshot<Cluster<MemDisk>>>>,
+struct OwnEnded {
+    status: Status,
+    trail: Snapshot<Vec<Snapshot<Cluster<MemDisk>>>>,
 }
 
-/// Runs the lines of the input on new stores in memory.
-pub(crate) fn script_in_memory<S: Source, K: Sink, C: Clock>(
+/// Runs the lines of the input on new stores in memory. The disks aren't touched.
+pub(crate) fn own_script<S: Source, K: Sink, D: Disk, C: Clock>(
+    alloc: Global,
+    input: &mut S,
+    out: &mut K,
+    triggers: D,
+    states: D,
+    clock: &mut C,
+) -> Ended<D>
+    ensures done { OwnDone result.status (trail_of result.trail) (S.left input.old) (S.left input.new) (K.held out.old) (K.held out.new) (C.readings clock.old) (C.readings clock.new) }
+    ensures disks { (result.triggers ≡ triggers) × (result.states ≡ states) }
+    ensures read { result.status ≡ Status.ReadFault → Rose (S.faults input.old) (S.faults input.new) }
+    ensures write { result.status ≡ Status.WriteFault → Rose (K.faults out.old) (K.faults out.new) }
+{
+    let own = script_in_memory(alloc, input, out, clock);
+    Ended {
+        status: own.status,
+        triggers,
+        states,
+        trail: Trail {
+            on_disk: Snapshot::of(&Vec::new(alloc)),
+            in_memory: own.trail,
+        },
+    }
+}
+
+// The same, without the disks.
+fn script_in_memory<S: Source, K: Sink, C: Clock>(
     alloc: Global,
     input: &mut S,
     out: &mut K,

@@ -1,18 +1,43 @@
 //! `times`: the fire times of the triggers of an input.
-ghost use Rattle.std.specs.Prelude.{◌≡◌, negsuc, ◌≤ℤ◌};
+ghost use Rattle.std.specs.Prelude.{◌≡◌, [], negsuc, ◌≤ℤ◌};
 ghost use Rattle.qz_civil.specs.Causes.{Rose};
+ghost use Rattle.qz_top.specs.Calls.{trail_of};
 ghost use Rattle.qz_top.specs.Lines.{kind_of};
 ghost use Rattle.qz_top.specs.Times.{IsOfTimes, TimesDone, status_of};
 
+use crate::ended::{Ended, ran_no_script};
 use crate::{BadKind, Status};
+use qz_disk::Disk;
 use qz_io::{LINE_COUNT_LIMIT, Sink, Source};
 use qz_job_json::LineFault;
 use qz_times::{Query, TimesEnd, run_times};
 use qz_types::LAST;
 use std::alloc::Global;
 
-/// Answers the lines of the input.
-pub(crate) fn times<S: Source, K: Sink>(
+/// Answers the lines of the input. The disks aren't touched.
+pub(crate) fn tell_times<S: Source, K: Sink, D: Disk>(
+    alloc: Global,
+    input: &mut S,
+    out: &mut K,
+    triggers: D,
+    states: D,
+    query: Query,
+) -> Ended<D>
+    requires low { negsuc 0 ≤ℤ query.after }
+    requires high { query.after ≤ℤ LAST }
+    ensures done { TimesDone result.status query (S.left input.old) (S.left input.new) (K.held out.old) (K.held out.new) }
+    ensures called { IsOfTimes result.status }
+    ensures disks { (result.triggers ≡ triggers) × (result.states ≡ states) }
+    ensures trail { trail_of result.trail ≡ [] }
+    ensures read { result.status ≡ Status.ReadFault → Rose (S.faults input.old) (S.faults input.new) }
+    ensures write { result.status ≡ Status.WriteFault → Rose (K.faults out.old) (K.faults out.new) }
+{
+    let status = times(alloc, input, out, query);
+    ran_no_script(alloc, status, triggers, states)
+}
+
+// The same, without the disks.
+fn times<S: Source, K: Sink>(
     alloc: Global,
     input: &mut S,
     out: &mut K,
