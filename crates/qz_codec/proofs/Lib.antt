@@ -7,5 +7,7 @@ pub mod VariantFormats
 pub mod CronFormats
 pub mod KindFormats
 pub mod RowFormats
+pub mod RecordFormats
 pub mod CommandFormats
 pub mod EntryFormats
+pub mod StateFormats

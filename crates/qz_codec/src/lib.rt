@@ -8,7 +8,9 @@ mod errors;
 mod fields;
 mod kinds;
 mod limits;
+mod records;
 mod rows;
+mod states;
 #[cfg(test)]
 mod tests;
 mod writing;
@@ -16,4 +18,5 @@ mod writing;
 pub use entries::get_command;
 pub use errors::ReadError;
 pub use limits::RECORD_LIMIT;
+pub use states::{get_state, put_state};
 pub use writing::put_command;

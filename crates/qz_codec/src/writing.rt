@@ -11,7 +11,7 @@ ghost use Rattle.qz_codec.specs.Layout.{number, integer, small, flag, text, opti
 
 mod kinds;
 
-use crate::limits::VERSION;
+use crate::records::write;
 use kinds::put_kind;
 use qz_types::{
     Actor, Code, Command, Entry, JobRow, Key, List, MemberRow, NODE_LIMIT, NoMemory, Text, Timing,
@@ -19,10 +19,7 @@ use qz_types::{
 };
 use std::alloc::{AllocError, Global};
 
-/// Bytes that most records have room in, so that few buffers grow.
-const USUAL_SIZE: usize = 256;
-
-fn put_u8(out: &mut Vec<u8>, n: u8) -> Result<(), AllocError>
+pub(crate) fn put_u8(out: &mut Vec<u8>, n: u8) -> Result<(), AllocError>
     ensures { OnOk result (out.new.items ≡ out.old.items ++ n ∷ []) }
 {
     out.push(n)?;
@@ -30,7 +27,7 @@ fn put_u8(out: &mut Vec<u8>, n: u8) -> Result<(), AllocError>
 }
 
 #[tactic(auto, unfolding(crate::specs::Layout::number))]
-fn put_u32(out: &mut Vec<u8>, n: u32) -> Result<(), AllocError>
+pub(crate) fn put_u32(out: &mut Vec<u8>, n: u32) -> Result<(), AllocError>
     ensures bytes { OnOk result (out.new.items ≡ out.old.items ++ number w32 n) }
     ensures valid { n < 2 ^ 32 }
 {
@@ -62,7 +59,7 @@ fn put_i32(out: &mut Vec<u8>, n: i32) -> Result<(), AllocError>
 }
 
 #[tactic(auto, unfolding(crate::specs::Layout::integer, crate::specs::Layout::number))]
-fn put_i64(out: &mut Vec<u8>, n: i64) -> Result<(), AllocError>
+pub(crate) fn put_i64(out: &mut Vec<u8>, n: i64) -> Result<(), AllocError>
     ensures bytes { OnOk result (out.new.items ≡ out.old.items ++ integer w64 n) }
     ensures valid { FitsSigned w64 n }
 {
@@ -171,7 +168,7 @@ fn put_spec(out: &mut Vec<u8>, row: &TriggerSpec) -> Result<(), AllocError>
     put_timing(out, &row.timing)
 }
 
-fn put_node(out: &mut Vec<u8>, node: &Text) -> Result<(), AllocError>
+pub(crate) fn put_node(out: &mut Vec<u8>, node: &Text) -> Result<(), AllocError>
     requires { IsTrue (is_node node.now) }
     ensures bytes { OnOk result (out.new.items ≡ out.old.items ++ text node.now) }
     ensures valid { IsText 1 NODE_LIMIT node.now }
@@ -271,7 +268,7 @@ fn put_variant(out: &mut Vec<u8>, c: &Command) -> Result<(), AllocError>
 }
 
 #[tactic(auto, unfolding(crate::specs::Layout::entry, qz_types::specs::Entries::is_entry), using(crate::proofs::Signs::signs))]
-fn put_entry(out: &mut Vec<u8>, e: &Entry) -> Result<(), AllocError>
+pub(crate) fn put_entry(out: &mut Vec<u8>, e: &Entry) -> Result<(), AllocError>
     ensures bytes { OnOk result (out.new.items ≡ out.old.items ++ entry e.now) }
     ensures valid { OnOk result (IsEntry e.now) }
 {
@@ -290,8 +287,5 @@ pub fn put_command(alloc: Global, entry: &Entry) -> Result<List<u8>, NoMemory>
     // No other entry has this record.
     ensures unique { OnOk result ((e : EntryData) → IsEntry e → record_of e ≡ record_of entry.now → e ≡ entry.now) }
 {
-    let mut out = Vec::with_capacity(alloc, USUAL_SIZE)?;
-    put_u8(&mut out, VERSION)?;
-    put_entry(&mut out, entry)?;
-    Ok(List::from_vec(out))
+    write(alloc, entry)
 }
