@@ -9,6 +9,7 @@ mod fields;
 mod kinds;
 mod limits;
 mod records;
+mod row_records;
 mod rows;
 mod states;
 #[cfg(test)]
@@ -18,5 +19,6 @@ mod writing;
 pub use entries::get_command;
 pub use errors::ReadError;
 pub use limits::RECORD_LIMIT;
+pub use row_records::{Packed, get_row, put_row};
 pub use states::{get_state, put_state};
 pub use writing::put_command;

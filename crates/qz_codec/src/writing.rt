@@ -35,7 +35,7 @@ pub(crate) fn put_u32(out: &mut Vec<u8>, n: u32) -> Result<(), AllocError>
 }
 
 #[tactic(auto, unfolding(crate::specs::Layout::number))]
-fn put_u64(out: &mut Vec<u8>, n: u64) -> Result<(), AllocError>
+pub(crate) fn put_u64(out: &mut Vec<u8>, n: u64) -> Result<(), AllocError>
     ensures bytes { OnOk result (out.new.items ≡ out.old.items ++ number w64 n) }
     ensures valid { n < 2 ^ 64 }
 {
@@ -51,7 +51,7 @@ fn put_i8(out: &mut Vec<u8>, n: i8) -> Result<(), AllocError>
 }
 
 #[tactic(auto, unfolding(crate::specs::Layout::integer, crate::specs::Layout::number))]
-fn put_i32(out: &mut Vec<u8>, n: i32) -> Result<(), AllocError>
+pub(crate) fn put_i32(out: &mut Vec<u8>, n: i32) -> Result<(), AllocError>
     ensures bytes { OnOk result (out.new.items ≡ out.old.items ++ integer w32 n) }
     ensures valid { FitsSigned w32 n }
 {
@@ -66,7 +66,7 @@ pub(crate) fn put_i64(out: &mut Vec<u8>, n: i64) -> Result<(), AllocError>
     out.extend_from_slice(&n.to_be_bytes())
 }
 
-fn put_bool(out: &mut Vec<u8>, b: bool) -> Result<(), AllocError>
+pub(crate) fn put_bool(out: &mut Vec<u8>, b: bool) -> Result<(), AllocError>
     ensures { OnOk result (out.new.items ≡ out.old.items ++ flag b) }
 {
     out.push(if b { 1 } else { 0 })?;
@@ -83,7 +83,7 @@ fn put_str(out: &mut Vec<u8>, s: &str) -> Result<(), AllocError>
     out.extend_from_slice(s.as_bytes())
 }
 
-fn put_name(out: &mut Vec<u8>, name: &Text) -> Result<(), AllocError>
+pub(crate) fn put_name(out: &mut Vec<u8>, name: &Text) -> Result<(), AllocError>
     requires { IsTrue (is_name name.now) }
     ensures bytes { OnOk result (out.new.items ≡ out.old.items ++ text name.now) }
     ensures valid { IsName name.now }
@@ -92,7 +92,7 @@ fn put_name(out: &mut Vec<u8>, name: &Text) -> Result<(), AllocError>
 }
 
 #[tactic(auto, unfolding(crate::specs::Layout::key))]
-fn put_key(out: &mut Vec<u8>, k: &Key) -> Result<(), AllocError>
+pub(crate) fn put_key(out: &mut Vec<u8>, k: &Key) -> Result<(), AllocError>
     requires { IsTrue (is_key k.now) }
     ensures bytes { OnOk result (out.new.items ≡ out.old.items ++ key k.now) }
     ensures valid { OnOk result (IsKey k.now) }
@@ -102,7 +102,7 @@ fn put_key(out: &mut Vec<u8>, k: &Key) -> Result<(), AllocError>
 }
 
 #[tactic(auto, unfolding(crate::specs::Layout::job))]
-fn put_job(out: &mut Vec<u8>, row: &JobRow) -> Result<(), AllocError>
+pub(crate) fn put_job(out: &mut Vec<u8>, row: &JobRow) -> Result<(), AllocError>
     ensures bytes { OnOk result (out.new.items ≡ out.old.items ++ job row.now) }
     ensures valid { OnOk result (IsJob row.now) }
 {
@@ -156,7 +156,7 @@ fn put_calendar(out: &mut Vec<u8>, calendar: &Option<Text>) -> Result<(), AllocE
 }
 
 #[tactic(auto, unfolding(crate::specs::Layout::spec))]
-fn put_spec(out: &mut Vec<u8>, row: &TriggerSpec) -> Result<(), AllocError>
+pub(crate) fn put_spec(out: &mut Vec<u8>, row: &TriggerSpec) -> Result<(), AllocError>
     requires { IsTrue (is_trigger_spec row.now) }
     ensures bytes { OnOk result (out.new.items ≡ out.old.items ++ spec row.now) }
     ensures valid { OnOk result (IsSpec row.now) }
@@ -177,7 +177,7 @@ pub(crate) fn put_node(out: &mut Vec<u8>, node: &Text) -> Result<(), AllocError>
 }
 
 #[tactic(auto, unfolding(crate::specs::Layout::member))]
-fn put_member(out: &mut Vec<u8>, row: &MemberRow) -> Result<(), AllocError>
+pub(crate) fn put_member(out: &mut Vec<u8>, row: &MemberRow) -> Result<(), AllocError>
     ensures bytes { OnOk result (out.new.items ≡ out.old.items ++ member row.now) }
     ensures valid { OnOk result (IsMember row.now) }
 {
