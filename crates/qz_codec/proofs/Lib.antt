@@ -11,3 +11,4 @@ pub mod RecordFormats
 pub mod CommandFormats
 pub mod EntryFormats
 pub mod StateFormats
+pub mod RowRecordFormats

@@ -3,7 +3,13 @@ ghost use Rattle.std.specs.Prelude.{◌≡◌, ◌≤◌, length, IfOk, OnOk, Ok
 ghost use Rattle.qz_codec.specs.declared.limits.TheConstants.{RECORD_LIMIT};
 ghost use Rattle.qz_codec.specs.Reading.{Answers};
 
+mod fired;
+mod jobs;
 mod members;
+mod names;
+mod states;
+mod times;
+mod triggers;
 
 use crate::errors::ReadError;
 use qz_types::{List, NoMemory};
