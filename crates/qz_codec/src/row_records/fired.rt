@@ -1,6 +1,9 @@
 //! Records of fired rows.
-ghost use Rattle.std.specs.Prelude.{◌≡◌, ◌++◌, OnOk, ℕ};
-ghost use Rattle.qz_codec.specs.Layout.{recorded};
+ghost use Rattle.std.specs.Prelude.{◌≡◌, ◌<◌, ◌^◌, ◌++◌, ◌∷◌, OnOk, IfSome, FitsSigned, ℕ};
+ghost use Rattle.std.specs.Int.{w32, w64};
+ghost use Rattle.qz_types.specs.declared.limits.TheConstants.{NODE_LIMIT};
+ghost use Rattle.qz_codec.specs.Layout.{number, integer, flag, text, optional, key, recorded};
+ghost use Rattle.qz_codec.specs.Values.{IsText, IsKey};
 ghost use Rattle.qz_codec.specs.Reading.{Gives, reading_by};
 ghost use Rattle.qz_codec.specs.Rows.{fired_state_place, fired, IsFired, fired_state_at, fired_at};
 
@@ -67,22 +70,40 @@ fn place_of_state(state: FiredState) -> u8
     }
 }
 
-#[tactic(auto, unfolding(crate::specs::Rows::fired))]
-fn put_fired(out: &mut Vec<u8>, row: &FiredRow) -> Result<(), AllocError>
-    ensures bytes { OnOk result (out.new.items ≡ out.old.items ++ fired row.now) }
-    ensures valid { OnOk result (IsFired row.now) }
+/// What is held, and by whom.
+#[tactic(auto, using(crate::proofs::Signs::signs))]
+fn put_hold(out: &mut Vec<u8>, row: &FiredRow) -> Result<(), AllocError>
+    ensures bytes { OnOk result (out.new.items ≡ out.old.items ++ (number w64 row.now.entry ++ (text row.now.node ++ (number w64 row.now.epoch ++ (key row.now.trigger ++ key row.now.job))))) }
+    ensures valid { OnOk result ((row.now.entry < 2 ^ 64) × IsText 1 NODE_LIMIT row.now.node × (row.now.epoch < 2 ^ 64) × IsKey row.now.trigger × IsKey row.now.job) }
 {
     put_u64(out, row.entry)?;
     put_node(out, &row.node)?;
     put_u64(out, row.epoch)?;
     put_key(out, &row.trigger)?;
-    put_key(out, &row.job)?;
+    put_key(out, &row.job)
+}
+
+/// How far it is, and what of the job holds for it.
+#[tactic(auto, using(crate::proofs::Signs::signs))]
+fn put_progress(out: &mut Vec<u8>, row: &FiredRow) -> Result<(), AllocError>
+    ensures bytes { OnOk result (out.new.items ≡ out.old.items ++ (integer w32 row.now.priority ++ (fired_state_place row.now.state ∷ (integer w64 row.now.scheduled ++ (optional (integer w64) row.now.fired ++ (flag row.now.no_concurrent ++ flag row.now.requests_recovery)))))) }
+    ensures valid { OnOk result (FitsSigned w32 row.now.priority × FitsSigned w64 row.now.scheduled × IfSome row.now.fired (FitsSigned w64)) }
+{
     put_i32(out, row.priority)?;
     put_u8(out, place_of_state(row.state))?;
     put_i64(out, row.scheduled)?;
     put_time(out, &row.fired)?;
     put_bool(out, row.no_concurrent)?;
     put_bool(out, row.requests_recovery)
+}
+
+#[tactic(auto, unfolding(crate::specs::Rows::fired), using(crate::proofs::Signs::signs))]
+fn put_fired(out: &mut Vec<u8>, row: &FiredRow) -> Result<(), AllocError>
+    ensures bytes { OnOk result (out.new.items ≡ out.old.items ++ fired row.now) }
+    ensures valid { OnOk result (IsFired row.now) }
+{
+    put_hold(out, row)?;
+    put_progress(out, row)
 }
 
 impl Recorded for FiredRow {
