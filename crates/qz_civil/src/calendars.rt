@@ -1,7 +1,10 @@
 //! The kinds of calendars: what each leaves out of a trigger's schedule.
 ghost use Rattle.std.specs.Prelude.{◌≡◌, IfOk};
+ghost use Rattle.qz_civil.specs.Calendars as spec;
 
+use crate::dates::days_in_month;
 use crate::fields::CronFields;
+use crate::limits::LAST_YEAR;
 use crate::lists::List;
 use std::alloc::AllocError;
 
@@ -60,4 +63,24 @@ impl Clone for CalendarKind {
             CalendarKind::Cron { fields } => CalendarKind::Cron { fields: *fields },
         })
     }
+}
+
+/// Whether it is a day of the year as `month * 100 + day`; the 31st of any month is one.
+pub fn is_annual_day(n: u16) -> bool
+    ensures { result ≡ spec.is_annual_day n }
+{
+    let (month, day) = (n / 100, n % 100);
+    1 <= month && month <= 12 && 1 <= day && day <= 31
+}
+
+/// Whether it is a date as `year * 10000 + month * 100 + day`, from 1970 to the last year that is known.
+pub fn is_holiday(n: u32) -> bool
+    ensures { result ≡ spec.is_holiday n }
+{
+    let (year, month, day) = (n / 10000, n / 100 % 100, n % 100);
+    if month < 1 || month > 12 {
+        return false;
+    }
+    let last = u32::from(days_in_month(year, month as u8));
+    1970 <= year && year <= LAST_YEAR && 1 <= day && day <= last
 }

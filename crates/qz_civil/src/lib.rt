@@ -21,7 +21,7 @@ mod timings;
 mod turns;
 mod zones;
 
-pub use calendars::CalendarKind;
+pub use calendars::{CalendarKind, is_annual_day, is_holiday};
 pub use dates::{Civil, Date, date_of, day_of, days_in_month, weekday_of};
 pub use failures::{Failed, NoMemory};
 pub use field_rules::is_year_set;
@@ -32,7 +32,7 @@ pub use limits::{
 };
 pub use lists::List;
 pub use spans::{GREATEST_SHIFT, SECONDS, Span, second_from};
-pub use stretches::{BadZone, Stretch};
+pub use stretches::{BadZone, Stretch, is_offset, may_begin};
 pub use texts::Text;
 pub use times::Times;
 pub use timings::{Kind, Timing, Unit};

@@ -1,5 +1,5 @@
 //! The stretches of a zone's table.
-ghost use Rattle.std.specs.Prelude.{◌≡◌, pos, ◌≤ℤ◌, Some, None, option_map, slice_get};
+ghost use Rattle.std.specs.Prelude.{◌≡◌, ◌&&◌, pos, ◌≤ℤ◌, Some, None, option_map, slice_get};
 ghost use Rattle.qz_civil.specs.Timings.{is_timestamp};
 ghost use Rattle.qz_civil.specs.Zones as spec;
 
@@ -54,7 +54,7 @@ fn fault_of_places(stretches: &[Stretch]) -> Option<BadZone>
         if !begins_at_timestamp(stretch) {
             return Some(BadZone::FromOutOfRange { place });
         }
-        if !has_offset_in_range(stretch) {
+        if !is_offset(stretch.offset) {
             return Some(BadZone::OffsetOutOfRange { place });
         }
         if !is_apart(before, stretch.from) {
@@ -71,10 +71,18 @@ fn begins_at_timestamp(stretch: &Stretch) -> bool
     0 <= stretch.from && stretch.from <= LAST
 }
 
-fn has_offset_in_range(stretch: &Stretch) -> bool
-    ensures { result ≡ spec.is_offset stretch.now.offset }
+/// Whether a stretch may begin at `from` (in ms since 1970-01-01T00:00:00Z) right behind one that begins at `before`.
+pub fn may_begin(before: Option<i64>, from: i64) -> bool
+    ensures { result ≡ (is_timestamp from && spec.is_apart before from) }
 {
-    -OFFSET_LIMIT <= stretch.offset && stretch.offset <= OFFSET_LIMIT
+    0 <= from && from <= LAST && is_apart(before, from)
+}
+
+/// Whether local time may be so many seconds from UTC.
+pub fn is_offset(offset: i32) -> bool
+    ensures { result ≡ spec.is_offset offset }
+{
+    -OFFSET_LIMIT <= offset && offset <= OFFSET_LIMIT
 }
 
 fn is_apart(before: Option<i64>, from: i64) -> bool

@@ -8,6 +8,11 @@ pub mod CronFormats
 pub mod KindFormats
 pub mod RowFormats
 pub mod RecordFormats
+pub mod ReaderLaws
+pub mod ListLoops
+pub mod ListFormats
+pub mod ZoneFormats
+pub mod CalendarFormats
 pub mod CommandFormats
 pub mod EntryFormats
 pub mod StateFormats

@@ -64,7 +64,7 @@ pub record IsPart {C : Type 0} (write : C → List ℕ) (Is : C → Type 0) (mos
   pub takes : (bytes : List ℕ) (y : C × List ℕ) → IsBytes bytes → read bytes ≡ Ok y → Takes write Any Is (place ∷ bytes) y
   pub near : (bytes : List ℕ) → EndsNear most (length bytes) (read bytes)
 
-nearer : {A : Type 0} (m n size : ℕ) (r : Read A) → m ≤ n → EndsNear m size r → EndsNear n size r
+pub nearer : {A : Type 0} (m n size : ℕ) (r : Read A) → m ≤ n → EndsNear m size r → EndsNear n size r
 nearer m n size (Ok x) le p = record { within = p.within; near = omega (arith, p.near) }
 nearer m n size (Err left) le p = record { within = p.within; near = omega (arith, p.near) }
 

@@ -4,3 +4,6 @@ pub mod Reading
 pub mod Values
 pub mod Rows
 pub mod States
+pub mod Lists
+pub mod Zones
+pub mod Calendars

@@ -137,7 +137,7 @@ fn utf8(bytes: &[u8]) -> Option<&str>
 }
 
 /// The length of a text of `least` to `most` bytes.
-fn length_of(bytes: &[u8], least: u16, most: u16) -> Result<(usize, &[u8]), Fault>
+pub(crate) fn length_of(bytes: &[u8], least: u16, most: u16) -> Result<(usize, &[u8]), Fault>
     ensures exact { Gives (λ x. (x.0, x.1.now)) result (checked (is_long least most) (number_at w16) bytes.now) }
     ensures size { IfOk result (λ x. (least ≤ x.0) × (x.0 ≤ most)) }
 {

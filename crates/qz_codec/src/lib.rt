@@ -1,6 +1,7 @@
 //! Records: the bytes of an entry of the trigger store's history, both ways. `docs/specification/records.md` has the format.
 #![tactic(auto)]
 
+mod calendars;
 mod commands;
 mod cron_fields;
 mod entries;
@@ -15,6 +16,7 @@ mod states;
 #[cfg(test)]
 mod tests;
 mod writing;
+mod zones;
 
 pub use entries::get_command;
 pub use errors::ReadError;

@@ -88,7 +88,7 @@ fn timing_of(alloc: Global, bytes: &[u8]) -> Result<(Timing, &[u8]), Fault>
 }
 
 /// The name of a calendar, where there is one.
-fn calendar_of(alloc: Global, bytes: &[u8]) -> Result<(Option<Text>, &[u8]), Fault>
+pub(crate) fn calendar_of(alloc: Global, bytes: &[u8]) -> Result<(Option<Text>, &[u8]), Fault>
     ensures exact { Gives (λ x. (x.0, x.1.now)) result (optional_at name_at bytes.now) }
     ensures valid { IfOk result (λ x. IsTrue (is_calendar x.0)) }
 {

@@ -1,3 +1,4 @@
+mod calendars;
 mod kinds;
 
 use super::*;

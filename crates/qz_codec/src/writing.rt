@@ -9,7 +9,7 @@ ghost use Rattle.qz_codec.specs.declared.limits.TheConstants.{RECORD_LIMIT};
 ghost use Rattle.qz_codec.specs.Values.{IsText, IsName, IsSpan, IsKey, IsJob, IsTiming, IsSpec, IsMember, IsActor, IsCommand, IsEntry};
 ghost use Rattle.qz_codec.specs.Layout.{number, integer, small, flag, text, optional, key, job, timing, spec, member, actor, code_place, command, entry, record_of};
 
-mod kinds;
+pub(crate) mod kinds;
 
 use crate::records::write;
 use kinds::put_kind;
@@ -141,7 +141,7 @@ fn put_timing(out: &mut Vec<u8>, t: &Timing) -> Result<(), AllocError>
     put_end(out, &t.end)
 }
 
-fn put_calendar(out: &mut Vec<u8>, calendar: &Option<Text>) -> Result<(), AllocError>
+pub(crate) fn put_calendar(out: &mut Vec<u8>, calendar: &Option<Text>) -> Result<(), AllocError>
     requires { IsTrue (is_calendar calendar.now) }
     ensures bytes { OnOk result (out.new.items ≡ out.old.items ++ optional text calendar.now) }
     ensures valid { OnOk result (IfSome calendar.now IsName) }

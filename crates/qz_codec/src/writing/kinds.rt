@@ -11,7 +11,7 @@ use qz_types::{Kind, Unit};
 use std::alloc::AllocError;
 
 #[tactic(auto, unfolding(crate::specs::Layout::number))]
-fn put_u16(out: &mut Vec<u8>, n: u16) -> Result<(), AllocError>
+pub(crate) fn put_u16(out: &mut Vec<u8>, n: u16) -> Result<(), AllocError>
     ensures { OnOk result (out.new.items ≡ out.old.items ++ number w16 n) }
 {
     out.extend_from_slice(&n.to_be_bytes())
@@ -74,7 +74,7 @@ fn put_years(out: &mut Vec<u8>, years: [u64; 4]) -> Result<(), AllocError>
 }
 
 #[tactic(auto, unfolding(crate::specs::Layout::cron_fields), using(crate::proofs::Signs::signs))]
-fn put_cron_fields(out: &mut Vec<u8>, fields: &CronFields) -> Result<(), AllocError>
+pub(crate) fn put_cron_fields(out: &mut Vec<u8>, fields: &CronFields) -> Result<(), AllocError>
     ensures bytes { OnOk result (out.new.items ≡ out.old.items ++ cron_fields fields.now) }
     ensures size { OnOk result (length fields.now.years ≡ 4) }
 {

@@ -1,0 +1,10 @@
+use Rattle.std.proofs.Common.{arith}
+use Rattle.qz_codec.specs.Lists.{list_at}
+use Rattle.qz_codec.proofs.ReaderLaws.{gives_valid}
+use Rattle.qz_codec.proofs.ZoneFormats.{table_format}
+use Rattle.qz_codec.proofs.zones.stretches_of.Goals as goal
+
+pub returns-clause-valid : goal.returns-clause-valid
+returns-clause-valid c =
+    gives_valid table_format (λ x. (x.0, x.1.now)) c.args.bytes.now c.counted_stretches_of.result (λ i. omega (arith, c.type_inv.bytes i))
+    (rw c.in_ok-count.ensures.exact c.counted_stretches_of.ensures)

@@ -1,0 +1,275 @@
+//! Records of calendars, both ways.
+ghost use Rattle.std.specs.Prelude.{◌≡◌, ◌≤◌, ◌<◌, ◌^◌, ◌++◌, ℕ, IsTrue, IfOk, OnOk, length, Some, None};
+ghost use Rattle.std.specs.Int.{w16, w32};
+ghost use Rattle.std.specs.List.{flat_map};
+ghost use Rattle.qz_civil.specs.Calendars as spec;
+ghost use Rattle.qz_civil.specs.declared.limits.TheConstants.{ANNUAL_LIMIT, HOLIDAY_LIMIT};
+ghost use Rattle.qz_codec.specs.Layout.{number};
+ghost use Rattle.qz_codec.specs.Lists.{list, items_at, list_at};
+ghost use Rattle.qz_codec.specs.Reading.{Gives, checked, byte_at, number_at};
+ghost use Rattle.qz_codec.specs.Calendars as format;
+
+use crate::cron_fields::cron_fields_of;
+use crate::errors::Fault;
+use crate::fields::{bool_at, length_of, u8_at, u16_at, u32_at};
+use crate::rows::{calendar_of, name_of};
+use crate::writing::kinds::{put_cron_fields, put_u16};
+use crate::writing::{put_bool, put_calendar, put_name, put_u8, put_u32};
+use qz_civil::{ANNUAL_LIMIT, HOLIDAY_LIMIT, is_annual_day, is_holiday};
+use qz_types::{CalendarKind, CalendarRow, List, Text};
+use std::alloc::{AllocError, Global};
+
+fn is_day_behind(before: Option<u16>, day: u16) -> bool
+    ensures { result ≡ format.is_next spec.is_annual_day before day }
+{
+    is_annual_day(day)
+        && match before {
+            None => true,
+            Some(before) => before < day,
+        }
+}
+
+fn is_date_behind(before: Option<u32>, date: u32) -> bool
+    ensures { result ≡ format.is_next spec.is_holiday before date }
+{
+    is_holiday(date)
+        && match before {
+            None => true,
+            Some(before) => before < date,
+        }
+}
+
+/// A day of the year right behind this one.
+fn day_of(before: Option<u16>, bytes: &[u8]) -> Result<(u16, &[u8]), Fault>
+    ensures { Gives (λ x. (x.0, x.1.now)) result (format.next_day_at before bytes.now) }
+{
+    let (day, rest) = u16_at(bytes)?;
+    if !is_day_behind(before, day) {
+        return Err(Fault::at(bytes));
+    }
+    Ok((day, rest))
+}
+
+/// A date right behind this one.
+fn date_of(before: Option<u32>, bytes: &[u8]) -> Result<(u32, &[u8]), Fault>
+    ensures { Gives (λ x. (x.0, x.1.now)) result (format.next_date_at before bytes.now) }
+{
+    let (date, rest) = u32_at(bytes)?;
+    if !is_date_behind(before, date) {
+        return Err(Fault::at(bytes));
+    }
+    Ok((date, rest))
+}
+
+/// So many days.
+fn counted_days_of(alloc: Global, count: usize, bytes: &[u8]) -> Result<(List<u16>, &[u8]), Fault>
+    ensures { Gives (λ x. (x.0, x.1.now)) result (items_at format.next_day_at count None bytes.now) }
+{
+    let mut days = Vec::new(alloc);
+    let mut before = None;
+    let mut rest = bytes;
+    for _ in 0..count {
+        let (day, behind) = day_of(before, rest)?;
+        days.push(day)?;
+        before = Some(day);
+        rest = behind;
+    }
+    Ok((List::from_vec(days), rest))
+}
+
+/// So many dates.
+fn counted_dates_of(alloc: Global, count: usize, bytes: &[u8]) -> Result<(List<u32>, &[u8]), Fault>
+    ensures { Gives (λ x. (x.0, x.1.now)) result (items_at format.next_date_at count None bytes.now) }
+{
+    let mut dates = Vec::new(alloc);
+    let mut before = None;
+    let mut rest = bytes;
+    for _ in 0..count {
+        let (date, behind) = date_of(before, rest)?;
+        dates.push(date)?;
+        before = Some(date);
+        rest = behind;
+    }
+    Ok((List::from_vec(dates), rest))
+}
+
+/// The days of an annual calendar.
+fn days_of(alloc: Global, bytes: &[u8]) -> Result<(List<u16>, &[u8]), Fault>
+    ensures exact { Gives (λ x. (x.0, x.1.now)) result (list_at 0 ANNUAL_LIMIT format.next_day_at bytes.now) }
+    ensures valid { IfOk result (λ x. IsTrue (spec.is_list_of spec.is_annual_day ANNUAL_LIMIT x.0)) }
+{
+    let (count, rest) = length_of(bytes, 0, ANNUAL_LIMIT as u16)?;
+    counted_days_of(alloc, count, rest)
+}
+
+/// The dates of a calendar of holidays.
+fn dates_of(alloc: Global, bytes: &[u8]) -> Result<(List<u32>, &[u8]), Fault>
+    ensures exact { Gives (λ x. (x.0, x.1.now)) result (list_at 0 HOLIDAY_LIMIT format.next_date_at bytes.now) }
+    ensures valid { IfOk result (λ x. IsTrue (spec.is_list_of spec.is_holiday HOLIDAY_LIMIT x.0)) }
+{
+    let (count, rest) = length_of(bytes, 0, HOLIDAY_LIMIT as u16)?;
+    counted_dates_of(alloc, count, rest)
+}
+
+/// Any of the seven days; none too.
+fn weekdays_of(bytes: &[u8]) -> Result<(u8, &[u8]), Fault>
+    ensures exact { Gives (λ x. (x.0, x.1.now)) result (checked (λ n. spec.is_calendar_kind (CalendarKind.Weekly n)) byte_at bytes.now) }
+    ensures valid { IfOk result (λ x. IsTrue (spec.is_calendar_kind (CalendarKind.Weekly x.0))) }
+{
+    let (days, rest) = u8_at(bytes)?;
+    if days >= 128 {
+        return Err(Fault::at(bytes));
+    }
+    Ok((days, rest))
+}
+
+/// Any of the 31 days; none too.
+fn month_days_of(bytes: &[u8]) -> Result<(u32, &[u8]), Fault>
+    ensures exact { Gives (λ x. (x.0, x.1.now)) result (checked (λ n. spec.is_calendar_kind (CalendarKind.Monthly n)) (number_at w32) bytes.now) }
+    ensures valid { IfOk result (λ x. IsTrue (spec.is_calendar_kind (CalendarKind.Monthly x.0))) }
+{
+    let (days, rest) = u32_at(bytes)?;
+    if days >= 1 << 31 {
+        return Err(Fault::at(bytes));
+    }
+    Ok((days, rest))
+}
+
+/// A ms of the day that isn't before `from`.
+fn milli_of_day(from: u32, bytes: &[u8]) -> Result<(u32, &[u8]), Fault>
+    ensures exact { Gives (λ x. (x.0, x.1.now)) result (checked (spec.is_day_part from) (number_at w32) bytes.now) }
+    ensures valid { IfOk result (λ x. IsTrue (spec.is_day_part from x.0)) }
+{
+    let (milli, rest) = u32_at(bytes)?;
+    if milli < from || milli > 86399999 {
+        return Err(Fault::at(bytes));
+    }
+    Ok((milli, rest))
+}
+
+#[tactic(auto, unfolding(crate::specs::Calendars::day_part_at))]
+fn day_part_of(bytes: &[u8]) -> Result<(CalendarKind, &[u8]), Fault>
+    ensures exact { Gives (λ x. (x.0, x.1.now)) result (format.day_part_at bytes.now) }
+    ensures valid { IfOk result (λ x. IsTrue (spec.is_calendar_kind x.0)) }
+{
+    let (from, rest) = milli_of_day(0, bytes)?;
+    let (to, rest) = milli_of_day(from, rest)?;
+    let (inverted, rest) = bool_at(rest)?;
+    Ok((CalendarKind::Daily { from, to, inverted }, rest))
+}
+
+#[tactic(auto, unfolding(crate::specs::Calendars::calendar_kind_at))]
+fn calendar_kind_of(alloc: Global, bytes: &[u8]) -> Result<(CalendarKind, &[u8]), Fault>
+    ensures exact { Gives (λ x. (x.0, x.1.now)) result (format.calendar_kind_at bytes.now) }
+    ensures valid { IfOk result (λ x. IsTrue (spec.is_calendar_kind x.0)) }
+{
+    let (place, rest) = u8_at(bytes)?;
+    match place {
+        0 => {
+            let (days, rest) = days_of(alloc, rest)?;
+            Ok((CalendarKind::Annual { days }, rest))
+        }
+        1 => {
+            let (dates, rest) = dates_of(alloc, rest)?;
+            Ok((CalendarKind::Holiday { dates }, rest))
+        }
+        2 => {
+            let (days, rest) = weekdays_of(rest)?;
+            Ok((CalendarKind::Weekly { days }, rest))
+        }
+        3 => {
+            let (days, rest) = month_days_of(rest)?;
+            Ok((CalendarKind::Monthly { days }, rest))
+        }
+        4 => day_part_of(rest),
+        5 => {
+            let (fields, rest) = cron_fields_of(rest)?;
+            Ok((CalendarKind::Cron { fields }, rest))
+        }
+        _ => Err(Fault::at(bytes)),
+    }
+}
+
+#[tactic(auto, unfolding(crate::specs::Calendars::calendar_row_at))]
+pub(crate) fn calendar_row_of(alloc: Global, bytes: &[u8]) -> Result<(CalendarRow, &[u8]), Fault>
+    ensures { Gives (λ x. (x.0, x.1.now)) result (format.calendar_row_at bytes.now) }
+{
+    let (name, rest) = name_of(bytes)?;
+    let (base, rest) = calendar_of(alloc, rest)?;
+    let (zone, rest) = name_of(rest)?;
+    let (kind, rest) = calendar_kind_of(alloc, rest)?;
+    let row = CalendarRow {
+        name: Text::from_str(alloc, name)?,
+        base,
+        zone: Text::from_str(alloc, zone)?,
+        kind,
+    };
+    Ok((row, rest))
+}
+
+fn put_days(out: &mut Vec<u8>, days: &[u16]) -> Result<(), AllocError>
+    ensures { OnOk result (out.new.items ≡ out.old.items ++ flat_map (number w16) days.now) }
+{
+    for day in days {
+        put_u16(out, *day)?;
+    }
+    Ok(())
+}
+
+fn put_dates(out: &mut Vec<u8>, dates: &[u32]) -> Result<(), AllocError>
+    ensures { OnOk result (out.new.items ≡ out.old.items ++ flat_map (number w32) dates.now) }
+{
+    for date in dates {
+        put_u32(out, *date)?;
+    }
+    Ok(())
+}
+
+#[tactic(auto, unfolding(crate::specs::Calendars::calendar_kind), using(crate::proofs::Signs::signs))]
+fn put_calendar_kind(out: &mut Vec<u8>, kind: &CalendarKind) -> Result<(), AllocError>
+    requires { IsTrue (spec.is_calendar_kind kind.now) }
+    ensures bytes { OnOk result (out.new.items ≡ out.old.items ++ format.calendar_kind kind.now) }
+    ensures valid { OnOk result (format.IsCalendarKind kind.now) }
+{
+    match kind {
+        CalendarKind::Annual { days } => {
+            put_u8(out, 0)?;
+            put_u16(out, days.len() as u16)?;
+            put_days(out, days.as_slice())
+        }
+        CalendarKind::Holiday { dates } => {
+            put_u8(out, 1)?;
+            put_u16(out, dates.len() as u16)?;
+            put_dates(out, dates.as_slice())
+        }
+        CalendarKind::Weekly { days } => {
+            put_u8(out, 2)?;
+            put_u8(out, *days)
+        }
+        CalendarKind::Monthly { days } => {
+            put_u8(out, 3)?;
+            put_u32(out, *days)
+        }
+        CalendarKind::Daily { from, to, inverted } => {
+            put_u8(out, 4)?;
+            put_u32(out, *from)?;
+            put_u32(out, *to)?;
+            put_bool(out, *inverted)
+        }
+        CalendarKind::Cron { fields } => {
+            put_u8(out, 5)?;
+            put_cron_fields(out, fields)
+        }
+    }
+}
+
+#[tactic(auto, unfolding(crate::specs::Calendars::calendar_row))]
+pub(crate) fn put_calendar_row(out: &mut Vec<u8>, row: &CalendarRow) -> Result<(), AllocError>
+    ensures bytes { OnOk result (out.new.items ≡ out.old.items ++ format.calendar_row row.now) }
+    ensures valid { OnOk result (format.IsCalendarRow row.now) }
+{
+    put_name(out, &row.name)?;
+    put_calendar(out, &row.base)?;
+    put_name(out, &row.zone)?;
+    put_calendar_kind(out, &row.kind)
+}
