@@ -3,6 +3,7 @@ ghost use Rattle.std.specs.Prelude.{◌≡◌, ◌≤◌, length, IfOk, OnOk, Ok
 ghost use Rattle.qz_codec.specs.declared.limits.TheConstants.{RECORD_LIMIT};
 ghost use Rattle.qz_codec.specs.Reading.{Answers};
 
+mod calendars;
 mod fired;
 mod jobs;
 mod members;
@@ -10,6 +11,7 @@ mod names;
 mod states;
 mod times;
 mod triggers;
+mod zones;
 
 use crate::errors::ReadError;
 use qz_types::{List, NoMemory};
