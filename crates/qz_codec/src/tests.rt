@@ -1,5 +1,7 @@
 mod calendars;
 mod kinds;
+mod rows;
+mod states;
 
 use super::*;
 use qz_types::{Actor, Command, Entry, List};

@@ -4,7 +4,7 @@ ghost use Rattle.qz_codec.specs.Reading.{reading_by};
 ghost use Rattle.qz_codec.specs.Calendars.{calendar_row, IsCalendarRow, calendar_row_at};
 
 use super::Packed;
-use crate::calendars::{put_calendar_row, calendar_row_of};
+use crate::calendars::{calendar_row_of, put_calendar_row};
 use crate::errors::{Fault, ReadError};
 use crate::records::{Recorded, read, write};
 use qz_types::{CalendarRow, List, NoMemory};

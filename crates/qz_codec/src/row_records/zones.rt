@@ -4,9 +4,9 @@ ghost use Rattle.qz_codec.specs.Reading.{reading_by};
 ghost use Rattle.qz_codec.specs.Zones.{zone_row, IsZoneRow, zone_row_at};
 
 use super::Packed;
-use crate::zones::{put_zone_row, zone_row_of};
 use crate::errors::{Fault, ReadError};
 use crate::records::{Recorded, read, write};
+use crate::zones::{put_zone_row, zone_row_of};
 use qz_types::{List, NoMemory, ZoneRow};
 use std::alloc::{AllocError, Global};
 
