@@ -1,5 +1,4 @@
 use Rattle.std.proofs.Common.{arith}
-use Rattle.qz_codec.specs.Lists.{list_at}
 use Rattle.qz_codec.proofs.ReaderLaws.{gives_valid}
 use Rattle.qz_codec.proofs.ZoneFormats.{table_format}
 use Rattle.qz_codec.proofs.zones.stretches_of.Goals as goal
