@@ -1,6 +1,6 @@
 -- Calendars: each that is valid is written and read so, and none else is read.
-use Rattle.std.proofs.Common.{◌≡◌, ℕ, ◌+◌, ◌<◌, ◌≤◌, ◌^◌, Bool, true, false, ◌&&◌, List, [], ◌∷◌, ◌++◌, length, Option, None, Some, Ok, refl, arith}
-use Rattle.std.specs.Prelude.{nat_le, IsTrue}
+use Rattle.std.proofs.Common.{◌≡◌, ℕ, ◌+◌, ◌<◌, ◌^◌, Bool, true, List, [], ◌∷◌, ◌++◌, length, Option, None, Some, Ok, refl, arith}
+use Rattle.std.specs.Prelude.{nat_le}
 use Rattle.std.specs.Int.{Width, w16, w32, byte_len}
 use Rattle.qz_civil.specs.Calendars.{is_annual_day, is_holiday, is_above, are_above, is_list_of, is_day_part, is_calendar_kind}
 use Rattle.qz_civil.specs.declared.calendars.CalendarKind.{CalendarKind}
@@ -8,21 +8,16 @@ use Rattle.qz_civil.specs.declared.calendars.CalendarKind.TheVariants.{Annual, H
 use Rattle.qz_civil.specs.declared.limits.TheConstants.{ANNUAL_LIMIT, HOLIDAY_LIMIT}
 use Rattle.qz_types.specs.Rows.{CalendarData}
 use Rattle.qz_codec.specs.Layout.{number, flag, cron_fields}
-use Rattle.qz_codec.specs.Values.{is_long, IsName}
+use Rattle.qz_codec.specs.Values.{is_long}
 use Rattle.qz_codec.specs.Reading.{as_variant, checked, byte_at, number_at, flag_at, cron_fields_at}
-use Rattle.qz_codec.specs.Lists.{list, AreItems, list_at}
+use Rattle.qz_codec.specs.Lists.{list, list_at}
 use Rattle.qz_codec.specs.Calendars.{calendar_kind, calendar_row, IsCalendarKind, IsCalendarRow, is_next, next_day_at, next_date_at, day_part_at, calendar_kind_at, calendar_row_at}
 use Rattle.qz_codec.proofs.Formats.{IsFormat, Any, Also, Both, field, last, same}
 use Rattle.qz_codec.proofs.SingleFields.{IsWide, one_byte, wide16, wide32, flag_format, optional_format}
 use Rattle.qz_codec.proofs.NameFormats.{name_format, narrowed, narrow_byte}
 use Rattle.qz_codec.proofs.VariantFormats.{IsVariant, variant, read_so, pair, pair_by, regroup, Choices, part, tagged}
-use Rattle.qz_codec.proofs.CronFormats.{IsCronFields, cron_fields_format}
-use Rattle.qz_codec.proofs.ListFormats.{IsList, list_format}
-
-both_true : (a b : Bool) → (a && b) ≡ true → Both (a ≡ true) (b ≡ true)
-both_true true true e = record { first = refl; others = refl }
-both_true true false e = absurd cc
-both_true false b e = absurd cc
+use Rattle.qz_codec.proofs.CronFormats.{both_true, IsCronFields, cron_fields_format}
+use Rattle.qz_codec.proofs.ListFormats.{AreItems, IsList, list_format}
 
 -- ---- ascending lists
 

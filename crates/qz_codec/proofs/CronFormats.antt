@@ -133,7 +133,7 @@ week_choices =
     ∷ (3, nth_at)
     ∷ []
 
-both_true : (a b : Bool) → (a && b) ≡ true → Both (a ≡ true) (b ≡ true)
+pub both_true : (a b : Bool) → (a && b) ≡ true → Both (a ≡ true) (b ≡ true)
 both_true true true e = record { first = refl; others = refl }
 both_true true false e = absurd cc
 both_true false b e = absurd cc

@@ -1,18 +1,23 @@
 -- Lists: those whose items are right are written and read so, and none else is read.
-use Rattle.std.proofs.Common.{◌≡◌, ℕ, zero, suc, ◌+◌, ◌*◌, ◌^◌, ◌<◌, ◌≤◌, Bool, true, false, cond, List, [], ◌∷◌, ◌++◌, length, Option, Some, None, Ok, Err, refl, sym, ap, subst, ◌∙◌, append_assoc, arith}
+use Rattle.std.proofs.Common.{◌≡◌, ℕ, zero, suc, ◌+◌, ◌*◌, ◌^◌, ◌<◌, ◌≤◌, true, cond, List, [], ◌∷◌, ◌++◌, length, Option, Some, None, Ok, Err, refl, sym, ap, subst, ◌∙◌, append_assoc, arith}
 use Rattle.std.specs.Int.{w16}
 use Rattle.std.specs.List.{flat_map}
 use Rattle.std.proofs.Math.Nat.{mul-le-mul_right}
 use Rattle.qz_codec.specs.Layout.{number}
 use Rattle.qz_codec.specs.Values.{is_long}
 use Rattle.qz_codec.specs.Reading.{◌>>=◌, Read, checked, number_at}
-use Rattle.qz_codec.specs.Lists.{list, AreItems, items_at, list_at}
-use Rattle.qz_codec.proofs.Formats.{IsBytes, EndsNear, Takes, IsFormat, Any, Both, bind_ok, ok_is, near_then, guard_ok}
+use Rattle.qz_codec.specs.Lists.{list, items_at, list_at}
+use Rattle.qz_codec.proofs.Formats.{IsBytes, EndsNear, Takes, IsFormat, Any, bind_ok, ok_is, near_then, guard_ok}
 use Rattle.qz_codec.proofs.SingleFields.{wide16, long_le}
 use Rattle.qz_codec.proofs.NameFormats.{narrowed}
 use Rattle.qz_codec.proofs.VariantFormats.{nearer}
 
--- A format of items, each right behind the one before.
+-- each item is right behind the one before; `before` is what stands before the first
+abbrev pub AreItems : {A : Type 0} → (Option A → A → Type 0) → Option A → List A → Type 0
+AreItems IsItem before [] = Unit {0}
+AreItems IsItem before (x ∷ xs) = IsItem before x × AreItems IsItem (Some x) xs
+
+-- a format of items, each behind any one before
 abbrev pub AreFormats : {A : Type 0} → (A → List ℕ) → (Option A → A → Type 0) → (Option A → List ℕ → Read A) → ℕ → Type 0
 AreFormats {A} write Is read m = (before : Option A) → IsFormat write Any (Is before) (read before) m
 

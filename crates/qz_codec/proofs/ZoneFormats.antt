@@ -1,5 +1,5 @@
 -- Zones: each that is valid is written and read so, and none else is read.
-use Rattle.std.proofs.Common.{◌≡◌, ℕ, ◌+◌, ◌<◌, ◌^◌, ℤ, pos, Bool, true, false, ◌&&◌, List, [], ◌∷◌, Option, None, Some, refl, arith}
+use Rattle.std.proofs.Common.{◌≡◌, ℕ, ◌+◌, ℤ, Bool, true, false, ◌&&◌, List, [], ◌∷◌, Option, None, Some, refl, arith}
 use Rattle.std.specs.Prelude.{FitsSigned, option_map, is_none, IsTrue}
 use Rattle.std.specs.Int.{w32, w64}
 use Rattle.std.proofs.lemmas.Int.{ints}
@@ -9,14 +9,14 @@ use Rattle.qz_civil.specs.declared.stretches.Stretch.{Stretch}
 use Rattle.qz_civil.specs.Zones.{is_offset, bad_place, bad_zone}
 use Rattle.qz_types.specs.Rows.{ZoneData}
 use Rattle.qz_codec.specs.Layout.{integer}
-use Rattle.qz_codec.specs.Values.{is_long, IsName, IsNumber}
+use Rattle.qz_codec.specs.Values.{IsNumber}
 use Rattle.qz_codec.specs.Reading.{checked, integer_at}
-use Rattle.qz_codec.specs.Lists.{list, AreItems, list_at}
+use Rattle.qz_codec.specs.Lists.{list, list_at}
 use Rattle.qz_codec.specs.Zones.{stretch, zone_row, IsZoneRow, may_begin, next_stretch_at, zone_row_at}
 use Rattle.qz_codec.proofs.Formats.{IsFormat, Any, Also, field, last, same, those}
 use Rattle.qz_codec.proofs.SingleFields.{wide32, same32, integer_format}
 use Rattle.qz_codec.proofs.NameFormats.{name_format, tested}
-use Rattle.qz_codec.proofs.ListFormats.{IsList, list_format}
+use Rattle.qz_codec.proofs.ListFormats.{AreItems, IsList, list_format}
 
 -- ---- stretches
 

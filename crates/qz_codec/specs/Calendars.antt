@@ -1,5 +1,5 @@
 -- The bytes of a calendar, both ways.
-use Rattle.std.specs.Prelude.{◌≡◌, ℕ, List, [], ◌∷◌, ◌++◌, length, Bool, true, false, ◌&&◌, ◌==◌, Option, IfSome, Ok, Err, if◌then◌else◌}
+use Rattle.std.specs.Prelude.{◌≡◌, ℕ, List, [], ◌∷◌, ◌++◌, length, Bool, true, ◌&&◌, ◌==◌, Option, IfSome, Ok, Err, if◌then◌else◌}
 use Rattle.std.specs.Int.{w16, w32}
 use Rattle.qz_civil.specs.Calendars.{is_annual_day, is_holiday, is_above, is_day_part, is_calendar_kind}
 use Rattle.qz_civil.specs.declared.calendars.CalendarKind.{CalendarKind}

@@ -1,4 +1,4 @@
--- Lists, of whose items each may have a rule together with the one before.
+-- The bytes of lists, both ways.
 use Rattle.std.specs.Prelude.{ℕ, zero, suc, List, [], ◌∷◌, ◌++◌, length, Option, Some, None, Ok}
 use Rattle.std.specs.Int.{w16}
 use Rattle.std.specs.List.{flat_map}
@@ -10,12 +10,7 @@ use Rattle.qz_codec.specs.Reading.{◌>>=◌, Read, checked, number_at}
 abbrev pub list : {A : Type 0} → (A → List ℕ) → List A → List ℕ
 list item xs = number w16 (length xs) ++ flat_map item xs
 
--- each item is right behind the one before; `before` is what stands before the first
-abbrev pub AreItems : {A : Type 0} → (Option A → A → Type 0) → Option A → List A → Type 0
-AreItems IsItem before [] = Unit {0}
-AreItems IsItem before (x ∷ xs) = IsItem before x × AreItems IsItem (Some x) xs
-
--- so many items
+-- So many items. A rule of an item may name the one before; `before` is what stands before the first.
 abbrev pub items_at : {A : Type 0} → (Option A → List ℕ → Read A) → ℕ → Option A → List ℕ → Read (List A)
 items_at read zero before bytes = Ok ([], bytes)
 items_at read (suc n) before bytes = do

@@ -1,11 +1,11 @@
 //! Records of calendars, both ways.
-ghost use Rattle.std.specs.Prelude.{◌≡◌, ◌≤◌, ◌<◌, ◌^◌, ◌++◌, ℕ, IsTrue, IfOk, OnOk, length, Some, None};
+ghost use Rattle.std.specs.Prelude.{◌≡◌, ◌++◌, IsTrue, IfOk, OnOk, None};
 ghost use Rattle.std.specs.Int.{w16, w32};
 ghost use Rattle.std.specs.List.{flat_map};
 ghost use Rattle.qz_civil.specs.Calendars as spec;
 ghost use Rattle.qz_civil.specs.declared.limits.TheConstants.{ANNUAL_LIMIT, HOLIDAY_LIMIT};
 ghost use Rattle.qz_codec.specs.Layout.{number};
-ghost use Rattle.qz_codec.specs.Lists.{list, items_at, list_at};
+ghost use Rattle.qz_codec.specs.Lists.{items_at, list_at};
 ghost use Rattle.qz_codec.specs.Reading.{Gives, checked, byte_at, number_at};
 ghost use Rattle.qz_codec.specs.Calendars as format;
 

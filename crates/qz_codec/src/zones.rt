@@ -1,10 +1,9 @@
 //! Records of zones, both ways.
-ghost use Rattle.std.specs.Prelude.{◌≡◌, ◌≤◌, ◌<◌, ◌^◌, ◌++◌, ℤ, IsTrue, IfOk, OnOk, length, Some, None, option_map};
-ghost use Rattle.std.specs.Int.{w16, w32, w64};
+ghost use Rattle.std.specs.Prelude.{◌≡◌, ◌<◌, ◌^◌, ◌++◌, IfOk, OnOk, length, None, option_map};
+ghost use Rattle.std.specs.Int.{w32, w64};
 ghost use Rattle.std.specs.List.{flat_map};
 ghost use Rattle.qz_civil.specs.Zones as spec;
 ghost use Rattle.qz_civil.specs.declared.limits.TheConstants.{STRETCH_LIMIT};
-ghost use Rattle.qz_codec.specs.Layout.{number, integer};
 ghost use Rattle.qz_codec.specs.Lists.{list, items_at, list_at};
 ghost use Rattle.qz_codec.specs.Reading.{Gives, checked, integer_at};
 ghost use Rattle.qz_codec.specs.Zones as format;
