@@ -1,5 +1,5 @@
 -- Calendars: each that is valid is written and read so, and none else is read.
-use Rattle.std.proofs.Common.{◌≡◌, ℕ, ◌+◌, ◌<◌, ◌^◌, Bool, true, List, [], ◌∷◌, ◌++◌, length, Option, None, Some, Ok, refl, arith}
+use Rattle.std.proofs.Common.{◌≡◌, ℕ, ◌<◌, ◌^◌, Bool, true, List, [], ◌∷◌, ◌++◌, length, Option, None, Some, Ok, refl, arith}
 use Rattle.std.specs.Prelude.{nat_le}
 use Rattle.std.specs.Int.{Width, w16, w32, byte_len}
 use Rattle.qz_civil.specs.Calendars.{is_annual_day, is_holiday, is_above, are_above, is_list_of, is_day_part, is_calendar_kind}

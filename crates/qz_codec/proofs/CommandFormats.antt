@@ -1,23 +1,28 @@
 -- Commands: each is written and read so, where its actor may give it, and none else is read.
-use Rattle.std.proofs.Common.{◌≡◌, ℕ, suc, ◌^◌, ◌<◌, ◌≤◌, ◌+◌, ℤ, Bool, true, false, List, [], ◌∷◌, ◌++◌, length, Option, Some, None, Ok, Err, refl, sym, ap, subst, ◌∙◌, arith, ◌==◌, inl, inr}
+use Rattle.std.proofs.Common.{◌≡◌, ℕ, suc, ◌^◌, ◌<◌, ◌≤◌, ℤ, Bool, true, false, List, [], ◌∷◌, ◌++◌, length, Option, Some, None, Ok, refl, sym, ap, subst, ◌∙◌, arith, ◌==◌, inl, inr}
 use Rattle.std.specs.Int.{w32, w64}
 use Rattle.std.proofs.lemmas.Bool.{eqb-true}
-use Rattle.qz_types.specs.Rows.{JobData}
+use Rattle.qz_types.specs.Rows.{JobData, CalendarData, is_interval}
 use Rattle.qz_types.specs.Entries.{is_of_node}
 use Rattle.qz_types.specs.declared.limits.TheConstants.{ACQUIRE_LIMIT, NODE_LIMIT}
+use Rattle.qz_types.specs.declared.keys.Key.{Key}
 use Rattle.qz_types.specs.declared.triggers.TriggerSpec.{TriggerSpec}
 use Rattle.qz_types.specs.declared.commands.Code.{Code}
 use Rattle.qz_types.specs.declared.commands.Code.TheVariants as code
 use Rattle.qz_types.specs.declared.commands.Command.{Command}
-use Rattle.qz_types.specs.declared.commands.Command.TheVariants.{AddJob, AddTrigger, Join, Acquire, Fire, Complete}
-use Rattle.qz_codec.specs.Layout.{number, integer, flag, text, job, spec, code_place, command}
-use Rattle.qz_codec.specs.Values.{is_long, IsText, IsSpan, IsJob, IsSpec, IsCommand}
-use Rattle.qz_codec.specs.Reading.{Read, checked, byte_at, number_at, flag_at, span_at, job_at, spec_at, code_of, chosen, code_at, add_job_at, add_trigger_at, join_at, acquire_at, fire_at, complete_at, client_command_at, node_command_at}
+use Rattle.qz_types.specs.declared.commands.Command.TheVariants.{AddJob, DeleteJob, AddTrigger, DeleteTrigger, PauseTrigger, ResumeTrigger, PauseGroup, ResumeGroup, AddCalendar, DeleteCalendar, AddZone, DeleteZone, TriggerNow, Threshold, Join, Leave, Acquire, Release, Fire, Complete, Misfires, Recover}
+use Rattle.qz_codec.specs.Layout.{number, integer, flag, text, key, job, spec, code_place, command}
+use Rattle.qz_codec.specs.Zones.{zone_row, IsZoneRow, zone_row_at}
+use Rattle.qz_codec.specs.Calendars.{calendar_row, IsCalendarRow, calendar_row_at}
+use Rattle.qz_codec.specs.Values.{is_long, IsText, IsName, IsNumber, IsSpan, IsKey, IsJob, IsSpec, IsCommand}
+use Rattle.qz_codec.specs.Reading.{Read, as_variant, checked, byte_at, number_at, flag_at, name_at, node_at, span_at, threshold_at, key_at, job_at, spec_at, code_of, chosen, code_at, add_job_at, add_trigger_at, add_calendar_at, acquire_at, complete_at, client_command_at, node_command_at}
 use Rattle.qz_codec.proofs.Formats.{IsBytes, EndsNear, Takes, IsFormat, Any, Both, Passes, ok_is, no_value, those}
 use Rattle.qz_codec.proofs.SingleFields.{IsBytes-rest, wide32, wide64, number_format, flag_format}
-use Rattle.qz_codec.proofs.NameFormats.{node_format, span_format}
-use Rattle.qz_codec.proofs.RowFormats.{job_format, spec_format}
-use Rattle.qz_codec.proofs.VariantFormats.{IsVariant, variant, read_so, pair, regroup, choice, chosen_one}
+use Rattle.qz_codec.proofs.NameFormats.{name_format, node_format, span_format, tested}
+use Rattle.qz_codec.proofs.RowFormats.{key_format, job_format, spec_format}
+use Rattle.qz_codec.proofs.ZoneFormats.{zone_row_format}
+use Rattle.qz_codec.proofs.CalendarFormats.{calendar_row_format}
+use Rattle.qz_codec.proofs.VariantFormats.{IsVariant, variant, read_so, pair, regroup, Part, part, bare, choices_of, are_parts, tagged, choice}
 
 -- ---- codes
 
@@ -96,6 +101,9 @@ make_add_job x = AddJob x.0 x.1
 abbrev make_add_trigger : TriggerSpec × Bool → Command
 make_add_trigger x = AddTrigger x.0 x.1
 
+abbrev make_add_calendar : CalendarData × Bool → Command
+make_add_calendar x = AddCalendar x.0 x.1
+
 abbrev make_complete : ℕ × Code → Command
 make_complete x = Complete x.0 x.1
 
@@ -109,14 +117,6 @@ add_job = read_so add_job_at (variant make_add_job (pair job_format flag_format)
 add_trigger : IsVariant make_add_trigger (λ (x : TriggerSpec × Bool). spec x.0 ++ flag x.1) (λ (x : TriggerSpec × Bool). Both (IsSpec x.0) (Any x.1)) add_trigger_at 1299
 unfolding add_trigger_at
 add_trigger = read_so add_trigger_at (variant make_add_trigger (pair spec_format flag_format)) (λ bytes. regroup make_add_trigger (spec_at bytes) (λ spec. flag_at spec.1) _ (λ spec. refl))
-
-join : IsVariant Join text (IsText 1 NODE_LIMIT) join_at 122
-unfolding join_at
-join = variant Join node_format
-
-fire : IsVariant Fire (number w64) (λ n. n < 2 ^ 64) fire_at 8
-unfolding fire_at
-fire = variant Fire (number_format wide64)
 
 complete : IsVariant make_complete (λ (x : ℕ × Code). number w64 x.0 ++ code_byte x.1) (λ (x : ℕ × Code). Both (x.0 < 2 ^ 64) (Any x.1)) complete_at 9
 unfolding complete_at
@@ -133,112 +133,107 @@ acquire : IsVariant make_acquire (λ (x : ℤ × (ℤ × ℕ)). integer w64 x.0 
 unfolding acquire_at max_at
 acquire = read_so acquire_at (variant make_acquire (pair span_format (pair span_format max_format))) (λ bytes. regroup make_acquire (span_at bytes) _ _ (λ no_later. regroup (λ x. make_acquire (no_later.0, x)) (span_at no_later.1) (λ window. max_at window.1) _ (λ window. refl)))
 
+add_calendar : IsVariant make_add_calendar (λ (x : CalendarData × Bool). calendar_row x.0 ++ flag x.1) (λ (x : CalendarData × Bool). Both (IsCalendarRow x.0) (Any x.1)) add_calendar_at 16995
+unfolding add_calendar_at
+add_calendar = read_so add_calendar_at (variant make_add_calendar (pair calendar_row_format flag_format)) (λ bytes. regroup make_add_calendar (calendar_row_at bytes) (λ calendar. flag_at calendar.1) _ (λ calendar. refl))
+
+add_zone : IsVariant AddZone zone_row IsZoneRow (λ bytes. as_variant AddZone (zone_row_at bytes)) 6348
+add_zone = variant AddZone zone_row_format
+
+of_key : (make : Key → Command) → IsVariant make key IsKey (λ bytes. as_variant make (key_at bytes)) 404
+of_key make = variant make key_format
+
+of_name : (make : List ℕ → Command) → IsVariant make text IsName (λ bytes. as_variant make (name_at bytes)) 202
+of_name make = variant make name_format
+
+of_node : (make : List ℕ → Command) → IsVariant make text (IsText 1 NODE_LIMIT) (λ bytes. as_variant make (node_at bytes)) 122
+of_node make = variant make node_format
+
+of_entry : (make : ℕ → Command) → IsVariant make (number w64) (λ n. n < 2 ^ 64) (λ bytes. as_variant make (number_at w64 bytes)) 8
+of_entry make = variant make (number_format wide64)
+
+threshold : IsVariant Threshold (integer w64) (IsNumber w64 is_interval) (λ bytes. as_variant Threshold (threshold_at bytes)) 8
+threshold = variant Threshold (tested is_interval)
+
 -- ---- commands of a client and of a node
 
 pub record IsGiven (by_node : Bool) (c : Command) : Type 0 where
   pub actor : is_of_node c ≡ by_node
   pub valid : IsCommand c
 
-client_again : (c : Command) (rest : List ℕ) → Unit {0} → IsGiven false c → client_command_at (command c ++ rest) ≡ Ok (c, rest)
-unfolding client_command_at command byte_at
-client_again (AddJob row replace) rest known is = add_job.again (row, replace) rest (record { first = is.valid; others = tt })
-client_again (AddTrigger row replace) rest known is = add_trigger.again (row, replace) rest (record { first = is.valid; others = tt })
-client_again (Join node) rest known is = join.again node rest is.valid
-client_again (Acquire no_later window max) rest known is = absurd (no_bool is.actor) where
-  no_bool : true ≡ false → ⊥
-  no_bool e = absurd cc
-client_again (Fire entry) rest known is = absurd (no_bool is.actor) where
-  no_bool : true ≡ false → ⊥
-  no_bool e = absurd cc
-client_again (Complete entry c) rest known is = absurd (no_bool is.actor) where
-  no_bool : true ≡ false → ⊥
-  no_bool e = absurd cc
+abbrev given_at : Bool → List ℕ → Read Command
+given_at false = client_command_at
+given_at true = node_command_at
 
-node_again : (c : Command) (rest : List ℕ) → Unit {0} → IsGiven true c → node_command_at (command c ++ rest) ≡ Ok (c, rest)
-unfolding node_command_at command byte_at
-node_again (Acquire no_later window max) rest known is = acquire.again (no_later, (window, max)) rest (record { first = is.valid.0; others = record { first = is.valid.1; others = record { fits = is.valid.2; passed = is.valid.3 } } })
-node_again (Fire entry) rest known is = fire.again entry rest is.valid
-node_again (Complete entry c) rest known is = complete.again (entry, c) rest (record { first = is.valid; others = tt })
-node_again (AddJob row replace) rest known is = absurd (no_bool is.actor) where
-  no_bool : false ≡ true → ⊥
-  no_bool e = absurd cc
-node_again (AddTrigger row replace) rest known is = absurd (no_bool is.actor) where
-  no_bool : false ≡ true → ⊥
-  no_bool e = absurd cc
-node_again (Join node) rest known is = absurd (no_bool is.actor) where
-  no_bool : false ≡ true → ⊥
-  no_bool e = absurd cc
+again : (c : Command) (rest : List ℕ) → IsCommand c → given_at (is_of_node c) (command c ++ rest) ≡ Ok (c, rest)
+unfolding client_command_at node_command_at command byte_at
+again (AddJob row replace) rest is = add_job.again (row, replace) rest (record { first = is; others = tt })
+again (DeleteJob k) rest is = (of_key DeleteJob).again k rest is
+again (AddTrigger row replace) rest is = add_trigger.again (row, replace) rest (record { first = is; others = tt })
+again (DeleteTrigger k) rest is = (of_key DeleteTrigger).again k rest is
+again (PauseTrigger k) rest is = (of_key PauseTrigger).again k rest is
+again (ResumeTrigger k) rest is = (of_key ResumeTrigger).again k rest is
+again (PauseGroup group) rest is = (of_name PauseGroup).again group rest is
+again (ResumeGroup group) rest is = (of_name ResumeGroup).again group rest is
+again (AddCalendar row replace) rest is = add_calendar.again (row, replace) rest (record { first = is; others = tt })
+again (DeleteCalendar name) rest is = (of_name DeleteCalendar).again name rest is
+again (AddZone row) rest is = add_zone.again row rest is
+again (DeleteZone name) rest is = (of_name DeleteZone).again name rest is
+again (TriggerNow k) rest is = (of_key TriggerNow).again k rest is
+again (Threshold ms) rest is = threshold.again ms rest is
+again (Join node) rest is = (of_node Join).again node rest is
+again Leave rest is = refl
+again (Acquire no_later window max) rest is = acquire.again (no_later, (window, max)) rest (record { first = is.0; others = record { first = is.1; others = record { fits = is.2; passed = is.3 } } })
+again (Release entry) rest is = (of_entry Release).again entry rest is
+again (Fire entry) rest is = (of_entry Fire).again entry rest is
+again (Complete entry c) rest is = complete.again (entry, c) rest (record { first = is; others = tt })
+again Misfires rest is = refl
+again (Recover node) rest is = (of_node Recover).again node rest is
 
--- A command whose variant was read behind its place.
-given : {A : Type 0} {make : A → Command} {write : A → List ℕ} {Is : A → Type 0} {read : List ℕ → Read Command} {m : ℕ} (by_node : Bool) (place b : ℕ) (bytes : List ℕ) (y : Command × List ℕ)
-    → IsVariant make write Is read m → ((x : A) → place ∷ write x ≡ command (make x)) → ((x : A) → Is x → IsGiven by_node (make x)) → IsBytes bytes → (b == place) ≡ true → read bytes ≡ Ok y → Takes command Any (IsGiven by_node) (b ∷ bytes) y
-given {A} {make} {write} {Is} {read} {m} by_node place b bytes y v spelled valid fits at e =
-    let t = v.takes bytes y fits e in
-    subst (λ (z : Command × List ℕ). Takes command Any (IsGiven by_node) (b ∷ bytes) z) t.2 (record {
-      parts = ap (λ (n : ℕ). n ∷ bytes) (eqb-true b place at) ∙ ap (λ (r : List ℕ). place ∷ r) t.1.parts ∙ ap (λ (r : List ℕ). r ++ t.0.1) (spelled t.0.0);
-      rest = t.1.rest;
-      known = tt;
-      valid = valid t.0.0 t.1.valid;
-    })
+given_again : (by_node : Bool) (c : Command) (rest : List ℕ) → IsGiven by_node c → given_at by_node (command c ++ rest) ≡ Ok (c, rest)
+given_again by_node c rest is = subst (λ (b : Bool). given_at b (command c ++ rest) ≡ Ok (c, rest)) is.actor (again c rest is.valid)
 
-client_takes : (bytes : List ℕ) (y : Command × List ℕ) → IsBytes bytes → client_command_at bytes ≡ Ok y → Takes command Any (IsGiven false) bytes y
-unfolding client_command_at byte_at command
-client_takes [] y fits e = absurd (no_value 0 y e)
-client_takes (b ∷ bytes) y fits e =
-    let inside = IsBytes-rest b bytes fits in
-    elim (choice (b == 0) (add_job_at bytes) _ (Ok y) e) [
-      | inl h ↦ given false 0 b bytes y add_job (λ x. refl) (λ x is. record { actor = refl; valid = is.first }) inside h.0 h.1
-      | inr e1 ↦ elim (choice (b == 2) (add_trigger_at bytes) _ (Ok y) e1) [
-        | inl h ↦ given false 2 b bytes y add_trigger (λ x. refl) (λ x is. record { actor = refl; valid = is.first }) inside h.0 h.1
-        | inr e2 ↦ elim (choice (b == 14) (join_at bytes) _ (Ok y) e2) [
-          | inl h ↦ given false 14 b bytes y join (λ x. refl) (λ x is. record { actor = refl; valid = is }) inside h.0 h.1
-          | inr e3 ↦ absurd (no_value (suc (length bytes)) y e3)
-        ]
-      ]
-    ]
+-- A command behind its place, whose fields are all that it asks for.
+abbrev given : {A : Type 0} {make : A → Command} {write : A → List ℕ} {Is : A → Type 0} {read : List ℕ → Read Command} {m : ℕ} {by_node : Bool} (place : ℕ)
+    → IsVariant make write Is read m → m ≤ 16995 → ((x : A) → place ∷ write x ≡ command (make x)) → ((x : A) → Is x → IsGiven by_node (make x)) → Part command (IsGiven by_node) 16995
+given {A} {make} {write} {Is} {read} {m} {by_node} place v le spelled valid = record { place = place; read = read; is = part place v le spelled valid }
 
-node_takes : (bytes : List ℕ) (y : Command × List ℕ) → IsBytes bytes → node_command_at bytes ≡ Ok y → Takes command Any (IsGiven true) bytes y
-unfolding node_command_at byte_at command
-node_takes [] y fits e = absurd (no_value 0 y e)
-node_takes (b ∷ bytes) y fits e =
-    let inside = IsBytes-rest b bytes fits in
-    elim (choice (b == 16) (acquire_at bytes) _ (Ok y) e) [
-      | inl h ↦ given true 16 b bytes y acquire (λ x. refl) (λ x is. record { actor = refl; valid = (is.first, is.others.first, is.others.others.fits, is.others.others.passed) }) inside h.0 h.1
-      | inr e1 ↦ elim (choice (b == 18) (fire_at bytes) _ (Ok y) e1) [
-        | inl h ↦ given true 18 b bytes y fire (λ x. refl) (λ x is. record { actor = refl; valid = is }) inside h.0 h.1
-        | inr e2 ↦ elim (choice (b == 19) (complete_at bytes) _ (Ok y) e2) [
-          | inl h ↦ given true 19 b bytes y complete (λ x. refl) (λ x is. record { actor = refl; valid = is.first }) inside h.0 h.1
-          | inr e3 ↦ absurd (no_value (suc (length bytes)) y e3)
-        ]
-      ]
-    ]
+client_parts : List (Part command (IsGiven false) 16995)
+unfolding command
+client_parts =
+    given 0 add_job (omega arith) (λ x. refl) (λ x is. record { actor = refl; valid = is.first })
+    ∷ given 1 (of_key DeleteJob) (omega arith) (λ x. refl) (λ x is. record { actor = refl; valid = is })
+    ∷ given 2 add_trigger (omega arith) (λ x. refl) (λ x is. record { actor = refl; valid = is.first })
+    ∷ given 3 (of_key DeleteTrigger) (omega arith) (λ x. refl) (λ x is. record { actor = refl; valid = is })
+    ∷ given 4 (of_key PauseTrigger) (omega arith) (λ x. refl) (λ x is. record { actor = refl; valid = is })
+    ∷ given 5 (of_key ResumeTrigger) (omega arith) (λ x. refl) (λ x is. record { actor = refl; valid = is })
+    ∷ given 6 (of_name PauseGroup) (omega arith) (λ x. refl) (λ x is. record { actor = refl; valid = is })
+    ∷ given 7 (of_name ResumeGroup) (omega arith) (λ x. refl) (λ x is. record { actor = refl; valid = is })
+    ∷ given 8 add_calendar (omega arith) (λ x. refl) (λ x is. record { actor = refl; valid = is.first })
+    ∷ given 9 (of_name DeleteCalendar) (omega arith) (λ x. refl) (λ x is. record { actor = refl; valid = is })
+    ∷ given 10 add_zone (omega arith) (λ x. refl) (λ x is. record { actor = refl; valid = is })
+    ∷ given 11 (of_name DeleteZone) (omega arith) (λ x. refl) (λ x is. record { actor = refl; valid = is })
+    ∷ given 12 (of_key TriggerNow) (omega arith) (λ x. refl) (λ x is. record { actor = refl; valid = is })
+    ∷ given 13 threshold (omega arith) (λ x. refl) (λ x is. record { actor = refl; valid = is })
+    ∷ given 14 (of_node Join) (omega arith) (λ x. refl) (λ x is. record { actor = refl; valid = is })
+    ∷ []
 
-near_of : (m n size : ℕ) (r : Read Command) → m ≤ n → EndsNear m size r → EndsNear (1 + n) (suc size) r
-near_of m n size (Ok x) le p = record { within = omega (arith, p.within); near = omega (arith, p.near) }
-near_of m n size (Err left) le p = record { within = omega (arith, p.within); near = omega (arith, p.near) }
+pub client_format : IsFormat command Any (IsGiven false) client_command_at 16996
+unfolding client_command_at byte_at client_parts
+client_format = tagged 16995 (choices_of client_parts) (are_parts client_parts) refl (λ b bytes. refl) (given_again false)
 
-client_near : (bytes : List ℕ) → EndsNear 4709 (length bytes) (client_command_at bytes)
-unfolding client_command_at byte_at
-client_near [] = record { within = omega arith; near = omega arith }
-client_near (b ∷ bytes) =
-    let P = λ (r : Read Command). EndsNear 4709 (suc (length bytes)) r in
-    chosen_one P (b == 0) _ _ (near_of 4708 4708 (length bytes) (add_job_at bytes) (omega arith) (add_job.near bytes))
-    (chosen_one P (b == 2) _ _ (near_of 1299 4708 (length bytes) (add_trigger_at bytes) (omega arith) (add_trigger.near bytes))
-    (chosen_one P (b == 14) _ _ (near_of 122 4708 (length bytes) (join_at bytes) (omega arith) (join.near bytes))
-    (record { within = omega arith; near = omega arith })))
+node_parts : List (Part command (IsGiven true) 16995)
+unfolding command
+node_parts =
+    record { place = 15; read = λ rest. Ok (Leave, rest); is = bare 15 Leave refl (record { actor = refl; valid = tt }) }
+    ∷ given 16 acquire (omega arith) (λ x. refl) (λ x is. record { actor = refl; valid = (is.first, is.others.first, is.others.others.fits, is.others.others.passed) })
+    ∷ given 17 (of_entry Release) (omega arith) (λ x. refl) (λ x is. record { actor = refl; valid = is })
+    ∷ given 18 (of_entry Fire) (omega arith) (λ x. refl) (λ x is. record { actor = refl; valid = is })
+    ∷ given 19 complete (omega arith) (λ x. refl) (λ x is. record { actor = refl; valid = is.first })
+    ∷ record { place = 20; read = λ rest. Ok (Misfires, rest); is = bare 20 Misfires refl (record { actor = refl; valid = tt }) }
+    ∷ given 21 (of_node Recover) (omega arith) (λ x. refl) (λ x is. record { actor = refl; valid = is })
+    ∷ []
 
-node_near : (bytes : List ℕ) → EndsNear 4709 (length bytes) (node_command_at bytes)
-unfolding node_command_at byte_at
-node_near [] = record { within = omega arith; near = omega arith }
-node_near (b ∷ bytes) =
-    let P = λ (r : Read Command). EndsNear 4709 (suc (length bytes)) r in
-    chosen_one P (b == 16) _ _ (near_of 20 4708 (length bytes) (acquire_at bytes) (omega arith) (acquire.near bytes))
-    (chosen_one P (b == 18) _ _ (near_of 8 4708 (length bytes) (fire_at bytes) (omega arith) (fire.near bytes))
-    (chosen_one P (b == 19) _ _ (near_of 9 4708 (length bytes) (complete_at bytes) (omega arith) (complete.near bytes))
-    (record { within = omega arith; near = omega arith })))
-
-pub client_format : IsFormat command Any (IsGiven false) client_command_at 4709
-client_format = record { again = client_again; takes = client_takes; near = client_near }
-
-pub node_command_format : IsFormat command Any (IsGiven true) node_command_at 4709
-node_command_format = record { again = node_again; takes = node_takes; near = node_near }
+pub node_command_format : IsFormat command Any (IsGiven true) node_command_at 16996
+unfolding node_command_at byte_at node_parts
+node_command_format = tagged 16995 (choices_of node_parts) (are_parts node_parts) refl (λ b bytes. refl) (given_again true)

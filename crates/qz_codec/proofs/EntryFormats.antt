@@ -61,7 +61,7 @@ of_node : (b : Bool) (m : MemberData) → has_actor b (Node m) ≡ true → b �
 of_node true m e = refl
 of_node false m e = e
 
-command_format : (a : Actor) → IsFormat command Any (IsFrom a) (command_at a) 4709
+command_format : (a : Actor) → IsFormat command Any (IsFrom a) (command_at a) 16996
 command_format Client = same {Is' = IsFrom Client} client_format (λ c k. refl) (λ c k p. record { asked = ap (λ (b : Bool). has_actor b Client) p.actor; valid = p.valid }) (λ c k p. record { actor = of_client (is_of_node c) p.asked; valid = p.valid })
 command_format (Node m) = same {Is' = IsFrom (Node m)} node_command_format (λ c k. refl) (λ c k p. record { asked = ap (λ (b : Bool). has_actor b (Node m)) p.actor; valid = p.valid }) (λ c k p. record { actor = of_node (is_of_node c) m p.asked; valid = p.valid })
 
@@ -75,7 +75,7 @@ pub record IsRestOfEntry (e : EntryData) : Type 0 where
 abbrev Free : {A : Type 0} → A → Type 0
 Free x = Unit {0}
 
-pub entry_format : IsFormat entry Any IsEntry entry_at 4852
+pub entry_format : IsFormat entry Any IsEntry entry_at 17139
 unfolding entry entry_at
 entry_format = same {write' = entry} {Is' = IsEntry}
     (field Free (λ (e : EntryData). e.at) (integer_format wide64 same64) (λ at.

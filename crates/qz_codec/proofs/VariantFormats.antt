@@ -110,6 +110,20 @@ abbrev pub AreParts : {C : Type 0} → (C → List ℕ) → (C → Type 0) → �
 AreParts write Is most [] = Unit {0}
 AreParts write Is most (c ∷ cs) = IsPart write Is most c.0 c.1 × AreParts write Is most cs
 
+-- a place, what reads behind it, and that it does
+pub record Part {C : Type 0} (write : C → List ℕ) (Is : C → Type 0) (most : ℕ) : Type 0 where
+  pub place : ℕ
+  pub read : List ℕ → Read C
+  pub is : IsPart write Is most place read
+
+abbrev pub choices_of : {C : Type 0} {write : C → List ℕ} {Is : C → Type 0} {most : ℕ} → List (Part write Is most) → Choices C
+choices_of [] = []
+choices_of (p ∷ ps) = (p.place, p.read) ∷ choices_of ps
+
+pub are_parts : {C : Type 0} {write : C → List ℕ} {Is : C → Type 0} {most : ℕ} (ps : List (Part write Is most)) → AreParts write Is most (choices_of ps)
+are_parts [] = tt
+are_parts (p ∷ ps) = (p.is, are_parts ps)
+
 -- which way a choice went
 pub choice : {A : Type 0} (b : Bool) (x y z : A) → cond b x y ≡ z → ((b ≡ true) × (x ≡ z)) ⊎ (y ≡ z)
 choice true x y z e = inl (refl, e)

@@ -6,9 +6,8 @@ use Rattle.qz_civil.specs.declared.calendars.CalendarKind.{CalendarKind}
 use Rattle.qz_civil.specs.declared.calendars.CalendarKind.TheVariants.{Annual, Holiday, Weekly, Monthly, Daily, Cron}
 use Rattle.qz_civil.specs.declared.limits.TheConstants.{ANNUAL_LIMIT, HOLIDAY_LIMIT}
 use Rattle.qz_types.specs.Rows.{CalendarData}
-use Rattle.qz_codec.specs.Layout.{number, flag, text, optional, cron_fields}
-use Rattle.qz_codec.specs.Values.{IsName}
-use Rattle.qz_codec.specs.Reading.{◌>>=◌, Read, checked, as_variant, byte_at, number_at, flag_at, name_at, optional_at, cron_fields_at}
+use Rattle.qz_codec.specs.Fields.{number, flag, text, optional, IsName, ◌>>=◌, Read, checked, as_variant, byte_at, number_at, flag_at, name_at, optional_at}
+use Rattle.qz_codec.specs.CronFields.{cron_fields, cron_fields_at}
 use Rattle.qz_codec.specs.Lists.{list, list_at}
 
 -- the kind's place, and its fields

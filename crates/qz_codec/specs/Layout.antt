@@ -1,17 +1,11 @@
--- The bytes of an entry's record, type by type. Numbers are big-endian of their type's width, and signed ones in two's
--- complement.
-use Rattle.std.specs.Prelude.{ℕ, ℤ, List, [], ◌∷◌, ◌++◌, length, Bool, true, false, Option, Some, None}
-use Rattle.std.specs.Int.{Width, w8, w16, w32, w64, to_be_bytes, cast_unsigned}
+-- The bytes of an entry's record, type by type. `Fields` has those of single fields.
+use Rattle.std.specs.Prelude.{ℕ, List, [], ◌∷◌, ◌++◌}
+use Rattle.std.specs.Int.{w32, w64}
 use Rattle.qz_civil.specs.declared.timings.Kind.{Kind}
 use Rattle.qz_civil.specs.declared.timings.Kind.TheVariants.{Simple, Cron, Interval, Daily}
 use Rattle.qz_civil.specs.declared.timings.Timing.{Timing}
 use Rattle.qz_civil.specs.declared.timings.Unit.{Unit as Units}
 use Rattle.qz_civil.specs.declared.timings.Unit.TheVariants as units
-use Rattle.qz_civil.specs.declared.fields.CronFields.{CronFields}
-use Rattle.qz_civil.specs.declared.fields.DayField.{DayField}
-use Rattle.qz_civil.specs.declared.fields.DayField.TheVariants as month_days
-use Rattle.qz_civil.specs.declared.fields.WeekField.{WeekField}
-use Rattle.qz_civil.specs.declared.fields.WeekField.TheVariants as week_days
 use Rattle.qz_types.specs.Rows.{JobData, MemberData}
 use Rattle.qz_types.specs.Entries.{EntryData}
 use Rattle.qz_types.specs.declared.keys.Key.{Key}
@@ -19,62 +13,19 @@ use Rattle.qz_types.specs.declared.triggers.TriggerSpec.{TriggerSpec}
 use Rattle.qz_types.specs.declared.commands.Code.{Code}
 use Rattle.qz_types.specs.declared.commands.Code.TheVariants as code
 use Rattle.qz_types.specs.declared.commands.Command.{Command}
-use Rattle.qz_types.specs.declared.commands.Command.TheVariants.{AddJob, AddTrigger, Join, Acquire, Fire, Complete, DeleteJob, DeleteTrigger, PauseTrigger, ResumeTrigger, PauseGroup, ResumeGroup, AddCalendar, DeleteCalendar, AddZone, DeleteZone, TriggerNow, Threshold, Leave, Release, Misfires, Recover}
+use Rattle.qz_types.specs.declared.commands.Command.TheVariants.{AddJob, DeleteJob, AddTrigger, DeleteTrigger, PauseTrigger, ResumeTrigger, PauseGroup, ResumeGroup, AddCalendar, DeleteCalendar, AddZone, DeleteZone, TriggerNow, Threshold, Join, Leave, Acquire, Release, Fire, Complete, Misfires, Recover}
 use Rattle.qz_types.specs.declared.commands.Actor.{Actor}
 use Rattle.qz_types.specs.declared.commands.Actor.TheVariants.{Client, Node}
-
--- an unsigned number
-unfoldable pub number : Width → ℕ → List ℕ
-number w n = to_be_bytes w n
-
--- a signed number
-unfoldable pub integer : Width → ℤ → List ℕ
-integer w z = number w (cast_unsigned w z)
-
--- a signed number of one byte
-unfoldable pub small : ℤ → List ℕ
-small z = cast_unsigned w8 z ∷ []
-
-abbrev pub flag : Bool → List ℕ
-flag false = 0 ∷ []
-flag true = 1 ∷ []
-
--- the length in two bytes, and the bytes
-unfoldable pub text : List ℕ → List ℕ
-text s = number w16 (length s) ++ s
-
--- a flag, and the value where there is one
-abbrev pub optional : {A : Type 0} → (A → List ℕ) → Option A → List ℕ
-optional value None = 0 ∷ []
-optional value (Some x) = 1 ∷ value x
+use Rattle.qz_codec.specs.Zones.{zone_row}
+use Rattle.qz_codec.specs.Calendars.{calendar_row}
+unfoldable pub use Rattle.qz_codec.specs.Fields.{number, integer, small, flag, text, optional}
+unfoldable pub use Rattle.qz_codec.specs.CronFields.{day_field, week_field, words, cron_fields}
 
 unfoldable pub key : Key → List ℕ
 key k = text k.group ++ text k.name
 
 unfoldable pub job : JobData → List ℕ
 job j = key j.key ++ (text j.class ++ (flag j.durable ++ (flag j.no_concurrent ++ (flag j.requests_recovery ++ text j.payload))))
-
--- the variant's place, and its fields
-unfoldable pub day_field : DayField → List ℕ
-day_field month_days.Any = 0 ∷ []
-day_field (month_days.Set set) = 1 ∷ number w32 set
-day_field (month_days.Last back) = 2 ∷ back ∷ []
-day_field month_days.LastWeekday = 3 ∷ []
-day_field (month_days.Nearest day) = 4 ∷ day ∷ []
-
-unfoldable pub week_field : WeekField → List ℕ
-week_field week_days.Any = 0 ∷ []
-week_field (week_days.Set set) = 1 ∷ set ∷ []
-week_field (week_days.Last day) = 2 ∷ day ∷ []
-week_field (week_days.Nth day nth) = 3 ∷ day ∷ nth ∷ []
-
--- words of 64 years each
-unfoldable pub words : List ℕ → List ℕ
-words [] = []
-words (w ∷ ws) = number w64 w ++ words ws
-
-unfoldable pub cron_fields : CronFields → List ℕ
-cron_fields f = number w64 f.seconds ++ (number w64 f.minutes ++ (number w32 f.hours ++ (day_field f.day ++ (number w16 f.months ++ (week_field f.week ++ words f.years)))))
 
 abbrev pub unit_place : Units → ℕ
 unit_place units.Second = 0
@@ -114,30 +65,58 @@ code_place code.SetAllJobTriggersComplete = 4
 code_place code.SetTriggerError = 5
 code_place code.SetAllJobTriggersError = 6
 
--- The place of the command among all twenty-two that the format has, and its fields.
+-- the place of a command among all commands
+abbrev pub command_place : Command → ℕ
+command_place (AddJob row replace) = 0
+command_place (DeleteJob k) = 1
+command_place (AddTrigger row replace) = 2
+command_place (DeleteTrigger k) = 3
+command_place (PauseTrigger k) = 4
+command_place (ResumeTrigger k) = 5
+command_place (PauseGroup group) = 6
+command_place (ResumeGroup group) = 7
+command_place (AddCalendar row replace) = 8
+command_place (DeleteCalendar name) = 9
+command_place (AddZone row) = 10
+command_place (DeleteZone name) = 11
+command_place (TriggerNow k) = 12
+command_place (Threshold ms) = 13
+command_place (Join node) = 14
+command_place Leave = 15
+command_place (Acquire no_later window max) = 16
+command_place (Release entry) = 17
+command_place (Fire entry) = 18
+command_place (Complete entry c) = 19
+command_place Misfires = 20
+command_place (Recover node) = 21
+
+-- its fields, in their order
+abbrev pub command_fields : Command → List ℕ
+command_fields (AddJob row replace) = job row ++ flag replace
+command_fields (DeleteJob k) = key k
+command_fields (AddTrigger row replace) = spec row ++ flag replace
+command_fields (DeleteTrigger k) = key k
+command_fields (PauseTrigger k) = key k
+command_fields (ResumeTrigger k) = key k
+command_fields (PauseGroup group) = text group
+command_fields (ResumeGroup group) = text group
+command_fields (AddCalendar row replace) = calendar_row row ++ flag replace
+command_fields (DeleteCalendar name) = text name
+command_fields (AddZone row) = zone_row row
+command_fields (DeleteZone name) = text name
+command_fields (TriggerNow k) = key k
+command_fields (Threshold ms) = integer w64 ms
+command_fields (Join node) = text node
+command_fields Leave = []
+command_fields (Acquire no_later window max) = integer w64 no_later ++ (integer w64 window ++ number w32 max)
+command_fields (Release entry) = number w64 entry
+command_fields (Fire entry) = number w64 entry
+command_fields (Complete entry c) = number w64 entry ++ code_place c ∷ []
+command_fields Misfires = []
+command_fields (Recover node) = text node
+
 unfoldable pub command : Command → List ℕ
-command (AddJob row replace) = 0 ∷ (job row ++ flag replace)
-command (AddTrigger row replace) = 2 ∷ (spec row ++ flag replace)
-command (Join node) = 14 ∷ text node
-command (Acquire no_later window max) = 16 ∷ (integer w64 no_later ++ (integer w64 window ++ number w32 max))
-command (Fire entry) = 18 ∷ number w64 entry
-command (Complete entry c) = 19 ∷ (number w64 entry ++ code_place c ∷ [])
-command (DeleteJob key) = []
-command (DeleteTrigger key) = []
-command (PauseTrigger key) = []
-command (ResumeTrigger key) = []
-command (PauseGroup group) = []
-command (ResumeGroup group) = []
-command (AddCalendar calendar replace) = []
-command (DeleteCalendar name) = []
-command (AddZone zone) = []
-command (DeleteZone name) = []
-command (TriggerNow job) = []
-command (Threshold ms) = []
-command Leave = []
-command (Release entry) = []
-command Misfires = []
-command (Recover node) = []
+command c = command_place c ∷ command_fields c
 
 unfoldable pub entry : EntryData → List ℕ
 entry e = integer w64 e.at ++ (actor e.actor ++ (number w32 e.seat ++ command e.command))

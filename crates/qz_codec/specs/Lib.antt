@@ -1,4 +1,6 @@
 pub mod Formats
+pub mod Fields
+pub mod CronFields
 pub mod Layout
 pub mod Reading
 pub mod Values

@@ -2,9 +2,7 @@
 use Rattle.std.specs.Prelude.{ℕ, zero, suc, List, [], ◌∷◌, ◌++◌, length, Option, Some, None, Ok}
 use Rattle.std.specs.Int.{w16}
 use Rattle.std.specs.List.{flat_map}
-use Rattle.qz_codec.specs.Layout.{number}
-use Rattle.qz_codec.specs.Values.{is_long}
-use Rattle.qz_codec.specs.Reading.{◌>>=◌, Read, checked, number_at}
+use Rattle.qz_codec.specs.Fields.{number, is_long, ◌>>=◌, Read, checked, number_at}
 
 -- how many items there are, and the items
 abbrev pub list : {A : Type 0} → (A → List ℕ) → List A → List ℕ

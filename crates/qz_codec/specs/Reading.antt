@@ -1,18 +1,8 @@
--- Reading a record from left to right. A reader answers the value and the bytes behind it, or how many bytes are left
--- from the first byte of the first wrong field on. A field is wrong where it isn't whole, is out of its range or breaks a
--- rule together with the fields before it.
-use Rattle.std.specs.Prelude.{◌≡◌, ℕ, ℤ, ◌-◌, ◌*◌, ◌^◌, List, [], ◌∷◌, length, take, drop, nat_lt, nat_le, ◌==◌, ◌&&◌, Bool, true, false, Option, Some, None, Result, Ok, Err, if◌then◌else◌}
-use Rattle.std.specs.Int.{Width, w8, w16, w32, w64, byte_len, from_be_bytes, cast_signed}
-use Rattle.std.specs.Str.{is_utf8}
-use Rattle.qz_civil.specs.declared.fields.CronFields.{CronFields}
-use Rattle.qz_civil.specs.declared.fields.DayField.{DayField}
-use Rattle.qz_civil.specs.declared.fields.DayField.TheVariants as month_days
-use Rattle.qz_civil.specs.declared.fields.Field.{Field}
-use Rattle.qz_civil.specs.declared.fields.Field.TheVariants.{Seconds, Minutes, Hours, DayOfMonth, Month, DayOfWeek, Year}
-use Rattle.qz_civil.specs.declared.fields.WeekField.{WeekField}
-use Rattle.qz_civil.specs.declared.fields.WeekField.TheVariants as week_days
-use Rattle.qz_civil.specs.Fields.{is_set, is_value, is_any_day, is_year_set, size}
-use Rattle.qz_civil.specs.Timings.{is_span, is_kind, is_misfire, is_every, is_day_set, seconds}
+-- Reading a record from left to right. `Fields` says what a reader answers.
+use Rattle.std.specs.Prelude.{◌≡◌, ℕ, ◌-◌, ◌*◌, List, length, nat_lt, nat_le, ◌==◌, ◌&&◌, Bool, Option, Some, None, Result, Ok, Err, if◌then◌else◌}
+use Rattle.std.specs.Int.{w32, w64}
+use Rattle.qz_civil.specs.Fields.{size}
+use Rattle.qz_civil.specs.Timings.{is_kind, is_misfire, is_every, is_day_set, seconds}
 use Rattle.qz_civil.specs.declared.timings.Kind.{Kind}
 use Rattle.qz_civil.specs.declared.timings.Kind.TheVariants.{Simple, Cron, Interval, Daily}
 use Rattle.qz_civil.specs.declared.timings.Timing.{Timing}
@@ -20,14 +10,13 @@ use Rattle.qz_civil.specs.declared.timings.Unit.{Unit as Units}
 use Rattle.qz_civil.specs.declared.timings.Unit.TheVariants as units
 use Rattle.qz_types.specs.Rows.{JobData, MemberData}
 use Rattle.qz_types.specs.Entries.{EntryData}
-use Rattle.qz_civil.specs.declared.limits.TheConstants.{NAME_LIMIT}
-use Rattle.qz_types.specs.declared.limits.TheConstants.{ACQUIRE_LIMIT, NODE_LIMIT, PAYLOAD_LIMIT}
+use Rattle.qz_types.specs.declared.limits.TheConstants.{ACQUIRE_LIMIT, PAYLOAD_LIMIT}
 use Rattle.qz_types.specs.declared.keys.Key.{Key}
 use Rattle.qz_types.specs.declared.triggers.TriggerSpec.{TriggerSpec}
 use Rattle.qz_types.specs.declared.commands.Code.{Code}
 use Rattle.qz_types.specs.declared.commands.Code.TheVariants as code
 use Rattle.qz_types.specs.declared.commands.Command.{Command}
-use Rattle.qz_types.specs.declared.commands.Command.TheVariants.{AddJob, AddTrigger, Join, Acquire, Fire, Complete}
+use Rattle.qz_types.specs.declared.commands.Command.TheVariants.{AddJob, DeleteJob, AddTrigger, DeleteTrigger, PauseTrigger, ResumeTrigger, PauseGroup, ResumeGroup, AddCalendar, DeleteCalendar, AddZone, DeleteZone, TriggerNow, Threshold, Join, Leave, Acquire, Release, Fire, Complete, Misfires, Recover}
 use Rattle.qz_types.specs.declared.commands.Actor.{Actor}
 use Rattle.qz_types.specs.declared.commands.Actor.TheVariants.{Client, Node}
 use Rattle.qz_codec.specs.Values.{is_long}
@@ -35,14 +24,10 @@ use Rattle.qz_codec.specs.declared.errors.ReadError.{ReadError}
 use Rattle.qz_codec.specs.declared.errors.ReadError.TheVariants as errors
 use Rattle.qz_codec.specs.declared.errors.Fault.{Fault}
 use Rattle.qz_codec.specs.declared.errors.Fault.TheVariants as faults
-
-infixl 10 ◌>>=◌
-abbrev pub ◌>>=◌ : {A B : Type 0} → Result A ℕ → (A → Result B ℕ) → Result B ℕ
-(Ok x) >>= f = f x
-(Err left) >>= f = Err left
-
-abbrev pub Read : Type 0 → Type 0
-Read A = Result (A × List ℕ) ℕ
+use Rattle.qz_codec.specs.Zones.{zone_row_at}
+use Rattle.qz_codec.specs.Calendars.{calendar_row_at}
+unfoldable pub use Rattle.qz_codec.specs.Fields.{◌>>=◌, Read, checked, byte_at, number_at, integer_at, small_at, flag_at, text_at, name_at, node_at, span_at, threshold_at, optional_at, as_variant}
+unfoldable pub use Rattle.qz_codec.specs.CronFields.{set_at, day_at, nth_at, named_week_at, any_week_at, week_at, years_at, cron_fields_at}
 
 -- What a function answered is what reading gives, unless memory ran out.
 abbrev pub Fails : {Y : Type 0} → Fault → Result Y ℕ → Type 0
@@ -52,58 +37,6 @@ Fails (faults.Wrong left) read = read ≡ Err left
 abbrev pub Gives : {X Y : Type 0} → (X → Y) → Result X Fault → Result Y ℕ → Type 0
 Gives view (Ok x) read = read ≡ Ok (view x)
 Gives view (Err e) read = Fails e read
-
--- a field, of which only the values that pass the test are right
-abbrev pub checked : {A : Type 0} → (A → Bool) → (List ℕ → Read A) → List ℕ → Read A
-checked passes read bytes = do
-  x ← read bytes
-  if passes x.0 then Ok x else Err (length bytes)
-
-unfoldable pub byte_at : List ℕ → Read ℕ
-byte_at [] = Err 0
-byte_at (b ∷ rest) = Ok (b, rest)
-
-unfoldable pub number_at : Width → List ℕ → Read ℕ
-number_at w bytes = if nat_lt (length bytes) (byte_len w) then Err (length bytes) else Ok (from_be_bytes w (take (byte_len w) bytes), drop (byte_len w) bytes)
-
-unfoldable pub integer_at : Width → List ℕ → Read ℤ
-integer_at w bytes = do
-  n ← number_at w bytes
-  Ok (cast_signed w n.0, n.1)
-
-unfoldable pub small_at : List ℕ → Read ℤ
-small_at bytes = do
-  n ← byte_at bytes
-  Ok (cast_signed w8 n.0, n.1)
-
-unfoldable pub flag_at : List ℕ → Read Bool
-flag_at bytes = do
-  n ← byte_at bytes
-  if n.0 == 0 then Ok (false, n.1)
-      else if n.0 == 1 then Ok (true, n.1)
-      else Err (length bytes)
-
--- The length is the field that is wrong where it is out of its range, and the bytes where they are cut or no UTF-8.
-unfoldable pub text_at : ℕ → ℕ → List ℕ → Read (List ℕ)
-text_at least most bytes = do
-  n ← checked (is_long least most) (number_at w16) bytes
-  if nat_le n.0 (length n.1) && is_utf8 (take n.0 n.1)
-      then Ok (take n.0 n.1, drop n.0 n.1)
-      else Err (length n.1)
-
-abbrev pub name_at : List ℕ → Read (List ℕ)
-name_at bytes = text_at 1 NAME_LIMIT bytes
-
-abbrev pub node_at : List ℕ → Read (List ℕ)
-node_at bytes = text_at 1 NODE_LIMIT bytes
-
-abbrev pub span_at : List ℕ → Read ℤ
-span_at bytes = checked is_span (integer_at w64) bytes
-
-abbrev pub optional_at : {A : Type 0} → (List ℕ → Read A) → List ℕ → Read (Option A)
-optional_at read bytes = do
-  some ← flag_at bytes
-  if some.0 then (read some.1 >>= λ x. Ok (Some x.0, x.1)) else Ok (None, some.1)
 
 unfoldable pub key_at : List ℕ → Read Key
 key_at bytes = do
@@ -129,78 +62,6 @@ job_at bytes = do
       payload = payload.0;
     },
     payload.1,
-  )
-
--- a set of a field's values
-abbrev pub set_at : Field → Width → List ℕ → Read ℕ
-set_at f w bytes = checked (is_set f) (number_at w) bytes
-
--- what was read, as a variant's fields
-abbrev pub as_variant : {A B : Type 0} → (A → B) → Read A → Read B
-as_variant make r = r >>= λ x. Ok (make x.0, x.1)
-
-unfoldable pub day_at : List ℕ → Read DayField
-day_at bytes = do
-  place ← byte_at bytes
-  if place.0 == 0 then Ok (month_days.Any, place.1)
-      else if place.0 == 1 then as_variant month_days.Set (set_at DayOfMonth w32 place.1)
-      else if place.0 == 2 then as_variant month_days.Last (checked (λ n. nat_le n 30) byte_at place.1)
-      else if place.0 == 3 then Ok (month_days.LastWeekday, place.1)
-      else if place.0 == 4 then as_variant month_days.Nearest (checked (is_value DayOfMonth) byte_at place.1)
-      else Err (length bytes)
-
-unfoldable pub nth_at : List ℕ → Read WeekField
-nth_at bytes = do
-  day ← checked (is_value DayOfWeek) byte_at bytes
-  nth ← checked (λ n. nat_le 1 n && nat_le n 5) byte_at day.1
-  Ok (week_days.Nth day.0 nth.0, nth.1)
-
--- Of the month's days and the week's just one says nothing: where the month's do, the week's don't.
-unfoldable pub named_week_at : List ℕ → Read WeekField
-named_week_at bytes = do
-  place ← byte_at bytes
-  if place.0 == 1 then as_variant week_days.Set (checked (is_set DayOfWeek) byte_at place.1)
-      else if place.0 == 2 then as_variant week_days.Last (checked (is_value DayOfWeek) byte_at place.1)
-      else if place.0 == 3 then nth_at place.1
-      else Err (length bytes)
-
-unfoldable pub any_week_at : List ℕ → Read WeekField
-any_week_at bytes = do
-  place ← byte_at bytes
-  if place.0 == 0 then Ok (week_days.Any, place.1) else Err (length bytes)
-
-abbrev pub week_at : DayField → List ℕ → Read WeekField
-week_at day bytes = if is_any_day day then named_week_at bytes else any_week_at bytes
-
--- The third word has no bit beyond the last year, and the fourth has none. It is wrong too where no word has a year.
-unfoldable pub years_at : List ℕ → Read (List ℕ)
-years_at bytes = do
-  first ← number_at w64 bytes
-  second ← number_at w64 first.1
-  third ← checked (λ w. nat_lt w (2 ^ (size Year - 128))) (number_at w64) second.1
-  fourth ← checked (λ w. is_year_set (first.0 ∷ second.0 ∷ third.0 ∷ w ∷ [])) (number_at w64) third.1
-  Ok (first.0 ∷ second.0 ∷ third.0 ∷ fourth.0 ∷ [], fourth.1)
-
-unfoldable pub cron_fields_at : List ℕ → Read CronFields
-cron_fields_at bytes = do
-  seconds ← set_at Seconds w64 bytes
-  minutes ← set_at Minutes w64 seconds.1
-  hours ← set_at Hours w32 minutes.1
-  day ← day_at hours.1
-  months ← set_at Month w16 day.1
-  week ← week_at day.0 months.1
-  years ← years_at week.1
-  Ok (
-    record {
-      seconds = seconds.0;
-      minutes = minutes.0;
-      hours = hours.0;
-      day = day.0;
-      months = months.0;
-      week = week.0;
-      years = years.0;
-    },
-    years.1,
   )
 
 unfoldable pub unit_at : List ℕ → Read Units
@@ -327,10 +188,11 @@ add_trigger_at bytes = do
   replace ← flag_at spec.1
   Ok (AddTrigger spec.0 replace.0, replace.1)
 
-unfoldable pub join_at : List ℕ → Read Command
-join_at bytes = do
-  node ← node_at bytes
-  Ok (Join node.0, node.1)
+unfoldable pub add_calendar_at : List ℕ → Read Command
+add_calendar_at bytes = do
+  calendar ← calendar_row_at bytes
+  replace ← flag_at calendar.1
+  Ok (AddCalendar calendar.0 replace.0, replace.1)
 
 unfoldable pub acquire_at : List ℕ → Read Command
 acquire_at bytes = do
@@ -338,11 +200,6 @@ acquire_at bytes = do
   window ← span_at no_later.1
   max ← checked (is_long 1 ACQUIRE_LIMIT) (number_at w32) window.1
   Ok (Acquire no_later.0 window.0 max.0, max.1)
-
-unfoldable pub fire_at : List ℕ → Read Command
-fire_at bytes = do
-  entry ← number_at w64 bytes
-  Ok (Fire entry.0, entry.1)
 
 unfoldable pub complete_at : List ℕ → Read Command
 complete_at bytes = do
@@ -355,17 +212,33 @@ unfoldable pub client_command_at : List ℕ → Read Command
 client_command_at bytes = do
   place ← byte_at bytes
   if place.0 == 0 then add_job_at place.1
+      else if place.0 == 1 then as_variant DeleteJob (key_at place.1)
       else if place.0 == 2 then add_trigger_at place.1
-      else if place.0 == 14 then join_at place.1
+      else if place.0 == 3 then as_variant DeleteTrigger (key_at place.1)
+      else if place.0 == 4 then as_variant PauseTrigger (key_at place.1)
+      else if place.0 == 5 then as_variant ResumeTrigger (key_at place.1)
+      else if place.0 == 6 then as_variant PauseGroup (name_at place.1)
+      else if place.0 == 7 then as_variant ResumeGroup (name_at place.1)
+      else if place.0 == 8 then add_calendar_at place.1
+      else if place.0 == 9 then as_variant DeleteCalendar (name_at place.1)
+      else if place.0 == 10 then as_variant AddZone (zone_row_at place.1)
+      else if place.0 == 11 then as_variant DeleteZone (name_at place.1)
+      else if place.0 == 12 then as_variant TriggerNow (key_at place.1)
+      else if place.0 == 13 then as_variant Threshold (threshold_at place.1)
+      else if place.0 == 14 then as_variant Join (node_at place.1)
       else Err (length bytes)
 
 -- a command that a node gives under its epoch
 unfoldable pub node_command_at : List ℕ → Read Command
 node_command_at bytes = do
   place ← byte_at bytes
-  if place.0 == 16 then acquire_at place.1
-      else if place.0 == 18 then fire_at place.1
+  if place.0 == 15 then Ok (Leave, place.1)
+      else if place.0 == 16 then acquire_at place.1
+      else if place.0 == 17 then as_variant Release (number_at w64 place.1)
+      else if place.0 == 18 then as_variant Fire (number_at w64 place.1)
       else if place.0 == 19 then complete_at place.1
+      else if place.0 == 20 then Ok (Misfires, place.1)
+      else if place.0 == 21 then as_variant Recover (node_at place.1)
       else Err (length bytes)
 
 abbrev pub command_at : Actor → List ℕ → Read Command

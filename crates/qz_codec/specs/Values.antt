@@ -1,7 +1,6 @@
 -- Which entries have a record: numbers fit their types, texts are UTF-8, and everything is within its limits.
-use Rattle.std.specs.Prelude.{◌≡◌, ℕ, ℤ, ◌^◌, ◌<◌, List, length, nat_le, ◌&&◌, Bool, true, IfSome, FitsSigned}
-use Rattle.std.specs.Int.{Width, w8, w32, w64}
-use Rattle.std.specs.Str.{IsUtf8}
+use Rattle.std.specs.Prelude.{◌≡◌, ℕ, ℤ, ◌^◌, ◌<◌, List, length, true, IfSome, FitsSigned}
+use Rattle.std.specs.Int.{w8, w32, w64}
 use Rattle.qz_civil.specs.declared.fields.CronFields.{CronFields}
 use Rattle.qz_civil.specs.Fields.{is_cron_fields}
 use Rattle.qz_civil.specs.Timings.{is_span, is_kind, is_misfire, is_every, is_daily_time, is_day_set}
@@ -9,33 +8,18 @@ use Rattle.qz_civil.specs.declared.timings.Kind.{Kind}
 use Rattle.qz_civil.specs.declared.timings.Kind.TheVariants.{Simple, Cron, Interval, Daily}
 use Rattle.qz_civil.specs.declared.timings.Timing.{Timing}
 use Rattle.qz_civil.specs.declared.timings.Unit.{Unit as Units}
-use Rattle.qz_types.specs.Rows.{JobData, MemberData}
+use Rattle.qz_types.specs.Rows.{JobData, MemberData, is_interval}
 use Rattle.qz_types.specs.Entries.{EntryData, has_actor, is_of_node}
-use Rattle.qz_civil.specs.declared.limits.TheConstants.{NAME_LIMIT}
 use Rattle.qz_types.specs.declared.limits.TheConstants.{ACQUIRE_LIMIT, NODE_LIMIT, PAYLOAD_LIMIT}
 use Rattle.qz_types.specs.declared.keys.Key.{Key}
 use Rattle.qz_types.specs.declared.triggers.TriggerSpec.{TriggerSpec}
 use Rattle.qz_types.specs.declared.commands.Command.{Command}
-use Rattle.qz_types.specs.declared.commands.Command.TheVariants.{AddJob, AddTrigger, Join, Acquire, Fire, Complete, DeleteJob, DeleteTrigger, PauseTrigger, ResumeTrigger, PauseGroup, ResumeGroup, AddCalendar, DeleteCalendar, AddZone, DeleteZone, TriggerNow, Threshold, Leave, Release, Misfires, Recover}
+use Rattle.qz_types.specs.declared.commands.Command.TheVariants.{AddJob, DeleteJob, AddTrigger, DeleteTrigger, PauseTrigger, ResumeTrigger, PauseGroup, ResumeGroup, AddCalendar, DeleteCalendar, AddZone, DeleteZone, TriggerNow, Threshold, Join, Leave, Acquire, Release, Fire, Complete, Misfires, Recover}
 use Rattle.qz_types.specs.declared.commands.Actor.{Actor}
 use Rattle.qz_types.specs.declared.commands.Actor.TheVariants.{Client, Node}
-
--- a text of at least and at most so many bytes
-abbrev pub is_long : ℕ → ℕ → ℕ → Bool
-is_long least most n = nat_le least n && nat_le n most
-
-pub record IsText (least most : ℕ) (s : List ℕ) : Type 0 where
-  pub size : is_long least most (length s) ≡ true
-  pub utf8 : IsUtf8 s
-
--- a group, name, class or calendar
-abbrev pub IsName : List ℕ → Type 0
-IsName s = IsText 1 NAME_LIMIT s
-
--- a signed number of this width that a test lets pass
-pub record IsNumber (w : Width) (passes : ℤ → Bool) (z : ℤ) : Type 0 where
-  pub fits : FitsSigned w z
-  pub passed : passes z ≡ true
+use Rattle.qz_codec.specs.Zones.{IsZoneRow}
+use Rattle.qz_codec.specs.Calendars.{IsCalendarRow}
+pub use Rattle.qz_codec.specs.Fields.{is_long, IsText, IsName, IsNumber}
 
 -- a start, an end or a span of time
 abbrev pub IsSpan : ℤ → Type 0
@@ -93,27 +77,27 @@ IsActor (Node m) = IsMember m
 
 abbrev pub IsCommand : Command → Type 0
 IsCommand (AddJob job replace) = IsJob job
+IsCommand (DeleteJob key) = IsKey key
 IsCommand (AddTrigger spec replace) = IsSpec spec
+IsCommand (DeleteTrigger key) = IsKey key
+IsCommand (PauseTrigger key) = IsKey key
+IsCommand (ResumeTrigger key) = IsKey key
+IsCommand (PauseGroup group) = IsName group
+IsCommand (ResumeGroup group) = IsName group
+IsCommand (AddCalendar calendar replace) = IsCalendarRow calendar
+IsCommand (DeleteCalendar name) = IsName name
+IsCommand (AddZone zone) = IsZoneRow zone
+IsCommand (DeleteZone name) = IsName name
+IsCommand (TriggerNow job) = IsKey job
+IsCommand (Threshold ms) = IsNumber w64 is_interval ms
 IsCommand (Join node) = IsText 1 NODE_LIMIT node
+IsCommand Leave = Unit {0}
 IsCommand (Acquire no_later window max) = IsSpan no_later × IsSpan window × (max < 2 ^ 32) × (is_long 1 ACQUIRE_LIMIT max ≡ true)
+IsCommand (Release entry) = entry < 2 ^ 64
 IsCommand (Fire entry) = entry < 2 ^ 64
 IsCommand (Complete entry code) = entry < 2 ^ 64
-IsCommand (DeleteJob key) = Unit {0}
-IsCommand (DeleteTrigger key) = Unit {0}
-IsCommand (PauseTrigger key) = Unit {0}
-IsCommand (ResumeTrigger key) = Unit {0}
-IsCommand (PauseGroup group) = Unit {0}
-IsCommand (ResumeGroup group) = Unit {0}
-IsCommand (AddCalendar calendar replace) = Unit {0}
-IsCommand (DeleteCalendar name) = Unit {0}
-IsCommand (AddZone zone) = Unit {0}
-IsCommand (DeleteZone name) = Unit {0}
-IsCommand (TriggerNow job) = Unit {0}
-IsCommand (Threshold ms) = Unit {0}
-IsCommand Leave = Unit {0}
-IsCommand (Release entry) = Unit {0}
 IsCommand Misfires = Unit {0}
-IsCommand (Recover node) = Unit {0}
+IsCommand (Recover node) = IsText 1 NODE_LIMIT node
 
 pub record IsEntry (e : EntryData) : Type 0 where
   pub at : FitsSigned w64 e.at

@@ -6,9 +6,7 @@ use Rattle.qz_civil.specs.Zones.{is_offset, is_apart, bad_zone}
 use Rattle.qz_civil.specs.declared.limits.TheConstants.{STRETCH_LIMIT}
 use Rattle.qz_civil.specs.declared.stretches.Stretch.{Stretch}
 use Rattle.qz_types.specs.Rows.{ZoneData}
-use Rattle.qz_codec.specs.Layout.{integer, text}
-use Rattle.qz_codec.specs.Values.{IsName}
-use Rattle.qz_codec.specs.Reading.{◌>>=◌, Read, checked, integer_at, name_at}
+use Rattle.qz_codec.specs.Fields.{integer, text, IsName, ◌>>=◌, Read, checked, integer_at, name_at}
 use Rattle.qz_codec.specs.Lists.{list, list_at}
 
 unfoldable pub stretch : Stretch → List ℕ

@@ -1,119 +1,21 @@
 //! Reading commands.
-ghost use Rattle.std.specs.Prelude.{◌≡◌, ◌≤◌, ℕ, IsTrue, IfOk, true, false};
-ghost use Rattle.std.specs.Int.{w32};
+ghost use Rattle.std.specs.Prelude.{◌≡◌, IsTrue, IfOk, true, false};
 ghost use Rattle.qz_types.specs.Entries.{is_command, is_of_node, has_actor};
-ghost use Rattle.qz_codec.specs.Values.{is_long};
-ghost use Rattle.qz_codec.specs.Reading.{Gives, checked, number_at, code_of, code_at, add_job_at, add_trigger_at, join_at, acquire_at, fire_at, complete_at, client_command_at, node_command_at, command_at};
+ghost use Rattle.qz_codec.specs.Reading.{Gives, client_command_at, node_command_at, command_at};
+
+mod client;
+mod node;
 
 use crate::errors::Fault;
-use crate::fields::{bool_at, span_of, u8_at, u32_at, u64_at};
-use crate::rows::{job_of, node_of, spec_of};
-use qz_types::{ACQUIRE_LIMIT, Actor, Code, Command, Text};
+use crate::fields::u8_at;
+use client::{
+    add_calendar_of, add_job_of, add_trigger_of, add_zone_of, delete_calendar_of, delete_job_of,
+    delete_trigger_of, delete_zone_of, join_of, pause_group_of, pause_trigger_of, resume_group_of,
+    resume_trigger_of, threshold_of, trigger_now_of,
+};
+use node::{acquire_of, complete_of, fire_of, recover_of, release_of};
+use qz_types::{Actor, Command};
 use std::alloc::Global;
-
-/// The code at this place among all codes.
-fn code_at_place(place: u8) -> Option<Code>
-    ensures { result ≡ code_of place }
-{
-    match place {
-        0 => Some(Code::Noop),
-        1 => Some(Code::ReExecuteJob),
-        2 => Some(Code::SetTriggerComplete),
-        3 => Some(Code::DeleteTrigger),
-        4 => Some(Code::SetAllJobTriggersComplete),
-        5 => Some(Code::SetTriggerError),
-        6 => Some(Code::SetAllJobTriggersError),
-        _ => None,
-    }
-}
-
-#[tactic(auto, unfolding(crate::specs::Reading::code_at))]
-fn code_in(bytes: &[u8]) -> Result<(Code, &[u8]), Fault>
-    ensures { Gives (λ x. (x.0, x.1.now)) result (code_at bytes.now) }
-{
-    let (place, rest) = u8_at(bytes)?;
-    match code_at_place(place) {
-        Some(code) => Ok((code, rest)),
-        None => Err(Fault::at(bytes)),
-    }
-}
-
-/// How many triggers an Acquire asks for.
-fn max_of(bytes: &[u8]) -> Result<(u32, &[u8]), Fault>
-    ensures exact { Gives (λ x. (x.0, x.1.now)) result (checked (is_long 1 ACQUIRE_LIMIT) (number_at w32) bytes.now) }
-    ensures valid { IfOk result (λ x. (1 ≤ x.0) × (x.0 ≤ ACQUIRE_LIMIT)) }
-{
-    let (max, rest) = u32_at(bytes)?;
-    if max < 1 || max > ACQUIRE_LIMIT {
-        return Err(Fault::at(bytes));
-    }
-    Ok((max, rest))
-}
-
-#[tactic(auto, unfolding(crate::specs::Reading::add_job_at))]
-fn add_job_of(alloc: Global, bytes: &[u8]) -> Result<(Command, &[u8]), Fault>
-    ensures exact { Gives (λ x. (x.0, x.1.now)) result (add_job_at bytes.now) }
-    ensures valid { IfOk result (λ x. IsTrue (is_command x.0) × (is_of_node x.0 ≡ false)) }
-{
-    let (job, rest) = job_of(alloc, bytes)?;
-    let (replace, rest) = bool_at(rest)?;
-    Ok((Command::AddJob { job, replace }, rest))
-}
-
-#[tactic(auto, unfolding(crate::specs::Reading::add_trigger_at))]
-fn add_trigger_of(alloc: Global, bytes: &[u8]) -> Result<(Command, &[u8]), Fault>
-    ensures exact { Gives (λ x. (x.0, x.1.now)) result (add_trigger_at bytes.now) }
-    ensures valid { IfOk result (λ x. IsTrue (is_command x.0) × (is_of_node x.0 ≡ false)) }
-{
-    let (spec, rest) = spec_of(alloc, bytes)?;
-    let (replace, rest) = bool_at(rest)?;
-    Ok((Command::AddTrigger { spec, replace }, rest))
-}
-
-#[tactic(auto, unfolding(crate::specs::Reading::join_at))]
-fn join_of(alloc: Global, bytes: &[u8]) -> Result<(Command, &[u8]), Fault>
-    ensures exact { Gives (λ x. (x.0, x.1.now)) result (join_at bytes.now) }
-    ensures valid { IfOk result (λ x. IsTrue (is_command x.0) × (is_of_node x.0 ≡ false)) }
-{
-    let (node, rest) = node_of(bytes)?;
-    let node = Text::from_str(alloc, node)?;
-    Ok((Command::Join { node }, rest))
-}
-
-#[tactic(auto, unfolding(crate::specs::Reading::acquire_at))]
-fn acquire_of(bytes: &[u8]) -> Result<(Command, &[u8]), Fault>
-    ensures exact { Gives (λ x. (x.0, x.1.now)) result (acquire_at bytes.now) }
-    ensures valid { IfOk result (λ x. IsTrue (is_command x.0) × (is_of_node x.0 ≡ true)) }
-{
-    let (no_later, rest) = span_of(bytes)?;
-    let (window, rest) = span_of(rest)?;
-    let (max, rest) = max_of(rest)?;
-    let command = Command::Acquire {
-        no_later,
-        window,
-        max,
-    };
-    Ok((command, rest))
-}
-
-#[tactic(auto, unfolding(crate::specs::Reading::fire_at))]
-fn fire_of(bytes: &[u8]) -> Result<(Command, &[u8]), Fault>
-    ensures exact { Gives (λ x. (x.0, x.1.now)) result (fire_at bytes.now) }
-    ensures valid { IfOk result (λ x. IsTrue (is_command x.0) × (is_of_node x.0 ≡ true)) }
-{
-    let (entry, rest) = u64_at(bytes)?;
-    Ok((Command::Fire { entry }, rest))
-}
-
-#[tactic(auto, unfolding(crate::specs::Reading::complete_at))]
-fn complete_of(bytes: &[u8]) -> Result<(Command, &[u8]), Fault>
-    ensures exact { Gives (λ x. (x.0, x.1.now)) result (complete_at bytes.now) }
-    ensures valid { IfOk result (λ x. IsTrue (is_command x.0) × (is_of_node x.0 ≡ true)) }
-{
-    let (entry, rest) = u64_at(bytes)?;
-    let (code, rest) = code_in(rest)?;
-    Ok((Command::Complete { entry, code }, rest))
-}
 
 #[tactic(auto, unfolding(crate::specs::Reading::client_command_at))]
 fn client_command_of(alloc: Global, bytes: &[u8]) -> Result<(Command, &[u8]), Fault>
@@ -123,22 +25,38 @@ fn client_command_of(alloc: Global, bytes: &[u8]) -> Result<(Command, &[u8]), Fa
     let (place, rest) = u8_at(bytes)?;
     match place {
         0 => add_job_of(alloc, rest),
+        1 => delete_job_of(alloc, rest),
         2 => add_trigger_of(alloc, rest),
+        3 => delete_trigger_of(alloc, rest),
+        4 => pause_trigger_of(alloc, rest),
+        5 => resume_trigger_of(alloc, rest),
+        6 => pause_group_of(alloc, rest),
+        7 => resume_group_of(alloc, rest),
+        8 => add_calendar_of(alloc, rest),
+        9 => delete_calendar_of(alloc, rest),
+        10 => add_zone_of(alloc, rest),
+        11 => delete_zone_of(alloc, rest),
+        12 => trigger_now_of(alloc, rest),
+        13 => threshold_of(rest),
         14 => join_of(alloc, rest),
         _ => Err(Fault::at(bytes)),
     }
 }
 
 #[tactic(auto, unfolding(crate::specs::Reading::node_command_at))]
-fn node_command_of(bytes: &[u8]) -> Result<(Command, &[u8]), Fault>
+fn node_command_of(alloc: Global, bytes: &[u8]) -> Result<(Command, &[u8]), Fault>
     ensures exact { Gives (λ x. (x.0, x.1.now)) result (node_command_at bytes.now) }
     ensures valid { IfOk result (λ x. IsTrue (is_command x.0) × (is_of_node x.0 ≡ true)) }
 {
     let (place, rest) = u8_at(bytes)?;
     match place {
+        15 => Ok((Command::Leave, rest)),
         16 => acquire_of(rest),
+        17 => release_of(rest),
         18 => fire_of(rest),
         19 => complete_of(rest),
+        20 => Ok((Command::Misfires, rest)),
+        21 => recover_of(alloc, rest),
         _ => Err(Fault::at(bytes)),
     }
 }
@@ -154,6 +72,6 @@ pub(crate) fn command_of<'a>(
 {
     match actor {
         Actor::Client => client_command_of(alloc, bytes),
-        Actor::Node(_) => node_command_of(bytes),
+        Actor::Node(_) => node_command_of(alloc, bytes),
     }
 }

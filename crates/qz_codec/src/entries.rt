@@ -40,7 +40,7 @@ impl Recorded for Entry {
 
     ghost fields_at = { entry_at };
 
-    ghost most = { 4852 };
+    ghost most = { 17139 };
 
     fn put_fields(&self, out: &mut Vec<u8>) -> Result<(), AllocError> {
         put_entry(out, self)

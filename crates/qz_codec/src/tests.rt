@@ -1,4 +1,5 @@
 mod calendars;
+mod commands;
 mod kinds;
 mod rows;
 mod states;
@@ -222,7 +223,7 @@ const SPOILED: [Spoiled; 18] = [
         bytes: &[0xff],
         at: 12,
     },
-    // A command that isn't built, one that isn't there, one of a client by a node, one of a node by a client.
+    // Commands of a client by a node, one that isn't there, one of a node by a client.
     Spoiled {
         record: FIRE,
         from: 25,

@@ -9,9 +9,11 @@ ghost use Rattle.qz_codec.specs.declared.limits.TheConstants.{RECORD_LIMIT};
 ghost use Rattle.qz_codec.specs.Values.{IsText, IsName, IsSpan, IsKey, IsJob, IsTiming, IsSpec, IsMember, IsActor, IsCommand, IsEntry};
 ghost use Rattle.qz_codec.specs.Layout.{number, integer, small, flag, text, optional, key, job, timing, spec, member, actor, code_place, command, entry, record_of};
 
+mod commands;
 pub(crate) mod kinds;
 
 use crate::records::write;
+use commands::put_variant;
 use kinds::put_kind;
 use qz_types::{
     Actor, Code, Command, Entry, JobRow, Key, List, MemberRow, NODE_LIMIT, NoMemory, Text, Timing,
@@ -196,74 +198,6 @@ fn put_actor(out: &mut Vec<u8>, who: &Actor) -> Result<(), AllocError>
             put_bool(out, true)?;
             put_member(out, row)
         }
-    }
-}
-
-/// The place of the code among all codes.
-fn place_of_code(code: Code) -> u8
-    ensures { result ≡ code_place code }
-{
-    match code {
-        Code::Noop => 0,
-        Code::ReExecuteJob => 1,
-        Code::SetTriggerComplete => 2,
-        Code::DeleteTrigger => 3,
-        Code::SetAllJobTriggersComplete => 4,
-        Code::SetTriggerError => 5,
-        Code::SetAllJobTriggersError => 6,
-    }
-}
-
-#[tactic(auto, using(crate::proofs::Signs::signs))]
-fn put_acquire(out: &mut Vec<u8>, no_later: i64, window: i64, max: u32) -> Result<(), AllocError>
-    requires { IsTrue (is_command (Command.Acquire no_later window max)) }
-    ensures bytes { OnOk result (out.new.items ≡ out.old.items ++ (integer w64 no_later ++ (integer w64 window ++ number w32 max))) }
-    ensures valid { OnOk result (IsCommand (Command.Acquire no_later window max)) }
-{
-    put_i64(out, no_later)?;
-    put_i64(out, window)?;
-    put_u32(out, max)
-}
-
-#[tactic(auto, unfolding(crate::specs::Layout::command), using(crate::proofs::Signs::signs))]
-fn put_variant(out: &mut Vec<u8>, c: &Command) -> Result<(), AllocError>
-    requires { IsTrue (is_command c.now) }
-    ensures bytes { OnOk result (out.new.items ≡ out.old.items ++ command c.now) }
-    ensures valid { OnOk result (IsCommand c.now) }
-{
-    match c {
-        Command::AddJob { job, replace } => {
-            put_u8(out, 0)?;
-            put_job(out, job)?;
-            put_bool(out, *replace)
-        }
-        Command::AddTrigger { spec, replace } => {
-            put_u8(out, 2)?;
-            put_spec(out, spec)?;
-            put_bool(out, *replace)
-        }
-        Command::Join { node } => {
-            put_u8(out, 14)?;
-            put_node(out, node)
-        }
-        Command::Acquire {
-            no_later,
-            window,
-            max,
-        } => {
-            put_u8(out, 16)?;
-            put_acquire(out, *no_later, *window, *max)
-        }
-        Command::Fire { entry } => {
-            put_u8(out, 18)?;
-            put_u64(out, *entry)
-        }
-        Command::Complete { entry, code } => {
-            put_u8(out, 19)?;
-            put_u64(out, *entry)?;
-            put_u8(out, place_of_code(*code))
-        }
-        _ => Ok(()),
     }
 }
 

@@ -1,0 +1,159 @@
+//! Reading the fields of a client's commands.
+ghost use Rattle.std.specs.Prelude.{◌≡◌, ℤ, IsTrue, IfOk, true, false};
+ghost use Rattle.std.specs.Int.{w64};
+ghost use Rattle.qz_types.specs.Rows.{is_interval};
+ghost use Rattle.qz_types.specs.Entries.{is_command, is_of_node};
+ghost use Rattle.qz_types.specs.declared.commands.Command.TheVariants.{DeleteJob, DeleteTrigger, PauseTrigger, ResumeTrigger, PauseGroup, ResumeGroup, DeleteCalendar, AddZone, DeleteZone, TriggerNow, Threshold, Join};
+ghost use Rattle.qz_codec.specs.Reading.{Gives, as_variant, key_at, name_at, node_at, threshold_at, add_job_at, add_trigger_at, add_calendar_at};
+ghost use Rattle.qz_codec.specs.Zones.{zone_row_at};
+
+use crate::calendars::calendar_row_of;
+use crate::errors::Fault;
+use crate::fields::{bool_at, i64_at, is_between};
+use crate::rows::{job_of, key_of, name_of, node_of, spec_of};
+use crate::zones::zone_row_of;
+use qz_types::{Command, INTERVAL_LIMIT, Text};
+use std::alloc::Global;
+
+#[tactic(auto, unfolding(crate::specs::Reading::add_job_at))]
+pub(super) fn add_job_of(alloc: Global, bytes: &[u8]) -> Result<(Command, &[u8]), Fault>
+    ensures exact { Gives (λ x. (x.0, x.1.now)) result (add_job_at bytes.now) }
+    ensures valid { IfOk result (λ x. IsTrue (is_command x.0) × (is_of_node x.0 ≡ false)) }
+{
+    let (job, rest) = job_of(alloc, bytes)?;
+    let (replace, rest) = bool_at(rest)?;
+    Ok((Command::AddJob { job, replace }, rest))
+}
+
+#[tactic(auto, unfolding(crate::specs::Reading::add_trigger_at))]
+pub(super) fn add_trigger_of(alloc: Global, bytes: &[u8]) -> Result<(Command, &[u8]), Fault>
+    ensures exact { Gives (λ x. (x.0, x.1.now)) result (add_trigger_at bytes.now) }
+    ensures valid { IfOk result (λ x. IsTrue (is_command x.0) × (is_of_node x.0 ≡ false)) }
+{
+    let (spec, rest) = spec_of(alloc, bytes)?;
+    let (replace, rest) = bool_at(rest)?;
+    Ok((Command::AddTrigger { spec, replace }, rest))
+}
+
+pub(super) fn delete_job_of(alloc: Global, bytes: &[u8]) -> Result<(Command, &[u8]), Fault>
+    ensures exact { Gives (λ x. (x.0, x.1.now)) result (as_variant DeleteJob (key_at bytes.now)) }
+    ensures valid { IfOk result (λ x. IsTrue (is_command x.0) × (is_of_node x.0 ≡ false)) }
+{
+    let (key, rest) = key_of(alloc, bytes)?;
+    Ok((Command::DeleteJob { key }, rest))
+}
+
+pub(super) fn delete_trigger_of(alloc: Global, bytes: &[u8]) -> Result<(Command, &[u8]), Fault>
+    ensures exact { Gives (λ x. (x.0, x.1.now)) result (as_variant DeleteTrigger (key_at bytes.now)) }
+    ensures valid { IfOk result (λ x. IsTrue (is_command x.0) × (is_of_node x.0 ≡ false)) }
+{
+    let (key, rest) = key_of(alloc, bytes)?;
+    Ok((Command::DeleteTrigger { key }, rest))
+}
+
+pub(super) fn pause_trigger_of(alloc: Global, bytes: &[u8]) -> Result<(Command, &[u8]), Fault>
+    ensures exact { Gives (λ x. (x.0, x.1.now)) result (as_variant PauseTrigger (key_at bytes.now)) }
+    ensures valid { IfOk result (λ x. IsTrue (is_command x.0) × (is_of_node x.0 ≡ false)) }
+{
+    let (key, rest) = key_of(alloc, bytes)?;
+    Ok((Command::PauseTrigger { key }, rest))
+}
+
+pub(super) fn resume_trigger_of(alloc: Global, bytes: &[u8]) -> Result<(Command, &[u8]), Fault>
+    ensures exact { Gives (λ x. (x.0, x.1.now)) result (as_variant ResumeTrigger (key_at bytes.now)) }
+    ensures valid { IfOk result (λ x. IsTrue (is_command x.0) × (is_of_node x.0 ≡ false)) }
+{
+    let (key, rest) = key_of(alloc, bytes)?;
+    Ok((Command::ResumeTrigger { key }, rest))
+}
+
+pub(super) fn pause_group_of(alloc: Global, bytes: &[u8]) -> Result<(Command, &[u8]), Fault>
+    ensures exact { Gives (λ x. (x.0, x.1.now)) result (as_variant PauseGroup (name_at bytes.now)) }
+    ensures valid { IfOk result (λ x. IsTrue (is_command x.0) × (is_of_node x.0 ≡ false)) }
+{
+    let (group, rest) = name_of(bytes)?;
+    let group = Text::from_str(alloc, group)?;
+    Ok((Command::PauseGroup { group }, rest))
+}
+
+pub(super) fn resume_group_of(alloc: Global, bytes: &[u8]) -> Result<(Command, &[u8]), Fault>
+    ensures exact { Gives (λ x. (x.0, x.1.now)) result (as_variant ResumeGroup (name_at bytes.now)) }
+    ensures valid { IfOk result (λ x. IsTrue (is_command x.0) × (is_of_node x.0 ≡ false)) }
+{
+    let (group, rest) = name_of(bytes)?;
+    let group = Text::from_str(alloc, group)?;
+    Ok((Command::ResumeGroup { group }, rest))
+}
+
+#[tactic(auto, unfolding(crate::specs::Reading::add_calendar_at))]
+pub(super) fn add_calendar_of(alloc: Global, bytes: &[u8]) -> Result<(Command, &[u8]), Fault>
+    ensures exact { Gives (λ x. (x.0, x.1.now)) result (add_calendar_at bytes.now) }
+    ensures valid { IfOk result (λ x. IsTrue (is_command x.0) × (is_of_node x.0 ≡ false)) }
+{
+    let (calendar, rest) = calendar_row_of(alloc, bytes)?;
+    let (replace, rest) = bool_at(rest)?;
+    Ok((Command::AddCalendar { calendar, replace }, rest))
+}
+
+pub(super) fn delete_calendar_of(alloc: Global, bytes: &[u8]) -> Result<(Command, &[u8]), Fault>
+    ensures exact { Gives (λ x. (x.0, x.1.now)) result (as_variant DeleteCalendar (name_at bytes.now)) }
+    ensures valid { IfOk result (λ x. IsTrue (is_command x.0) × (is_of_node x.0 ≡ false)) }
+{
+    let (name, rest) = name_of(bytes)?;
+    let name = Text::from_str(alloc, name)?;
+    Ok((Command::DeleteCalendar { name }, rest))
+}
+
+pub(super) fn add_zone_of(alloc: Global, bytes: &[u8]) -> Result<(Command, &[u8]), Fault>
+    ensures exact { Gives (λ x. (x.0, x.1.now)) result (as_variant AddZone (zone_row_at bytes.now)) }
+    ensures valid { IfOk result (λ x. IsTrue (is_command x.0) × (is_of_node x.0 ≡ false)) }
+{
+    let (zone, rest) = zone_row_of(alloc, bytes)?;
+    Ok((Command::AddZone { zone }, rest))
+}
+
+pub(super) fn delete_zone_of(alloc: Global, bytes: &[u8]) -> Result<(Command, &[u8]), Fault>
+    ensures exact { Gives (λ x. (x.0, x.1.now)) result (as_variant DeleteZone (name_at bytes.now)) }
+    ensures valid { IfOk result (λ x. IsTrue (is_command x.0) × (is_of_node x.0 ≡ false)) }
+{
+    let (name, rest) = name_of(bytes)?;
+    let name = Text::from_str(alloc, name)?;
+    Ok((Command::DeleteZone { name }, rest))
+}
+
+pub(super) fn trigger_now_of(alloc: Global, bytes: &[u8]) -> Result<(Command, &[u8]), Fault>
+    ensures exact { Gives (λ x. (x.0, x.1.now)) result (as_variant TriggerNow (key_at bytes.now)) }
+    ensures valid { IfOk result (λ x. IsTrue (is_command x.0) × (is_of_node x.0 ≡ false)) }
+{
+    let (key, rest) = key_of(alloc, bytes)?;
+    Ok((Command::TriggerNow { job: key }, rest))
+}
+
+/// How far back a fire time may lie, in ms.
+fn ms_of(bytes: &[u8]) -> Result<(i64, &[u8]), Fault>
+    ensures exact { Gives (λ x. (x.0, x.1.now)) result (threshold_at bytes.now) }
+    ensures valid { IfOk result (λ x. IsTrue (is_interval x.0)) }
+{
+    let (ms, rest) = i64_at(bytes)?;
+    if !is_between(1, INTERVAL_LIMIT, ms) {
+        return Err(Fault::at(bytes));
+    }
+    Ok((ms, rest))
+}
+
+pub(super) fn threshold_of(bytes: &[u8]) -> Result<(Command, &[u8]), Fault>
+    ensures exact { Gives (λ x. (x.0, x.1.now)) result (as_variant Threshold (threshold_at bytes.now)) }
+    ensures valid { IfOk result (λ x. IsTrue (is_command x.0) × (is_of_node x.0 ≡ false)) }
+{
+    let (ms, rest) = ms_of(bytes)?;
+    Ok((Command::Threshold { ms }, rest))
+}
+
+pub(super) fn join_of(alloc: Global, bytes: &[u8]) -> Result<(Command, &[u8]), Fault>
+    ensures exact { Gives (λ x. (x.0, x.1.now)) result (as_variant Join (node_at bytes.now)) }
+    ensures valid { IfOk result (λ x. IsTrue (is_command x.0) × (is_of_node x.0 ≡ false)) }
+{
+    let (node, rest) = node_of(bytes)?;
+    let node = Text::from_str(alloc, node)?;
+    Ok((Command::Join { node }, rest))
+}

@@ -1,0 +1,189 @@
+//! Records of each command.
+use super::{place_of, written_again};
+use crate::get_command;
+use std::alloc::{AllocError, Global};
+use std::test::*;
+
+/// What stands before a client's command: at 2024-01-01T00:00:00Z, from seat 0.
+const BY_CLIENT: &[u8; 14] = b"\x01\
+    \x00\x00\x01\x8c\xc2\x51\xf4\x00\
+    \x00\
+    \x00\x00\x00\x00";
+
+/// The same of a node's, by the member A of epoch 1.
+const BY_NODE: &[u8; 25] = b"\x01\
+    \x00\x00\x01\x8c\xc2\x51\xf4\x00\
+    \x01\
+    \x00\x01\
+    \x41\
+    \x00\x00\x00\x00\x00\x00\x00\x01\
+    \x00\x00\x00\x00";
+
+/// A command's bytes, what stands before them in its record, and how the command prints.
+#[derive(Drop)]
+struct Sample {
+    before: &'static [u8],
+    bytes: &'static [u8],
+    printed: &'static str,
+}
+
+const SAMPLES: [Sample; 16] = [
+    Sample {
+        before: BY_CLIENT,
+        bytes: b"\x01\x00\x01g\x00\x01n",
+        printed: "DeleteJob { key: Key { group: \"g\", name: \"n\" } }",
+    },
+    Sample {
+        before: BY_CLIENT,
+        bytes: b"\x03\x00\x01g\x00\x01t",
+        printed: "DeleteTrigger { key: Key { group: \"g\", name: \"t\" } }",
+    },
+    Sample {
+        before: BY_CLIENT,
+        bytes: b"\x04\x00\x01g\x00\x01t",
+        printed: "PauseTrigger { key: Key { group: \"g\", name: \"t\" } }",
+    },
+    Sample {
+        before: BY_CLIENT,
+        bytes: b"\x05\x00\x01g\x00\x01t",
+        printed: "ResumeTrigger { key: Key { group: \"g\", name: \"t\" } }",
+    },
+    Sample {
+        before: BY_CLIENT,
+        bytes: b"\x06\x00\x01g",
+        printed: "PauseGroup { group: \"g\" }",
+    },
+    Sample {
+        before: BY_CLIENT,
+        bytes: b"\x07\x00\x02gh",
+        printed: "ResumeGroup { group: \"gh\" }",
+    },
+    Sample {
+        before: BY_CLIENT,
+        bytes: b"\x08\x00\x01c\x00\x00\x03UTC\x02\x41\x01",
+        printed: "AddCalendar { calendar: CalendarRow { name: \"c\", base: None, zone: \"UTC\", kind: Weekly { days: 65 } }, replace: true }",
+    },
+    Sample {
+        before: BY_CLIENT,
+        bytes: b"\x09\x00\x01c",
+        printed: "DeleteCalendar { name: \"c\" }",
+    },
+    Sample {
+        before: BY_CLIENT,
+        bytes: b"\x0a\x00\x01Z\x00\x01\x00\x00\x00\x00\x00\x00\x03\xe8\xff\xff\xf1\xf0",
+        printed: "AddZone { zone: ZoneRow { name: \"Z\", stretches: [Stretch { from: 1000, offset: -3600 }] } }",
+    },
+    Sample {
+        before: BY_CLIENT,
+        bytes: b"\x0b\x00\x01Z",
+        printed: "DeleteZone { name: \"Z\" }",
+    },
+    Sample {
+        before: BY_CLIENT,
+        bytes: b"\x0c\x00\x01g\x00\x01n",
+        printed: "TriggerNow { job: Key { group: \"g\", name: \"n\" } }",
+    },
+    Sample {
+        before: BY_CLIENT,
+        bytes: b"\x0d\x00\x00\x00\x00\x05\x26\x5c\x00",
+        printed: "Threshold { ms: 86400000 }",
+    },
+    Sample {
+        before: BY_NODE,
+        bytes: b"\x0f",
+        printed: "Leave",
+    },
+    Sample {
+        before: BY_NODE,
+        bytes: b"\x11\x00\x00\x00\x00\x00\x00\x01\x00",
+        printed: "Release { entry: 256 }",
+    },
+    Sample {
+        before: BY_NODE,
+        bytes: b"\x14",
+        printed: "Misfires",
+    },
+    Sample {
+        before: BY_NODE,
+        bytes: b"\x15\x00\x01B",
+        printed: "Recover { node: \"B\" }",
+    },
+];
+
+fn joined(alloc: Global, before: &[u8], bytes: &[u8]) -> Result<Vec<u8>, AllocError> {
+    let mut record = Vec::from_slice(alloc, before)?;
+    record.extend_from_slice(bytes)?;
+    Ok(record)
+}
+
+fn printed(alloc: Global, record: &[u8]) -> Result<String, AllocError> {
+    match get_command(alloc, record) {
+        Ok(entry) => format!(in alloc; "{:?}", entry.command),
+        Err(fault) => format!(in alloc; "{fault:?}"),
+    }
+}
+
+#[test]
+fn each_sample_both_ways(rt: HostRuntime) -> Result<(), Fail> {
+    let alloc = rt.alloc();
+    for sample in SAMPLES {
+        let record = joined(alloc, sample.before, sample.bytes)?;
+        assert_eq!(rt; printed(alloc, &record)?.as_str(), sample.printed);
+        let bytes = written_again(alloc, &record).ok_or("a record")?;
+        assert_eq!(rt; bytes.as_slice(), record.as_slice());
+    }
+    Ok(())
+}
+
+// A record that ends behind its command's place is wrong at the place, or where a field is missing, or not at all.
+#[test]
+fn places_of_clients_and_nodes(rt: HostRuntime) -> Result<(), Fail> {
+    let alloc = rt.alloc();
+    for place in 0..=255 {
+        let by_client = if place <= 14 { 15 } else { 14 };
+        let record = joined(alloc, BY_CLIENT, &[place])?;
+        assert_eq!(rt; place_of(alloc, &record), Some(by_client), "place {place}");
+        let by_node = match place {
+            15 | 20 => None,
+            16..=19 | 21 => Some(26),
+            _ => Some(25),
+        };
+        let record = joined(alloc, BY_NODE, &[place])?;
+        assert_eq!(rt; place_of(alloc, &record), by_node, "place {place}");
+    }
+    Ok(())
+}
+
+/// Commands that are wrong, what stands before each, and the place of its fault.
+const WRONG: [(&[u8], &[u8], u32); 15] = [
+    // A group without bytes, one of 201, no name behind it, a name that is cut, one that isn't UTF-8.
+    (BY_CLIENT, b"\x01\x00\x00", 15),
+    (BY_CLIENT, b"\x03\x00\xc9", 15),
+    (BY_CLIENT, b"\x04\x00\x01g", 18),
+    (BY_CLIENT, b"\x05\x00\x01g\x00\x02n", 20),
+    (BY_CLIENT, b"\x0c\x00\x01g\x00\x01\xff", 20),
+    // A name without bytes, one that is cut, a byte behind one.
+    (BY_CLIENT, b"\x06\x00\x00", 15),
+    (BY_CLIENT, b"\x09\x00\x02c", 17),
+    (BY_CLIENT, b"\x0b\x00\x01Z\x00", 18),
+    // A replace that is no flag.
+    (BY_CLIENT, b"\x08\x00\x01c\x00\x00\x03UTC\x02\x41\x02", 26),
+    // A threshold of 0 ms, one below that, one of more than a day.
+    (BY_CLIENT, b"\x0d\x00\x00\x00\x00\x00\x00\x00\x00", 15),
+    (BY_CLIENT, b"\x0d\xff\xff\xff\xff\xff\xff\xff\xff", 15),
+    (BY_CLIENT, b"\x0d\x00\x00\x00\x00\x05\x26\x5c\x01", 15),
+    // Half an entry, a node of 121 bytes, a byte behind Leave.
+    (BY_NODE, b"\x11\x00\x00\x00\x00", 26),
+    (BY_NODE, b"\x15\x00\x79", 26),
+    (BY_NODE, b"\x0f\x00", 26),
+];
+
+#[test]
+fn wrong_commands(rt: HostRuntime) -> Result<(), Fail> {
+    let alloc = rt.alloc();
+    for (before, bytes, at) in WRONG {
+        let record = joined(alloc, before, bytes)?;
+        assert_eq!(rt; place_of(alloc, &record), Some(at), "{bytes:?}");
+    }
+    Ok(())
+}
