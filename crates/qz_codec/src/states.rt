@@ -6,28 +6,16 @@ ghost use Rattle.qz_types.specs.Entries.{StateEntryData, is_state_command};
 ghost use Rattle.qz_codec.specs.declared.limits.TheConstants.{RECORD_LIMIT};
 ghost use Rattle.qz_codec.specs.Layout.{integer, recorded};
 ghost use Rattle.qz_codec.specs.Values.{IsNumber};
-ghost use Rattle.qz_codec.specs.Reading.{Gives, Answers, checked, integer_at, reading_by};
+ghost use Rattle.qz_codec.specs.Reading.{Gives, Answers, reading_by};
 ghost use Rattle.qz_codec.specs.States.{state_command, state_entry, IsStateCommand, IsStateEntry, check_in_at, forget_at, state_command_at, state_entry_at};
 
 use crate::errors::{Fault, ReadError};
-use crate::fields::{i64_at, is_between, u8_at, u32_at};
+use crate::fields::{i64_at, interval_of, u8_at, u32_at};
 use crate::records::{Recorded, read, write};
 use crate::rows::node_of;
 use crate::writing::{put_i64, put_node, put_u8, put_u32};
-use qz_types::{INTERVAL_LIMIT, List, NoMemory, StateCommand, StateEntry, Text};
+use qz_types::{List, NoMemory, StateCommand, StateEntry, Text};
 use std::alloc::{AllocError, Global};
-
-/// A check-in interval, in ms.
-pub(crate) fn interval_of(bytes: &[u8]) -> Result<(i64, &[u8]), Fault>
-    ensures exact { Gives (λ x. (x.0, x.1.now)) result (checked is_interval (integer_at w64) bytes.now) }
-    ensures valid { IfOk result (λ x. IsTrue (is_interval x.0)) }
-{
-    let (interval, rest) = i64_at(bytes)?;
-    if !is_between(1, INTERVAL_LIMIT, interval) {
-        return Err(Fault::at(bytes));
-    }
-    Ok((interval, rest))
-}
 
 #[tactic(auto, unfolding(crate::specs::States::check_in_at))]
 fn check_in_of(alloc: Global, bytes: &[u8]) -> Result<(StateCommand, &[u8]), Fault>

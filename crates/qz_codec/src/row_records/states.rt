@@ -6,10 +6,10 @@ ghost use Rattle.qz_codec.specs.Rows.{state, IsState, state_at};
 
 use super::Packed;
 use crate::errors::{Fault, ReadError};
-use crate::fields::i64_at;
+use crate::fields::{i64_at, interval_of};
 use crate::records::{Recorded, read, write};
 use crate::rows::node_of;
-use crate::states::{interval_of, put_interval};
+use crate::states::put_interval;
 use crate::writing::{put_i64, put_node};
 use qz_types::{List, NoMemory, StateRow, Text};
 use std::alloc::{AllocError, Global};
