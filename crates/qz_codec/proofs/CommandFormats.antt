@@ -1,21 +1,19 @@
 -- Commands: each is written and read so, where its actor may give it, and none else is read.
-use Rattle.std.proofs.Common.{◌≡◌, ℕ, suc, ◌^◌, ◌<◌, ◌≤◌, ℤ, Bool, true, false, List, [], ◌∷◌, ◌++◌, length, Option, Some, None, Ok, refl, sym, ap, subst, ◌∙◌, arith, ◌==◌, inl, inr}
+use Rattle.std.proofs.Common.{◌≡◌, ℕ, suc, ◌^◌, ◌<◌, ◌≤◌, ◌+◌, ℤ, Bool, true, false, List, [], ◌∷◌, ◌++◌, length, Option, Some, None, Ok, refl, sym, ap, subst, ◌∙◌, arith, ◌==◌, inl, inr}
 use Rattle.std.specs.Int.{w32, w64}
 use Rattle.std.proofs.lemmas.Bool.{eqb-true}
-use Rattle.qz_types.specs.Rows.{JobData, CalendarData, is_interval}
+use Rattle.qz_types.specs.Rows.{is_interval}
 use Rattle.qz_types.specs.Entries.{is_of_node}
 use Rattle.qz_types.specs.declared.limits.TheConstants.{ACQUIRE_LIMIT, NODE_LIMIT}
 use Rattle.qz_types.specs.declared.keys.Key.{Key}
-use Rattle.qz_types.specs.declared.triggers.TriggerSpec.{TriggerSpec}
 use Rattle.qz_types.specs.declared.commands.Code.{Code}
 use Rattle.qz_types.specs.declared.commands.Code.TheVariants as code
 use Rattle.qz_types.specs.declared.commands.Command.{Command}
 use Rattle.qz_types.specs.declared.commands.Command.TheVariants.{AddJob, DeleteJob, AddTrigger, DeleteTrigger, PauseTrigger, ResumeTrigger, PauseGroup, ResumeGroup, AddCalendar, DeleteCalendar, AddZone, DeleteZone, TriggerNow, Threshold, Join, Leave, Acquire, Release, Fire, Complete, Misfires, Recover}
-use Rattle.qz_codec.specs.Layout.{number, integer, flag, text, key, job, spec, code_place, command}
+use Rattle.qz_codec.specs.Layout.{number, integer, flag, text, key, code_place, command}
 use Rattle.qz_codec.specs.Zones.{zone_row, IsZoneRow, zone_row_at}
-use Rattle.qz_codec.specs.Calendars.{calendar_row, IsCalendarRow, calendar_row_at}
-use Rattle.qz_codec.specs.Values.{is_long, IsText, IsName, IsNumber, IsSpan, IsKey, IsJob, IsSpec, IsCommand}
-use Rattle.qz_codec.specs.Reading.{Read, as_variant, checked, byte_at, number_at, flag_at, name_at, node_at, span_at, threshold_at, key_at, job_at, spec_at, code_of, chosen, code_at, add_job_at, add_trigger_at, add_calendar_at, acquire_at, complete_at, client_command_at, node_command_at}
+use Rattle.qz_codec.specs.Values.{is_long, IsText, IsName, IsNumber, IsSpan, IsKey, IsCommand}
+use Rattle.qz_codec.specs.Reading.{Read, as_variant, checked, byte_at, number_at, flag_at, name_at, node_at, span_at, threshold_at, key_at, code_of, chosen, code_at, replacing_at, acquire_at, complete_at, client_command_at, node_command_at}
 use Rattle.qz_codec.proofs.Formats.{IsBytes, EndsNear, Takes, IsFormat, Any, Both, Passes, ok_is, no_value, those}
 use Rattle.qz_codec.proofs.SingleFields.{IsBytes-rest, wide32, wide64, number_format, flag_format}
 use Rattle.qz_codec.proofs.NameFormats.{name_format, node_format, span_format, tested}
@@ -95,28 +93,17 @@ code_format = record { again = λ c rest k is. ap (λ (o : Option Code). chosen 
 
 -- ---- what follows a command's place
 
-abbrev make_add_job : JobData × Bool → Command
-make_add_job x = AddJob x.0 x.1
-
-abbrev make_add_trigger : TriggerSpec × Bool → Command
-make_add_trigger x = AddTrigger x.0 x.1
-
-abbrev make_add_calendar : CalendarData × Bool → Command
-make_add_calendar x = AddCalendar x.0 x.1
-
 abbrev make_complete : ℕ × Code → Command
 make_complete x = Complete x.0 x.1
 
 abbrev make_acquire : ℤ × (ℤ × ℕ) → Command
 make_acquire x = Acquire x.0 x.1.0 x.1.1
 
-add_job : IsVariant make_add_job (λ (x : JobData × Bool). job x.0 ++ flag x.1) (λ (x : JobData × Bool). Both (IsJob x.0) (Any x.1)) add_job_at 4708
-unfolding add_job_at
-add_job = read_so add_job_at (variant make_add_job (pair job_format flag_format)) (λ bytes. regroup make_add_job (job_at bytes) (λ job. flag_at job.1) _ (λ job. refl))
-
-add_trigger : IsVariant make_add_trigger (λ (x : TriggerSpec × Bool). spec x.0 ++ flag x.1) (λ (x : TriggerSpec × Bool). Both (IsSpec x.0) (Any x.1)) add_trigger_at 1299
-unfolding add_trigger_at
-add_trigger = read_so add_trigger_at (variant make_add_trigger (pair spec_format flag_format)) (λ bytes. regroup make_add_trigger (spec_at bytes) (λ spec. flag_at spec.1) _ (λ spec. refl))
+replacing : {A : Type 0} {write : A → List ℕ} {Is : A → Type 0} {read : List ℕ → Read A} {m : ℕ} (make : A → Bool → Command)
+    → IsFormat write Any Is read m → IsVariant (λ (x : A × Bool). make x.0 x.1) (λ (x : A × Bool). write x.0 ++ flag x.1) (λ (x : A × Bool). Both (Is x.0) (Any x.1)) (λ bytes. replacing_at make read bytes) (m + 1)
+replacing {A} {write} {Is} {read} {m} make f =
+    let make_both : A × Bool → Command = λ x. make x.0 x.1 in
+    read_so (λ bytes. replacing_at make read bytes) (variant make_both (pair f flag_format)) (λ bytes. regroup make_both (read bytes) (λ row. flag_at row.1) _ (λ row. refl))
 
 complete : IsVariant make_complete (λ (x : ℕ × Code). number w64 x.0 ++ code_byte x.1) (λ (x : ℕ × Code). Both (x.0 < 2 ^ 64) (Any x.1)) complete_at 9
 unfolding complete_at
@@ -132,10 +119,6 @@ max_format = those (is_long 1 ACQUIRE_LIMIT) (number_format wide32)
 acquire : IsVariant make_acquire (λ (x : ℤ × (ℤ × ℕ)). integer w64 x.0 ++ (integer w64 x.1.0 ++ number w32 x.1.1)) (λ (x : ℤ × (ℤ × ℕ)). Both (IsSpan x.0) (Both (IsSpan x.1.0) (Passes (λ n. n < 2 ^ 32) (is_long 1 ACQUIRE_LIMIT) x.1.1))) acquire_at 20
 unfolding acquire_at max_at
 acquire = read_so acquire_at (variant make_acquire (pair span_format (pair span_format max_format))) (λ bytes. regroup make_acquire (span_at bytes) _ _ (λ no_later. regroup (λ x. make_acquire (no_later.0, x)) (span_at no_later.1) (λ window. max_at window.1) _ (λ window. refl)))
-
-add_calendar : IsVariant make_add_calendar (λ (x : CalendarData × Bool). calendar_row x.0 ++ flag x.1) (λ (x : CalendarData × Bool). Both (IsCalendarRow x.0) (Any x.1)) add_calendar_at 16995
-unfolding add_calendar_at
-add_calendar = read_so add_calendar_at (variant make_add_calendar (pair calendar_row_format flag_format)) (λ bytes. regroup make_add_calendar (calendar_row_at bytes) (λ calendar. flag_at calendar.1) _ (λ calendar. refl))
 
 add_zone : IsVariant AddZone zone_row IsZoneRow (λ bytes. as_variant AddZone (zone_row_at bytes)) 6348
 add_zone = variant AddZone zone_row_format
@@ -167,15 +150,15 @@ given_at true = node_command_at
 
 again : (c : Command) (rest : List ℕ) → IsCommand c → given_at (is_of_node c) (command c ++ rest) ≡ Ok (c, rest)
 unfolding client_command_at node_command_at command byte_at
-again (AddJob row replace) rest is = add_job.again (row, replace) rest (record { first = is; others = tt })
+again (AddJob row replace) rest is = (replacing AddJob job_format).again (row, replace) rest (record { first = is; others = tt })
 again (DeleteJob k) rest is = (of_key DeleteJob).again k rest is
-again (AddTrigger row replace) rest is = add_trigger.again (row, replace) rest (record { first = is; others = tt })
+again (AddTrigger row replace) rest is = (replacing AddTrigger spec_format).again (row, replace) rest (record { first = is; others = tt })
 again (DeleteTrigger k) rest is = (of_key DeleteTrigger).again k rest is
 again (PauseTrigger k) rest is = (of_key PauseTrigger).again k rest is
 again (ResumeTrigger k) rest is = (of_key ResumeTrigger).again k rest is
 again (PauseGroup group) rest is = (of_name PauseGroup).again group rest is
 again (ResumeGroup group) rest is = (of_name ResumeGroup).again group rest is
-again (AddCalendar row replace) rest is = add_calendar.again (row, replace) rest (record { first = is; others = tt })
+again (AddCalendar row replace) rest is = (replacing AddCalendar calendar_row_format).again (row, replace) rest (record { first = is; others = tt })
 again (DeleteCalendar name) rest is = (of_name DeleteCalendar).again name rest is
 again (AddZone row) rest is = add_zone.again row rest is
 again (DeleteZone name) rest is = (of_name DeleteZone).again name rest is
@@ -201,15 +184,15 @@ given {A} {make} {write} {Is} {read} {m} {by_node} place v le spelled valid = re
 client_parts : List (Part command (IsGiven false) 16995)
 unfolding command
 client_parts =
-    given 0 add_job (omega arith) (λ x. refl) (λ x is. record { actor = refl; valid = is.first })
+    given 0 (replacing AddJob job_format) (omega arith) (λ x. refl) (λ x is. record { actor = refl; valid = is.first })
     ∷ given 1 (of_key DeleteJob) (omega arith) (λ x. refl) (λ x is. record { actor = refl; valid = is })
-    ∷ given 2 add_trigger (omega arith) (λ x. refl) (λ x is. record { actor = refl; valid = is.first })
+    ∷ given 2 (replacing AddTrigger spec_format) (omega arith) (λ x. refl) (λ x is. record { actor = refl; valid = is.first })
     ∷ given 3 (of_key DeleteTrigger) (omega arith) (λ x. refl) (λ x is. record { actor = refl; valid = is })
     ∷ given 4 (of_key PauseTrigger) (omega arith) (λ x. refl) (λ x is. record { actor = refl; valid = is })
     ∷ given 5 (of_key ResumeTrigger) (omega arith) (λ x. refl) (λ x is. record { actor = refl; valid = is })
     ∷ given 6 (of_name PauseGroup) (omega arith) (λ x. refl) (λ x is. record { actor = refl; valid = is })
     ∷ given 7 (of_name ResumeGroup) (omega arith) (λ x. refl) (λ x is. record { actor = refl; valid = is })
-    ∷ given 8 add_calendar (omega arith) (λ x. refl) (λ x is. record { actor = refl; valid = is.first })
+    ∷ given 8 (replacing AddCalendar calendar_row_format) (omega arith) (λ x. refl) (λ x is. record { actor = refl; valid = is.first })
     ∷ given 9 (of_name DeleteCalendar) (omega arith) (λ x. refl) (λ x is. record { actor = refl; valid = is })
     ∷ given 10 add_zone (omega arith) (λ x. refl) (λ x is. record { actor = refl; valid = is })
     ∷ given 11 (of_name DeleteZone) (omega arith) (λ x. refl) (λ x is. record { actor = refl; valid = is })

@@ -176,23 +176,12 @@ code_at bytes = do
   n ← byte_at bytes
   chosen (code_of n.0) (length bytes) n.1
 
-unfoldable pub add_job_at : List ℕ → Read Command
-add_job_at bytes = do
-  job ← job_at bytes
-  replace ← flag_at job.1
-  Ok (AddJob job.0 replace.0, replace.1)
-
-unfoldable pub add_trigger_at : List ℕ → Read Command
-add_trigger_at bytes = do
-  spec ← spec_at bytes
-  replace ← flag_at spec.1
-  Ok (AddTrigger spec.0 replace.0, replace.1)
-
-unfoldable pub add_calendar_at : List ℕ → Read Command
-add_calendar_at bytes = do
-  calendar ← calendar_row_at bytes
-  replace ← flag_at calendar.1
-  Ok (AddCalendar calendar.0 replace.0, replace.1)
+-- a row, and whether it may replace another one
+abbrev pub replacing_at : {A : Type 0} → (A → Bool → Command) → (List ℕ → Read A) → List ℕ → Read Command
+replacing_at make read bytes = do
+  row ← read bytes
+  replace ← flag_at row.1
+  Ok (make row.0 replace.0, replace.1)
 
 unfoldable pub acquire_at : List ℕ → Read Command
 acquire_at bytes = do
@@ -211,15 +200,15 @@ complete_at bytes = do
 unfoldable pub client_command_at : List ℕ → Read Command
 client_command_at bytes = do
   place ← byte_at bytes
-  if place.0 == 0 then add_job_at place.1
+  if place.0 == 0 then replacing_at AddJob job_at place.1
       else if place.0 == 1 then as_variant DeleteJob (key_at place.1)
-      else if place.0 == 2 then add_trigger_at place.1
+      else if place.0 == 2 then replacing_at AddTrigger spec_at place.1
       else if place.0 == 3 then as_variant DeleteTrigger (key_at place.1)
       else if place.0 == 4 then as_variant PauseTrigger (key_at place.1)
       else if place.0 == 5 then as_variant ResumeTrigger (key_at place.1)
       else if place.0 == 6 then as_variant PauseGroup (name_at place.1)
       else if place.0 == 7 then as_variant ResumeGroup (name_at place.1)
-      else if place.0 == 8 then add_calendar_at place.1
+      else if place.0 == 8 then replacing_at AddCalendar calendar_row_at place.1
       else if place.0 == 9 then as_variant DeleteCalendar (name_at place.1)
       else if place.0 == 10 then as_variant AddZone (zone_row_at place.1)
       else if place.0 == 11 then as_variant DeleteZone (name_at place.1)

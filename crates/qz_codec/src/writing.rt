@@ -6,8 +6,8 @@ ghost use Rattle.qz_civil.specs.Timings.{is_timing, is_end, is_name};
 ghost use Rattle.qz_types.specs.Rows.{is_node, is_key, is_job, is_trigger_spec, is_member, is_calendar};
 ghost use Rattle.qz_types.specs.Entries.{EntryData, is_command, is_entry};
 ghost use Rattle.qz_codec.specs.declared.limits.TheConstants.{RECORD_LIMIT};
-ghost use Rattle.qz_codec.specs.Values.{IsText, IsName, IsSpan, IsKey, IsJob, IsTiming, IsSpec, IsMember, IsActor, IsCommand, IsEntry};
-ghost use Rattle.qz_codec.specs.Layout.{number, integer, small, flag, text, optional, key, job, timing, spec, member, actor, code_place, command, entry, record_of};
+ghost use Rattle.qz_codec.specs.Values.{IsText, IsName, IsSpan, IsKey, IsJob, IsTiming, IsSpec, IsMember, IsActor, IsEntry};
+ghost use Rattle.qz_codec.specs.Layout.{number, integer, small, flag, text, optional, key, job, timing, spec, member, actor, command, entry, record_of};
 
 mod commands;
 pub(crate) mod kinds;
@@ -16,8 +16,7 @@ use crate::records::write;
 use commands::put_variant;
 use kinds::put_kind;
 use qz_types::{
-    Actor, Code, Command, Entry, JobRow, Key, List, MemberRow, NODE_LIMIT, NoMemory, Text, Timing,
-    TriggerSpec,
+    Actor, Entry, JobRow, Key, List, MemberRow, NODE_LIMIT, NoMemory, Text, Timing, TriggerSpec,
 };
 use std::alloc::{AllocError, Global};
 

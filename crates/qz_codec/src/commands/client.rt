@@ -1,10 +1,10 @@
 //! Reading the fields of a client's commands.
-ghost use Rattle.std.specs.Prelude.{◌≡◌, ℤ, IsTrue, IfOk, true, false};
-ghost use Rattle.std.specs.Int.{w64};
+ghost use Rattle.std.specs.Prelude.{◌≡◌, IsTrue, IfOk, false};
 ghost use Rattle.qz_types.specs.Entries.{is_command, is_of_node};
-ghost use Rattle.qz_types.specs.declared.commands.Command.TheVariants.{DeleteJob, DeleteTrigger, PauseTrigger, ResumeTrigger, PauseGroup, ResumeGroup, DeleteCalendar, AddZone, DeleteZone, TriggerNow, Threshold, Join};
-ghost use Rattle.qz_codec.specs.Reading.{Gives, as_variant, key_at, name_at, node_at, threshold_at, add_job_at, add_trigger_at, add_calendar_at};
+ghost use Rattle.qz_types.specs.declared.commands.Command.TheVariants.{AddJob, DeleteJob, AddTrigger, DeleteTrigger, PauseTrigger, ResumeTrigger, PauseGroup, ResumeGroup, AddCalendar, DeleteCalendar, AddZone, DeleteZone, TriggerNow, Threshold, Join};
+ghost use Rattle.qz_codec.specs.Reading.{Gives, as_variant, key_at, name_at, node_at, threshold_at, job_at, spec_at, replacing_at};
 ghost use Rattle.qz_codec.specs.Zones.{zone_row_at};
+ghost use Rattle.qz_codec.specs.Calendars.{calendar_row_at};
 
 use crate::calendars::calendar_row_of;
 use crate::errors::Fault;
@@ -14,9 +14,8 @@ use crate::zones::zone_row_of;
 use qz_types::{Command, Text};
 use std::alloc::Global;
 
-#[tactic(auto, unfolding(crate::specs::Reading::add_job_at))]
 pub(super) fn add_job_of(alloc: Global, bytes: &[u8]) -> Result<(Command, &[u8]), Fault>
-    ensures exact { Gives (λ x. (x.0, x.1.now)) result (add_job_at bytes.now) }
+    ensures exact { Gives (λ x. (x.0, x.1.now)) result (replacing_at AddJob job_at bytes.now) }
     ensures valid { IfOk result (λ x. IsTrue (is_command x.0) × (is_of_node x.0 ≡ false)) }
 {
     let (job, rest) = job_of(alloc, bytes)?;
@@ -24,9 +23,8 @@ pub(super) fn add_job_of(alloc: Global, bytes: &[u8]) -> Result<(Command, &[u8])
     Ok((Command::AddJob { job, replace }, rest))
 }
 
-#[tactic(auto, unfolding(crate::specs::Reading::add_trigger_at))]
 pub(super) fn add_trigger_of(alloc: Global, bytes: &[u8]) -> Result<(Command, &[u8]), Fault>
-    ensures exact { Gives (λ x. (x.0, x.1.now)) result (add_trigger_at bytes.now) }
+    ensures exact { Gives (λ x. (x.0, x.1.now)) result (replacing_at AddTrigger spec_at bytes.now) }
     ensures valid { IfOk result (λ x. IsTrue (is_command x.0) × (is_of_node x.0 ≡ false)) }
 {
     let (spec, rest) = spec_of(alloc, bytes)?;
@@ -84,9 +82,8 @@ pub(super) fn resume_group_of(alloc: Global, bytes: &[u8]) -> Result<(Command, &
     Ok((Command::ResumeGroup { group }, rest))
 }
 
-#[tactic(auto, unfolding(crate::specs::Reading::add_calendar_at))]
 pub(super) fn add_calendar_of(alloc: Global, bytes: &[u8]) -> Result<(Command, &[u8]), Fault>
-    ensures exact { Gives (λ x. (x.0, x.1.now)) result (add_calendar_at bytes.now) }
+    ensures exact { Gives (λ x. (x.0, x.1.now)) result (replacing_at AddCalendar calendar_row_at bytes.now) }
     ensures valid { IfOk result (λ x. IsTrue (is_command x.0) × (is_of_node x.0 ≡ false)) }
 {
     let (calendar, rest) = calendar_row_of(alloc, bytes)?;

@@ -1,5 +1,5 @@
 //! Reading the fields of a node's commands.
-ghost use Rattle.std.specs.Prelude.{◌≡◌, ◌≤◌, ℕ, IsTrue, IfOk, true, false};
+ghost use Rattle.std.specs.Prelude.{◌≡◌, ◌≤◌, IsTrue, IfOk, true};
 ghost use Rattle.std.specs.Int.{w32, w64};
 ghost use Rattle.qz_types.specs.Entries.{is_command, is_of_node};
 ghost use Rattle.qz_types.specs.declared.commands.Command.TheVariants.{Release, Fire, Recover};

@@ -1,9 +1,9 @@
 //! Writing commands.
-ghost use Rattle.std.specs.Prelude.{◌≡◌, ◌<◌, ◌^◌, ◌++◌, ◌∷◌, [], ℕ, ℤ, OnOk, IsTrue, true, FitsSigned};
+ghost use Rattle.std.specs.Prelude.{◌≡◌, ◌<◌, ◌++◌, ◌∷◌, [], OnOk, IsTrue};
 ghost use Rattle.std.specs.Int.{w32, w64};
 ghost use Rattle.qz_types.specs.Entries.{is_command};
-ghost use Rattle.qz_codec.specs.Values.{IsSpan, IsCommand};
-ghost use Rattle.qz_codec.specs.Layout.{number, integer, flag, text, key, job, spec, code_place, command_place, command_fields, command};
+ghost use Rattle.qz_codec.specs.Values.{IsCommand};
+ghost use Rattle.qz_codec.specs.Layout.{number, integer, flag, key, job, spec, code_place, command_place, command_fields, command};
 ghost use Rattle.qz_codec.specs.Calendars.{calendar_row};
 
 use crate::calendars::put_calendar_row;
