@@ -1,18 +1,14 @@
 -- Actors and entries.
-use Rattle.std.proofs.Common.{◌≡◌, ℕ, zero, suc, ◌^◌, ◌<◌, ◌≤◌, ◌-◌, Bool, true, false, cond, List, [], ◌∷◌, ◌++◌, length, Result, Ok, Err, refl, sym, ap, subst, ◌∙◌, arith, ◌==◌}
-use Rattle.std.specs.Prelude.{IfOk}
-use Rattle.std.proofs.lemmas.Bool.{eqb-true}
-use Rattle.std.proofs.lemmas.List.{append-nil, nil_from_length}
+use Rattle.std.proofs.Common.{◌≡◌, ℕ, zero, suc, ◌^◌, ◌<◌, Bool, true, false, cond, List, [], ◌∷◌, ◌++◌, length, Ok, refl, sym, ap, subst, ◌∙◌, arith}
 use Rattle.qz_types.specs.Rows.{MemberData}
 use Rattle.qz_types.specs.Entries.{EntryData, is_of_node, has_actor}
 use Rattle.qz_types.specs.declared.commands.Command.{Command}
 use Rattle.qz_types.specs.declared.commands.Actor.{Actor}
 use Rattle.qz_types.specs.declared.commands.Actor.TheVariants.{Client, Node}
-use Rattle.qz_codec.specs.Layout.{actor, command, entry, record_of}
+use Rattle.qz_codec.specs.Layout.{actor, command, entry}
 use Rattle.qz_codec.specs.Values.{IsActor, IsCommand, IsEntry}
-use Rattle.qz_codec.specs.Reading.{◌>>=◌, Read, as_variant, byte_at, flag_at, member_at, actor_at, command_at, entry_at, whole_at, placed, reading, Answers}
-use Rattle.qz_codec.specs.declared.errors.ReadError.{ReadError}
-use Rattle.qz_codec.proofs.Formats.{IsBytes, IsNear, EndsNear, Takes, IsFormat, Any, Also, bind_ok, done, ok_is, no_value, guard_ok, near_then, field, last, same}
+use Rattle.qz_codec.specs.Reading.{◌>>=◌, Read, as_variant, byte_at, flag_at, member_at, actor_at, command_at, entry_at}
+use Rattle.qz_codec.proofs.Formats.{IsBytes, EndsNear, Takes, IsFormat, Any, Also, ok_is, no_value, near_then, field, last, same}
 use Rattle.qz_codec.proofs.SingleFields.{IsBytes-rest, other_flag, flag_format, wide32, wide64, same64, number_format, integer_format}
 use Rattle.qz_codec.proofs.RowFormats.{member_format}
 use Rattle.qz_codec.proofs.VariantFormats.{variant}

@@ -1,5 +1,5 @@
 -- How a reader and the bytes of a type go together, from fields to a row.
-use Rattle.std.proofs.Common.{◌≡◌, ℕ, ◌+◌, ◌<◌, ◌≤◌, Bool, true, false, cond, List, ◌++◌, length, get_or, Result, Ok, Err, refl, sym, ap, subst, ◌∙◌, append_assoc, arith}
+use Rattle.std.proofs.Common.{◌≡◌, ℕ, ◌+◌, Bool, true, false, cond, List, ◌++◌, length, Result, Ok, Err, refl, sym, ap, subst, ◌∙◌, append_assoc, arith}
 use Rattle.qz_codec.specs.Reading.{◌>>=◌, Read, checked}
 pub use Rattle.qz_codec.specs.Formats.{IsBytes, IsNear, EndsNear, Takes, IsFormat, Any}
 

@@ -1,5 +1,5 @@
 -- What a reader and the bytes of a type have to do with each other.
-use Rattle.std.specs.Prelude.{◌≡◌, ℕ, ◌+◌, ◌<◌, ◌≤◌, List, ◌++◌, length, get_or, Result, Ok, Err}
+use Rattle.std.specs.Prelude.{◌≡◌, ℕ, ◌+◌, ◌<◌, ◌≤◌, List, ◌++◌, length, get_or, Ok, Err}
 use Rattle.qz_codec.specs.Reading.{Read}
 
 -- all values alike

@@ -1,5 +1,5 @@
 -- Rows beside jobs and members: their bytes, which have a record, and how they are read.
-use Rattle.std.specs.Prelude.{◌≡◌, ℕ, ◌^◌, ◌<◌, nat_le, ◌==◌, true, FitsSigned, IfSome, List, [], ◌∷◌, ◌++◌, length, Result, Ok, Err, if◌then◌else◌}
+use Rattle.std.specs.Prelude.{◌≡◌, ℕ, ◌^◌, ◌<◌, nat_le, ◌==◌, true, FitsSigned, IfSome, List, [], ◌∷◌, ◌++◌, length, Ok, Err, if◌then◌else◌}
 use Rattle.std.specs.Int.{w32, w64}
 use Rattle.qz_types.specs.Rows.{TriggerData, FiredData, StateData, is_interval}
 use Rattle.qz_types.specs.declared.limits.TheConstants.{NODE_LIMIT, TIMES_LIMIT}

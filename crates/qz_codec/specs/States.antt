@@ -1,5 +1,5 @@
 -- State entries: their bytes, which have a record, and how they are read.
-use Rattle.std.specs.Prelude.{ℕ, ◌^◌, ◌<◌, FitsSigned, List, ◌∷◌, ◌++◌, length, ◌==◌, Result, Ok, Err, if◌then◌else◌}
+use Rattle.std.specs.Prelude.{ℕ, ◌^◌, ◌<◌, FitsSigned, List, ◌∷◌, ◌++◌, length, ◌==◌, Ok, Err, if◌then◌else◌}
 use Rattle.std.specs.Int.{w32, w64}
 use Rattle.qz_types.specs.Rows.{is_interval}
 use Rattle.qz_types.specs.Entries.{StateEntryData}
