@@ -1,31 +1,7 @@
--- What a reader and the bytes of a type have to do with each other, and how that goes from fields to a row.
-use Rattle.std.proofs.Common.{◌≡◌, ℕ, ◌+◌, ◌<◌, ◌≤◌, Bool, true, false, cond, List, ◌++◌, length, get_or, Result, Ok, Err, refl, sym, ap, subst, ◌∙◌, append_assoc, arith}
+-- How a reader and the bytes of a type go together, from fields to a row.
+use Rattle.std.proofs.Common.{◌≡◌, ℕ, ◌+◌, Bool, true, false, cond, List, ◌++◌, length, Result, Ok, Err, refl, sym, ap, subst, ◌∙◌, append_assoc, arith}
 use Rattle.qz_codec.specs.Reading.{◌>>=◌, Read, checked}
-
-abbrev pub IsBytes : List ℕ → Type 0
-IsBytes bytes = (i : ℕ) → get_or bytes i 0 < 256
-
--- How much a reader passed over: of size bytes at most most.
-pub record IsNear (most size left : ℕ) : Type 0 where
-  pub within : left ≤ size
-  pub near : size ≤ left + most
-
-abbrev pub EndsNear : {A : Type 0} → ℕ → ℕ → Read A → Type 0
-EndsNear most size (Ok x) = IsNear most size (length x.1)
-EndsNear most size (Err left) = IsNear most size left
-
--- what a reader took from the front
-pub record Takes {A : Type 0} (write : A → List ℕ) (Known Is : A → Type 0) (bytes : List ℕ) (x : A × List ℕ) : Type 0 where
-  pub parts : bytes ≡ write x.0 ++ x.1
-  pub rest : IsBytes x.1
-  pub known : Known x.0
-  pub valid : Is x.0
-
--- Of the values for which Known holds, those with Is are written and read so, and none else is read.
-pub record IsFormat {A : Type 0} (write : A → List ℕ) (Known Is : A → Type 0) (read : List ℕ → Read A) (most : ℕ) : Type 0 where
-  pub again : (x : A) (rest : List ℕ) → Known x → Is x → read (write x ++ rest) ≡ Ok (x, rest)
-  pub takes : (bytes : List ℕ) (x : A × List ℕ) → IsBytes bytes → read bytes ≡ Ok x → Takes write Known Is bytes x
-  pub near : (bytes : List ℕ) → EndsNear most (length bytes) (read bytes)
+pub use Rattle.qz_codec.specs.Formats.{IsBytes, IsNear, EndsNear, Takes, IsFormat, Any}
 
 -- the value of a step that did not fail
 pub bind_ok : {A B : Type 0} (r : Result A ℕ) (f : A → Result B ℕ) (y : B) → (r >>= f) ≡ Ok y → (x : A) × (r ≡ Ok x) × (f x ≡ Ok y)
@@ -66,9 +42,6 @@ pub record Also (P Q : Type 0) : Type 0 where
 pub record Both (P Q : Type 0) : Type 0 where
   pub first : P
   pub others : Q
-
-abbrev pub Any : {A : Type 0} → A → Type 0
-Any x = Unit {0}
 
 -- A field, and those behind it.
 pub field : {A B : Type 0} {write_b : B → List ℕ} {IsB : B → Type 0} {read_b : List ℕ → Read B} {m n : ℕ} {write : A → List ℕ} {Is : A → Type 0} {read : B → List ℕ → Read A} → (Known : A → Type 0)

@@ -7,6 +7,7 @@ pub mod VariantFormats
 pub mod CronFormats
 pub mod KindFormats
 pub mod RowFormats
+pub mod RecordFormats
 pub mod ReaderLaws
 pub mod ListLoops
 pub mod ListFormats
@@ -14,3 +15,5 @@ pub mod ZoneFormats
 pub mod CalendarFormats
 pub mod CommandFormats
 pub mod EntryFormats
+pub mod StateFormats
+pub mod RowRecordFormats

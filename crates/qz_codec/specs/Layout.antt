@@ -121,9 +121,9 @@ command c = command_place c ∷ command_fields c
 unfoldable pub entry : EntryData → List ℕ
 entry e = integer w64 e.at ++ (actor e.actor ++ (number w32 e.seat ++ command e.command))
 
--- the record of a version: its byte, and the entry
-abbrev pub record_in : ℕ → EntryData → List ℕ
-record_in version e = version ∷ entry e
+-- a record: the byte of its version, and what is written behind it
+abbrev pub recorded : {A : Type 0} → (A → List ℕ) → A → List ℕ
+recorded write x = 1 ∷ write x
 
 abbrev pub record_of : EntryData → List ℕ
-record_of e = record_in 1 e
+record_of e = recorded entry e

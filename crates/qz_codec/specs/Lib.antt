@@ -1,8 +1,11 @@
+pub mod Formats
 pub mod Fields
 pub mod CronFields
 pub mod Layout
 pub mod Reading
 pub mod Values
+pub mod Rows
+pub mod States
 pub mod Lists
 pub mod Zones
 pub mod Calendars

@@ -242,24 +242,28 @@ entry_at bytes = do
   command ← command_at actor.0 seat.1
   Ok (record { at = at.0; actor = actor.0; seat = seat.0; command = command.0 }, command.1)
 
--- a whole record: its version, the entry, and nothing behind it
-unfoldable pub whole_at : List ℕ → Result EntryData ℕ
-whole_at bytes = do
+-- a whole record: its version, what is read behind it, and nothing more
+unfoldable pub whole_at : {A : Type 0} → (List ℕ → Read A) → List ℕ → Result A ℕ
+whole_at read bytes = do
   version ← checked (λ n. n == 1) byte_at bytes
-  entry ← entry_at version.1
-  if length entry.1 == 0 then Ok entry.0 else Err (length entry.1)
+  value ← read version.1
+  if length value.1 == 0 then Ok value.0 else Err (length value.1)
 
 -- the place of the fault, from the front
-abbrev pub placed : ℕ → Result EntryData ℕ → Result EntryData ℕ
-placed size (Ok e) = Ok e
+abbrev pub placed : {A : Type 0} → ℕ → Result A ℕ → Result A ℕ
+placed size (Ok x) = Ok x
 placed size (Err left) = Err (size - left)
 
--- The entry whose record the bytes are, or the place of the first wrong field.
+-- The value whose record the bytes are, or the place of the first wrong field.
+abbrev pub reading_by : {A : Type 0} → (List ℕ → Read A) → List ℕ → Result A ℕ
+reading_by read bytes = placed (length bytes) (whole_at read bytes)
+
+-- the same of an entry
 abbrev pub reading : List ℕ → Result EntryData ℕ
-reading bytes = placed (length bytes) (whole_at bytes)
+reading bytes = reading_by entry_at bytes
 
 -- What a call answered is what reading gives, unless memory ran out.
-abbrev pub Answers : Result EntryData ReadError → Result EntryData ℕ → Type 0
-Answers (Ok e) read = read ≡ Ok e
+abbrev pub Answers : {A : Type 0} → Result A ReadError → Result A ℕ → Type 0
+Answers (Ok x) read = read ≡ Ok x
 Answers (Err (errors.BadRecord place)) read = read ≡ Err place
 Answers (Err errors.NoMemory) read = Unit {0}

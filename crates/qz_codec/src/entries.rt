@@ -1,17 +1,18 @@
 //! Reading a record.
-ghost use Rattle.std.specs.Prelude.{◌≡◌, ◌==◌, ℕ, IfOk, Ok, List};
+ghost use Rattle.std.specs.Prelude.{◌≡◌, IfOk, Ok};
 ghost use Rattle.qz_types.specs.Entries.{EntryData, is_entry};
 ghost use Rattle.qz_codec.specs.Values.{IsEntry};
-ghost use Rattle.qz_codec.specs.Layout.{record_of};
-ghost use Rattle.qz_codec.specs.Reading.{Gives, Answers, checked, byte_at, entry_at, whole_at, reading};
+ghost use Rattle.qz_codec.specs.Layout.{entry, record_of};
+ghost use Rattle.qz_codec.specs.Reading.{Gives, Answers, entry_at, reading};
 
 use crate::commands::command_of;
 use crate::errors::{Fault, ReadError};
-use crate::fields::{i64_at, u8_at, u32_at};
-use crate::limits::VERSION;
+use crate::fields::{i64_at, u32_at};
+use crate::records::{Recorded, read};
 use crate::rows::actor_of;
+use crate::writing::put_entry;
 use qz_types::Entry;
-use std::alloc::Global;
+use std::alloc::{AllocError, Global};
 
 #[tactic(auto, unfolding(crate::specs::Reading::entry_at, qz_types::specs::Entries::is_entry))]
 fn entry_of(alloc: Global, bytes: &[u8]) -> Result<(Entry, &[u8]), Fault>
@@ -30,39 +31,26 @@ fn entry_of(alloc: Global, bytes: &[u8]) -> Result<(Entry, &[u8]), Fault>
     Ok((entry, rest))
 }
 
-fn version_of(bytes: &[u8]) -> Result<(u8, &[u8]), Fault>
-    ensures { Gives (λ x. (x.0, x.1.now)) result (checked (λ n. n == 1) byte_at bytes.now) }
-{
-    let (version, rest) = u8_at(bytes)?;
-    if version != VERSION {
-        return Err(Fault::at(bytes));
-    }
-    Ok((version, rest))
-}
+impl Recorded for Entry {
+    ghost can_put = { λ e. Unit {0} };
 
-#[tactic(auto, unfolding(crate::specs::Reading::whole_at))]
-fn whole_of(alloc: Global, bytes: &[u8]) -> Result<Entry, Fault>
-    ensures { Gives (λ e. e) result (whole_at bytes.now) }
-{
-    let (_, rest) = version_of(bytes)?;
-    let (entry, rest) = entry_of(alloc, rest)?;
-    if !rest.is_empty() {
-        return Err(Fault::at(rest));
-    }
-    Ok(entry)
-}
+    ghost fields = { entry };
 
-/// Reads an entry, and places a fault from the front.
-fn read(alloc: Global, bytes: &[u8]) -> Result<Entry, ReadError>
-    ensures { Answers result (reading bytes.now) }
-{
-    match whole_of(alloc, bytes) {
-        Ok(entry) => Ok(entry),
-        Err(Fault::NoMemory) => Err(ReadError::NoMemory),
-        Err(Fault::Wrong { left }) => Err(ReadError::BadRecord {
-            at: (bytes.len() - left) as u32,
-        }),
+    ghost has_record = { IsEntry };
+
+    ghost fields_at = { entry_at };
+
+    ghost most = { 17139 };
+
+    fn put_fields(&self, out: &mut Vec<u8>) -> Result<(), AllocError> {
+        put_entry(out, self)
     }
+
+    fn fields_of(alloc: Global, bytes: &[u8]) -> Result<(Entry, &[u8]), Fault> {
+        entry_of(alloc, bytes)
+    }
+
+    fn is_format() {}
 }
 
 /// Reads a record. The bytes may be of any number: what stands behind a record's end is its fault, and isn't read.

@@ -3,11 +3,12 @@ ghost use Rattle.std.specs.Prelude.{◌≡◌, ◌≤◌, ℕ, ℤ, List, length
 ghost use Rattle.std.specs.Int.{w8, w16, w32, w64};
 ghost use Rattle.std.specs.Str.{is_utf8};
 ghost use Rattle.qz_civil.specs.Timings.{is_within, is_span, is_end};
+ghost use Rattle.qz_types.specs.Rows.{is_interval};
 ghost use Rattle.qz_codec.specs.Values.{is_long};
 ghost use Rattle.qz_codec.specs.Reading.{Gives, byte_at, number_at, integer_at, small_at, flag_at, checked, text_at, span_at, optional_at};
 
 use crate::errors::Fault;
-use qz_types::LONGEST;
+use qz_types::{INTERVAL_LIMIT, LONGEST};
 
 #[tactic(auto, unfolding(crate::specs::Reading::byte_at))]
 pub(crate) fn u8_at(bytes: &[u8]) -> Result<(u8, &[u8]), Fault>
@@ -111,6 +112,18 @@ pub(crate) fn span_of(bytes: &[u8]) -> Result<(i64, &[u8]), Fault>
         return Err(Fault::at(bytes));
     }
     Ok((span, rest))
+}
+
+/// A check-in interval or a threshold, in ms.
+pub(crate) fn interval_of(bytes: &[u8]) -> Result<(i64, &[u8]), Fault>
+    ensures exact { Gives (λ x. (x.0, x.1.now)) result (checked is_interval (integer_at w64) bytes.now) }
+    ensures valid { IfOk result (λ x. IsTrue (is_interval x.0)) }
+{
+    let (interval, rest) = i64_at(bytes)?;
+    if !is_between(1, INTERVAL_LIMIT, interval) {
+        return Err(Fault::at(bytes));
+    }
+    Ok((interval, rest))
 }
 
 pub(crate) fn end_of(bytes: &[u8]) -> Result<(Option<i64>, &[u8]), Fault>

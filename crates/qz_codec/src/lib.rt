@@ -1,4 +1,5 @@
-//! Records: the bytes of an entry of the trigger store's history, both ways. `docs/specification/records.md` has the format.
+//! Records: the bytes of an entry of a store's history and of a row, both ways. `docs/specification/records.md` and
+//! `docs/specification/row-records.md` have the format.
 #![tactic(auto)]
 
 mod calendars;
@@ -9,7 +10,10 @@ mod errors;
 mod fields;
 mod kinds;
 mod limits;
+mod records;
+mod row_records;
 mod rows;
+mod states;
 #[cfg(test)]
 mod tests;
 mod writing;
@@ -18,4 +22,6 @@ mod zones;
 pub use entries::get_command;
 pub use errors::ReadError;
 pub use limits::RECORD_LIMIT;
+pub use row_records::{Packed, get_row, put_row};
+pub use states::{get_state, put_state};
 pub use writing::put_command;

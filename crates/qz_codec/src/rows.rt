@@ -121,7 +121,7 @@ pub(crate) fn spec_of(alloc: Global, bytes: &[u8]) -> Result<(TriggerSpec, &[u8]
 }
 
 #[tactic(auto, unfolding(crate::specs::Reading::member_at))]
-fn member_of(alloc: Global, bytes: &[u8]) -> Result<(MemberRow, &[u8]), Fault>
+pub(crate) fn member_of(alloc: Global, bytes: &[u8]) -> Result<(MemberRow, &[u8]), Fault>
     ensures { Gives (λ x. (x.0, x.1.now)) result (member_at bytes.now) }
 {
     let (node, rest) = node_of(bytes)?;

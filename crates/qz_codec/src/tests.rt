@@ -1,6 +1,8 @@
 mod calendars;
 mod commands;
 mod kinds;
+mod rows;
+mod states;
 
 use super::*;
 use qz_types::{Actor, Command, Entry, List};

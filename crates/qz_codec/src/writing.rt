@@ -12,16 +12,13 @@ ghost use Rattle.qz_codec.specs.Layout.{number, integer, small, flag, text, opti
 mod commands;
 pub(crate) mod kinds;
 
-use crate::limits::VERSION;
+use crate::records::write;
 use commands::put_variant;
 use kinds::put_kind;
 use qz_types::{
     Actor, Entry, JobRow, Key, List, MemberRow, NODE_LIMIT, NoMemory, Text, Timing, TriggerSpec,
 };
 use std::alloc::{AllocError, Global};
-
-/// Bytes that most records have room in, so that few buffers grow.
-const USUAL_SIZE: usize = 256;
 
 pub(crate) fn put_u8(out: &mut Vec<u8>, n: u8) -> Result<(), AllocError>
     ensures { OnOk result (out.new.items ≡ out.old.items ++ n ∷ []) }
@@ -39,7 +36,7 @@ pub(crate) fn put_u32(out: &mut Vec<u8>, n: u32) -> Result<(), AllocError>
 }
 
 #[tactic(auto, unfolding(crate::specs::Layout::number))]
-fn put_u64(out: &mut Vec<u8>, n: u64) -> Result<(), AllocError>
+pub(crate) fn put_u64(out: &mut Vec<u8>, n: u64) -> Result<(), AllocError>
     ensures bytes { OnOk result (out.new.items ≡ out.old.items ++ number w64 n) }
     ensures valid { n < 2 ^ 64 }
 {
@@ -96,7 +93,7 @@ pub(crate) fn put_name(out: &mut Vec<u8>, name: &Text) -> Result<(), AllocError>
 }
 
 #[tactic(auto, unfolding(crate::specs::Layout::key))]
-fn put_key(out: &mut Vec<u8>, k: &Key) -> Result<(), AllocError>
+pub(crate) fn put_key(out: &mut Vec<u8>, k: &Key) -> Result<(), AllocError>
     requires { IsTrue (is_key k.now) }
     ensures bytes { OnOk result (out.new.items ≡ out.old.items ++ key k.now) }
     ensures valid { OnOk result (IsKey k.now) }
@@ -106,7 +103,7 @@ fn put_key(out: &mut Vec<u8>, k: &Key) -> Result<(), AllocError>
 }
 
 #[tactic(auto, unfolding(crate::specs::Layout::job))]
-fn put_job(out: &mut Vec<u8>, row: &JobRow) -> Result<(), AllocError>
+pub(crate) fn put_job(out: &mut Vec<u8>, row: &JobRow) -> Result<(), AllocError>
     ensures bytes { OnOk result (out.new.items ≡ out.old.items ++ job row.now) }
     ensures valid { OnOk result (IsJob row.now) }
 {
@@ -160,7 +157,7 @@ pub(crate) fn put_calendar(out: &mut Vec<u8>, calendar: &Option<Text>) -> Result
 }
 
 #[tactic(auto, unfolding(crate::specs::Layout::spec))]
-fn put_spec(out: &mut Vec<u8>, row: &TriggerSpec) -> Result<(), AllocError>
+pub(crate) fn put_spec(out: &mut Vec<u8>, row: &TriggerSpec) -> Result<(), AllocError>
     requires { IsTrue (is_trigger_spec row.now) }
     ensures bytes { OnOk result (out.new.items ≡ out.old.items ++ spec row.now) }
     ensures valid { OnOk result (IsSpec row.now) }
@@ -172,7 +169,7 @@ fn put_spec(out: &mut Vec<u8>, row: &TriggerSpec) -> Result<(), AllocError>
     put_timing(out, &row.timing)
 }
 
-fn put_node(out: &mut Vec<u8>, node: &Text) -> Result<(), AllocError>
+pub(crate) fn put_node(out: &mut Vec<u8>, node: &Text) -> Result<(), AllocError>
     requires { IsTrue (is_node node.now) }
     ensures bytes { OnOk result (out.new.items ≡ out.old.items ++ text node.now) }
     ensures valid { IsText 1 NODE_LIMIT node.now }
@@ -181,7 +178,7 @@ fn put_node(out: &mut Vec<u8>, node: &Text) -> Result<(), AllocError>
 }
 
 #[tactic(auto, unfolding(crate::specs::Layout::member))]
-fn put_member(out: &mut Vec<u8>, row: &MemberRow) -> Result<(), AllocError>
+pub(crate) fn put_member(out: &mut Vec<u8>, row: &MemberRow) -> Result<(), AllocError>
     ensures bytes { OnOk result (out.new.items ≡ out.old.items ++ member row.now) }
     ensures valid { OnOk result (IsMember row.now) }
 {
@@ -204,7 +201,7 @@ fn put_actor(out: &mut Vec<u8>, who: &Actor) -> Result<(), AllocError>
 }
 
 #[tactic(auto, unfolding(crate::specs::Layout::entry, qz_types::specs::Entries::is_entry), using(crate::proofs::Signs::signs))]
-fn put_entry(out: &mut Vec<u8>, e: &Entry) -> Result<(), AllocError>
+pub(crate) fn put_entry(out: &mut Vec<u8>, e: &Entry) -> Result<(), AllocError>
     ensures bytes { OnOk result (out.new.items ≡ out.old.items ++ entry e.now) }
     ensures valid { OnOk result (IsEntry e.now) }
 {
@@ -223,8 +220,5 @@ pub fn put_command(alloc: Global, entry: &Entry) -> Result<List<u8>, NoMemory>
     // No other entry has this record.
     ensures unique { OnOk result ((e : EntryData) → IsEntry e → record_of e ≡ record_of entry.now → e ≡ entry.now) }
 {
-    let mut out = Vec::with_capacity(alloc, USUAL_SIZE)?;
-    put_u8(&mut out, VERSION)?;
-    put_entry(&mut out, entry)?;
-    Ok(List::from_vec(out))
+    write(alloc, entry)
 }

@@ -1,6 +1,5 @@
 //! Reading the fields of a client's commands.
 ghost use Rattle.std.specs.Prelude.{◌≡◌, IsTrue, IfOk, false};
-ghost use Rattle.qz_types.specs.Rows.{is_interval};
 ghost use Rattle.qz_types.specs.Entries.{is_command, is_of_node};
 ghost use Rattle.qz_types.specs.declared.commands.Command.TheVariants.{AddJob, DeleteJob, AddTrigger, DeleteTrigger, PauseTrigger, ResumeTrigger, PauseGroup, ResumeGroup, AddCalendar, DeleteCalendar, AddZone, DeleteZone, TriggerNow, Threshold, Join};
 ghost use Rattle.qz_codec.specs.Reading.{Gives, as_variant, key_at, name_at, node_at, threshold_at, job_at, spec_at, replacing_at};
@@ -9,10 +8,10 @@ ghost use Rattle.qz_codec.specs.Calendars.{calendar_row_at};
 
 use crate::calendars::calendar_row_of;
 use crate::errors::Fault;
-use crate::fields::{bool_at, i64_at, is_between};
+use crate::fields::{bool_at, interval_of};
 use crate::rows::{job_of, key_of, name_of, node_of, spec_of};
 use crate::zones::zone_row_of;
-use qz_types::{Command, INTERVAL_LIMIT, Text};
+use qz_types::{Command, Text};
 use std::alloc::Global;
 
 pub(super) fn add_job_of(alloc: Global, bytes: &[u8]) -> Result<(Command, &[u8]), Fault>
@@ -126,23 +125,11 @@ pub(super) fn trigger_now_of(alloc: Global, bytes: &[u8]) -> Result<(Command, &[
     Ok((Command::TriggerNow { job: key }, rest))
 }
 
-/// How far back a fire time may lie, in ms.
-fn ms_of(bytes: &[u8]) -> Result<(i64, &[u8]), Fault>
-    ensures exact { Gives (λ x. (x.0, x.1.now)) result (threshold_at bytes.now) }
-    ensures valid { IfOk result (λ x. IsTrue (is_interval x.0)) }
-{
-    let (ms, rest) = i64_at(bytes)?;
-    if !is_between(1, INTERVAL_LIMIT, ms) {
-        return Err(Fault::at(bytes));
-    }
-    Ok((ms, rest))
-}
-
 pub(super) fn threshold_of(bytes: &[u8]) -> Result<(Command, &[u8]), Fault>
     ensures exact { Gives (λ x. (x.0, x.1.now)) result (as_variant Threshold (threshold_at bytes.now)) }
     ensures valid { IfOk result (λ x. IsTrue (is_command x.0) × (is_of_node x.0 ≡ false)) }
 {
-    let (ms, rest) = ms_of(bytes)?;
+    let (ms, rest) = interval_of(bytes)?;
     Ok((Command::Threshold { ms }, rest))
 }
 

@@ -1,0 +1,59 @@
+-- State entries: their bytes, which have a record, and how they are read.
+use Rattle.std.specs.Prelude.{ℕ, ◌^◌, ◌<◌, FitsSigned, List, ◌∷◌, ◌++◌, length, ◌==◌, Ok, Err, if◌then◌else◌}
+use Rattle.std.specs.Int.{w32, w64}
+use Rattle.qz_types.specs.Rows.{is_interval}
+use Rattle.qz_types.specs.Entries.{StateEntryData}
+use Rattle.qz_types.specs.declared.limits.TheConstants.{NODE_LIMIT}
+use Rattle.qz_types.specs.declared.states.StateCommand.{StateCommand}
+use Rattle.qz_types.specs.declared.states.StateCommand.TheVariants.{CheckIn, Forget}
+use Rattle.qz_codec.specs.Layout.{number, integer, text}
+use Rattle.qz_codec.specs.Values.{IsText, IsNumber}
+use Rattle.qz_codec.specs.Reading.{◌>>=◌, Read, checked, byte_at, number_at, integer_at, node_at}
+
+-- ---- bytes
+
+unfoldable pub state_command : StateCommand → List ℕ
+state_command (CheckIn node interval) = 0 ∷ (text node ++ integer w64 interval)
+state_command (Forget node last) = 1 ∷ (text node ++ integer w64 last)
+
+unfoldable pub state_entry : StateEntryData → List ℕ
+state_entry e = integer w64 e.at ++ (number w32 e.seat ++ state_command e.command)
+
+-- ---- which have a record
+
+abbrev pub IsStateCommand : StateCommand → Type 0
+IsStateCommand (CheckIn node interval) = IsText 1 NODE_LIMIT node × IsNumber w64 is_interval interval
+IsStateCommand (Forget node last) = IsText 1 NODE_LIMIT node × FitsSigned w64 last
+
+pub record IsStateEntry (e : StateEntryData) : Type 0 where
+  pub at : FitsSigned w64 e.at
+  pub seat : e.seat < 2 ^ 32
+  pub command : IsStateCommand e.command
+
+-- ---- reading
+
+unfoldable pub check_in_at : List ℕ → Read StateCommand
+check_in_at bytes = do
+  node ← node_at bytes
+  interval ← checked is_interval (integer_at w64) node.1
+  Ok (CheckIn node.0 interval.0, interval.1)
+
+unfoldable pub forget_at : List ℕ → Read StateCommand
+forget_at bytes = do
+  node ← node_at bytes
+  last ← integer_at w64 node.1
+  Ok (Forget node.0 last.0, last.1)
+
+unfoldable pub state_command_at : List ℕ → Read StateCommand
+state_command_at bytes = do
+  place ← byte_at bytes
+  if place.0 == 0 then check_in_at place.1
+      else if place.0 == 1 then forget_at place.1
+      else Err (length bytes)
+
+unfoldable pub state_entry_at : List ℕ → Read StateEntryData
+state_entry_at bytes = do
+  at ← integer_at w64 bytes
+  seat ← number_at w32 at.1
+  command ← state_command_at seat.1
+  Ok (record { at = at.0; seat = seat.0; command = command.0 }, command.1)

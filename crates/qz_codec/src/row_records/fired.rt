@@ -1,0 +1,147 @@
+//! Records of fired rows.
+ghost use Rattle.std.specs.Prelude.{◌≡◌, ◌<◌, ◌^◌, ◌++◌, ◌∷◌, OnOk, IfSome, FitsSigned, ℕ};
+ghost use Rattle.std.specs.Int.{w32, w64};
+ghost use Rattle.qz_types.specs.declared.limits.TheConstants.{NODE_LIMIT};
+ghost use Rattle.qz_codec.specs.Layout.{number, integer, flag, text, optional, key, recorded};
+ghost use Rattle.qz_codec.specs.Values.{IsText, IsKey};
+ghost use Rattle.qz_codec.specs.Reading.{Gives, reading_by};
+ghost use Rattle.qz_codec.specs.Rows.{fired_state_place, fired, IsFired, fired_state_at, fired_at};
+
+use super::Packed;
+use super::times::{put_time, time_of};
+use crate::errors::{Fault, ReadError};
+use crate::fields::{bool_at, i32_at, i64_at, u8_at, u64_at};
+use crate::records::{Recorded, read, write};
+use crate::rows::{key_of, node_of};
+use crate::writing::{put_bool, put_i32, put_i64, put_key, put_node, put_u8, put_u64};
+use qz_types::{FiredRow, FiredState, List, NoMemory, Text};
+use std::alloc::{AllocError, Global};
+
+#[tactic(auto, unfolding(crate::specs::Rows::fired_state_at))]
+fn fired_state_of(bytes: &[u8]) -> Result<(FiredState, &[u8]), Fault>
+    ensures { Gives (λ x. (x.0, x.1.now)) result (fired_state_at bytes.now) }
+{
+    let (place, rest) = u8_at(bytes)?;
+    match place {
+        0 => Ok((FiredState::Acquired, rest)),
+        1 => Ok((FiredState::Executing, rest)),
+        _ => Err(Fault::at(bytes)),
+    }
+}
+
+#[tactic(auto, unfolding(crate::specs::Rows::fired_at))]
+fn fired_of(alloc: Global, bytes: &[u8]) -> Result<(FiredRow, &[u8]), Fault>
+    ensures { Gives (λ x. (x.0, x.1.now)) result (fired_at bytes.now) }
+{
+    let (entry, rest) = u64_at(bytes)?;
+    let (node, rest) = node_of(rest)?;
+    let (epoch, rest) = u64_at(rest)?;
+    let (trigger, rest) = key_of(alloc, rest)?;
+    let (job, rest) = key_of(alloc, rest)?;
+    let (priority, rest) = i32_at(rest)?;
+    let (state, rest) = fired_state_of(rest)?;
+    let (scheduled, rest) = i64_at(rest)?;
+    let (fired, rest) = time_of(rest)?;
+    let (no_concurrent, rest) = bool_at(rest)?;
+    let (requests_recovery, rest) = bool_at(rest)?;
+    let row = FiredRow {
+        entry,
+        node: Text::from_str(alloc, node)?,
+        epoch,
+        trigger,
+        job,
+        priority,
+        state,
+        scheduled,
+        fired,
+        no_concurrent,
+        requests_recovery,
+    };
+    Ok((row, rest))
+}
+
+/// The place of the state among all states.
+fn place_of_state(state: FiredState) -> u8
+    ensures { result ≡ fired_state_place state }
+{
+    match state {
+        FiredState::Acquired => 0,
+        FiredState::Executing => 1,
+    }
+}
+
+/// What is held, and by whom.
+#[tactic(auto, using(crate::proofs::Signs::signs))]
+fn put_hold(out: &mut Vec<u8>, row: &FiredRow) -> Result<(), AllocError>
+    ensures bytes { OnOk result (out.new.items ≡ out.old.items ++ (number w64 row.now.entry ++ (text row.now.node ++ (number w64 row.now.epoch ++ (key row.now.trigger ++ key row.now.job))))) }
+    ensures valid { OnOk result ((row.now.entry < 2 ^ 64) × IsText 1 NODE_LIMIT row.now.node × (row.now.epoch < 2 ^ 64) × IsKey row.now.trigger × IsKey row.now.job) }
+{
+    put_u64(out, row.entry)?;
+    put_node(out, &row.node)?;
+    put_u64(out, row.epoch)?;
+    put_key(out, &row.trigger)?;
+    put_key(out, &row.job)
+}
+
+/// How far it is, and what of the job holds for it.
+#[tactic(auto, using(crate::proofs::Signs::signs))]
+fn put_progress(out: &mut Vec<u8>, row: &FiredRow) -> Result<(), AllocError>
+    ensures bytes { OnOk result (out.new.items ≡ out.old.items ++ (integer w32 row.now.priority ++ (fired_state_place row.now.state ∷ (integer w64 row.now.scheduled ++ (optional (integer w64) row.now.fired ++ (flag row.now.no_concurrent ++ flag row.now.requests_recovery)))))) }
+    ensures valid { OnOk result (FitsSigned w32 row.now.priority × FitsSigned w64 row.now.scheduled × IfSome row.now.fired (FitsSigned w64)) }
+{
+    put_i32(out, row.priority)?;
+    put_u8(out, place_of_state(row.state))?;
+    put_i64(out, row.scheduled)?;
+    put_time(out, &row.fired)?;
+    put_bool(out, row.no_concurrent)?;
+    put_bool(out, row.requests_recovery)
+}
+
+#[tactic(auto, unfolding(crate::specs::Rows::fired), using(crate::proofs::Signs::signs))]
+fn put_fired(out: &mut Vec<u8>, row: &FiredRow) -> Result<(), AllocError>
+    ensures bytes { OnOk result (out.new.items ≡ out.old.items ++ fired row.now) }
+    ensures valid { OnOk result (IsFired row.now) }
+{
+    put_hold(out, row)?;
+    put_progress(out, row)
+}
+
+impl Recorded for FiredRow {
+    ghost can_put = { λ row. Unit {0} };
+
+    ghost fields = { fired };
+
+    ghost has_record = { IsFired };
+
+    ghost fields_at = { fired_at };
+
+    ghost most = { 970 };
+
+    fn put_fields(&self, out: &mut Vec<u8>) -> Result<(), AllocError> {
+        put_fired(out, self)
+    }
+
+    fn fields_of(alloc: Global, bytes: &[u8]) -> Result<(FiredRow, &[u8]), Fault> {
+        fired_of(alloc, bytes)
+    }
+
+    fn is_format() {}
+}
+
+impl Packed for FiredRow {
+    ghost can_pack = { λ row. Unit {0} };
+
+    ghost record_of = { recorded fired };
+
+    ghost has_record = { IsFired };
+
+    ghost reading = { reading_by fired_at };
+
+    fn pack(&self, alloc: Global) -> Result<List<u8>, NoMemory> {
+        write(alloc, self)
+    }
+
+    fn unpack(alloc: Global, bytes: &[u8]) -> Result<FiredRow, ReadError> {
+        read(alloc, bytes)
+    }
+}

@@ -1,0 +1,460 @@
+//! Records of rows.
+use super::{Spoiled, spoil};
+use crate::{Packed, ReadError, get_row, put_row};
+use qz_types::{
+    CalendarRow, FiredRow, FiredState, JobRow, List, MemberRow, StateRow, Text, TriggerRow,
+    TriggerState, ZoneRow,
+};
+use std::alloc::Global;
+use std::process::Abort;
+use std::test::*;
+
+/// The job g/n of class c, which is durable and requests recovery, with the payload {}.
+const JOB: &[u8; 17] = b"\x01\
+    \x00\x01\x67\
+    \x00\x01\x6e\
+    \x00\x01\x63\
+    \x01\
+    \x00\
+    \x01\
+    \x00\x02\x7b\x7d";
+
+/// The trigger g/t of g/n, of priority -1 and on the calendar h: each 1000 ms from 2024-01-01T00:00:00Z on without end,
+/// misfires ignored. It fires next at -2 ms, never fired before, is counted 2^63 times and is paused.
+const TRIGGER: &[u8; 67] = b"\x01\
+    \x00\x01\x67\
+    \x00\x01\x74\
+    \x00\x01\x67\
+    \x00\x01\x6e\
+    \xff\xff\xff\xff\
+    \x01\x00\x01\x68\
+    \x00\
+    \x00\x00\x00\x00\x00\x00\x03\xe8\
+    \xff\xff\xff\xff\xff\xff\xff\xff\
+    \xff\
+    \x00\x00\x01\x8c\xc2\x51\xf4\x00\
+    \x00\
+    \x01\
+    \xff\xff\xff\xff\xff\xff\xff\xfe\
+    \x00\
+    \x80\x00\x00\x00\x00\x00\x00\x00\
+    \x04";
+
+/// Entry 7 of the member A of epoch 1: g/t of g/n, of priority -1, is executing. It was to fire at -2 ms and did at 3 ms, and
+/// its job isn't run beside itself.
+const FIRED: &[u8; 56] = b"\x01\
+    \x00\x00\x00\x00\x00\x00\x00\x07\
+    \x00\x01\x41\
+    \x00\x00\x00\x00\x00\x00\x00\x01\
+    \x00\x01\x67\
+    \x00\x01\x74\
+    \x00\x01\x67\
+    \x00\x01\x6e\
+    \xff\xff\xff\xff\
+    \x01\
+    \xff\xff\xff\xff\xff\xff\xff\xfe\
+    \x01\
+    \x00\x00\x00\x00\x00\x00\x00\x03\
+    \x01\
+    \x00";
+
+/// The member A of epoch 258.
+const MEMBER: &[u8; 12] = b"\x01\
+    \x00\x01\x41\
+    \x00\x00\x00\x00\x00\x00\x01\x02";
+
+/// A checked in last at -2 ms, and means to each 7500 ms.
+const STATE: &[u8; 20] = b"\x01\
+    \x00\x01\x41\
+    \xff\xff\xff\xff\xff\xff\xff\xfe\
+    \x00\x00\x00\x00\x00\x00\x1d\x4c";
+
+/// The group g.
+const GROUP: &[u8; 4] = b"\x01\x00\x01\x67";
+
+/// The calendar c in UTC without Saturdays and Sundays.
+const CALENDAR: &[u8; 12] = b"\x01\
+    \x00\x01\x63\
+    \x00\
+    \x00\x03\x55\x54\x43\
+    \x02\
+    \x41";
+
+/// The zone z: an hour from 1970-01-01T00:00:00Z on.
+const ZONE: &[u8; 18] = b"\x01\
+    \x00\x01\x7a\
+    \x00\x01\
+    \x00\x00\x00\x00\x00\x00\x00\x00\
+    \x00\x00\x0e\x10";
+
+// A record, read and written again.
+fn written_again<R: Packed + Drop>(alloc: Global, record: &[u8]) -> Option<List<u8>>
+    requires { (row : R) → R.can_pack row }
+{
+    match get_row::<R>(alloc, record) {
+        Ok(row) => put_row(alloc, &row).ok(),
+        Err(_) => None,
+    }
+}
+
+// The place at which bytes are no record.
+fn place_of<R: Packed + Drop>(alloc: Global, bytes: &[u8]) -> Option<u32> {
+    match get_row::<R>(alloc, bytes) {
+        Err(ReadError::BadRecord { at }) => Some(at),
+        Err(ReadError::NoMemory) | Ok(_) => None,
+    }
+}
+
+// Each is wrong at its place.
+fn are_wrong_there<R: Packed + Drop, A: Abort>(
+    rt: &A,
+    alloc: Global,
+    rows: &[Spoiled],
+) -> Result<(), Fail> {
+    for spoiled in rows {
+        let bytes = spoil(alloc, spoiled)?;
+        assert_eq!(rt;
+            place_of::<R>(alloc, &bytes),
+            Some(spoiled.at),
+            "from {}",
+            spoiled.from
+        );
+    }
+    Ok(())
+}
+
+#[test]
+fn both_ways(rt: HostRuntime) -> Result<(), Fail> {
+    let job = written_again::<JobRow>(rt.alloc(), JOB).ok_or("a job")?;
+    assert_eq!(rt; job.as_slice(), JOB.as_slice());
+    let trigger = written_again::<TriggerRow>(rt.alloc(), TRIGGER).ok_or("a trigger")?;
+    assert_eq!(rt; trigger.as_slice(), TRIGGER.as_slice());
+    let fired = written_again::<FiredRow>(rt.alloc(), FIRED).ok_or("a fired row")?;
+    assert_eq!(rt; fired.as_slice(), FIRED.as_slice());
+    let member = written_again::<MemberRow>(rt.alloc(), MEMBER).ok_or("a member")?;
+    assert_eq!(rt; member.as_slice(), MEMBER.as_slice());
+    Ok(())
+}
+
+#[test]
+fn both_ways_further(rt: HostRuntime) -> Result<(), Fail> {
+    let state = written_again::<StateRow>(rt.alloc(), STATE).ok_or("a check-in")?;
+    assert_eq!(rt; state.as_slice(), STATE.as_slice());
+    let calendar = written_again::<CalendarRow>(rt.alloc(), CALENDAR).ok_or("a calendar")?;
+    assert_eq!(rt; calendar.as_slice(), CALENDAR.as_slice());
+    let zone = written_again::<ZoneRow>(rt.alloc(), ZONE).ok_or("a zone")?;
+    assert_eq!(rt; zone.as_slice(), ZONE.as_slice());
+    let group = put_row(rt.alloc(), &Text::from_str(rt.alloc(), "g")?)?;
+    assert_eq!(rt; group.as_slice(), GROUP.as_slice());
+    Ok(())
+}
+
+fn reads_group(alloc: Global) -> bool {
+    match get_row::<Text>(alloc, GROUP) {
+        Ok(group) => group.as_str() == "g",
+        Err(_) => false,
+    }
+}
+
+fn reads_trigger(alloc: Global) -> bool {
+    match get_row::<TriggerRow>(alloc, TRIGGER) {
+        Ok(row) => {
+            row.spec.key.name.as_str() == "t"
+                && row.next == Some(-2)
+                && row.prev == None
+                && row.times == 1 << 63
+                && row.state == TriggerState::Paused
+        }
+        Err(_) => false,
+    }
+}
+
+fn reads_fired(alloc: Global) -> bool {
+    match get_row::<FiredRow>(alloc, FIRED) {
+        Ok(row) => {
+            row.entry == 7
+                && row.epoch == 1
+                && row.trigger.name.as_str() == "t"
+                && row.job.name.as_str() == "n"
+                && row.state == FiredState::Executing
+                && row.scheduled == -2
+                && row.fired == Some(3)
+                && row.no_concurrent
+                && !row.requests_recovery
+        }
+        Err(_) => false,
+    }
+}
+
+fn reads_state(alloc: Global) -> bool {
+    match get_row::<StateRow>(alloc, STATE) {
+        Ok(row) => row.node.as_str() == "A" && row.last == -2 && row.interval == 7500,
+        Err(_) => false,
+    }
+}
+
+#[test]
+fn values(rt: HostRuntime) {
+    assert!(rt; reads_group(rt.alloc()));
+    assert!(rt; reads_trigger(rt.alloc()));
+    assert!(rt; reads_fired(rt.alloc()));
+    assert!(rt; reads_state(rt.alloc()));
+}
+
+// The state of the trigger whose record has this byte at its end.
+fn state_at_place(alloc: Global, place: u8) -> Option<TriggerState> {
+    let mut bytes = Vec::from_slice(alloc, &TRIGGER[..66]).ok()?;
+    bytes.push(place).ok()?;
+    match get_row::<TriggerRow>(alloc, &bytes) {
+        Ok(row) => Some(row.state),
+        Err(_) => None,
+    }
+}
+
+#[test]
+fn states_of_triggers(rt: HostRuntime) {
+    let states = [
+        TriggerState::Waiting,
+        TriggerState::Acquired,
+        TriggerState::Complete,
+        TriggerState::Blocked,
+        TriggerState::Paused,
+        TriggerState::PausedBlocked,
+        TriggerState::Error,
+    ];
+    let mut place = 0;
+    for state in states {
+        if place < 7 {
+            assert_eq!(rt; state_at_place(rt.alloc(), place), Some(state));
+            place += 1;
+        }
+    }
+    assert_eq!(rt; place, 7);
+}
+
+/// Jobs that are wrong in one place.
+const SPOILED_JOBS: [Spoiled; 6] = [
+    // Another version, a group without bytes, a flag that is none, a payload of 4097 bytes, one that is cut.
+    Spoiled {
+        record: JOB,
+        from: 0,
+        bytes: &[0],
+        at: 0,
+    },
+    Spoiled {
+        record: JOB,
+        from: 1,
+        bytes: &[0, 0],
+        at: 1,
+    },
+    Spoiled {
+        record: JOB,
+        from: 11,
+        bytes: &[2],
+        at: 11,
+    },
+    Spoiled {
+        record: JOB,
+        from: 13,
+        bytes: &[0x10, 1],
+        at: 13,
+    },
+    Spoiled {
+        record: JOB,
+        from: 14,
+        bytes: &[3],
+        at: 15,
+    },
+    // A byte behind the record.
+    Spoiled {
+        record: JOB,
+        from: 17,
+        bytes: &[0],
+        at: 17,
+    },
+];
+
+/// Triggers that are wrong in one place.
+const SPOILED_TRIGGERS: [Spoiled; 7] = [
+    // A misfire instruction that the kind doesn't have, and flags that are none.
+    Spoiled {
+        record: TRIGGER,
+        from: 38,
+        bytes: &[6],
+        at: 38,
+    },
+    Spoiled {
+        record: TRIGGER,
+        from: 47,
+        bytes: &[2],
+        at: 47,
+    },
+    Spoiled {
+        record: TRIGGER,
+        from: 48,
+        bytes: &[2],
+        at: 48,
+    },
+    Spoiled {
+        record: TRIGGER,
+        from: 57,
+        bytes: &[2],
+        at: 57,
+    },
+    // A count beyond 2^63, a state that isn't there, a byte behind the record.
+    Spoiled {
+        record: TRIGGER,
+        from: 65,
+        bytes: &[1],
+        at: 58,
+    },
+    Spoiled {
+        record: TRIGGER,
+        from: 66,
+        bytes: &[7],
+        at: 66,
+    },
+    Spoiled {
+        record: TRIGGER,
+        from: 67,
+        bytes: &[0],
+        at: 67,
+    },
+];
+
+/// Fired rows that are wrong in one place.
+const SPOILED_FIRED: [Spoiled; 7] = [
+    // A node of 121 bytes, a group without bytes, a state that isn't there.
+    Spoiled {
+        record: FIRED,
+        from: 9,
+        bytes: &[0, 121],
+        at: 9,
+    },
+    Spoiled {
+        record: FIRED,
+        from: 20,
+        bytes: &[0, 0],
+        at: 20,
+    },
+    Spoiled {
+        record: FIRED,
+        from: 36,
+        bytes: &[2],
+        at: 36,
+    },
+    // Flags that are none, and a byte behind the record.
+    Spoiled {
+        record: FIRED,
+        from: 45,
+        bytes: &[2],
+        at: 45,
+    },
+    Spoiled {
+        record: FIRED,
+        from: 54,
+        bytes: &[2],
+        at: 54,
+    },
+    Spoiled {
+        record: FIRED,
+        from: 55,
+        bytes: &[2],
+        at: 55,
+    },
+    Spoiled {
+        record: FIRED,
+        from: 56,
+        bytes: &[0],
+        at: 56,
+    },
+];
+
+/// Members that are wrong in one place.
+const SPOILED_MEMBERS: [Spoiled; 2] = [
+    // A node that isn't UTF-8, and a byte behind the record.
+    Spoiled {
+        record: MEMBER,
+        from: 3,
+        bytes: &[0xff],
+        at: 3,
+    },
+    Spoiled {
+        record: MEMBER,
+        from: 12,
+        bytes: &[0],
+        at: 12,
+    },
+];
+
+/// Check-ins that are wrong in one place.
+const SPOILED_STATES: [Spoiled; 3] = [
+    // Intervals of 0 and of a day and 1 ms, and a byte behind the record.
+    Spoiled {
+        record: STATE,
+        from: 18,
+        bytes: &[0, 0],
+        at: 12,
+    },
+    Spoiled {
+        record: STATE,
+        from: 16,
+        bytes: &[5, 0x26, 0x5c, 1],
+        at: 12,
+    },
+    Spoiled {
+        record: STATE,
+        from: 20,
+        bytes: &[0],
+        at: 20,
+    },
+];
+
+/// Groups that are wrong in one place.
+const SPOILED_GROUPS: [Spoiled; 4] = [
+    // No bytes, 201 bytes, bytes that are cut, a byte behind the record.
+    Spoiled {
+        record: GROUP,
+        from: 2,
+        bytes: &[0],
+        at: 1,
+    },
+    Spoiled {
+        record: GROUP,
+        from: 2,
+        bytes: &[201],
+        at: 1,
+    },
+    Spoiled {
+        record: GROUP,
+        from: 2,
+        bytes: &[200],
+        at: 3,
+    },
+    Spoiled {
+        record: GROUP,
+        from: 4,
+        bytes: &[0],
+        at: 4,
+    },
+];
+
+#[test]
+fn spoiled_rows(rt: HostRuntime) -> Result<(), Fail> {
+    are_wrong_there::<JobRow, _>(&rt, rt.alloc(), &SPOILED_JOBS)?;
+    are_wrong_there::<TriggerRow, _>(&rt, rt.alloc(), &SPOILED_TRIGGERS)?;
+    are_wrong_there::<FiredRow, _>(&rt, rt.alloc(), &SPOILED_FIRED)?;
+    are_wrong_there::<MemberRow, _>(&rt, rt.alloc(), &SPOILED_MEMBERS)?;
+    are_wrong_there::<StateRow, _>(&rt, rt.alloc(), &SPOILED_STATES)?;
+    are_wrong_there::<Text, _>(&rt, rt.alloc(), &SPOILED_GROUPS)
+}
+
+#[test]
+fn nothing_is_no_row(rt: HostRuntime) {
+    assert_eq!(rt; place_of::<MemberRow>(rt.alloc(), &[]), Some(0));
+    assert_eq!(rt;
+        place_of::<CalendarRow>(rt.alloc(), &CALENDAR[..11]),
+        Some(11)
+    );
+    assert_eq!(rt; place_of::<ZoneRow>(rt.alloc(), &ZONE[..17]), Some(14));
+}

@@ -1,0 +1,196 @@
+//! Records of state entries.
+use super::{Spoiled, spoil};
+use crate::{ReadError, get_state, put_state};
+use qz_types::{List, StateCommand};
+use std::alloc::Global;
+use std::test::*;
+
+/// CheckIn of A, which means to check in again after 7500 ms, from seat 2 at 2024-01-01T00:00:00Z.
+const CHECK_IN: &[u8; 25] = b"\x01\
+    \x00\x00\x01\x8c\xc2\x51\xf4\x00\
+    \x00\x00\x00\x02\
+    \x00\
+    \x00\x01\
+    \x41\
+    \x00\x00\x00\x00\x00\x00\x1d\x4c";
+
+/// Forget of A, which checked in last at -1 ms, from seat 0 at 2024-01-01T00:00:00Z.
+const FORGET: &[u8; 25] = b"\x01\
+    \x00\x00\x01\x8c\xc2\x51\xf4\x00\
+    \x00\x00\x00\x00\
+    \x01\
+    \x00\x01\
+    \x41\
+    \xff\xff\xff\xff\xff\xff\xff\xff";
+
+/// The places that are wrong in `CHECK_IN` where only so many bytes of it are there.
+const FIELDS: [u32; 25] = [
+    0, 1, 1, 1, 1, 1, 1, 1, 1, 9, 9, 9, 9, 13, 14, 14, 16, 17, 17, 17, 17, 17, 17, 17, 17,
+];
+
+// The place at which bytes are no record.
+fn place_of(alloc: Global, bytes: &[u8]) -> Option<u32> {
+    match get_state(alloc, bytes) {
+        Err(ReadError::BadRecord { at }) => Some(at),
+        Err(ReadError::NoMemory) | Ok(_) => None,
+    }
+}
+
+// A record, read and written again.
+fn written_again(alloc: Global, record: &[u8]) -> Option<List<u8>> {
+    match get_state(alloc, record) {
+        Ok(entry) => put_state(alloc, &entry).ok(),
+        Err(_) => None,
+    }
+}
+
+fn reads_check_in(alloc: Global) -> bool {
+    match get_state(alloc, CHECK_IN) {
+        Ok(entry) => {
+            entry.at == 1704067200000
+                && entry.seat == 2
+                && matches!(&entry.command, StateCommand::CheckIn { node, interval: 7500 } if node.as_str() == "A")
+        }
+        Err(_) => false,
+    }
+}
+
+fn reads_forget(alloc: Global) -> bool {
+    match get_state(alloc, FORGET) {
+        Ok(entry) => {
+            matches!(&entry.command, StateCommand::Forget { node, last: -1 } if node.as_str() == "A")
+        }
+        Err(_) => false,
+    }
+}
+
+#[test]
+fn values(rt: HostRuntime) {
+    assert!(rt; reads_check_in(rt.alloc()));
+    assert!(rt; reads_forget(rt.alloc()));
+}
+
+#[test]
+fn both_ways(rt: HostRuntime) -> Result<(), Fail> {
+    let records: [&[u8]; 2] = [CHECK_IN, FORGET];
+    for record in records {
+        let bytes = written_again(rt.alloc(), record).ok_or("a record")?;
+        assert_eq!(rt; bytes.as_slice(), record);
+    }
+    Ok(())
+}
+
+#[test]
+fn cut_records(rt: HostRuntime) {
+    let mut size = 0;
+    for at in FIELDS {
+        if size < CHECK_IN.len() {
+            assert_eq!(rt; place_of(rt.alloc(), &CHECK_IN[..size]), Some(at));
+            size += 1;
+        }
+    }
+    assert_eq!(rt; size, CHECK_IN.len());
+}
+
+/// Records that are wrong in one place.
+const SPOILED: [Spoiled; 11] = [
+    // Another version, a command that isn't there, a node without bytes.
+    Spoiled {
+        record: CHECK_IN,
+        from: 0,
+        bytes: &[2],
+        at: 0,
+    },
+    Spoiled {
+        record: CHECK_IN,
+        from: 13,
+        bytes: &[2],
+        at: 13,
+    },
+    Spoiled {
+        record: CHECK_IN,
+        from: 14,
+        bytes: &[0, 0],
+        at: 14,
+    },
+    // A node of 121 bytes, one that is cut, one that isn't UTF-8.
+    Spoiled {
+        record: CHECK_IN,
+        from: 14,
+        bytes: &[0, 121],
+        at: 14,
+    },
+    Spoiled {
+        record: CHECK_IN,
+        from: 14,
+        bytes: &[0, 120],
+        at: 16,
+    },
+    Spoiled {
+        record: FORGET,
+        from: 16,
+        bytes: &[0xff],
+        at: 16,
+    },
+    // Intervals of 0, of a day and 1 ms, and of -1 ms.
+    Spoiled {
+        record: CHECK_IN,
+        from: 17,
+        bytes: &[0, 0, 0, 0, 0, 0, 0, 0],
+        at: 17,
+    },
+    Spoiled {
+        record: CHECK_IN,
+        from: 21,
+        bytes: &[5, 0x26, 0x5c, 1],
+        at: 17,
+    },
+    Spoiled {
+        record: CHECK_IN,
+        from: 17,
+        bytes: &[0xff, 0xff, 0xff, 0xff, 0xff, 0xff, 0xff, 0xff],
+        at: 17,
+    },
+    // A byte behind the record.
+    Spoiled {
+        record: CHECK_IN,
+        from: 25,
+        bytes: &[0],
+        at: 25,
+    },
+    Spoiled {
+        record: FORGET,
+        from: 25,
+        bytes: &[1],
+        at: 25,
+    },
+];
+
+#[test]
+fn spoiled_records(rt: HostRuntime) -> Result<(), Fail> {
+    for spoiled in &SPOILED {
+        let bytes = spoil(rt.alloc(), spoiled)?;
+        assert_eq!(rt;
+            place_of(rt.alloc(), &bytes),
+            Some(spoiled.at),
+            "from {}",
+            spoiled.from
+        );
+    }
+    Ok(())
+}
+
+/// The greatest interval: a day.
+#[test]
+fn longest_interval(rt: HostRuntime) -> Result<(), Fail> {
+    let longest = Spoiled {
+        record: CHECK_IN,
+        from: 21,
+        bytes: &[5, 0x26, 0x5c, 0],
+        at: 0,
+    };
+    let record = spoil(rt.alloc(), &longest)?;
+    let bytes = written_again(rt.alloc(), &record).ok_or("a record")?;
+    assert_eq!(rt; bytes.as_slice(), record.as_slice());
+    Ok(())
+}
