@@ -14,8 +14,6 @@ mod records;
 mod row_records;
 mod rows;
 mod states;
-#[cfg(test)]
-mod tests;
 mod writing;
 mod zones;
 

@@ -1,8 +1,8 @@
 //! Fire times that were worked out apart from this crate.
 ghost use Rattle.std.specs.Prelude.{negsuc, ◌≤ℤ◌};
 
-use qz_cron::next;
 use qz_civil::{CronFields, DayField, LAST, List, Stretch, WeekField, Zone};
+use qz_cron::next;
 use std::alloc::Global;
 use std::test::Fail;
 

@@ -1,6 +1,6 @@
 //! Texts with what they say, and with their faults.
-use qz_cron_text::{CronError, parse, print};
 use qz_civil::{CronFields, DayField, WeekField};
+use qz_cron_text::{CronError, parse, print};
 use std::test::Fail;
 
 /// The text's fault, if it has one.

@@ -1,8 +1,8 @@
 //! Fire times that were worked out apart from this crate.
 ghost use Rattle.std.specs.Prelude.{negsuc, ◌≤ℤ◌};
 
-use qz_daily::DailyTimes;
 use qz_civil::{LAST, LONGEST, List, Stretch, Times, Unit, Zone};
+use qz_daily::DailyTimes;
 use std::alloc::Global;
 use std::test::Fail;
 

@@ -2,8 +2,8 @@
 ghost use Rattle.std.specs.Prelude.{IsTrue, negsuc, ◌≤ℤ◌};
 ghost use Rattle.qz_civil.specs.Timings.{is_span};
 
-use qz_interval::{IntervalTimes, next};
 use qz_civil::{LAST, LONGEST, List, Stretch, Times, Unit, Zone};
+use qz_interval::{IntervalTimes, next};
 use std::alloc::Global;
 use std::test::Fail;
 

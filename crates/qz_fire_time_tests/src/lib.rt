@@ -4,12 +4,12 @@
 #[cfg(test)]
 mod civil;
 #[cfg(test)]
-mod cron_text;
-#[cfg(test)]
 mod cron;
 #[cfg(test)]
-mod simple;
+mod cron_text;
+#[cfg(test)]
+mod daily;
 #[cfg(test)]
 mod interval;
 #[cfg(test)]
-mod daily;
+mod simple;

@@ -1,6 +1,6 @@
 //! Fire times that were worked out by hand.
-use qz_simple::{SimpleTimes, next};
 use qz_civil::{LAST, LONGEST, Times};
+use qz_simple::{SimpleTimes, next};
 
 #[test]
 fn repeats(rt: HostRuntime) {

@@ -1,11 +1,11 @@
 //! Worked examples, and each call once.
 ghost use Rattle.std.specs.Prelude.{Some};
 
+use qz_civil::{Failed, List};
 use qz_io::{
     Clock, FaultSink, FaultSource, LINE_LIMIT, LineReader, ListClock, MemSink, MemSource,
     RealClock, Seen, Sink, Source, StdSink, StdSource, write_all,
 };
-use qz_civil::{Failed, List};
 use std::alloc::{AllocError, Global};
 
 fn list(alloc: Global, bytes: &[u8]) -> Result<List<u8>, AllocError> {

@@ -4,10 +4,10 @@
 #[cfg(test)]
 mod io;
 #[cfg(test)]
-mod words;
-#[cfg(test)]
 mod job_json;
 #[cfg(test)]
 mod report;
 #[cfg(test)]
 mod times;
+#[cfg(test)]
+mod words;

@@ -1,9 +1,9 @@
 //! Inputs with what is said to them.
-use qz_times::{Query, TimesEnd, run_times};
 use qz_civil::{LAST, List};
 use qz_cron_text::CronError;
 use qz_io::{FaultSink, FaultSource, MemSink, MemSource};
 use qz_job_json::LineFault;
+use qz_times::{Query, TimesEnd, run_times};
 use std::alloc::{AllocError, Global};
 use std::process::Abort;
 use std::test::Fail;

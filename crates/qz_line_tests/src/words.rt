@@ -1,6 +1,6 @@
 //! Words with what they ask for.
-use qz_words::{Wish, WordFault, read_words};
 use qz_civil::Text;
+use qz_words::{Wish, WordFault, read_words};
 use std::alloc::{AllocError, Global};
 use std::test::Fail;
 

@@ -6,4 +6,3 @@ mod plain;
 mod rows;
 
 pub use plain::{PlainStore, StepRefused};
-

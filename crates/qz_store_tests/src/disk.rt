@@ -1,6 +1,6 @@
 //! Worked examples of crashes, the disks that fail by a rule, and one real file.
-use qz_disk::{Call, CutDisk, Disk, FaultDisk, FileDisk, MemDisk};
 use qz_civil::{List, Text};
+use qz_disk::{Call, CutDisk, Disk, FaultDisk, FileDisk, MemDisk};
 use std::alloc::{AllocError, Global};
 use std::test::Fail;
 use std::{env, fs, process};

@@ -1,9 +1,9 @@
 //! Worked examples: stores that are whole, damaged or of another kind, the room that is left, and a commit that is cut.
+use qz_civil::List;
+use qz_disk::{Call, CutDisk, Disk, FaultDisk, MemDisk};
 use qz_journal::{
     AppendError, CreateError, Journal, JournalFull, MountError, STATES, TRIGGERS, create, fits,
 };
-use qz_civil::List;
-use qz_disk::{Call, CutDisk, Disk, FaultDisk, MemDisk};
 use std::alloc::{AllocError, Global};
 use std::test::Fail;
 

@@ -2,12 +2,14 @@
 #![tactic(auto)]
 
 #[cfg(test)]
-mod model;
+mod cluster;
+#[cfg(test)]
+mod codec;
 #[cfg(test)]
 mod disk;
 #[cfg(test)]
 mod journal;
 #[cfg(test)]
-mod trigger_store;
+mod model;
 #[cfg(test)]
-mod cluster;
+mod trigger_store;

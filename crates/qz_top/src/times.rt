@@ -37,12 +37,7 @@ pub(crate) fn tell_times<S: Source, K: Sink, D: Disk>(
 }
 
 // The same, without the disks.
-fn times<S: Source, K: Sink>(
-    alloc: Global,
-    input: &mut S,
-    out: &mut K,
-    query: Query,
-) -> Status
+fn times<S: Source, K: Sink>(alloc: Global, input: &mut S, out: &mut K, query: Query) -> Status
     requires low { negsuc 0 ≤ℤ query.after }
     requires high { query.after ≤ℤ LAST }
     ensures done { TimesDone result query (S.left input.old) (S.left input.new) (K.held out.old) (K.held out.new) }

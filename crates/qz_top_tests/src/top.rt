@@ -1,8 +1,8 @@
 //! Worked examples through the top call, over objects in memory.
-use qz_top::{BadKind, Ended, Status, WordFault, command};
 use qz_cron_text::CronError;
 use qz_disk::{Disk, FaultDisk, MemDisk};
 use qz_io::{FaultSink, FaultSource, ListClock, MemSink, MemSource};
+use qz_top::{BadKind, Ended, Status, WordFault, command};
 use qz_types::{List, Store, Text};
 use std::alloc::{AllocError, Global};
 use std::process::Abort;

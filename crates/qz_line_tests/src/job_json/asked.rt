@@ -1,7 +1,7 @@
 //! Lines of `times` with what they say: the timing or the zone as a text, or the fault.
-use qz_job_json::{Asked, LineFault, read_asked};
 use qz_civil::Zone;
 use qz_cron_text::CronError;
+use qz_job_json::{Asked, LineFault, read_asked};
 use std::alloc::{AllocError, Global};
 use std::test::Fail;
 

@@ -1,6 +1,6 @@
 //! Records of state entries.
 use super::{Spoiled, spoil};
-use crate::{ReadError, get_state, put_state};
+use qz_codec::{ReadError, get_state, put_state};
 use qz_types::{List, StateCommand};
 use std::alloc::Global;
 use std::test::*;

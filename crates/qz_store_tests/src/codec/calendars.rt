@@ -1,12 +1,8 @@
 //! Records of calendars and zones.
-ghost use Rattle.std.specs.Prelude.{◌<◌, ◌≤◌};
-
 use super::{Spoiled, spoil};
-use crate::calendars::{calendar_row_of, put_calendar_row};
-use crate::errors::Fault;
-use crate::zones::{put_zone_row, zone_row_of};
-use qz_types::CalendarKind;
-use std::alloc::{AllocError, Global};
+use qz_codec::{Packed, ReadError, get_row, put_row};
+use qz_types::{CalendarKind, CalendarRow, List, ZoneRow};
+use std::alloc::Global;
 use std::test::*;
 
 /// The annual calendar c in UTC without 29 February and 31 December, behind the calendar b.
@@ -75,53 +71,46 @@ const ZONE: &[u8; 29] = b"\x00\x01\x7a\
     \xff\xff\x02\xe0";
 
 /// What stands before the kind of a calendar c in UTC.
-const HEAD: &[u8; 9] = b"\x00\x01\x63\x00\x00\x03\x55\x54\x43";
+pub(super) const HEAD: &[u8; 9] = b"\x00\x01\x63\x00\x00\x03\x55\x54\x43";
+
+// The record of what has these bytes behind the version.
+fn record_of(alloc: Global, bytes: &[u8]) -> Option<Vec<u8>> {
+    let mut record = Vec::from_slice(alloc, &[1]).ok()?;
+    record.extend_from_slice(bytes).ok()?;
+    Some(record)
+}
+
+// What a record has behind the version.
+fn behind_version(alloc: Global, record: &List<u8>) -> Option<Vec<u8>> {
+    let (_, bytes) = record.as_slice().split_first()?;
+    Vec::from_slice(alloc, bytes).ok()
+}
+
+fn calendar_of(alloc: Global, bytes: &[u8]) -> Option<CalendarRow> {
+    get_row(alloc, &record_of(alloc, bytes)?).ok()
+}
+
+fn zone_row_of(alloc: Global, bytes: &[u8]) -> Option<ZoneRow> {
+    get_row(alloc, &record_of(alloc, bytes)?).ok()
+}
 
 // A calendar, read and written again.
-fn calendar_again(alloc: Global, record: &[u8]) -> Option<Vec<u8>> {
-    match calendar_row_of(alloc, record) {
-        Ok((row, [])) => {
-            let mut out = Vec::new(alloc);
-            put_calendar_row(&mut out, &row).ok()?;
-            Some(out)
-        }
-        Ok((_, [_, ..])) | Err(_) => None,
-    }
+pub(super) fn calendar_again(alloc: Global, bytes: &[u8]) -> Option<Vec<u8>> {
+    let row = calendar_of(alloc, bytes)?;
+    behind_version(alloc, &put_row(alloc, &row).ok()?)
 }
 
 // A zone, read and written again.
-fn zone_again(alloc: Global, record: &[u8]) -> Option<Vec<u8>> {
-    match zone_row_of(alloc, record) {
-        Ok((row, [])) => {
-            let mut out = Vec::new(alloc);
-            put_zone_row(&mut out, &row).ok()?;
-            Some(out)
-        }
-        Ok((_, [_, ..])) | Err(_) => None,
-    }
+pub(super) fn zone_again(alloc: Global, bytes: &[u8]) -> Option<Vec<u8>> {
+    let row = zone_row_of(alloc, bytes)?;
+    behind_version(alloc, &put_row(alloc, &row).ok()?)
 }
 
-// The place of the fault in so many bytes.
-fn place_in(size: usize, fault: Fault) -> Option<u32> {
-    match fault {
-        Fault::Wrong { left } => u32::try_from(size.checked_sub(left)?).ok(),
-        Fault::NoMemory => None,
-    }
-}
-
-// The place at which bytes are no calendar.
-fn calendar_place(alloc: Global, bytes: &[u8]) -> Option<u32> {
-    match calendar_row_of(alloc, bytes) {
-        Ok(_) => None,
-        Err(fault) => place_in(bytes.len(), fault),
-    }
-}
-
-// The place at which bytes are no zone.
-fn zone_place(alloc: Global, bytes: &[u8]) -> Option<u32> {
-    match zone_row_of(alloc, bytes) {
-        Ok(_) => None,
-        Err(fault) => place_in(bytes.len(), fault),
+// The place at which bytes behind the version are no row, counted from there.
+pub(super) fn place_of<R: Packed + Drop>(alloc: Global, bytes: &[u8]) -> Option<u32> {
+    match get_row::<R>(alloc, &record_of(alloc, bytes)?) {
+        Err(ReadError::BadRecord { at }) => at.checked_sub(1),
+        Err(ReadError::NoMemory) | Ok(_) => None,
     }
 }
 
@@ -143,8 +132,8 @@ fn zone_both_ways(rt: HostRuntime) -> Result<(), Fail> {
 }
 
 fn reads_daily(alloc: Global) -> bool {
-    match calendar_row_of(alloc, DAILY) {
-        Ok((row, _)) => matches!(
+    match calendar_of(alloc, DAILY) {
+        Some(row) => matches!(
             row.kind,
             CalendarKind::Daily {
                 from: 86399000,
@@ -152,23 +141,23 @@ fn reads_daily(alloc: Global) -> bool {
                 inverted: true
             }
         ),
-        Err(_) => false,
+        None => false,
     }
 }
 
 fn reads_annual(alloc: Global) -> bool {
-    match calendar_row_of(alloc, ANNUAL) {
-        Ok((row, _)) => match &row.kind {
+    match calendar_of(alloc, ANNUAL) {
+        Some(row) => match &row.kind {
             CalendarKind::Annual { days } => matches!(days.as_slice(), [229, 1231]),
             _ => false,
         },
-        Err(_) => false,
+        None => false,
     }
 }
 
 fn reads_zone(alloc: Global) -> bool {
     match zone_row_of(alloc, ZONE) {
-        Ok((row, _)) => match row.stretches.as_slice() {
+        Some(row) => match row.stretches.as_slice() {
             [first, second] => {
                 first.from == 0
                     && first.offset == 3600
@@ -177,7 +166,7 @@ fn reads_zone(alloc: Global) -> bool {
             }
             _ => false,
         },
-        Err(_) => false,
+        None => false,
     }
 }
 
@@ -393,7 +382,7 @@ fn spoiled_calendars(rt: HostRuntime) -> Result<(), Fail> {
     for spoiled in &SPOILED_CALENDARS {
         let bytes = spoil(rt.alloc(), spoiled)?;
         assert_eq!(rt;
-            calendar_place(rt.alloc(), &bytes),
+            place_of::<CalendarRow>(rt.alloc(), &bytes),
             Some(spoiled.at),
             "from {}",
             spoiled.from
@@ -407,99 +396,11 @@ fn spoiled_zones(rt: HostRuntime) -> Result<(), Fail> {
     for spoiled in &SPOILED_ZONES {
         let bytes = spoil(rt.alloc(), spoiled)?;
         assert_eq!(rt;
-            zone_place(rt.alloc(), &bytes),
+            place_of::<ZoneRow>(rt.alloc(), &bytes),
             Some(spoiled.at),
             "from {}",
             spoiled.from
         );
     }
-    Ok(())
-}
-
-/// The day of a year of 12 months of 31 days, as `month * 100 + day`.
-fn numbered_day(n: u16) -> u16
-    requires { n < 372 }
-{
-    (n / 31 + 1) * 100 + n % 31 + 1
-}
-
-/// The date of years of 12 months of 28 days from 1970 on, as `year * 10000 + month * 100 + day`.
-fn numbered_date(n: u32) -> u32
-    requires { n < 5000 }
-{
-    (1970 + n / 336) * 10000 + (n % 336 / 28 + 1) * 100 + n % 28 + 1
-}
-
-/// A calendar without so many days of each year.
-fn annual_of(alloc: Global, count: u16) -> Result<Vec<u8>, AllocError>
-    requires { count ≤ 367 }
-{
-    let mut bytes = Vec::from_slice(alloc, HEAD.as_slice())?;
-    bytes.push(0)?;
-    bytes.extend_from_slice(&count.to_be_bytes())?;
-    for n in 0..count {
-        bytes.extend_from_slice(&numbered_day(n).to_be_bytes())?;
-    }
-    Ok(bytes)
-}
-
-/// A calendar without so many dates.
-fn holiday_of(alloc: Global, count: u16) -> Result<Vec<u8>, AllocError>
-    requires { count ≤ 4097 }
-{
-    let mut bytes = Vec::from_slice(alloc, HEAD.as_slice())?;
-    bytes.push(1)?;
-    bytes.extend_from_slice(&count.to_be_bytes())?;
-    for n in 0..count {
-        bytes.extend_from_slice(&numbered_date(u32::from(n)).to_be_bytes())?;
-    }
-    Ok(bytes)
-}
-
-/// A zone of so many stretches, each as short as may be.
-fn zone_of(alloc: Global, count: u16) -> Result<Vec<u8>, AllocError> {
-    let mut bytes = Vec::from_slice(alloc, b"\x00\x01\x7a".as_slice())?;
-    bytes.extend_from_slice(&count.to_be_bytes())?;
-    for n in 0..count {
-        bytes.extend_from_slice(&(u64::from(n) * 172800000).to_be_bytes())?;
-        bytes.extend_from_slice(&u32::from(n % 2).to_be_bytes())?;
-    }
-    Ok(bytes)
-}
-
-#[test]
-fn full_calendars(rt: HostRuntime) -> Result<(), Fail> {
-    let records = [
-        annual_of(rt.alloc(), 0)?,
-        annual_of(rt.alloc(), 366)?,
-        holiday_of(rt.alloc(), 0)?,
-        holiday_of(rt.alloc(), 4096)?,
-    ];
-    for record in &records {
-        let bytes = calendar_again(rt.alloc(), record).ok_or("a calendar")?;
-        assert_eq!(rt; bytes.as_slice(), record.as_slice());
-    }
-    Ok(())
-}
-
-#[test]
-fn full_zone(rt: HostRuntime) -> Result<(), Fail> {
-    let record = zone_of(rt.alloc(), 512)?;
-    let bytes = zone_again(rt.alloc(), &record).ok_or("a zone")?;
-    assert_eq!(rt; bytes.as_slice(), record.as_slice());
-    Ok(())
-}
-
-#[test]
-fn too_many(rt: HostRuntime) -> Result<(), Fail> {
-    assert_eq!(rt;
-        calendar_place(rt.alloc(), &annual_of(rt.alloc(), 367)?),
-        Some(10)
-    );
-    assert_eq!(rt;
-        calendar_place(rt.alloc(), &holiday_of(rt.alloc(), 4097)?),
-        Some(10)
-    );
-    assert_eq!(rt; zone_place(rt.alloc(), &zone_of(rt.alloc(), 513)?), Some(3));
     Ok(())
 }

@@ -1,10 +1,11 @@
 mod calendars;
 mod commands;
 mod kinds;
+mod limits;
 mod rows;
 mod states;
 
-use super::*;
+use qz_codec::*;
 use qz_types::{Actor, Command, Entry, List};
 use std::alloc::{AllocError, Global};
 use std::process::Abort;

@@ -1,6 +1,6 @@
 //! Records of rows.
 use super::{Spoiled, spoil};
-use crate::{Packed, ReadError, get_row, put_row};
+use qz_codec::{Packed, ReadError, get_row, put_row};
 use qz_types::{
     CalendarRow, FiredRow, FiredState, JobRow, List, MemberRow, StateRow, Text, TriggerRow,
     TriggerState, ZoneRow,

@@ -1,6 +1,6 @@
 //! Records of each command.
 use super::{place_of, written_again};
-use crate::get_command;
+use qz_codec::get_command;
 use std::alloc::{AllocError, Global};
 use std::test::*;
 
