@@ -5,11 +5,12 @@ use Rattle.qz_types.specs.Entries.{EntryData, is_of_node, has_actor}
 use Rattle.qz_types.specs.declared.commands.Command.{Command}
 use Rattle.qz_types.specs.declared.commands.Actor.{Actor}
 use Rattle.qz_types.specs.declared.commands.Actor.TheVariants.{Client, Node}
-use Rattle.qz_codec.specs.Layout.{actor, command, entry}
+use Rattle.qz_codec.specs.Layout.{actor, command, entry, record_of}
 use Rattle.qz_codec.specs.Values.{IsActor, IsCommand, IsEntry}
 use Rattle.qz_codec.specs.Reading.{◌>>=◌, Read, as_variant, byte_at, flag_at, member_at, actor_at, command_at, entry_at}
 use Rattle.qz_codec.proofs.Formats.{IsBytes, EndsNear, Takes, IsFormat, Any, Also, ok_is, no_value, near_then, field, last, same}
 use Rattle.qz_codec.proofs.SingleFields.{IsBytes-rest, other_flag, flag_format, wide32, wide64, same64, number_format, integer_format}
+use Rattle.qz_codec.proofs.RecordFormats.{record_unique}
 use Rattle.qz_codec.proofs.RowFormats.{member_format}
 use Rattle.qz_codec.proofs.VariantFormats.{variant}
 use Rattle.qz_codec.proofs.CommandFormats.{client_format, node_command_format}
@@ -87,3 +88,7 @@ entry_format = same {write' = entry} {Is' = IsEntry}
     (λ e h. refl)
     (λ e h p. record { at = p.first; actor = p.others.first; seat = p.others.others.seat; command = p.others.others.command; asked = p.others.others.asked })
     (λ e h p. record { first = p.at; others = record { first = p.actor; others = record { seat = p.seat; command = p.command; asked = p.asked } } })
+
+-- No two entries have one record.
+pub entry_record_unique : (a b : EntryData) → IsEntry a → IsEntry b → record_of a ≡ record_of b → a ≡ b
+entry_record_unique a b is_a is_b same_record = record_unique entry_format a b is_a is_b same_record

@@ -1,5 +1,6 @@
 mod calendars;
 mod commands;
+mod each_byte;
 mod kinds;
 mod limits;
 mod rows;

@@ -8,7 +8,7 @@ use Rattle.qz_model.specs.History.{History, tables_left, IsLegalFrom, replay_fro
 use Rattle.qz_journal.specs.declared.errors.MountError.{MountError}
 use Rattle.qz_journal.specs.declared.errors.MountError.TheVariants as mount
 use Rattle.qz_codec.specs.Values.{IsEntry}
-use Rattle.qz_codec.proofs.EntryFormats.{record_unique}
+use Rattle.qz_codec.proofs.EntryFormats.{entry_record_unique}
 use Rattle.qz_trigger_store.specs.Bytes.{history_of, records, IsHistory}
 use Rattle.qz_trigger_store.specs.Opening.{IsUnfit, IsStopped}
 
@@ -24,7 +24,7 @@ records_unique [] [] a b same = refl
 records_unique [] (f ∷ fs) a b same = cc
 records_unique (e ∷ es) [] a b same = cc
 records_unique (e ∷ es) (f ∷ fs) a b same =
-    let first : e ≡ f = record_unique e f a.0 b.0 (head_is _ _ (records es) (records fs) same) in
+    let first : e ≡ f = entry_record_unique e f a.0 b.0 (head_is _ _ (records es) (records fs) same) in
     let others : es ≡ fs = records_unique es fs a.1 b.1 (tail_is _ _ (records es) (records fs) same) in
     λ i. first i ∷ others i
 
@@ -36,7 +36,7 @@ none_unfit T [] (h ∷ hs) payload more a b legal same unfit =
     unfit h (record { valid = b.0; bytes_are = sym (head_is _ _ (records hs) more same) }) legal.0
 none_unfit T (e ∷ es) [] payload more a b legal same unfit = cc
 none_unfit T (e ∷ es) (h ∷ hs) payload more a b legal same unfit =
-    let first : h ≡ e = record_unique h e b.0 a.0 (head_is _ _ (records hs) (records es ++ payload ∷ more) same) in
+    let first : h ≡ e = entry_record_unique h e b.0 a.0 (head_is _ _ (records hs) (records es ++ payload ∷ more) same) in
     none_unfit (tables_left T (transaction T e)) es hs payload more a.1 b.1
     (subst (λ (x : EntryData). IsLegalFrom (tables_left T (transaction T x)) hs) first legal.1)
     (tail_is _ _ (records hs) (records es ++ payload ∷ more) same) unfit

@@ -98,7 +98,7 @@ fn written_again<R: Packed + Drop>(alloc: Global, record: &[u8]) -> Option<List<
 }
 
 // The place at which bytes are no record.
-fn place_of<R: Packed + Drop>(alloc: Global, bytes: &[u8]) -> Option<u32> {
+pub(super) fn place_of<R: Packed + Drop>(alloc: Global, bytes: &[u8]) -> Option<u32> {
     match get_row::<R>(alloc, bytes) {
         Err(ReadError::BadRecord { at }) => Some(at),
         Err(ReadError::NoMemory) | Ok(_) => None,

@@ -29,7 +29,7 @@ const FIELDS: [u32; 25] = [
 ];
 
 // The place at which bytes are no record.
-fn place_of(alloc: Global, bytes: &[u8]) -> Option<u32> {
+pub(super) fn place_of(alloc: Global, bytes: &[u8]) -> Option<u32> {
     match get_state(alloc, bytes) {
         Err(ReadError::BadRecord { at }) => Some(at),
         Err(ReadError::NoMemory) | Ok(_) => None,
