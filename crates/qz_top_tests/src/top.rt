@@ -1,11 +1,10 @@
 //! Worked examples through the top call, over objects in memory.
 use qz_cron_text::CronError;
 use qz_disk::{Disk, FaultDisk, MemDisk};
-use qz_io::{FaultSink, FaultSource, ListClock, MemSink, MemSource};
+use qz_io::{FaultSink, FaultSource, ListClock, MemSink, MemSource, Sink, Source};
 use qz_top::{BadKind, Ended, Status, WordFault, command};
 use qz_types::{List, Store, Text};
 use std::alloc::{AllocError, Global};
-use std::process::Abort;
 use std::test::Fail;
 
 fn bytes_of(alloc: Global, text: &str) -> Result<List<u8>, AllocError> {
@@ -46,7 +45,30 @@ const EARLY_REPLIES: &str =
     "ok\nok next 1704067200000\njoined 1 executions 0 triggers 0\nacquired 1 DEFAULT/t1 1704067200000
 refused 19 next 1704067200000\nfired 1 scheduled 1704067200000 at 1704067200000 next none\n";
 
-// A call with these words, and what it wrote.
+// Lets a value go. The cases of its drop are looked at here and nowhere else.
+fn let_go<T: Drop>(_value: T) {}
+
+/// What a call is given beside its disks.
+#[derive(Drop)]
+struct Given {
+    words: Vec<Text>,
+    input: MemSource,
+    clock: ListClock,
+}
+
+fn prepare(alloc: Global, words: &[&str], script: &str) -> Result<Given, AllocError> {
+    let mut texts = Vec::new(alloc);
+    for word in words {
+        texts.push(Text::from_str(alloc, word)?)?;
+    }
+    Ok(Given {
+        words: texts,
+        input: MemSource::new(bytes_of(alloc, script)?),
+        clock: clock(alloc)?,
+    })
+}
+
+/// What a call came to, and what it wrote.
 #[derive(Drop)]
 struct Called<D: Disk> {
     ended: Ended<D>,
@@ -54,52 +76,80 @@ struct Called<D: Disk> {
     err: MemSink,
 }
 
-fn call<D: Disk>(
-    alloc: Global,
-    words: &[&str],
-    script: &str,
-    triggers: D,
-    states: D,
-) -> Result<Called<D>, Fail> {
-    let mut texts = Vec::new(alloc);
-    for word in words {
-        texts.push(Text::from_str(alloc, word)?)?;
-    }
-    let mut input = MemSource::new(bytes_of(alloc, script)?);
+fn call<D: Disk>(alloc: Global, given: Given, triggers: D, states: D) -> Called<D> {
+    let mut given = given;
     let mut out = MemSink::new(alloc);
     let mut err = MemSink::new(alloc);
-    let mut clock = clock(alloc)?;
     let ended = command(
-        alloc, &texts, &mut input, &mut out, &mut err, triggers, states, &mut clock,
+        alloc,
+        &given.words,
+        &mut given.input,
+        &mut out,
+        &mut err,
+        triggers,
+        states,
+        &mut given.clock,
     );
-    Ok(Called { ended, out, err })
+    let_go(given);
+    Called { ended, out, err }
+}
+
+/// What a call is to write, and how it is to end.
+#[derive(Clone, Copy)]
+struct Wanted<'a> {
+    replies: &'a str,
+    error: &'a str,
+    status: Status,
 }
 
 impl<D: Disk> Called<D> {
-    fn is(&self, replies: &str, error: &str, status: Status) -> bool {
-        self.out.bytes() == replies.as_bytes()
-            && self.err.bytes() == error.as_bytes()
-            && self.ended.status == status
+    fn is(&self, wanted: &Wanted) -> bool {
+        self.out.bytes() == wanted.replies.as_bytes()
+            && self.err.bytes() == wanted.error.as_bytes()
+            && self.ended.status == wanted.status
+    }
+
+    // The disks of a call that is as wanted.
+    fn disks(self, wanted: &Wanted) -> Option<(D, D)> {
+        let is_right = self.is(wanted);
+        let Called { ended, out, err } = self;
+        let_go((out, err));
+        let Ended {
+            status: _,
+            triggers,
+            states,
+            trail: _,
+        } = ended;
+        if is_right {
+            Some((triggers, states))
+        } else {
+            None
+        }
     }
 }
 
-// A call without words.
-fn check<R: Abort>(
-    rt: &R,
+// Whether a call on these disks is as wanted.
+fn answers<D: Disk>(alloc: Global, given: Given, triggers: D, states: D, wanted: &Wanted) -> bool {
+    let called = call(alloc, given, triggers, states);
+    let is_right = called.is(wanted);
+    let_go(called);
+    is_right
+}
+
+// Whether a call on disks without a byte is as wanted.
+fn answers_afresh(
     alloc: Global,
+    words: &[&str],
     script: &str,
-    replies: &str,
-    error: &str,
-    status: Status,
-) -> Result<(), Fail> {
-    let call = call(alloc, &[], script, MemDisk::new(alloc), MemDisk::new(alloc))?;
-    assert!(rt; call.is(replies, error, status), "a call on {script}");
-    Ok(())
+    wanted: &Wanted,
+) -> Result<bool, AllocError> {
+    let given = prepare(alloc, words, script)?;
+    let (triggers, states) = (MemDisk::new(alloc), MemDisk::new(alloc));
+    Ok(answers(alloc, given, triggers, states, wanted))
 }
 
 #[test]
 fn scripts_have_their_replies(rt: HostRuntime) -> Result<(), Fail> {
-    let alloc = rt.alloc();
     let same_job =
         "{\"do\":\"add_job\",\"job\":{\"name\":\"r\",\"class\":\"ok\"}}\n\n{\"do\":\"add_job\",\"job\":{\"name\":\"r\",\"class\":\"ok\"}}";
     let no_job =
@@ -116,14 +166,21 @@ fn scripts_have_their_replies(rt: HostRuntime) -> Result<(), Fail> {
         (no_entry, "joined 1 executions 0 triggers 0\nrefused 15\n"),
         (no_join, "stopped\n"),
     ] {
-        check(&rt, alloc, script, replies, "", Status::Ok)?;
+        let wanted = Wanted {
+            replies,
+            error: "",
+            status: Status::Ok,
+        };
+        assert!(rt;
+            answers_afresh(rt.alloc(), &[], script, &wanted)?,
+            "at {script}"
+        );
     }
     Ok(())
 }
 
 #[test]
 fn bad_lines_are_named(rt: HostRuntime) -> Result<(), Fail> {
-    let alloc = rt.alloc();
     let unended = "{\"do\":\"join\",\"node\":\"A\"}\n{\"do\":\"fire\",\"node\":\"A\"";
     let unbuilt = "{\"do\":\"pause_group\",\"group\":\"g\"}\n{\"do\":\"join\",\"node\":\"A\"}\n";
     let joined = "joined 1 executions 0 triggers 0\n";
@@ -144,16 +201,32 @@ fn bad_lines_are_named(rt: HostRuntime) -> Result<(), Fail> {
             BadKind::Shape,
         ),
     ] {
-        check(
-            &rt,
-            alloc,
-            script,
+        let wanted = Wanted {
             replies,
             error,
-            Status::BadLine { line, fault },
-        )?;
+            status: Status::BadLine { line, fault },
+        };
+        assert!(rt;
+            answers_afresh(rt.alloc(), &[], script, &wanted)?,
+            "at {script}"
+        );
     }
     Ok(())
+}
+
+// How a call without words ends, which reads and writes so.
+fn status_of<S: Source, K: Sink>(
+    alloc: Global,
+    input: &mut S,
+    out: &mut K,
+    err: &mut MemSink,
+) -> Result<Status, AllocError> {
+    let mut clock = clock(alloc)?;
+    let (triggers, states) = (MemDisk::new(alloc), MemDisk::new(alloc));
+    let ended = command(alloc, &[], input, out, err, triggers, states, &mut clock);
+    let status = ended.status;
+    let_go(ended);
+    Ok(status)
 }
 
 #[test]
@@ -162,19 +235,7 @@ fn faults_keep_what_was_answered(rt: HostRuntime) -> Result<(), Fail> {
     let mut input = FaultSource::new(bytes_of(alloc, SIX)?, numbers(alloc, &[2])?);
     let mut out = MemSink::new(alloc);
     let mut err = MemSink::new(alloc);
-    let mut clock = clock(alloc)?;
-    let (triggers, states) = (MemDisk::new(alloc), MemDisk::new(alloc));
-    let status = command(
-        alloc,
-        &[],
-        &mut input,
-        &mut out,
-        &mut err,
-        triggers,
-        states,
-        &mut clock,
-    )
-    .status;
+    let status = status_of(alloc, &mut input, &mut out, &mut err)?;
     assert!(rt; status == Status::ReadFault);
     assert!(rt; out.bytes() == SIX_REPLIES.as_bytes());
     assert!(rt; err.bytes() == "qz: read fault\n".as_bytes());
@@ -187,19 +248,7 @@ fn a_failed_output_holds_the_replies_before(rt: HostRuntime) -> Result<(), Fail>
     let mut input = MemSource::new(bytes_of(alloc, SIX)?);
     let mut out = FaultSink::new(alloc, numbers(alloc, &[2])?);
     let mut err = MemSink::new(alloc);
-    let mut clock = clock(alloc)?;
-    let (triggers, states) = (MemDisk::new(alloc), MemDisk::new(alloc));
-    let status = command(
-        alloc,
-        &[],
-        &mut input,
-        &mut out,
-        &mut err,
-        triggers,
-        states,
-        &mut clock,
-    )
-    .status;
+    let status = status_of(alloc, &mut input, &mut out, &mut err)?;
     assert!(rt; status == Status::WriteFault);
     assert!(rt; out.bytes() == "ok\n".as_bytes());
     assert!(rt; err.bytes() == "qz: write fault\n".as_bytes());
@@ -208,21 +257,35 @@ fn a_failed_output_holds_the_replies_before(rt: HostRuntime) -> Result<(), Fail>
 
 #[test]
 fn words_are_refused(rt: HostRuntime) -> Result<(), Fail> {
-    let alloc = rt.alloc();
     let fault = WordFault::UnknownCommand;
-    let (triggers, states) = (MemDisk::new(alloc), MemDisk::new(alloc));
-    let fly = call(alloc, &["fly"], SIX, triggers, states)?;
-    assert!(rt; fly.is("", "qz: bad words\n", Status::BadWords { fault }));
-    assert!(rt; fly.ended.status.exit_number() == 1);
+    let wanted = Wanted {
+        replies: "",
+        error: "qz: bad words\n",
+        status: Status::BadWords { fault },
+    };
+    assert!(rt; answers_afresh(rt.alloc(), &["fly"], SIX, &wanted)?);
+    assert!(rt; wanted.status.exit_number() == 1);
     Ok(())
+}
+
+// Whether the fire time behind 2024-01-05T12:00:00Z of this cron text is told as wanted.
+fn tells(alloc: Global, cron: &str, wanted: &Wanted) -> Result<bool, AllocError> {
+    let line = format!(in alloc;
+        "{{\"do\":\"add_trigger\",\"trigger\":{{\"name\":\"c\",\"job\":\"j\",\"start\":0,\"kind\":\"cron\",\"cron\":\"{cron}\"}}}}"
+    )?;
+    answers_afresh(
+        alloc,
+        &["times", "1704456000000", "1"],
+        line.as_str(),
+        wanted,
+    )
 }
 
 #[test]
 fn fire_times_are_told(rt: HostRuntime) -> Result<(), Fail> {
-    let alloc = rt.alloc();
     let error = CronError::NoDays;
     let fault = BadKind::Cron(error);
-    for (cron, replies, said, status) in [
+    for (cron, replies, error, status) in [
         (
             "0 0 12 ? * MON-FRI",
             "times DEFAULT/c 1704715200000\n",
@@ -242,129 +305,144 @@ fn fire_times_are_told(rt: HostRuntime) -> Result<(), Fail> {
             Status::BadLine { line: 1, fault },
         ),
     ] {
-        let line = format!(in alloc;
-            "{{\"do\":\"add_trigger\",\"trigger\":{{\"name\":\"c\",\"job\":\"j\",\"start\":0,\"kind\":\"cron\",\"cron\":\"{cron}\"}}}}"
-        )?;
-        let (triggers, states) = (MemDisk::new(alloc), MemDisk::new(alloc));
-        let words = ["times", "1704456000000", "1"];
-        let called = call(alloc, &words, line.as_str(), triggers, states)?;
-        assert!(rt; called.is(replies, said, status), "at {cron}");
+        let wanted = Wanted {
+            replies,
+            error,
+            status,
+        };
+        assert!(rt; tells(rt.alloc(), cron, &wanted)?, "at {cron}");
     }
     Ok(())
 }
 
-const THREE_REPLIES: &str = "ok\nok next 1704067200000\njoined 1 executions 0 triggers 0\n";
+const DONE: Wanted<'static> = Wanted {
+    replies: "",
+    error: "",
+    status: Status::Ok,
+};
 
 const THREE: &str = r#"{"do":"add_job","job":{"name":"report","class":"ok"}}
 {"do":"add_trigger","trigger":{"name":"t1","job":"report","kind":"simple","start":1704067200000}}
 {"do":"join","node":"A"}
 "#;
 
+const THREE_DONE: Wanted<'static> = Wanted {
+    replies: "ok\nok next 1704067200000\njoined 1 executions 0 triggers 0\n",
+    error: "",
+    status: Status::Ok,
+};
+
 // The disks of new stores.
-fn made<R: Abort>(rt: &R, alloc: Global) -> Result<(MemDisk, MemDisk), Fail> {
-    let init = call(
-        alloc,
-        &["init"],
-        "",
-        MemDisk::new(alloc),
-        MemDisk::new(alloc),
-    )?;
-    assert!(rt; init.is("created\n", "", Status::Ok));
-    let Called {
-        ended,
-        out: _,
-        err: _,
-    } = init;
-    let Ended {
-        status: _,
-        triggers,
-        states,
-        trail: _,
-    } = ended;
-    Ok((triggers, states))
+fn made(alloc: Global) -> Result<(MemDisk, MemDisk), Fail> {
+    let given = prepare(alloc, &["init"], "")?;
+    let wanted = Wanted {
+        replies: "created\n",
+        error: "",
+        status: Status::Ok,
+    };
+    let called = call(alloc, given, MemDisk::new(alloc), MemDisk::new(alloc));
+    Ok(called.disks(&wanted).ok_or("the stores aren't made")?)
 }
 
 #[test]
 fn stores_are_made_once(rt: HostRuntime) -> Result<(), Fail> {
-    let alloc = rt.alloc();
-    let (triggers, states) = made(&rt, alloc)?;
-    let again = call(alloc, &["init"], "", triggers, states)?;
-    assert!(rt; again.is("", "qz: store exists\n", Status::Exists));
+    let given = prepare(rt.alloc(), &["init"], "")?;
+    let (triggers, states) = made(rt.alloc())?;
+    let wanted = Wanted {
+        replies: "",
+        error: "qz: store exists\n",
+        status: Status::Exists,
+    };
+    assert!(rt; answers(rt.alloc(), given, triggers, states, &wanted));
     Ok(())
+}
+
+// The disks of stores that took three entries.
+fn filled(alloc: Global) -> Result<(MemDisk, MemDisk), Fail> {
+    let given = prepare(alloc, &["script"], THREE)?;
+    let (triggers, states) = made(alloc)?;
+    let called = call(alloc, given, triggers, states);
+    Ok(
+        called
+            .disks(&THREE_DONE)
+            .ok_or("three entries aren't taken")?,
+    )
 }
 
 #[test]
 fn a_history_goes_on(rt: HostRuntime) -> Result<(), Fail> {
-    let alloc = rt.alloc();
-    let (triggers, states) = made(&rt, alloc)?;
-    let first = call(alloc, &["script"], THREE, triggers, states)?;
-    assert!(rt; first.is(THREE_REPLIES, "", Status::Ok));
-    let Called {
-        ended,
-        out: _,
-        err: _,
-    } = first;
-    let Ended {
-        status: _,
-        triggers,
-        states,
-        trail: _,
-    } = ended;
     let fire =
         "{\"do\":\"fire\",\"node\":\"A\",\"entry\":1}\n{\"do\":\"add_job\",\"job\":{\"name\":\"report\",\"class\":\"ok\"}}\n";
-    let second = call(alloc, &["script"], fire, triggers, states)?;
-    assert!(rt; second.is("stopped\nrefused 0\n", "", Status::Ok));
+    let given = prepare(rt.alloc(), &["script"], fire)?;
+    let (triggers, states) = filled(rt.alloc())?;
+    let wanted = Wanted {
+        replies: "stopped\nrefused 0\n",
+        ..DONE
+    };
+    assert!(rt; answers(rt.alloc(), given, triggers, states, &wanted));
     Ok(())
 }
 
 #[test]
 fn an_empty_script_does_nothing(rt: HostRuntime) -> Result<(), Fail> {
-    let alloc = rt.alloc();
-    let (triggers, states) = made(&rt, alloc)?;
-    assert!(rt; call(alloc, &["script"], "", triggers, states)?.is("", "", Status::Ok));
+    let given = prepare(rt.alloc(), &["script"], "")?;
+    let (triggers, states) = made(rt.alloc())?;
+    assert!(rt; answers(rt.alloc(), given, triggers, states, &DONE));
     Ok(())
 }
 
 #[test]
 fn what_is_no_store_is_not_opened(rt: HostRuntime) -> Result<(), Fail> {
-    let alloc = rt.alloc();
-    let none = call(
-        alloc,
-        &["script"],
-        THREE,
-        MemDisk::new(alloc),
-        MemDisk::new(alloc),
-    )?;
-    let store = Store::Triggers;
-    assert!(rt;
-        none.is(
-            "",
-            "qz: triggers not a store\n",
-            Status::NotAStore { store }
-        )
-    );
-    let bytes = b"QZ23\x01T\0\0\0\0\0\0\0\0\0\0\xa5\0\0\0\x10\x01\x02\x03";
-    let broken = List::from_vec(Vec::from_slice(alloc, bytes)?);
-    let disk = MemDisk::with_bytes(alloc, broken);
-    let damaged = call(alloc, &["script"], THREE, disk, MemDisk::new(alloc))?;
-    assert!(rt;
-        damaged.is(
-            "",
-            "qz: triggers damaged at 16\n",
-            Status::Damaged { store, at: 16 }
-        )
-    );
+    let wanted = Wanted {
+        replies: "",
+        error: "qz: triggers not a store\n",
+        status: Status::NotAStore {
+            store: Store::Triggers,
+        },
+    };
+    assert!(rt; answers_afresh(rt.alloc(), &["script"], THREE, &wanted)?);
     Ok(())
 }
 
 #[test]
-fn a_disk_that_fails_closes_the_store(rt: HostRuntime) -> Result<(), Fail> {
+fn a_damaged_store_is_not_opened(rt: HostRuntime) -> Result<(), Fail> {
     let alloc = rt.alloc();
-    let (triggers, states) = made(&rt, alloc)?;
+    let given = prepare(alloc, &["script"], THREE)?;
+    let bytes = b"QZ23\x01T\0\0\0\0\0\0\0\0\0\0\xa5\0\0\0\x10\x01\x02\x03";
+    let broken = List::from_vec(Vec::from_slice(alloc, bytes)?);
+    let disk = MemDisk::with_bytes(alloc, broken);
+    let wanted = Wanted {
+        replies: "",
+        error: "qz: triggers damaged at 16\n",
+        status: Status::Damaged {
+            store: Store::Triggers,
+            at: 16,
+        },
+    };
+    assert!(rt; answers(alloc, given, disk, MemDisk::new(alloc), &wanted));
+    Ok(())
+}
+
+// New stores on disks of which the first fails at this call.
+fn failing(alloc: Global, at: u64) -> Result<(FaultDisk<MemDisk>, FaultDisk<MemDisk>), Fail> {
+    let calls = numbers(alloc, &[at])?;
+    let (triggers, states) = made(alloc)?;
+    Ok((
+        FaultDisk::new(triggers, calls),
+        FaultDisk::new(states, List::new(alloc)),
+    ))
+}
+
+#[test]
+fn a_disk_that_fails_closes_the_store(rt: HostRuntime) -> Result<(), Fail> {
+    let given = prepare(rt.alloc(), &["script"], THREE)?;
     // the first call of the second commit, behind three of the opening and four of the first commit
-    let disk = FaultDisk::new(triggers, numbers(alloc, &[8])?);
-    let other = FaultDisk::new(states, List::new(alloc));
-    let failed = call(alloc, &["script"], THREE, disk, other)?;
-    assert!(rt; failed.is("ok\nfault\nclosed\n", "qz: disk fault\n", Status::DiskFault));
+    let (triggers, states) = failing(rt.alloc(), 8)?;
+    let wanted = Wanted {
+        replies: "ok\nfault\nclosed\n",
+        error: "qz: disk fault\n",
+        status: Status::DiskFault,
+    };
+    assert!(rt; answers(rt.alloc(), given, triggers, states, &wanted));
     Ok(())
 }

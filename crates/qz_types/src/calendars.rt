@@ -6,7 +6,7 @@ use std::alloc::AllocError;
 use std::marker::Model;
 
 /// A stored calendar. A trigger that names it doesn't fire at what it excludes.
-#[derive(Clone, Debug, Drop)]
+#[derive(Debug, Drop)]
 pub struct CalendarRow {
     pub name: Text,
     /// A calendar that excludes too.
@@ -27,6 +27,19 @@ impl Model for CalendarRow {
     ghost invariant = { λ a. IsTrue (is_calendar_row (record { name = a.name; base = a.base; zone = a.zone; kind = a.kind })) };
 
     ghost inverse = { λ d. record { name = d.name; base = d.base; zone = d.zone; kind = d.kind } };
+}
+
+impl Clone for CalendarRow {
+    ghost is_clone = { λ a b. b ≡ a };
+
+    fn clone(&self) -> Result<Self, AllocError> {
+        Ok(CalendarRow {
+            name: self.name.clone()?,
+            base: self.base.clone()?,
+            zone: self.zone.clone()?,
+            kind: self.kind.clone()?,
+        })
+    }
 }
 
 impl CalendarRow {

@@ -14,7 +14,7 @@ pub enum FiredState {
 }
 
 /// What a node has in its hands: a trigger that it acquired, or an execution that it began.
-#[derive(Clone, Drop)]
+#[derive(Drop)]
 pub struct FiredRow {
     /// The entry number, which no other row ever had.
     pub entry: u64,
@@ -81,6 +81,26 @@ impl Model for FiredRow {
       no_concurrent = d.no_concurrent;
       requests_recovery = d.requests_recovery;
     } };
+}
+
+impl Clone for FiredRow {
+    ghost is_clone = { λ a b. b ≡ a };
+
+    fn clone(&self) -> Result<Self, AllocError> {
+        Ok(FiredRow {
+            entry: self.entry,
+            node: self.node.clone()?,
+            epoch: self.epoch,
+            trigger: self.trigger.clone()?,
+            job: self.job.clone()?,
+            priority: self.priority,
+            state: self.state,
+            scheduled: self.scheduled,
+            fired: self.fired,
+            no_concurrent: self.no_concurrent,
+            requests_recovery: self.requests_recovery,
+        })
+    }
 }
 
 impl FiredRow {

@@ -7,7 +7,7 @@ use std::alloc::AllocError;
 use std::marker::Model;
 
 /// A stored job.
-#[derive(Clone, Debug, Drop)]
+#[derive(Debug, Drop)]
 pub struct JobRow {
     pub key: Key,
     /// What executes it, by name.
@@ -54,6 +54,21 @@ impl Model for JobRow {
       requests_recovery = d.requests_recovery;
       payload = d.payload;
     } };
+}
+
+impl Clone for JobRow {
+    ghost is_clone = { λ a b. b ≡ a };
+
+    fn clone(&self) -> Result<Self, AllocError> {
+        Ok(JobRow {
+            key: self.key.clone()?,
+            class: self.class.clone()?,
+            durable: self.durable,
+            no_concurrent: self.no_concurrent,
+            requests_recovery: self.requests_recovery,
+            payload: self.payload.clone()?,
+        })
+    }
 }
 
 impl JobRow {

@@ -7,7 +7,7 @@ use std::alloc::AllocError;
 use std::marker::Model;
 
 /// A trigger as a client gives it.
-#[derive(Clone, Debug, Drop)]
+#[derive(Debug, Drop)]
 pub struct TriggerSpec {
     pub key: Key,
     pub job: Key,
@@ -16,6 +16,20 @@ pub struct TriggerSpec {
     /// The calendar that excludes fire times.
     pub calendar: Option<Text>,
     pub timing: Timing,
+}
+
+impl Clone for TriggerSpec {
+    ghost is_clone = { λ a b. b ≡ a };
+
+    fn clone(&self) -> Result<Self, AllocError> {
+        Ok(TriggerSpec {
+            key: self.key.clone()?,
+            job: self.job.clone()?,
+            priority: self.priority,
+            calendar: self.calendar.clone()?,
+            timing: self.timing.clone()?,
+        })
+    }
 }
 
 impl TriggerSpec {
@@ -40,7 +54,7 @@ pub enum TriggerState {
 }
 
 /// A stored trigger.
-#[derive(Clone, Drop)]
+#[derive(Drop)]
 pub struct TriggerRow {
     pub spec: TriggerSpec,
     /// Its next fire time, in ms since 1970-01-01T00:00:00Z.
@@ -69,6 +83,20 @@ impl Model for TriggerRow {
     })) };
 
     ghost inverse = { λ d. record { spec = d.spec; next = d.next; prev = d.prev; times = d.times; state = d.state } };
+}
+
+impl Clone for TriggerRow {
+    ghost is_clone = { λ a b. b ≡ a };
+
+    fn clone(&self) -> Result<Self, AllocError> {
+        Ok(TriggerRow {
+            spec: self.spec.clone()?,
+            next: self.next,
+            prev: self.prev,
+            times: self.times,
+            state: self.state,
+        })
+    }
 }
 
 impl TriggerRow {
