@@ -28,8 +28,8 @@ pub(crate) fn node_of(bytes: &[u8]) -> Result<(&str, &[u8]), Fault>
     str_at(bytes, 1, NODE_LIMIT as u16)
 }
 
-/// Memory for a key.
-fn make_key(alloc: Global, group: &str, name: &str) -> Result<Key, AllocError>
+/// Memory for a key of this group and name.
+pub(crate) fn make_key(alloc: Global, (group, name): (&str, &str)) -> Result<Key, AllocError>
     ensures { IfOk result (λ k. k ≡ record { group = group.now; name = name.now }) }
 {
     Ok(Key {
@@ -38,28 +38,37 @@ fn make_key(alloc: Global, group: &str, name: &str) -> Result<Key, AllocError>
     })
 }
 
+/// The group and the name of a key.
 #[tactic(auto, unfolding(crate::specs::Reading::key_at))]
+pub(crate) fn names_of(bytes: &[u8]) -> Result<((&str, &str), &[u8]), Fault>
+    ensures exact { Gives (λ x. (record { group = x.0.0.now; name = x.0.1.now }, x.1.now)) result (key_at bytes.now) }
+    ensures valid { IfOk result (λ x. IsTrue (is_key (record { group = x.0.0.now; name = x.0.1.now }))) }
+{
+    let (group, rest) = name_of(bytes)?;
+    let (name, rest) = name_of(rest)?;
+    Ok(((group, name), rest))
+}
+
 pub(crate) fn key_of(alloc: Global, bytes: &[u8]) -> Result<(Key, &[u8]), Fault>
     ensures exact { Gives (λ x. (x.0, x.1.now)) result (key_at bytes.now) }
     ensures valid { IfOk result (λ x. IsTrue (is_key x.0)) }
 {
-    let (group, rest) = name_of(bytes)?;
-    let (name, rest) = name_of(rest)?;
-    Ok((make_key(alloc, group, name)?, rest))
+    let (names, rest) = names_of(bytes)?;
+    Ok((make_key(alloc, names)?, rest))
 }
 
 #[tactic(auto, unfolding(crate::specs::Reading::job_at))]
 pub(crate) fn job_of(alloc: Global, bytes: &[u8]) -> Result<(JobRow, &[u8]), Fault>
     ensures { Gives (λ x. (x.0, x.1.now)) result (job_at bytes.now) }
 {
-    let (key, rest) = key_of(alloc, bytes)?;
+    let (names, rest) = names_of(bytes)?;
     let (class, rest) = name_of(rest)?;
     let (durable, rest) = bool_at(rest)?;
     let (no_concurrent, rest) = bool_at(rest)?;
     let (requests_recovery, rest) = bool_at(rest)?;
     let (payload, rest) = str_at(rest, 0, PAYLOAD_LIMIT as u16)?;
     let job = JobRow {
-        key,
+        key: make_key(alloc, names)?,
         class: Text::from_str(alloc, class)?,
         durable,
         no_concurrent,
@@ -105,10 +114,12 @@ pub(crate) fn spec_of(alloc: Global, bytes: &[u8]) -> Result<(TriggerSpec, &[u8]
     ensures exact { Gives (λ x. (x.0, x.1.now)) result (spec_at bytes.now) }
     ensures valid { IfOk result (λ x. IsTrue (is_trigger_spec x.0)) }
 {
-    let (key, rest) = key_of(alloc, bytes)?;
-    let (job, rest) = key_of(alloc, rest)?;
+    let (key, rest) = names_of(bytes)?;
+    let (job, rest) = names_of(rest)?;
     let (priority, rest) = i32_at(rest)?;
     let (calendar, rest) = calendar_of(alloc, rest)?;
+    let key = make_key(alloc, key)?;
+    let job = make_key(alloc, job)?;
     let (timing, rest) = timing_of(alloc, rest)?;
     let spec = TriggerSpec {
         key,

@@ -55,31 +55,43 @@ fn join(alloc: Global, value: &Value) -> Result<Option<Step>, NoMemory>
     ensures value { IfOk result (λ step. step ≡ step_of Join (view value.now)) }
     ensures valid { IfOk result (λ step. IfSome step (λ s. IsTrue (is_step s))) }
 {
-    let Some(node) = node_at(value, "node") else {
+    let Some(node) = node_of(alloc, value)? else {
         return Ok(None);
     };
     Ok(Some(Step::Join {
-        node: Text::from_str(alloc, node)?,
+        node,
         interval: 15000,
     }))
 }
 
-/// What a node does under the epoch that it holds.
-fn by_node(alloc: Global, value: &Value, command: Option<Command>) -> Result<Option<Step>, NoMemory>
-    requires { ForSome command (λ c. IsTrue (is_command c && is_of_node c)) }
-    ensures value { IfOk result (λ step. step ≡ both Node (node_at (codes "node") (view value.now)) command) }
-    ensures valid { IfOk result (λ step. IfSome step (λ s. IsTrue (is_step s))) }
+fn node_of(alloc: Global, value: &Value) -> Result<Option<Text>, NoMemory>
+    ensures value { IfOk result (λ node. node ≡ node_at (codes "node") (view value.now)) }
+    ensures valid { IfOk result (λ node. IfSome node (λ name. IsTrue (is_node name))) }
 {
-    let Some(node) = node_at(value, "node") else {
-        return Ok(None);
-    };
-    let Some(command) = command else {
-        return Ok(None);
-    };
-    Ok(Some(Step::Node {
-        node: Text::from_str(alloc, node)?,
-        command,
-    }))
+    match node_at(value, "node") {
+        Some(node) => Ok(Some(Text::from_str(alloc, node)?)),
+        None => Ok(None),
+    }
+}
+
+// Lets a value go. The cases of its drop are looked at here and nowhere else.
+fn let_go<T: Drop>(_value: T) {}
+
+/// What a node does under the epoch that it holds.
+fn by_node(node: Option<Text>, command: Option<Command>) -> Option<Step>
+    requires node { ForSome node (λ name. IsTrue (is_node name)) }
+    requires command { ForSome command (λ c. IsTrue (is_command c && is_of_node c)) }
+    ensures value { result ≡ both Node node command }
+    ensures valid { IfSome result (λ s. IsTrue (is_step s)) }
+{
+    let command = command?;
+    match node {
+        Some(node) => Some(Step::Node { node, command }),
+        None => {
+            let_go(command);
+            None
+        }
+    }
 }
 
 fn acquire(value: &Value) -> Option<Command>
@@ -123,8 +135,8 @@ pub(crate) fn step_of(alloc: Global, word: Word, value: &Value) -> Result<Option
         Word::AddJob => add_job(alloc, value),
         Word::AddTrigger => add_trigger(alloc, value),
         Word::Join => join(alloc, value),
-        Word::Acquire => by_node(alloc, value, acquire(value)),
-        Word::Fire => by_node(alloc, value, fire(value)),
-        Word::Complete => by_node(alloc, value, complete(value)),
+        Word::Acquire => Ok(by_node(node_of(alloc, value)?, acquire(value))),
+        Word::Fire => Ok(by_node(node_of(alloc, value)?, fire(value))),
+        Word::Complete => Ok(by_node(node_of(alloc, value)?, complete(value))),
     }
 }

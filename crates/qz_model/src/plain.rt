@@ -166,8 +166,19 @@ impl PlainStore {
         ensures err { OnErr result (self.new ≡ self.old) }
         ensures kept { TablesValid self.old → OnOk result (TablesValid self.new) }
     {
+        let answer = self.attempt(&entry);
+        let_go(entry);
+        answer
+    }
+
+    // The same of an entry that is kept.
+    fn attempt(&mut self, entry: &Entry) -> Result<Reply, StepRefused>
+        ensures ok { IfOk result (λ reply. transaction self.old entry.now ≡ accepted self.new reply) }
+        ensures refused { IfErr result (IsCause (transaction self.old entry.now)) }
+        ensures err { OnErr result (self.new ≡ self.old) }
+    {
         let mut next = self.copy()?;
-        let reply = next.apply(&entry)?;
+        let reply = next.apply(entry)?;
         *self = next;
         Ok(reply)
     }
@@ -222,3 +233,6 @@ impl PlainStore {
         at.max(0).min(self.horizon()).max(self.last_moment())
     }
 }
+
+// Lets a value go. The cases of its drop are looked at here and nowhere else.
+fn let_go<T: Drop>(_value: T) {}

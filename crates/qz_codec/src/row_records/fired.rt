@@ -12,7 +12,7 @@ use super::times::{put_time, time_of};
 use crate::errors::{Fault, ReadError};
 use crate::fields::{bool_at, i32_at, i64_at, u8_at, u64_at};
 use crate::records::{Recorded, read, write};
-use crate::rows::{key_of, node_of};
+use crate::rows::{make_key, names_of, node_of};
 use crate::writing::{put_bool, put_i32, put_i64, put_key, put_node, put_u8, put_u64};
 use qz_types::{FiredRow, FiredState, List, NoMemory, Text};
 use std::alloc::{AllocError, Global};
@@ -36,8 +36,8 @@ fn fired_of(alloc: Global, bytes: &[u8]) -> Result<(FiredRow, &[u8]), Fault>
     let (entry, rest) = u64_at(bytes)?;
     let (node, rest) = node_of(rest)?;
     let (epoch, rest) = u64_at(rest)?;
-    let (trigger, rest) = key_of(alloc, rest)?;
-    let (job, rest) = key_of(alloc, rest)?;
+    let (trigger, rest) = names_of(rest)?;
+    let (job, rest) = names_of(rest)?;
     let (priority, rest) = i32_at(rest)?;
     let (state, rest) = fired_state_of(rest)?;
     let (scheduled, rest) = i64_at(rest)?;
@@ -48,8 +48,8 @@ fn fired_of(alloc: Global, bytes: &[u8]) -> Result<(FiredRow, &[u8]), Fault>
         entry,
         node: Text::from_str(alloc, node)?,
         epoch,
-        trigger,
-        job,
+        trigger: make_key(alloc, trigger)?,
+        job: make_key(alloc, job)?,
         priority,
         state,
         scheduled,

@@ -6,4 +6,4 @@ use Rattle.qz_model.proofs.plain.PlainStore.step.Goals as goal
 pub returns-clause-kept : goal.returns-clause-kept
 returns-clause-kept c valid =
     let is_valid : IsTrue (is_entry c.args.entry) = subst (λ (e : EntryData). IsTrue (is_entry e)) c.entry.view_is c.entry.invariant in
-    kept _ _ _ _ is_valid valid (rw c.in_ok-next.ensures at c.in_ok-reply.ensures.ok)
+    kept _ _ _ _ is_valid valid c.in_ok-answer.ensures.ok
