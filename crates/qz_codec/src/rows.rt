@@ -29,9 +29,10 @@ pub(crate) fn node_of(bytes: &[u8]) -> Result<(&str, &[u8]), Fault>
 }
 
 /// Memory for a key of this group and name.
-pub(crate) fn make_key(alloc: Global, (group, name): (&str, &str)) -> Result<Key, AllocError>
-    ensures { IfOk result (λ k. k ≡ record { group = group.now; name = name.now }) }
+pub(crate) fn make_key(alloc: Global, names: (&str, &str)) -> Result<Key, AllocError>
+    ensures { IfOk result (λ k. k ≡ record { group = names.entry.0.now; name = names.entry.1.now }) }
 {
+    let (group, name) = names;
     Ok(Key {
         group: Text::from_str(alloc, group)?,
         name: Text::from_str(alloc, name)?,

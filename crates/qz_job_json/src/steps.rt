@@ -2,6 +2,7 @@
 ghost use Rattle.std.specs.Prelude.{◌≡◌, ◌&&◌, IsTrue, IfOk, IfSome, codes};
 ghost use Rattle.std.specs.Option.{ForSome};
 ghost use Rattle.serde_json.specs.View.{view};
+ghost use Rattle.qz_types.specs.Rows.{is_node};
 ghost use Rattle.qz_types.specs.Steps.{is_step};
 ghost use Rattle.qz_job_json.specs.Lines.{acquire_of, fire_of, complete_of, step_of};
 ghost use Rattle.qz_job_json.specs.Members.{both, node_at};
