@@ -1,5 +1,6 @@
 //! The plain store.
-ghost use Rattle.std.specs.Prelude.{◌≡◌, ◌≤ℤ◌, pos, IfOk, IfErr, OnOk, OnErr};
+ghost use Rattle.std.specs.Prelude.{◌≡◌, ◌≤ℤ◌, pos, IsTrue, IfOk, IfErr, OnOk, OnErr};
+ghost use Rattle.qz_types.specs.Entries.{is_entry};
 ghost use Rattle.qz_model.specs.Tables.{empty, IsMoment, recorded_moment};
 ghost use Rattle.qz_model.specs.Outcomes.{accepted};
 ghost use Rattle.qz_model.specs.Transaction.{transaction};
@@ -173,9 +174,11 @@ impl PlainStore {
 
     // The same of an entry that is kept.
     fn attempt(&mut self, entry: &Entry) -> Result<Reply, StepRefused>
+        requires { IsTrue (is_entry entry.now) }
         ensures ok { IfOk result (λ reply. transaction self.old entry.now ≡ accepted self.new reply) }
         ensures refused { IfErr result (IsCause (transaction self.old entry.now)) }
         ensures err { OnErr result (self.new ≡ self.old) }
+        ensures kept { TablesValid self.old → OnOk result (TablesValid self.new) }
     {
         let mut next = self.copy()?;
         let reply = next.apply(entry)?;
