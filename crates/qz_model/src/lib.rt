@@ -5,4 +5,4 @@
 mod plain;
 mod rows;
 
-pub use plain::{PlainStore, StepRefused};
+pub use plain::{PlainStore, StepRefused, Worked};

@@ -28,6 +28,13 @@ pub enum StepRefused {
     NoMemory,
 }
 
+/// The tables behind a transaction, and its reply.
+#[derive(Drop)]
+pub struct Worked {
+    pub tables: PlainStore,
+    pub reply: Reply,
+}
+
 impl From<AllocError> for StepRefused {
     ghost from_gives = { λ _ e. e ≡ StepNoMemory };
 
@@ -167,23 +174,23 @@ impl PlainStore {
         ensures err { OnErr result (self.new ≡ self.old) }
         ensures kept { TablesValid self.old → OnOk result (TablesValid self.new) }
     {
-        let answer = self.attempt(&entry);
+        let worked = self.work(&entry);
         let_go(entry);
-        answer
+        let Worked { tables, reply } = worked?;
+        *self = tables;
+        Ok(reply)
     }
 
-    // The same of an entry that is kept.
-    fn attempt(&mut self, entry: &Entry) -> Result<Reply, StepRefused>
+    /// What one transaction comes to here. The store stays as it is.
+    pub fn work(&self, entry: &Entry) -> Result<Worked, StepRefused>
         requires { IsTrue (is_entry entry.now) }
-        ensures ok { IfOk result (λ reply. transaction self.old entry.now ≡ accepted self.new reply) }
-        ensures refused { IfErr result (IsCause (transaction self.old entry.now)) }
-        ensures err { OnErr result (self.new ≡ self.old) }
-        ensures kept { TablesValid self.old → OnOk result (TablesValid self.new) }
+        ensures ok { IfOk result (λ worked. transaction self.now entry.now ≡ accepted worked.tables worked.reply) }
+        ensures refused { IfErr result (IsCause (transaction self.now entry.now)) }
+        ensures kept { TablesValid self.now → IfOk result (λ worked. TablesValid worked.tables) }
     {
-        let mut next = self.copy()?;
-        let reply = next.apply(entry)?;
-        *self = next;
-        Ok(reply)
+        let mut tables = self.copy()?;
+        let reply = tables.apply(entry)?;
+        Ok(Worked { tables, reply })
     }
 
     // The same, but an error leaves any tables.

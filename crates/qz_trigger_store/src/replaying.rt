@@ -11,11 +11,12 @@ ghost use Rattle.qz_trigger_store.specs.Bytes.{IsRecord, records};
 ghost use Rattle.qz_trigger_store.specs.Facts.{IsLegalFrom-prop};
 ghost use Rattle.qz_trigger_store.specs.Opening.{IsUnfit, IsStopped};
 
+use crate::submitting::let_go;
 use qz_civil::List;
 use qz_codec::{ReadError, get_command};
 use qz_journal::MountError;
-use qz_model::{PlainStore, StepRefused};
-use qz_types::{Entry, NoMemory};
+use qz_model::{PlainStore, StepRefused, Worked};
+use qz_types::Entry;
 use std::alloc::Global;
 
 /// A history from a new store on, and the tables that it leaves.
@@ -49,13 +50,25 @@ fn take(alloc: Global, tables: &mut PlainStore, payload: &[u8]) -> Result<Entry,
         Err(ReadError::BadRecord { at: _ }) => return Err(TakeError::Unfit),
         Err(ReadError::NoMemory) => return Err(TakeError::NoMemory),
     };
-    let Ok(copy) = copy_entry(&entry) else {
-        return Err(TakeError::NoMemory);
-    };
-    match tables.step(copy) {
-        Ok(_) => Ok(entry),
-        Err(StepRefused::Refused(_)) => Err(TakeError::Unfit),
-        Err(StepRefused::NoMemory) => Err(TakeError::NoMemory),
+    match tables.work(&entry) {
+        Ok(worked) => {
+            let Worked {
+                tables: next,
+                reply,
+            } = worked;
+            let_go(reply);
+            *tables = next;
+            Ok(entry)
+        }
+        Err(StepRefused::Refused(refusal)) => {
+            let_go(refusal);
+            let_go(entry);
+            Err(TakeError::Unfit)
+        }
+        Err(StepRefused::NoMemory) => {
+            let_go(entry);
+            Err(TakeError::NoMemory)
+        }
     }
 }
 
@@ -80,11 +93,4 @@ pub(crate) fn replay(alloc: Global, payloads: &List<List<u8>>) -> Result<Replaye
         rest = behind;
     }
     Ok(Replayed { entries, tables })
-}
-
-/// An equal entry.
-pub(crate) fn copy_entry(entry: &Entry) -> Result<Entry, NoMemory>
-    ensures { IfOk result (λ copy. copy ≡ entry.now) }
-{
-    Ok(entry.clone()?)
 }

@@ -1,5 +1,5 @@
 //! One entry more.
-ghost use Rattle.std.specs.Prelude.{◌≡◌, ◌≢◌, ◌++◌, ◌∷◌, ◌≤◌, [], length, IfOk, OnOk, OnErr, IfErr, Err, true};
+ghost use Rattle.std.specs.Prelude.{◌≡◌, ◌≢◌, ◌++◌, ◌∷◌, ◌≤◌, [], length, IsTrue, IfOk, OnOk, OnErr, IfErr, Err, true};
 ghost use Rattle.qz_codec.specs.Layout.{record_of};
 ghost use Rattle.qz_codec.specs.Values.{IsEntry};
 ghost use Rattle.qz_journal.specs.Commits.{need_of, room_of};
@@ -8,16 +8,16 @@ ghost use Rattle.qz_model.specs.Invariant.{TablesValid};
 ghost use Rattle.qz_model.specs.Outcomes.{accepted};
 ghost use Rattle.qz_model.specs.Tables.{recorded_moment};
 ghost use Rattle.qz_model.specs.Transaction.{transaction};
+ghost use Rattle.qz_types.specs.Entries.{is_entry};
 ghost use Rattle.qz_trigger_store.specs.Seen.{seen, IsAsBefore, LeavesEither};
 ghost use Rattle.qz_trigger_store.specs.Steps.{Submits, IsPrepareCause};
 
-use crate::replaying::copy_entry;
 use crate::{SubmitError, TriggerStore};
 use qz_civil::List;
 use qz_codec::put_command;
 use qz_disk::Disk;
 use qz_journal::{JournalFull, fits};
-use qz_model::{PlainStore, StepRefused};
+use qz_model::{PlainStore, StepRefused, Worked};
 use qz_types::{Entry, NoMemory, Reply};
 use std::alloc::Global;
 use std::mem;
@@ -32,13 +32,6 @@ struct Prepared {
     kept: Reply,
 }
 
-// The tables behind a transaction, and its reply.
-#[derive(Drop)]
-struct Worked {
-    tables: PlainStore,
-    reply: Reply,
-}
-
 // Lets a value go. The cases of its drop are looked at here and nowhere else.
 pub(crate) fn let_go<T: Drop>(_value: T) {}
 
@@ -48,19 +41,15 @@ fn copy_reply(reply: &Reply) -> Result<Reply, NoMemory>
     Ok(reply.clone()?)
 }
 
-// Works a transaction on a copy of the tables.
+// What a transaction comes to.
 fn work(tables: &PlainStore, entry: &Entry) -> Result<Worked, SubmitError>
+    requires { IsTrue (is_entry entry.now) }
     ensures accepted { IfOk result (λ w. transaction tables.now entry.now ≡ accepted w.tables w.reply) }
     ensures valid { ∥ TablesValid tables.now ∥₁ → IfOk result (λ w. ∥ TablesValid w.tables ∥₁) }
     ensures err { IfErr result (IsPrepareCause (transaction tables.now entry.now)) }
 {
-    let mut next = tables.copy()?;
-    let copy = copy_entry(entry)?;
-    match next.step(copy) {
-        Ok(reply) => Ok(Worked {
-            tables: next,
-            reply,
-        }),
+    match tables.work(entry) {
+        Ok(worked) => Ok(worked),
         Err(StepRefused::Refused(refusal)) => Err(SubmitError::Refused(refusal)),
         Err(StepRefused::NoMemory) => Err(SubmitError::NoMemory),
     }
@@ -91,6 +80,7 @@ fn doubled(written: List<u8>, worked: Worked) -> Result<Prepared, NoMemory>
 
 // All that needs memory for itself.
 fn prepare(alloc: Global, tables: &PlainStore, entry: &Entry) -> Result<Prepared, SubmitError>
+    requires { IsTrue (is_entry entry.now) }
     ensures accepted { IfOk result (λ p. transaction tables.now entry.now ≡ accepted p.tables p.reply) }
     ensures kept { IfOk result (λ p. p.kept ≡ p.reply) }
     ensures written { IfOk result (λ p. (p.written ≡ record_of entry.now) × IsPayload p.written) }
