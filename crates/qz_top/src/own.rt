@@ -8,7 +8,7 @@ ghost use Rattle.qz_top.specs.Trails.{new_cluster};
 
 use crate::Status;
 use crate::ended::{Ended, Trail};
-use crate::runs::Run;
+use crate::runs::{Run, let_go};
 use crate::scripts::run_lines;
 use qz_cluster::Cluster;
 use qz_disk::{Disk, MemDisk};
@@ -103,9 +103,9 @@ fn new_stores(alloc: Global) -> Option<Cluster<MemDisk>>
     }
     match Cluster::mount(alloc, triggers) {
         Ok(cluster) => Some(cluster),
-        Err(_) => None,
+        Err(refused) => {
+            let_go(refused);
+            None
+        }
     }
 }
-
-// Lets a value go. The cases of its drop are looked at here and nowhere else.
-fn let_go<T: Drop>(_value: T) {}
