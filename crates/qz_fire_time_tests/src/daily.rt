@@ -44,18 +44,22 @@ fn next_of<T: Times>(trigger: &T, after: i64) -> Option<i64>
     trigger.next(after)
 }
 
-#[test]
-fn times_of_day(rt: HostRuntime) {
-    let zone = Zone::utc();
-    // from 8:00 to 17:00, every 72 minutes
-    let work = DailyTimes {
+// From 8:00 to 17:00, every 72 minutes.
+fn work(zone: &Zone) -> DailyTimes<'_> {
+    DailyTimes {
         start: MONDAY,
         unit: Unit::Minute,
         every: 72,
         from: 8 * HOUR,
         to: 17 * HOUR,
-        ..each(&zone)
-    };
+        ..each(zone)
+    }
+}
+
+#[test]
+fn times_of_day(rt: HostRuntime) {
+    let zone = Zone::utc();
+    let work = work(&zone);
     // 9:00, 9:30 and 10:00
     let thrice = DailyTimes {
         every: 30,
@@ -68,76 +72,68 @@ fn times_of_day(rt: HostRuntime) {
         every: 24,
         ..each(&zone)
     };
+    // a unit that isn't even
+    let daily = DailyTimes {
+        unit: Unit::Day,
+        ..work
+    };
     let rows = [
         // 16:24, and the next day's 8:00
         (work, 1704121920000, Some(1704126240000)),
         (work, 1704126240000, Some(1704182400000)),
-        // the start is the first, and the end is none
-        (
-            DailyTimes {
-                start: 1704126240000,
-                ..work
-            },
-            -1,
-            Some(1704126240000),
-        ),
-        (
-            DailyTimes {
-                start: 1704126240001,
-                ..work
-            },
-            -1,
-            Some(1704182400000),
-        ),
-        (
-            DailyTimes {
-                end: Some(1704126240000),
-                ..work
-            },
-            1704121920000,
-            None,
-        ),
-        (
-            DailyTimes {
-                end: Some(1704126240001),
-                ..work
-            },
-            1704121920000,
-            Some(1704126240000),
-        ),
-        (
-            DailyTimes {
-                start: LONGEST,
-                ..work
-            },
-            -1,
-            None,
-        ),
         // the last time of day is one too
         (thrice, 1704101400000, Some(1704103200000)),
         (thrice, 1704103200000, Some(1704186000000)),
         // a step of a day
         (midnight, -1, Some(0)),
         (midnight, MONDAY, Some(1704153600000)),
-        // a unit that isn't even
-        (
-            DailyTimes {
-                unit: Unit::Day,
-                ..work
-            },
-            MONDAY,
-            Some(1704096000000),
-        ),
-        // each second, at both ends and between two seconds
-        (each(&zone), -1, Some(0)),
-        (each(&zone), 0, Some(1000)),
-        (each(&zone), 999, Some(1000)),
-        (each(&zone), 4102444798000, Some(4102444799000)),
-        (each(&zone), 4102444799000, None),
-        (each(&zone), LAST, None),
+        (daily, MONDAY, Some(1704096000000)),
     ];
     for (trigger, after, wanted) in rows {
         assert_eq!(rt; next_of(&trigger, after), wanted);
+    }
+}
+
+/// The start is the first, and the end is none.
+#[test]
+fn both_ends(rt: HostRuntime) {
+    let zone = Zone::utc();
+    let rows = [
+        (1704126240000, None, -1, Some(1704126240000)),
+        (1704126240001, None, -1, Some(1704182400000)),
+        (MONDAY, Some(1704126240000), 1704121920000, None),
+        (
+            MONDAY,
+            Some(1704126240001),
+            1704121920000,
+            Some(1704126240000),
+        ),
+        (LONGEST, None, -1, None),
+    ];
+    for (start, end, after, wanted) in rows {
+        let trigger = DailyTimes {
+            start,
+            end,
+            ..work(&zone)
+        };
+        assert_eq!(rt; next_of(&trigger, after), wanted);
+    }
+}
+
+/// Each second, at both ends of time and between two seconds.
+#[test]
+fn each_second(rt: HostRuntime) {
+    let zone = Zone::utc();
+    let rows = [
+        (-1, Some(0)),
+        (0, Some(1000)),
+        (999, Some(1000)),
+        (4102444798000, Some(4102444799000)),
+        (4102444799000, None),
+        (LAST, None),
+    ];
+    for (after, wanted) in rows {
+        assert_eq!(rt; next_of(&each(&zone), after), wanted);
     }
 }
 
