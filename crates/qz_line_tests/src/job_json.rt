@@ -1,16 +1,26 @@
 //! Lines with what they say: the step as its `Debug` text, `blank`, or the fault.
 mod asked;
 
-use qz_job_json::{LineFault, read_step};
+use qz_job_json::{Given, LineFault, read_step};
 use std::alloc::{AllocError, Global};
 use std::test::Fail;
 
-fn meaning(alloc: Global, line: &[u8]) -> Result<String, AllocError> {
-    match read_step(alloc, line) {
+// Lets a value go. The cases of its drop are looked at here and nowhere else.
+fn let_go<T: Drop>(_value: T) {}
+
+fn text_of(alloc: Global, read: &Result<Option<Given>, LineFault>) -> Result<String, AllocError> {
+    match read {
         Ok(Some(given)) => format!(in alloc; "{given:?}"),
         Ok(None) => String::from_str(alloc, "blank"),
         Err(fault) => format!(in alloc; "{fault:?}"),
     }
+}
+
+fn meaning(alloc: Global, line: &[u8]) -> Result<String, AllocError> {
+    let read = read_step(alloc, line);
+    let text = text_of(alloc, &read);
+    let_go(read);
+    text
 }
 
 // What is wrong with a line. A step is let go here and nowhere else.

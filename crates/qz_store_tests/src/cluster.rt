@@ -3,6 +3,7 @@ ghost use Rattle.std.specs.Prelude.{IsTrue, IfOk};
 ghost use Rattle.qz_types.specs.Rows.{is_node};
 ghost use Rattle.qz_types.specs.Steps.{is_step};
 
+use crate::let_go;
 use qz_cluster::{Cluster, StepEnd};
 use qz_disk::{Disk, FaultDisk, MemDisk};
 use qz_journal::{TRIGGERS, create};
@@ -62,9 +63,6 @@ fn failing_disk(alloc: Global) -> Result<FaultDisk<MemDisk>, Fail> {
     let failing = Vec::from_slice(alloc, &[8u64])?;
     Ok(FaultDisk::new(disk, List::from_vec(failing)))
 }
-
-// Lets a value go. The cases of its drop are looked at here and nowhere else.
-fn let_go<T: Drop>(_value: T) {}
 
 fn answered<D: Disk>(cluster: &mut Cluster<D>, step: Step) -> Came
     requires { IsTrue (is_step step) }

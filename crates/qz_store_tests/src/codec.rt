@@ -6,6 +6,7 @@ mod limits;
 mod rows;
 mod states;
 
+use crate::let_go;
 use qz_codec::*;
 use qz_types::{Actor, Command, Entry, List};
 use std::alloc::{AllocError, Global};
@@ -116,12 +117,16 @@ const CLIENT_FIRE: &[u8; 23] = b"\x01\
     \x12\
     \x00\x00\x00\x00\x00\x00\x00\x01";
 
-// The place at which bytes are no record. An entry is let go here and nowhere else.
-fn place_of(alloc: Global, bytes: &[u8]) -> Option<u32> {
-    match get_command(alloc, bytes) {
-        Err(ReadError::BadRecord { at }) => Some(at),
-        Err(ReadError::NoMemory) | Ok(_) => None,
+fn place(fault: Option<ReadError>) -> Option<u32> {
+    match fault {
+        Some(ReadError::BadRecord { at }) => Some(at),
+        Some(ReadError::NoMemory) | None => None,
     }
+}
+
+// The place at which bytes are no record.
+fn place_of(alloc: Global, bytes: &[u8]) -> Option<u32> {
+    place(get_command(alloc, bytes).err())
 }
 
 fn is_worked_example(entry: &Entry) -> bool {
@@ -132,18 +137,18 @@ fn is_worked_example(entry: &Entry) -> bool {
 }
 
 fn reads_worked_example(alloc: Global) -> bool {
-    match get_command(alloc, FIRE) {
-        Ok(entry) => is_worked_example(&entry),
-        Err(_) => false,
-    }
+    let read = get_command(alloc, FIRE);
+    let is_right = matches!(&read, Ok(entry) if is_worked_example(entry));
+    let_go(read);
+    is_right
 }
 
 // A record, read and written again.
 fn written_again(alloc: Global, record: &[u8]) -> Option<List<u8>> {
-    match get_command(alloc, record) {
-        Ok(entry) => put_command(alloc, &entry).ok(),
-        Err(_) => None,
-    }
+    let entry = get_command(alloc, record).ok()?;
+    let bytes = put_command(alloc, &entry).ok();
+    let_go(entry);
+    bytes
 }
 
 #[test]

@@ -8,8 +8,14 @@ mod codec;
 #[cfg(test)]
 mod disk;
 #[cfg(test)]
+mod entries;
+#[cfg(test)]
 mod journal;
 #[cfg(test)]
 mod model;
 #[cfg(test)]
 mod trigger_store;
+
+// Lets a value go. The cases of its drop are looked at here and nowhere else.
+#[cfg(test)]
+pub(crate) fn let_go<T: Drop>(_value: T) {}

@@ -1,125 +1,13 @@
 //! Worked examples: a store that goes on after it was opened again, stores that are damaged, and a disk that fails.
-ghost use Rattle.std.specs.Prelude.{IsTrue, IfOk};
-ghost use Rattle.qz_civil.specs.Timings.{is_name};
-ghost use Rattle.qz_types.specs.Rows.{is_key};
-
+use crate::entries::{T0, acquire, add_job, add_trigger, fire, join};
+use crate::let_go;
 use qz_codec::put_command;
 use qz_disk::{Disk, FaultDisk, MemDisk};
 use qz_journal::{Journal, TRIGGERS, create};
 use qz_trigger_store::{MountError, SubmitError, TriggerStore};
-use qz_types::{
-    Actor, Command, Entry, JobRow, Key, Kind, List, MemberRow, Text, Timing, TriggerSpec,
-};
+use qz_types::{Entry, List};
 use std::alloc::{AllocError, Global};
 use std::test::Fail;
-
-const T0: i64 = 1704067200000;
-
-fn key(alloc: Global, name: &str) -> Result<Key, AllocError>
-    requires { IsTrue (is_name name.now) }
-    ensures { IfOk result (λ key. IsTrue (is_key key)) }
-{
-    Ok(Key {
-        group: Text::from_str(alloc, "DEFAULT")?,
-        name: Text::from_str(alloc, name)?,
-    })
-}
-
-fn report(alloc: Global) -> Result<JobRow, AllocError> {
-    Ok(JobRow {
-        key: key(alloc, "report")?,
-        class: Text::from_str(alloc, "ok")?,
-        durable: false,
-        no_concurrent: false,
-        requests_recovery: false,
-        payload: Text::new(alloc),
-    })
-}
-
-#[tactic(auto, unfolding(qz_types::specs::Entries::is_entry))]
-fn add_job(alloc: Global, at: i64) -> Result<Entry, AllocError> {
-    let job = report(alloc)?;
-    Ok(Entry {
-        at,
-        actor: Actor::Client,
-        seat: 0,
-        command: Command::AddJob {
-            job,
-            replace: false,
-        },
-    })
-}
-
-// A trigger of the job that fires once, at T0.
-#[tactic(auto, unfolding(qz_types::specs::Entries::is_entry))]
-fn add_trigger(alloc: Global, at: i64) -> Result<Entry, AllocError> {
-    let spec = TriggerSpec {
-        key: key(alloc, "t1")?,
-        job: key(alloc, "report")?,
-        priority: 5,
-        calendar: None,
-        timing: Timing {
-            kind: Kind::Simple {
-                interval: 0,
-                count: 0,
-            },
-            misfire: 0,
-            start: T0,
-            end: None,
-        },
-    };
-    Ok(Entry {
-        at,
-        actor: Actor::Client,
-        seat: 0,
-        command: Command::AddTrigger {
-            spec,
-            replace: false,
-        },
-    })
-}
-
-#[tactic(auto, unfolding(qz_types::specs::Entries::is_entry))]
-fn join(alloc: Global, at: i64) -> Result<Entry, AllocError> {
-    let node = Text::from_str(alloc, "A")?;
-    Ok(Entry {
-        at,
-        actor: Actor::Client,
-        seat: 0,
-        command: Command::Join { node },
-    })
-}
-
-fn node_a(alloc: Global) -> Result<MemberRow, AllocError> {
-    let node = Text::from_str(alloc, "A")?;
-    Ok(MemberRow { node, epoch: 1 })
-}
-
-#[tactic(auto, unfolding(qz_types::specs::Entries::is_entry))]
-fn acquire(alloc: Global, at: i64) -> Result<Entry, AllocError> {
-    let me = node_a(alloc)?;
-    Ok(Entry {
-        at,
-        actor: Actor::Node(me),
-        seat: 0,
-        command: Command::Acquire {
-            no_later: T0,
-            window: 0,
-            max: 1,
-        },
-    })
-}
-
-#[tactic(auto, unfolding(qz_types::specs::Entries::is_entry))]
-fn fire(alloc: Global, at: i64, entry: u64) -> Result<Entry, AllocError> {
-    let me = node_a(alloc)?;
-    Ok(Entry {
-        at,
-        actor: Actor::Node(me),
-        seat: 0,
-        command: Command::Fire { entry },
-    })
-}
 
 // A disk with the store that has no entries.
 fn new_disk(alloc: Global) -> Result<MemDisk, Fail> {
@@ -130,9 +18,9 @@ fn new_disk(alloc: Global) -> Result<MemDisk, Fail> {
 
 // Why a disk isn't opened.
 fn refused(alloc: Global, disk: MemDisk) -> Option<MountError> {
-    match TriggerStore::mount(alloc, disk) {
-        Ok(_) => None,
-        Err((error, _)) => Some(error),
+    match TriggerStore::mount(alloc, disk).err() {
+        Some((error, _)) => Some(error),
+        None => None,
     }
 }
 
@@ -310,6 +198,3 @@ fn a_fault_closes_the_store(rt: HostRuntime) -> Result<(), Fail> {
     assert!(rt; is_empty(alloc, disk));
     Ok(())
 }
-
-// Lets a value go. The cases of its drop are looked at here and nowhere else.
-fn let_go<T: Drop>(_value: T) {}

@@ -1,4 +1,5 @@
 //! Lines of `times` with what they say: the timing or the zone as a text, or the fault.
+use super::let_go;
 use qz_civil::Zone;
 use qz_cron_text::CronError;
 use qz_job_json::{Asked, LineFault, read_asked};
@@ -9,13 +10,20 @@ fn zone_text(alloc: Global, zone: &Zone) -> Result<String, AllocError> {
     format!(in alloc; "zone {} {:?}", zone.offset_at(0), zone.next_start(0))
 }
 
-fn meaning(alloc: Global, line: &str) -> Result<String, AllocError> {
-    match read_asked(alloc, line.as_bytes()) {
-        Ok(Some(Asked::AddZone { name: _, zone })) => zone_text(alloc, &zone),
+fn text_of(alloc: Global, read: &Result<Option<Asked>, LineFault>) -> Result<String, AllocError> {
+    match read {
+        Ok(Some(Asked::AddZone { name: _, zone })) => zone_text(alloc, zone),
         Ok(Some(Asked::AddTrigger { spec })) => format!(in alloc; "{:?}", spec.timing),
         Ok(None) => String::from_str(alloc, "blank"),
         Err(fault) => format!(in alloc; "{fault:?}"),
     }
+}
+
+fn meaning(alloc: Global, line: &str) -> Result<String, AllocError> {
+    let read = read_asked(alloc, line.as_bytes());
+    let text = text_of(alloc, &read);
+    let_go(read);
+    text
 }
 
 /// The line of a trigger with these members and few others.

@@ -1,6 +1,7 @@
 //! Records of calendars and zones.
-use super::{Spoiled, spoil};
-use qz_codec::{Packed, ReadError, get_row, put_row};
+use super::{Spoiled, place, spoil};
+use crate::let_go;
+use qz_codec::{Packed, get_row, put_row};
 use qz_types::{CalendarKind, CalendarRow, List, ZoneRow};
 use std::alloc::Global;
 use std::test::*;
@@ -97,21 +98,23 @@ fn zone_row_of(alloc: Global, bytes: &[u8]) -> Option<ZoneRow> {
 // A calendar, read and written again.
 pub(super) fn calendar_again(alloc: Global, bytes: &[u8]) -> Option<Vec<u8>> {
     let row = calendar_of(alloc, bytes)?;
-    behind_version(alloc, &put_row(alloc, &row).ok()?)
+    let record = put_row(alloc, &row).ok();
+    let_go(row);
+    behind_version(alloc, &record?)
 }
 
 // A zone, read and written again.
 pub(super) fn zone_again(alloc: Global, bytes: &[u8]) -> Option<Vec<u8>> {
     let row = zone_row_of(alloc, bytes)?;
-    behind_version(alloc, &put_row(alloc, &row).ok()?)
+    let record = put_row(alloc, &row).ok();
+    let_go(row);
+    behind_version(alloc, &record?)
 }
 
 // The place at which bytes behind the version are no row, counted from there.
 pub(super) fn place_of<R: Packed + Drop>(alloc: Global, bytes: &[u8]) -> Option<u32> {
-    match get_row::<R>(alloc, &record_of(alloc, bytes)?) {
-        Err(ReadError::BadRecord { at }) => at.checked_sub(1),
-        Err(ReadError::NoMemory) | Ok(_) => None,
-    }
+    let record = record_of(alloc, bytes)?;
+    place(get_row::<R>(alloc, &record).err())?.checked_sub(1)
 }
 
 #[test]
@@ -131,50 +134,62 @@ fn zone_both_ways(rt: HostRuntime) -> Result<(), Fail> {
     Ok(())
 }
 
-fn reads_daily(alloc: Global) -> bool {
-    match calendar_of(alloc, DAILY) {
-        Some(row) => matches!(
-            row.kind,
-            CalendarKind::Daily {
-                from: 86399000,
-                to: 86399999,
-                inverted: true
-            }
-        ),
-        None => false,
+fn is_daily(row: &CalendarRow) -> bool {
+    matches!(
+        row.kind,
+        CalendarKind::Daily {
+            from: 86399000,
+            to: 86399999,
+            inverted: true
+        }
+    )
+}
+
+fn is_annual(row: &CalendarRow) -> bool {
+    match &row.kind {
+        CalendarKind::Annual { days } => matches!(days.as_slice(), [229, 1231]),
+        _ => false,
     }
 }
 
-fn reads_annual(alloc: Global) -> bool {
-    match calendar_of(alloc, ANNUAL) {
-        Some(row) => match &row.kind {
-            CalendarKind::Annual { days } => matches!(days.as_slice(), [229, 1231]),
-            _ => false,
-        },
-        None => false,
+fn is_zone(row: &ZoneRow) -> bool {
+    match row.stretches.as_slice() {
+        [first, second] => {
+            first.from == 0
+                && first.offset == 3600
+                && second.from == 172800000
+                && second.offset == -64800
+        }
+        _ => false,
     }
 }
 
-fn reads_zone(alloc: Global) -> bool {
-    match zone_row_of(alloc, ZONE) {
-        Some(row) => match row.stretches.as_slice() {
-            [first, second] => {
-                first.from == 0
-                    && first.offset == 3600
-                    && second.from == 172800000
-                    && second.offset == -64800
-            }
-            _ => false,
-        },
-        None => false,
-    }
+fn reads_daily(alloc: Global) -> Option<bool> {
+    let row = calendar_of(alloc, DAILY)?;
+    let is_right = is_daily(&row);
+    let_go(row);
+    Some(is_right)
+}
+
+fn reads_annual(alloc: Global) -> Option<bool> {
+    let row = calendar_of(alloc, ANNUAL)?;
+    let is_right = is_annual(&row);
+    let_go(row);
+    Some(is_right)
+}
+
+fn reads_zone(alloc: Global) -> Option<bool> {
+    let row = zone_row_of(alloc, ZONE)?;
+    let is_right = is_zone(&row);
+    let_go(row);
+    Some(is_right)
 }
 
 #[test]
 fn values(rt: HostRuntime) {
-    assert!(rt; reads_daily(rt.alloc()));
-    assert!(rt; reads_annual(rt.alloc()));
-    assert!(rt; reads_zone(rt.alloc()));
+    assert_eq!(rt; reads_daily(rt.alloc()), Some(true));
+    assert_eq!(rt; reads_annual(rt.alloc()), Some(true));
+    assert_eq!(rt; reads_zone(rt.alloc()), Some(true));
 }
 
 const SPOILED_CALENDARS: [Spoiled; 22] = [

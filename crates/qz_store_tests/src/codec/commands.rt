@@ -1,6 +1,8 @@
 //! Records of each command.
 use super::{place_of, written_again};
-use qz_codec::get_command;
+use crate::let_go;
+use qz_codec::{ReadError, get_command};
+use qz_types::Entry;
 use std::alloc::{AllocError, Global};
 use std::test::*;
 
@@ -116,11 +118,18 @@ fn joined(alloc: Global, before: &[u8], bytes: &[u8]) -> Result<Vec<u8>, AllocEr
     Ok(record)
 }
 
-fn printed(alloc: Global, record: &[u8]) -> Result<String, AllocError> {
-    match get_command(alloc, record) {
+fn text_of(alloc: Global, read: &Result<Entry, ReadError>) -> Result<String, AllocError> {
+    match read {
         Ok(entry) => format!(in alloc; "{:?}", entry.command),
         Err(fault) => format!(in alloc; "{fault:?}"),
     }
+}
+
+fn printed(alloc: Global, record: &[u8]) -> Result<String, AllocError> {
+    let read = get_command(alloc, record);
+    let text = text_of(alloc, &read);
+    let_go(read);
+    text
 }
 
 #[test]

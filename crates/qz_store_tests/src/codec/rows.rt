@@ -1,6 +1,7 @@
 //! Records of rows.
-use super::{Spoiled, spoil};
-use qz_codec::{Packed, ReadError, get_row, put_row};
+use super::{Spoiled, place, spoil};
+use crate::let_go;
+use qz_codec::{Packed, get_row, put_row};
 use qz_types::{
     CalendarRow, FiredRow, FiredState, JobRow, List, MemberRow, StateRow, Text, TriggerRow,
     TriggerState, ZoneRow,
@@ -91,18 +92,15 @@ const ZONE: &[u8; 18] = b"\x01\
 fn written_again<R: Packed + Drop>(alloc: Global, record: &[u8]) -> Option<List<u8>>
     requires { (row : R) → R.can_pack row }
 {
-    match get_row::<R>(alloc, record) {
-        Ok(row) => put_row(alloc, &row).ok(),
-        Err(_) => None,
-    }
+    let row = get_row::<R>(alloc, record).ok()?;
+    let bytes = put_row(alloc, &row).ok();
+    let_go(row);
+    bytes
 }
 
 // The place at which bytes are no record.
 pub(super) fn place_of<R: Packed + Drop>(alloc: Global, bytes: &[u8]) -> Option<u32> {
-    match get_row::<R>(alloc, bytes) {
-        Err(ReadError::BadRecord { at }) => Some(at),
-        Err(ReadError::NoMemory) | Ok(_) => None,
-    }
+    place(get_row::<R>(alloc, bytes).err())
 }
 
 // Each is wrong at its place.
@@ -149,66 +147,69 @@ fn both_ways_further(rt: HostRuntime) -> Result<(), Fail> {
     Ok(())
 }
 
-fn reads_group(alloc: Global) -> bool {
-    match get_row::<Text>(alloc, GROUP) {
-        Ok(group) => group.as_str() == "g",
-        Err(_) => false,
-    }
+fn is_trigger(row: &TriggerRow) -> bool {
+    row.spec.key.name.as_str() == "t"
+        && row.next == Some(-2)
+        && row.prev == None
+        && row.times == 1 << 63
+        && row.state == TriggerState::Paused
 }
 
-fn reads_trigger(alloc: Global) -> bool {
-    match get_row::<TriggerRow>(alloc, TRIGGER) {
-        Ok(row) => {
-            row.spec.key.name.as_str() == "t"
-                && row.next == Some(-2)
-                && row.prev == None
-                && row.times == 1 << 63
-                && row.state == TriggerState::Paused
-        }
-        Err(_) => false,
-    }
+fn is_fired_row(row: &FiredRow) -> bool {
+    row.entry == 7
+        && row.epoch == 1
+        && row.trigger.name.as_str() == "t"
+        && row.job.name.as_str() == "n"
+        && row.state == FiredState::Executing
+        && row.scheduled == -2
+        && row.fired == Some(3)
+        && row.no_concurrent
+        && !row.requests_recovery
 }
 
-fn reads_fired(alloc: Global) -> bool {
-    match get_row::<FiredRow>(alloc, FIRED) {
-        Ok(row) => {
-            row.entry == 7
-                && row.epoch == 1
-                && row.trigger.name.as_str() == "t"
-                && row.job.name.as_str() == "n"
-                && row.state == FiredState::Executing
-                && row.scheduled == -2
-                && row.fired == Some(3)
-                && row.no_concurrent
-                && !row.requests_recovery
-        }
-        Err(_) => false,
-    }
+fn is_state_row(row: &StateRow) -> bool {
+    row.node.as_str() == "A" && row.last == -2 && row.interval == 7500
 }
 
-fn reads_state(alloc: Global) -> bool {
-    match get_row::<StateRow>(alloc, STATE) {
-        Ok(row) => row.node.as_str() == "A" && row.last == -2 && row.interval == 7500,
-        Err(_) => false,
-    }
+fn reads_trigger(alloc: Global) -> Option<bool> {
+    let row = get_row(alloc, TRIGGER).ok()?;
+    let is_right = is_trigger(&row);
+    let_go(row);
+    Some(is_right)
+}
+
+fn reads_fired(alloc: Global) -> Option<bool> {
+    let row = get_row(alloc, FIRED).ok()?;
+    let is_right = is_fired_row(&row);
+    let_go(row);
+    Some(is_right)
+}
+
+fn reads_state(alloc: Global) -> Option<bool> {
+    let row = get_row(alloc, STATE).ok()?;
+    let is_right = is_state_row(&row);
+    let_go(row);
+    Some(is_right)
 }
 
 #[test]
-fn values(rt: HostRuntime) {
-    assert!(rt; reads_group(rt.alloc()));
-    assert!(rt; reads_trigger(rt.alloc()));
-    assert!(rt; reads_fired(rt.alloc()));
-    assert!(rt; reads_state(rt.alloc()));
+fn values(rt: HostRuntime) -> Result<(), Fail> {
+    let group: Text = get_row(rt.alloc(), GROUP)?;
+    assert_eq!(rt; group.as_str(), "g");
+    assert_eq!(rt; reads_trigger(rt.alloc()), Some(true));
+    assert_eq!(rt; reads_fired(rt.alloc()), Some(true));
+    assert_eq!(rt; reads_state(rt.alloc()), Some(true));
+    Ok(())
 }
 
 // The state of the trigger whose record has this byte at its end.
 fn state_at_place(alloc: Global, place: u8) -> Option<TriggerState> {
     let mut bytes = Vec::from_slice(alloc, &TRIGGER[..66]).ok()?;
     bytes.push(place).ok()?;
-    match get_row::<TriggerRow>(alloc, &bytes) {
-        Ok(row) => Some(row.state),
-        Err(_) => None,
-    }
+    let row: TriggerRow = get_row(alloc, &bytes).ok()?;
+    let state = row.state;
+    let_go(row);
+    Some(state)
 }
 
 #[test]

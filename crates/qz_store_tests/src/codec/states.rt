@@ -1,7 +1,8 @@
 //! Records of state entries.
-use super::{Spoiled, spoil};
-use qz_codec::{ReadError, get_state, put_state};
-use qz_types::{List, StateCommand};
+use super::{Spoiled, place, spoil};
+use crate::let_go;
+use qz_codec::{get_state, put_state};
+use qz_types::{List, StateCommand, StateEntry};
 use std::alloc::Global;
 use std::test::*;
 
@@ -30,44 +31,45 @@ const FIELDS: [u32; 25] = [
 
 // The place at which bytes are no record.
 pub(super) fn place_of(alloc: Global, bytes: &[u8]) -> Option<u32> {
-    match get_state(alloc, bytes) {
-        Err(ReadError::BadRecord { at }) => Some(at),
-        Err(ReadError::NoMemory) | Ok(_) => None,
-    }
+    place(get_state(alloc, bytes).err())
 }
 
 // A record, read and written again.
 fn written_again(alloc: Global, record: &[u8]) -> Option<List<u8>> {
-    match get_state(alloc, record) {
-        Ok(entry) => put_state(alloc, &entry).ok(),
-        Err(_) => None,
-    }
+    let entry = get_state(alloc, record).ok()?;
+    let bytes = put_state(alloc, &entry).ok();
+    let_go(entry);
+    bytes
 }
 
-fn reads_check_in(alloc: Global) -> bool {
-    match get_state(alloc, CHECK_IN) {
-        Ok(entry) => {
-            entry.at == 1704067200000
-                && entry.seat == 2
-                && matches!(&entry.command, StateCommand::CheckIn { node, interval: 7500 } if node.as_str() == "A")
-        }
-        Err(_) => false,
-    }
+fn is_check_in(entry: &StateEntry) -> bool {
+    entry.at == 1704067200000
+        && entry.seat == 2
+        && matches!(&entry.command, StateCommand::CheckIn { node, interval: 7500 } if node.as_str() == "A")
 }
 
-fn reads_forget(alloc: Global) -> bool {
-    match get_state(alloc, FORGET) {
-        Ok(entry) => {
-            matches!(&entry.command, StateCommand::Forget { node, last: -1 } if node.as_str() == "A")
-        }
-        Err(_) => false,
-    }
+fn is_forget(entry: &StateEntry) -> bool {
+    matches!(&entry.command, StateCommand::Forget { node, last: -1 } if node.as_str() == "A")
+}
+
+fn reads_check_in(alloc: Global) -> Option<bool> {
+    let entry = get_state(alloc, CHECK_IN).ok()?;
+    let is_right = is_check_in(&entry);
+    let_go(entry);
+    Some(is_right)
+}
+
+fn reads_forget(alloc: Global) -> Option<bool> {
+    let entry = get_state(alloc, FORGET).ok()?;
+    let is_right = is_forget(&entry);
+    let_go(entry);
+    Some(is_right)
 }
 
 #[test]
 fn values(rt: HostRuntime) {
-    assert!(rt; reads_check_in(rt.alloc()));
-    assert!(rt; reads_forget(rt.alloc()));
+    assert_eq!(rt; reads_check_in(rt.alloc()), Some(true));
+    assert_eq!(rt; reads_forget(rt.alloc()), Some(true));
 }
 
 #[test]
