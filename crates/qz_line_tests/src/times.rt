@@ -130,23 +130,29 @@ fn inputs_end_in_their_ways(rt: HostRuntime) -> Result<(), Fail> {
     Ok(())
 }
 
+const FIRST: Query = Query { after: 0, count: 1 };
+
+// The plan of failures in which the first call fails.
+fn first_fails(alloc: Global) -> Result<List<u64>, AllocError> {
+    Ok(List::from_vec(Vec::from_slice(alloc, &[1])?))
+}
+
 #[test]
-fn faults_end_it(rt: HostRuntime) -> Result<(), Fail> {
-    let alloc = rt.alloc();
-    let query = Query { after: 0, count: 1 };
-    let first = List::from_vec(Vec::from_slice(alloc, &[1u64])?);
-    let mut input = FaultSource::new(bytes_of(alloc, CET)?, first);
-    let mut out = MemSink::new(alloc);
-    assert_eq!(rt;
-        run_times(alloc, &mut input, &mut out, query),
-        TimesEnd::ReadFault
-    );
-    let again = List::from_vec(Vec::from_slice(alloc, &[1u64])?);
-    let mut out = FaultSink::new(alloc, again);
-    let mut input = MemSource::new(bytes_of(alloc, CET)?);
-    assert_eq!(rt;
-        run_times(alloc, &mut input, &mut out, query),
-        TimesEnd::WriteFault
-    );
+fn a_failed_read_ends_it(rt: HostRuntime) -> Result<(), Fail> {
+    let failing = first_fails(rt.alloc())?;
+    let mut input = FaultSource::new(bytes_of(rt.alloc(), CET)?, failing);
+    let mut out = MemSink::new(rt.alloc());
+    let ended = run_times(rt.alloc(), &mut input, &mut out, FIRST);
+    assert_eq!(rt; ended, TimesEnd::ReadFault);
+    Ok(())
+}
+
+#[test]
+fn a_failed_write_ends_it(rt: HostRuntime) -> Result<(), Fail> {
+    let failing = first_fails(rt.alloc())?;
+    let mut input = MemSource::new(bytes_of(rt.alloc(), CET)?);
+    let mut out = FaultSink::new(rt.alloc(), failing);
+    let ended = run_times(rt.alloc(), &mut input, &mut out, FIRST);
+    assert_eq!(rt; ended, TimesEnd::WriteFault);
     Ok(())
 }

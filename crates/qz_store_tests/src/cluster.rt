@@ -22,7 +22,7 @@ enum Came {
     Ended,
 }
 
-fn reason(answer: Result<StepReply, StepEnd>) -> Came {
+fn reason(answer: &Result<StepReply, StepEnd>) -> Came {
     match answer {
         Ok(StepReply::Ok(_)) => Came::Accepted,
         Ok(StepReply::Refused(_)) => Came::Refused,
@@ -58,16 +58,19 @@ fn fire(alloc: Global, name: &str) -> Result<Step, AllocError>
 // A disk whose eighth call fails: the first of the second commit, behind three of the mount and four of the first
 // commit.
 fn failing_disk(alloc: Global) -> Result<FaultDisk<MemDisk>, Fail> {
+    let failing = Vec::from_slice(alloc, &[8u64])?;
     let mut disk = MemDisk::new(alloc);
     create(&mut disk, TRIGGERS)?;
-    let failing = Vec::from_slice(alloc, &[8u64])?;
     Ok(FaultDisk::new(disk, List::from_vec(failing)))
 }
 
 fn answered<D: Disk>(cluster: &mut Cluster<D>, step: Step) -> Came
     requires { IsTrue (is_step step) }
 {
-    reason(cluster.step(step, 5))
+    let answer = cluster.step(step, 5);
+    let came = reason(&answer);
+    let_go(answer);
+    came
 }
 
 // A node that joins and finds nothing to fire, and one that never joined.
