@@ -1,6 +1,8 @@
-use Rattle.std.proofs.Common.{◌∙◌, ◌+◌, ◌++◌, List, ℕ, sym, ap, arith}
-use Rattle.qz_model.specs.Tables.{empty}
-use Rattle.qz_trigger_store.specs.Bytes.{records}
+use Rattle.std.proofs.Common.{◌∙◌, ◌+◌, ◌++◌, List, ℕ, Err, sym, ap, subst, arith}
+use Rattle.qz_model.specs.Tables.{SchedulerTables, empty}
+use Rattle.qz_model.specs.Transaction.{transaction}
+use Rattle.qz_model.specs.History.{IsAccepted}
+use Rattle.qz_trigger_store.specs.Bytes.{records, IsRecord}
 use Rattle.qz_trigger_store.proofs.Damage.{within, taken_whole, taken_gate, taken_all, taken_legal, taken_tables}
 use Rattle.qz_trigger_store.proofs.replaying.replay.Goals as goal
 
@@ -24,4 +26,18 @@ replay-preserved c =
       valid = c.in-Ok.ensures.valid w.valid;
       recorded = taken_all c.replay.entries _ e more w.recorded is.valid;
       gate_is = ap (λ (n : ℕ). c.replay.gate + (5 + n)) c.len.ensures ∙ taken_gate c.replay.gate c.replay.entries _ e _ more p_is w.gate_is;
+    }
+
+pub returns-in-Err-Unfit-clause-stopped : goal.returns-in-Err-Unfit-clause-stopped
+returns-in-Err-Unfit-clause-stopped c =
+    let w = c.replay.invariant in
+    record {
+      entries = c.replay.entries;
+      valid = w.recorded;
+      legal = w.legal;
+      payload = c.in-Some.payload.now;
+      more = c.in-Some.behind.now;
+      whole = w.whole ∙ ap (λ (l : List (List ℕ)). records c.replay.entries ++ l) c.in-Some.ensures.cases.0;
+      at_is = w.gate_is;
+      unfit = λ e is yes. c.in-Err-Unfit.ensures.unfit (ap Err c.in-Err-Unfit.field-0-is) e (subst (λ (p : List ℕ). IsRecord p e) (sym c.as_slice.ensures) is) (subst (λ (T : SchedulerTables). IsAccepted (transaction T e)) (sym w.replayed) yes);
     }
