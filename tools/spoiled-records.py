@@ -1,5 +1,5 @@
 #!/usr/bin/env python3
-"""Writes the table of crates/qz_store_tests/src/codec/each_byte.rt: for each record a sum over the places at which it is wrong
+"""Writes the table of crates/qz_record_tests/src/records/each_byte.rt: for each record a sum over the places at which it is wrong
 with each byte set to 00, 01, 7f, 80 and ff in turn, and cut at each length. The reader here was written from
 docs/specification/records.md alone, and shares nothing with the crate.
 

@@ -1,10 +1,8 @@
-//! Tests of the crates of the store: transactions, disks, the journal, records, the trigger store and the cluster.
+//! Tests of the crates of the store: transactions, disks, the journal, the trigger store and the cluster.
 #![tactic(auto)]
 
 #[cfg(test)]
 mod cluster;
-#[cfg(test)]
-mod codec;
 #[cfg(test)]
 mod disk;
 #[cfg(test)]

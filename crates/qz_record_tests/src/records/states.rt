@@ -1,13 +1,13 @@
 //! Records of state entries.
-use super::{Spoiled, place, spoil};
+use super::{Of, Spoiled};
 use crate::let_go;
-use qz_codec::{get_state, put_state};
-use qz_types::{List, StateCommand, StateEntry};
+use qz_codec::get_state;
+use qz_types::{StateCommand, StateEntry};
 use std::alloc::Global;
 use std::test::*;
 
 /// CheckIn of A, which means to check in again after 7500 ms, from seat 2 at 2024-01-01T00:00:00Z.
-const CHECK_IN: &[u8; 25] = b"\x01\
+pub(super) const CHECK_IN: &[u8; 25] = b"\x01\
     \x00\x00\x01\x8c\xc2\x51\xf4\x00\
     \x00\x00\x00\x02\
     \x00\
@@ -25,22 +25,24 @@ const FORGET: &[u8; 25] = b"\x01\
     \xff\xff\xff\xff\xff\xff\xff\xff";
 
 /// The places that are wrong in `CHECK_IN` where only so many bytes of it are there.
-const FIELDS: [u32; 25] = [
+pub(super) const FIELDS: [u32; 25] = [
     0, 1, 1, 1, 1, 1, 1, 1, 1, 9, 9, 9, 9, 13, 14, 14, 16, 17, 17, 17, 17, 17, 17, 17, 17,
 ];
 
-// The place at which bytes are no record.
-pub(super) fn place_of(alloc: Global, bytes: &[u8]) -> Option<u32> {
-    place(get_state(alloc, bytes).err())
-}
+/// CheckIn of A with the greatest interval: a day.
+const LONGEST: &[u8; 25] = b"\x01\
+    \x00\x00\x01\x8c\xc2\x51\xf4\x00\
+    \x00\x00\x00\x02\
+    \x00\
+    \x00\x01\
+    \x41\
+    \x00\x00\x00\x00\x05\x26\x5c\x00";
 
-// A record, read and written again.
-fn written_again(alloc: Global, record: &[u8]) -> Option<List<u8>> {
-    let entry = get_state(alloc, record).ok()?;
-    let bytes = put_state(alloc, &entry).ok();
-    let_go(entry);
-    bytes
-}
+pub(super) const SAMPLES: [(Of, &[u8]); 3] = [
+    (Of::StateEntry, CHECK_IN),
+    (Of::StateEntry, FORGET),
+    (Of::StateEntry, LONGEST),
+];
 
 fn is_check_in(entry: &StateEntry) -> bool {
     entry.at == 1704067200000
@@ -72,44 +74,25 @@ fn values(rt: HostRuntime) {
     assert_eq!(rt; reads_forget(rt.alloc()), Some(true));
 }
 
-#[test]
-fn both_ways(rt: HostRuntime) -> Result<(), Fail> {
-    let records: [&[u8]; 2] = [CHECK_IN, FORGET];
-    for record in records {
-        let bytes = written_again(rt.alloc(), record).ok_or("a record")?;
-        assert_eq!(rt; bytes.as_slice(), record);
-    }
-    Ok(())
-}
-
-#[test]
-fn cut_records(rt: HostRuntime) {
-    let mut size = 0;
-    for at in FIELDS {
-        if size < CHECK_IN.len() {
-            assert_eq!(rt; place_of(rt.alloc(), &CHECK_IN[..size]), Some(at));
-            size += 1;
-        }
-    }
-    assert_eq!(rt; size, CHECK_IN.len());
-}
-
 /// Records that are wrong in one place.
-const SPOILED: [Spoiled; 11] = [
+pub(super) const SPOILED: [Spoiled; 11] = [
     // Another version, a command that isn't there, a node without bytes.
     Spoiled {
+        of: Of::StateEntry,
         record: CHECK_IN,
         from: 0,
         bytes: &[2],
         at: 0,
     },
     Spoiled {
+        of: Of::StateEntry,
         record: CHECK_IN,
         from: 13,
         bytes: &[2],
         at: 13,
     },
     Spoiled {
+        of: Of::StateEntry,
         record: CHECK_IN,
         from: 14,
         bytes: &[0, 0],
@@ -117,18 +100,21 @@ const SPOILED: [Spoiled; 11] = [
     },
     // A node of 121 bytes, one that is cut, one that isn't UTF-8.
     Spoiled {
+        of: Of::StateEntry,
         record: CHECK_IN,
         from: 14,
         bytes: &[0, 121],
         at: 14,
     },
     Spoiled {
+        of: Of::StateEntry,
         record: CHECK_IN,
         from: 14,
         bytes: &[0, 120],
         at: 16,
     },
     Spoiled {
+        of: Of::StateEntry,
         record: FORGET,
         from: 16,
         bytes: &[0xff],
@@ -136,18 +122,21 @@ const SPOILED: [Spoiled; 11] = [
     },
     // Intervals of 0, of a day and 1 ms, and of -1 ms.
     Spoiled {
+        of: Of::StateEntry,
         record: CHECK_IN,
         from: 17,
         bytes: &[0, 0, 0, 0, 0, 0, 0, 0],
         at: 17,
     },
     Spoiled {
+        of: Of::StateEntry,
         record: CHECK_IN,
         from: 21,
         bytes: &[5, 0x26, 0x5c, 1],
         at: 17,
     },
     Spoiled {
+        of: Of::StateEntry,
         record: CHECK_IN,
         from: 17,
         bytes: &[0xff, 0xff, 0xff, 0xff, 0xff, 0xff, 0xff, 0xff],
@@ -155,44 +144,17 @@ const SPOILED: [Spoiled; 11] = [
     },
     // A byte behind the record.
     Spoiled {
+        of: Of::StateEntry,
         record: CHECK_IN,
         from: 25,
         bytes: &[0],
         at: 25,
     },
     Spoiled {
+        of: Of::StateEntry,
         record: FORGET,
         from: 25,
         bytes: &[1],
         at: 25,
     },
 ];
-
-#[test]
-fn spoiled_records(rt: HostRuntime) -> Result<(), Fail> {
-    for spoiled in &SPOILED {
-        let bytes = spoil(rt.alloc(), spoiled)?;
-        assert_eq!(rt;
-            place_of(rt.alloc(), &bytes),
-            Some(spoiled.at),
-            "from {}",
-            spoiled.from
-        );
-    }
-    Ok(())
-}
-
-/// The greatest interval: a day.
-#[test]
-fn longest_interval(rt: HostRuntime) -> Result<(), Fail> {
-    let longest = Spoiled {
-        record: CHECK_IN,
-        from: 21,
-        bytes: &[5, 0x26, 0x5c, 0],
-        at: 0,
-    };
-    let record = spoil(rt.alloc(), &longest)?;
-    let bytes = written_again(rt.alloc(), &record).ok_or("a record")?;
-    assert_eq!(rt; bytes.as_slice(), record.as_slice());
-    Ok(())
-}

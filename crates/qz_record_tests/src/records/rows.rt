@@ -1,13 +1,9 @@
 //! Records of rows.
-use super::{Spoiled, place, spoil};
+use super::{Of, Spoiled, place_in};
 use crate::let_go;
-use qz_codec::{Packed, get_row, put_row};
-use qz_types::{
-    CalendarRow, FiredRow, FiredState, JobRow, List, MemberRow, StateRow, Text, TriggerRow,
-    TriggerState, ZoneRow,
-};
+use qz_codec::{get_row, put_row};
+use qz_types::{FiredRow, FiredState, StateRow, Text, TriggerRow, TriggerState};
 use std::alloc::Global;
-use std::process::Abort;
 use std::test::*;
 
 /// The job g/n of class c, which is durable and requests recovery, with the payload {}.
@@ -88,64 +84,16 @@ const ZONE: &[u8; 18] = b"\x01\
     \x00\x00\x00\x00\x00\x00\x00\x00\
     \x00\x00\x0e\x10";
 
-// A record, read and written again.
-fn written_again<R: Packed + Drop>(alloc: Global, record: &[u8]) -> Option<List<u8>>
-    requires { (row : R) → R.can_pack row }
-{
-    let row = get_row::<R>(alloc, record).ok()?;
-    let bytes = put_row(alloc, &row).ok();
-    let_go(row);
-    bytes
-}
-
-// The place at which bytes are no record.
-pub(super) fn place_of<R: Packed + Drop>(alloc: Global, bytes: &[u8]) -> Option<u32> {
-    place(get_row::<R>(alloc, bytes).err())
-}
-
-// Each is wrong at its place.
-fn are_wrong_there<R: Packed + Drop, A: Abort>(
-    rt: &A,
-    alloc: Global,
-    rows: &[Spoiled],
-) -> Result<(), Fail> {
-    for spoiled in rows {
-        let bytes = spoil(alloc, spoiled)?;
-        assert_eq!(rt;
-            place_of::<R>(alloc, &bytes),
-            Some(spoiled.at),
-            "from {}",
-            spoiled.from
-        );
-    }
-    Ok(())
-}
-
-#[test]
-fn both_ways(rt: HostRuntime) -> Result<(), Fail> {
-    let job = written_again::<JobRow>(rt.alloc(), JOB).ok_or("a job")?;
-    assert_eq!(rt; job.as_slice(), JOB.as_slice());
-    let trigger = written_again::<TriggerRow>(rt.alloc(), TRIGGER).ok_or("a trigger")?;
-    assert_eq!(rt; trigger.as_slice(), TRIGGER.as_slice());
-    let fired = written_again::<FiredRow>(rt.alloc(), FIRED).ok_or("a fired row")?;
-    assert_eq!(rt; fired.as_slice(), FIRED.as_slice());
-    let member = written_again::<MemberRow>(rt.alloc(), MEMBER).ok_or("a member")?;
-    assert_eq!(rt; member.as_slice(), MEMBER.as_slice());
-    Ok(())
-}
-
-#[test]
-fn both_ways_further(rt: HostRuntime) -> Result<(), Fail> {
-    let state = written_again::<StateRow>(rt.alloc(), STATE).ok_or("a check-in")?;
-    assert_eq!(rt; state.as_slice(), STATE.as_slice());
-    let calendar = written_again::<CalendarRow>(rt.alloc(), CALENDAR).ok_or("a calendar")?;
-    assert_eq!(rt; calendar.as_slice(), CALENDAR.as_slice());
-    let zone = written_again::<ZoneRow>(rt.alloc(), ZONE).ok_or("a zone")?;
-    assert_eq!(rt; zone.as_slice(), ZONE.as_slice());
-    let group = put_row(rt.alloc(), &Text::from_str(rt.alloc(), "g")?)?;
-    assert_eq!(rt; group.as_slice(), GROUP.as_slice());
-    Ok(())
-}
+/// A row of each type; that of a group is written apart.
+pub(super) const SAMPLES: [(Of, &[u8]); 7] = [
+    (Of::JobRow, JOB),
+    (Of::TriggerRow, TRIGGER),
+    (Of::FiredRow, FIRED),
+    (Of::MemberRow, MEMBER),
+    (Of::StateRow, STATE),
+    (Of::CalendarRow, CALENDAR),
+    (Of::ZoneRow, ZONE),
+];
 
 fn is_trigger(row: &TriggerRow) -> bool {
     row.spec.key.name.as_str() == "t"
@@ -196,6 +144,8 @@ fn reads_state(alloc: Global) -> Option<bool> {
 fn values(rt: HostRuntime) -> Result<(), Fail> {
     let group: Text = get_row(rt.alloc(), GROUP)?;
     assert_eq!(rt; group.as_str(), "g");
+    let bytes = put_row(rt.alloc(), &Text::from_str(rt.alloc(), "g")?)?;
+    assert_eq!(rt; bytes.as_slice(), GROUP.as_slice());
     assert_eq!(rt; reads_trigger(rt.alloc()), Some(true));
     assert_eq!(rt; reads_fired(rt.alloc()), Some(true));
     assert_eq!(rt; reads_state(rt.alloc()), Some(true));
@@ -234,33 +184,38 @@ fn states_of_triggers(rt: HostRuntime) {
 }
 
 /// Jobs that are wrong in one place.
-const SPOILED_JOBS: [Spoiled; 6] = [
+pub(super) const SPOILED_JOBS: [Spoiled; 6] = [
     // Another version, a group without bytes, a flag that is none, a payload of 4097 bytes, one that is cut.
     Spoiled {
+        of: Of::JobRow,
         record: JOB,
         from: 0,
         bytes: &[0],
         at: 0,
     },
     Spoiled {
+        of: Of::JobRow,
         record: JOB,
         from: 1,
         bytes: &[0, 0],
         at: 1,
     },
     Spoiled {
+        of: Of::JobRow,
         record: JOB,
         from: 11,
         bytes: &[2],
         at: 11,
     },
     Spoiled {
+        of: Of::JobRow,
         record: JOB,
         from: 13,
         bytes: &[0x10, 1],
         at: 13,
     },
     Spoiled {
+        of: Of::JobRow,
         record: JOB,
         from: 14,
         bytes: &[3],
@@ -268,6 +223,7 @@ const SPOILED_JOBS: [Spoiled; 6] = [
     },
     // A byte behind the record.
     Spoiled {
+        of: Of::JobRow,
         record: JOB,
         from: 17,
         bytes: &[0],
@@ -276,27 +232,31 @@ const SPOILED_JOBS: [Spoiled; 6] = [
 ];
 
 /// Triggers that are wrong in one place.
-const SPOILED_TRIGGERS: [Spoiled; 7] = [
+pub(super) const SPOILED_TRIGGERS: [Spoiled; 7] = [
     // A misfire instruction that the kind doesn't have, and flags that are none.
     Spoiled {
+        of: Of::TriggerRow,
         record: TRIGGER,
         from: 38,
         bytes: &[6],
         at: 38,
     },
     Spoiled {
+        of: Of::TriggerRow,
         record: TRIGGER,
         from: 47,
         bytes: &[2],
         at: 47,
     },
     Spoiled {
+        of: Of::TriggerRow,
         record: TRIGGER,
         from: 48,
         bytes: &[2],
         at: 48,
     },
     Spoiled {
+        of: Of::TriggerRow,
         record: TRIGGER,
         from: 57,
         bytes: &[2],
@@ -304,18 +264,21 @@ const SPOILED_TRIGGERS: [Spoiled; 7] = [
     },
     // A count beyond 2^63, a state that isn't there, a byte behind the record.
     Spoiled {
+        of: Of::TriggerRow,
         record: TRIGGER,
         from: 65,
         bytes: &[1],
         at: 58,
     },
     Spoiled {
+        of: Of::TriggerRow,
         record: TRIGGER,
         from: 66,
         bytes: &[7],
         at: 66,
     },
     Spoiled {
+        of: Of::TriggerRow,
         record: TRIGGER,
         from: 67,
         bytes: &[0],
@@ -324,21 +287,24 @@ const SPOILED_TRIGGERS: [Spoiled; 7] = [
 ];
 
 /// Fired rows that are wrong in one place.
-const SPOILED_FIRED: [Spoiled; 7] = [
+pub(super) const SPOILED_FIRED: [Spoiled; 7] = [
     // A node of 121 bytes, a group without bytes, a state that isn't there.
     Spoiled {
+        of: Of::FiredRow,
         record: FIRED,
         from: 9,
         bytes: &[0, 121],
         at: 9,
     },
     Spoiled {
+        of: Of::FiredRow,
         record: FIRED,
         from: 20,
         bytes: &[0, 0],
         at: 20,
     },
     Spoiled {
+        of: Of::FiredRow,
         record: FIRED,
         from: 36,
         bytes: &[2],
@@ -346,24 +312,28 @@ const SPOILED_FIRED: [Spoiled; 7] = [
     },
     // Flags that are none, and a byte behind the record.
     Spoiled {
+        of: Of::FiredRow,
         record: FIRED,
         from: 45,
         bytes: &[2],
         at: 45,
     },
     Spoiled {
+        of: Of::FiredRow,
         record: FIRED,
         from: 54,
         bytes: &[2],
         at: 54,
     },
     Spoiled {
+        of: Of::FiredRow,
         record: FIRED,
         from: 55,
         bytes: &[2],
         at: 55,
     },
     Spoiled {
+        of: Of::FiredRow,
         record: FIRED,
         from: 56,
         bytes: &[0],
@@ -372,15 +342,17 @@ const SPOILED_FIRED: [Spoiled; 7] = [
 ];
 
 /// Members that are wrong in one place.
-const SPOILED_MEMBERS: [Spoiled; 2] = [
+pub(super) const SPOILED_MEMBERS: [Spoiled; 2] = [
     // A node that isn't UTF-8, and a byte behind the record.
     Spoiled {
+        of: Of::MemberRow,
         record: MEMBER,
         from: 3,
         bytes: &[0xff],
         at: 3,
     },
     Spoiled {
+        of: Of::MemberRow,
         record: MEMBER,
         from: 12,
         bytes: &[0],
@@ -389,21 +361,24 @@ const SPOILED_MEMBERS: [Spoiled; 2] = [
 ];
 
 /// Check-ins that are wrong in one place.
-const SPOILED_STATES: [Spoiled; 3] = [
+pub(super) const SPOILED_STATES: [Spoiled; 3] = [
     // Intervals of 0 and of a day and 1 ms, and a byte behind the record.
     Spoiled {
+        of: Of::StateRow,
         record: STATE,
         from: 18,
         bytes: &[0, 0],
         at: 12,
     },
     Spoiled {
+        of: Of::StateRow,
         record: STATE,
         from: 16,
         bytes: &[5, 0x26, 0x5c, 1],
         at: 12,
     },
     Spoiled {
+        of: Of::StateRow,
         record: STATE,
         from: 20,
         bytes: &[0],
@@ -412,27 +387,31 @@ const SPOILED_STATES: [Spoiled; 3] = [
 ];
 
 /// Groups that are wrong in one place.
-const SPOILED_GROUPS: [Spoiled; 4] = [
+pub(super) const SPOILED_GROUPS: [Spoiled; 4] = [
     // No bytes, 201 bytes, bytes that are cut, a byte behind the record.
     Spoiled {
+        of: Of::Group,
         record: GROUP,
         from: 2,
         bytes: &[0],
         at: 1,
     },
     Spoiled {
+        of: Of::Group,
         record: GROUP,
         from: 2,
         bytes: &[201],
         at: 1,
     },
     Spoiled {
+        of: Of::Group,
         record: GROUP,
         from: 2,
         bytes: &[200],
         at: 3,
     },
     Spoiled {
+        of: Of::Group,
         record: GROUP,
         from: 4,
         bytes: &[0],
@@ -441,21 +420,11 @@ const SPOILED_GROUPS: [Spoiled; 4] = [
 ];
 
 #[test]
-fn spoiled_rows(rt: HostRuntime) -> Result<(), Fail> {
-    are_wrong_there::<JobRow, _>(&rt, rt.alloc(), &SPOILED_JOBS)?;
-    are_wrong_there::<TriggerRow, _>(&rt, rt.alloc(), &SPOILED_TRIGGERS)?;
-    are_wrong_there::<FiredRow, _>(&rt, rt.alloc(), &SPOILED_FIRED)?;
-    are_wrong_there::<MemberRow, _>(&rt, rt.alloc(), &SPOILED_MEMBERS)?;
-    are_wrong_there::<StateRow, _>(&rt, rt.alloc(), &SPOILED_STATES)?;
-    are_wrong_there::<Text, _>(&rt, rt.alloc(), &SPOILED_GROUPS)
-}
-
-#[test]
 fn nothing_is_no_row(rt: HostRuntime) {
-    assert_eq!(rt; place_of::<MemberRow>(rt.alloc(), &[]), Some(0));
+    assert_eq!(rt; place_in(rt.alloc(), Of::MemberRow, &[]), Some(0));
     assert_eq!(rt;
-        place_of::<CalendarRow>(rt.alloc(), &CALENDAR[..11]),
+        place_in(rt.alloc(), Of::CalendarRow, &CALENDAR[..11]),
         Some(11)
     );
-    assert_eq!(rt; place_of::<ZoneRow>(rt.alloc(), &ZONE[..17]), Some(14));
+    assert_eq!(rt; place_in(rt.alloc(), Of::ZoneRow, &ZONE[..17]), Some(14));
 }

@@ -8,10 +8,94 @@ mod states;
 
 use crate::let_go;
 use qz_codec::*;
-use qz_types::{Actor, Command, Entry, List};
+use qz_types::{
+    Actor, CalendarRow, Command, Entry, FiredRow, JobRow, List, MemberRow, StateRow, Text,
+    TriggerRow, ZoneRow,
+};
 use std::alloc::{AllocError, Global};
 use std::process::Abort;
 use std::test::*;
+
+/// What a record is of.
+#[derive(Clone, Copy, Debug)]
+enum Of {
+    Entry,
+    StateEntry,
+    JobRow,
+    TriggerRow,
+    FiredRow,
+    MemberRow,
+    StateRow,
+    CalendarRow,
+    ZoneRow,
+    Group,
+}
+
+fn place(fault: Option<ReadError>) -> Option<u32> {
+    match fault {
+        Some(ReadError::BadRecord { at }) => Some(at),
+        Some(ReadError::NoMemory) | None => None,
+    }
+}
+
+fn row_place<R: Packed + Drop>(alloc: Global, bytes: &[u8]) -> Option<u32> {
+    place(get_row::<R>(alloc, bytes).err())
+}
+
+// The place at which bytes are no record of this type.
+fn place_in(alloc: Global, of: Of, bytes: &[u8]) -> Option<u32> {
+    match of {
+        Of::Entry => place(get_command(alloc, bytes).err()),
+        Of::StateEntry => place(get_state(alloc, bytes).err()),
+        Of::JobRow => row_place::<JobRow>(alloc, bytes),
+        Of::TriggerRow => row_place::<TriggerRow>(alloc, bytes),
+        Of::FiredRow => row_place::<FiredRow>(alloc, bytes),
+        Of::MemberRow => row_place::<MemberRow>(alloc, bytes),
+        Of::StateRow => row_place::<StateRow>(alloc, bytes),
+        Of::CalendarRow => row_place::<CalendarRow>(alloc, bytes),
+        Of::ZoneRow => row_place::<ZoneRow>(alloc, bytes),
+        Of::Group => row_place::<Text>(alloc, bytes),
+    }
+}
+
+fn entry_again(alloc: Global, record: &[u8]) -> Option<List<u8>> {
+    let entry = get_command(alloc, record).ok()?;
+    let bytes = put_command(alloc, &entry).ok();
+    let_go(entry);
+    bytes
+}
+
+fn state_entry_again(alloc: Global, record: &[u8]) -> Option<List<u8>> {
+    let entry = get_state(alloc, record).ok()?;
+    let bytes = put_state(alloc, &entry).ok();
+    let_go(entry);
+    bytes
+}
+
+fn row_again<R: Packed + Drop>(alloc: Global, record: &[u8]) -> Option<List<u8>>
+    requires { (row : R) → R.can_pack row }
+{
+    let row = get_row::<R>(alloc, record).ok()?;
+    let bytes = put_row(alloc, &row).ok();
+    let_go(row);
+    bytes
+}
+
+// A record, read and written again. Groups are left out, since not every text is one.
+fn again(alloc: Global, of: Of, record: &[u8]) -> Option<List<u8>> {
+    match of {
+        Of::Entry => entry_again(alloc, record),
+        Of::StateEntry => state_entry_again(alloc, record),
+        Of::JobRow => row_again::<JobRow>(alloc, record),
+        Of::TriggerRow => row_again::<TriggerRow>(alloc, record),
+        Of::FiredRow => row_again::<FiredRow>(alloc, record),
+        Of::MemberRow => row_again::<MemberRow>(alloc, record),
+        Of::StateRow => row_again::<StateRow>(alloc, record),
+        Of::CalendarRow => row_again::<CalendarRow>(alloc, record),
+        Of::ZoneRow => row_again::<ZoneRow>(alloc, record),
+        Of::Group => None,
+    }
+}
 
 /// Fire of entry 1 by the member A of epoch 1, at 2024-01-01T00:00:00Z.
 const FIRE: &[u8; 34] = b"\x01\
@@ -117,18 +201,6 @@ const CLIENT_FIRE: &[u8; 23] = b"\x01\
     \x12\
     \x00\x00\x00\x00\x00\x00\x00\x01";
 
-fn place(fault: Option<ReadError>) -> Option<u32> {
-    match fault {
-        Some(ReadError::BadRecord { at }) => Some(at),
-        Some(ReadError::NoMemory) | None => None,
-    }
-}
-
-// The place at which bytes are no record.
-fn place_of(alloc: Global, bytes: &[u8]) -> Option<u32> {
-    place(get_command(alloc, bytes).err())
-}
-
 fn is_worked_example(entry: &Entry) -> bool {
     entry.at == 1704067200000
         && entry.seat == 0
@@ -143,44 +215,64 @@ fn reads_worked_example(alloc: Global) -> bool {
     is_right
 }
 
-// A record, read and written again.
-fn written_again(alloc: Global, record: &[u8]) -> Option<List<u8>> {
-    let entry = get_command(alloc, record).ok()?;
-    let bytes = put_command(alloc, &entry).ok();
-    let_go(entry);
-    bytes
-}
-
 #[test]
 fn worked_example(rt: HostRuntime) {
     assert!(rt; reads_worked_example(rt.alloc()));
 }
 
-#[test]
-fn each_command_both_ways(rt: HostRuntime) -> Result<(), Fail> {
-    let records: [&[u8]; 6] = [FIRE, ADD_JOB, ADD_TRIGGER, JOIN, ACQUIRE, COMPLETE];
-    for record in records {
-        let bytes = written_again(rt.alloc(), record).ok_or("a record")?;
-        assert_eq!(rt; bytes.as_slice(), record);
+/// Records of the six commands that are built.
+const SIX: [(Of, &[u8]); 6] = [
+    (Of::Entry, FIRE),
+    (Of::Entry, ADD_JOB),
+    (Of::Entry, ADD_TRIGGER),
+    (Of::Entry, JOIN),
+    (Of::Entry, ACQUIRE),
+    (Of::Entry, COMPLETE),
+];
+
+// Each is read, and written as before.
+fn go_both_ways(rt: &impl Abort, alloc: Global, samples: &[(Of, &[u8])]) -> Result<(), Fail> {
+    for (of, record) in samples {
+        let bytes = again(alloc, *of, record).ok_or("a record")?;
+        assert_eq!(rt; bytes.as_slice(), *record, "{of:?}");
     }
     Ok(())
 }
 
 #[test]
-fn cut_records(rt: HostRuntime) {
-    let mut size = 0;
-    for at in FIELDS {
-        if size < FIRE.len() {
-            assert_eq!(rt; place_of(rt.alloc(), &FIRE[..size]), Some(at));
-            size += 1;
-        }
+fn both_ways(rt: HostRuntime) -> Result<(), Fail> {
+    go_both_ways(&rt, rt.alloc(), &SIX)?;
+    go_both_ways(&rt, rt.alloc(), &kinds::SAMPLES)?;
+    go_both_ways(&rt, rt.alloc(), &states::SAMPLES)?;
+    go_both_ways(&rt, rt.alloc(), &rows::SAMPLES)?;
+    go_both_ways(&rt, rt.alloc(), &calendars::SAMPLES)
+}
+
+// A record that is cut is wrong at the place of the field that is missing.
+fn are_cut_at(rt: &impl Abort, alloc: Global, of: Of, record: &[u8], places: &[u32]) {
+    assert_eq!(rt; record.len(), places.len());
+    for (size, place) in places.iter().enumerate() {
+        let cut = record.get(..size).unwrap_or(record);
+        assert_eq!(rt; place_in(alloc, of, cut), Some(*place), "{size} bytes");
     }
-    assert_eq!(rt; size, FIRE.len());
+}
+
+#[test]
+fn cut_records(rt: HostRuntime) {
+    are_cut_at(&rt, rt.alloc(), Of::Entry, FIRE, &FIELDS);
+    are_cut_at(
+        &rt,
+        rt.alloc(),
+        Of::StateEntry,
+        states::CHECK_IN,
+        &states::FIELDS,
+    );
 }
 
 /// A record whose bytes from `from` on are these, and the place at which it is wrong then.
 #[derive(Drop)]
 struct Spoiled {
+    of: Of,
     record: &'static [u8],
     from: usize,
     bytes: &'static [u8],
@@ -201,30 +293,35 @@ fn spoil(alloc: Global, spoiled: &Spoiled) -> Result<Vec<u8>, AllocError> {
 const SPOILED: [Spoiled; 18] = [
     // Another version, a flag that is none, a name without bytes, one of 121 bytes, one that isn't UTF-8.
     Spoiled {
+        of: Of::Entry,
         record: FIRE,
         from: 0,
         bytes: &[2],
         at: 0,
     },
     Spoiled {
+        of: Of::Entry,
         record: FIRE,
         from: 9,
         bytes: &[2],
         at: 9,
     },
     Spoiled {
+        of: Of::Entry,
         record: FIRE,
         from: 10,
         bytes: &[0, 0],
         at: 10,
     },
     Spoiled {
+        of: Of::Entry,
         record: FIRE,
         from: 10,
         bytes: &[0, 121],
         at: 10,
     },
     Spoiled {
+        of: Of::Entry,
         record: FIRE,
         from: 12,
         bytes: &[0xff],
@@ -232,24 +329,28 @@ const SPOILED: [Spoiled; 18] = [
     },
     // Commands of a client by a node, one that isn't there, one of a node by a client.
     Spoiled {
+        of: Of::Entry,
         record: FIRE,
         from: 25,
         bytes: &[0x01],
         at: 25,
     },
     Spoiled {
+        of: Of::Entry,
         record: FIRE,
         from: 25,
         bytes: &[0xff],
         at: 25,
     },
     Spoiled {
+        of: Of::Entry,
         record: FIRE,
         from: 25,
         bytes: &[0x0e],
         at: 25,
     },
     Spoiled {
+        of: Of::Entry,
         record: CLIENT_FIRE,
         from: 0,
         bytes: &[1],
@@ -257,12 +358,14 @@ const SPOILED: [Spoiled; 18] = [
     },
     // A byte behind the record, and a code that isn't there.
     Spoiled {
+        of: Of::Entry,
         record: FIRE,
         from: 34,
         bytes: &[0],
         at: 34,
     },
     Spoiled {
+        of: Of::Entry,
         record: COMPLETE,
         from: 34,
         bytes: &[7],
@@ -270,12 +373,14 @@ const SPOILED: [Spoiled; 18] = [
     },
     // A name of 201 bytes, and one that is longer than what is there.
     Spoiled {
+        of: Of::Entry,
         record: ADD_JOB,
         from: 15,
         bytes: &[0, 201],
         at: 15,
     },
     Spoiled {
+        of: Of::Entry,
         record: ADD_JOB,
         from: 15,
         bytes: &[0, 200],
@@ -283,24 +388,28 @@ const SPOILED: [Spoiled; 18] = [
     },
     // No kind, an interval of 0 with a count of 5, no misfire instruction, a flag that is none.
     Spoiled {
+        of: Of::Entry,
         record: ADD_TRIGGER,
         from: 35,
         bytes: &[4],
         at: 35,
     },
     Spoiled {
+        of: Of::Entry,
         record: ADD_TRIGGER,
         from: 42,
         bytes: &[0, 0, 0, 0, 0, 0, 0, 0, 0, 5],
         at: 44,
     },
     Spoiled {
+        of: Of::Entry,
         record: ADD_TRIGGER,
         from: 52,
         bytes: &[6],
         at: 52,
     },
     Spoiled {
+        of: Of::Entry,
         record: ADD_TRIGGER,
         from: 62,
         bytes: &[2],
@@ -308,6 +417,7 @@ const SPOILED: [Spoiled; 18] = [
     },
     // An Acquire of no trigger.
     Spoiled {
+        of: Of::Entry,
         record: ACQUIRE,
         from: 45,
         bytes: &[0],
@@ -320,9 +430,10 @@ fn are_wrong_there(rt: &impl Abort, alloc: Global, rows: &[Spoiled]) -> Result<(
     for spoiled in rows {
         let bytes = spoil(alloc, spoiled)?;
         assert_eq!(rt;
-            place_of(alloc, &bytes),
+            place_in(alloc, spoiled.of, &bytes),
             Some(spoiled.at),
-            "from {}",
+            "{:?} from {}",
+            spoiled.of,
             spoiled.from
         );
     }
@@ -331,5 +442,21 @@ fn are_wrong_there(rt: &impl Abort, alloc: Global, rows: &[Spoiled]) -> Result<(
 
 #[test]
 fn spoiled_records(rt: HostRuntime) -> Result<(), Fail> {
-    are_wrong_there(&rt, rt.alloc(), &SPOILED)
+    let tables: [&[Spoiled]; 11] = [
+        &SPOILED,
+        &kinds::SPOILED_KINDS,
+        &states::SPOILED,
+        &rows::SPOILED_JOBS,
+        &rows::SPOILED_TRIGGERS,
+        &rows::SPOILED_FIRED,
+        &rows::SPOILED_MEMBERS,
+        &rows::SPOILED_STATES,
+        &rows::SPOILED_GROUPS,
+        &calendars::SPOILED_CALENDARS,
+        &calendars::SPOILED_ZONES,
+    ];
+    for table in tables {
+        are_wrong_there(&rt, rt.alloc(), table)?;
+    }
+    Ok(())
 }

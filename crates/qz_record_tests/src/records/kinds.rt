@@ -1,5 +1,5 @@
 //! Records of the kinds of triggers.
-use super::{Spoiled, are_wrong_there, written_again};
+use super::{Of, Spoiled, entry_again};
 use std::alloc::{AllocError, Global};
 use std::test::*;
 
@@ -121,21 +121,17 @@ fn with_days(alloc: Global, month: &[u8], week: &[u8]) -> Result<Vec<u8>, AllocE
     Ok(bytes)
 }
 
-#[test]
-fn each_kind_both_ways(rt: HostRuntime) -> Result<(), Fail> {
-    let records: [&[u8]; 3] = [ADD_CRON, ADD_INTERVAL, ADD_DAILY];
-    for record in records {
-        let bytes = written_again(rt.alloc(), record).ok_or("a record")?;
-        assert_eq!(rt; bytes.as_slice(), record);
-    }
-    Ok(())
-}
+pub(super) const SAMPLES: [(Of, &[u8]); 3] = [
+    (Of::Entry, ADD_CRON),
+    (Of::Entry, ADD_INTERVAL),
+    (Of::Entry, ADD_DAILY),
+];
 
 #[test]
 fn days_both_ways(rt: HostRuntime) -> Result<(), Fail> {
     for (month, week) in DAYS {
         let record = with_days(rt.alloc(), month, week)?;
-        let bytes = written_again(rt.alloc(), &record).ok_or("a record")?;
+        let bytes = entry_again(rt.alloc(), &record).ok_or("a record")?;
         assert_eq!(rt; bytes.as_slice(), record.as_slice());
     }
     Ok(())
@@ -146,39 +142,44 @@ fn units_both_ways(rt: HostRuntime) -> Result<(), Fail> {
     let mut record = Vec::from_slice(rt.alloc(), ADD_INTERVAL)?;
     for unit in 0..7 {
         record[36] = unit;
-        let bytes = written_again(rt.alloc(), &record).ok_or("a record")?;
+        let bytes = entry_again(rt.alloc(), &record).ok_or("a record")?;
         assert_eq!(rt; bytes.as_slice(), record.as_slice());
     }
     Ok(())
 }
 
-const SPOILED_KINDS: [Spoiled; 25] = [
+pub(super) const SPOILED_KINDS: [Spoiled; 25] = [
     // No second, one beyond 59, an hour beyond 23, a form of days that isn't there, a month beyond 12.
     Spoiled {
+        of: Of::Entry,
         record: ADD_CRON,
         from: 43,
         bytes: &[0],
         at: 36,
     },
     Spoiled {
+        of: Of::Entry,
         record: ADD_CRON,
         from: 36,
         bytes: &[0x10],
         at: 36,
     },
     Spoiled {
+        of: Of::Entry,
         record: ADD_CRON,
         from: 52,
         bytes: &[1],
         at: 52,
     },
     Spoiled {
+        of: Of::Entry,
         record: ADD_CRON,
         from: 56,
         bytes: &[5],
         at: 56,
     },
     Spoiled {
+        of: Of::Entry,
         record: ADD_CRON,
         from: 57,
         bytes: &[0x10],
@@ -186,24 +187,28 @@ const SPOILED_KINDS: [Spoiled; 25] = [
     },
     // Days of the month and of the week, neither of them, an eighth day of the week, the sixth Friday.
     Spoiled {
+        of: Of::Entry,
         record: ADD_CRON,
         from: 56,
         bytes: &[3],
         at: 59,
     },
     Spoiled {
+        of: Of::Entry,
         record: ADD_CRON,
         from: 59,
         bytes: &[0],
         at: 59,
     },
     Spoiled {
+        of: Of::Entry,
         record: ADD_CRON,
         from: 60,
         bytes: &[0x80],
         at: 60,
     },
     Spoiled {
+        of: Of::Entry,
         record: ADD_CRON,
         from: 59,
         bytes: &[3, 6, 6],
@@ -211,30 +216,35 @@ const SPOILED_KINDS: [Spoiled; 25] = [
     },
     // A year beyond the last one in the third word and in the fourth, no year, a zone without a name, no misfire instruction.
     Spoiled {
+        of: Of::Entry,
         record: ADD_CRON,
         from: 84,
         bytes: &[4],
         at: 77,
     },
     Spoiled {
+        of: Of::Entry,
         record: ADD_CRON,
         from: 92,
         bytes: &[1],
         at: 85,
     },
     Spoiled {
+        of: Of::Entry,
         record: ADD_CRON,
         from: 61,
         bytes: &[0; 24],
         at: 85,
     },
     Spoiled {
+        of: Of::Entry,
         record: ADD_CRON,
         from: 93,
         bytes: &[0, 0],
         at: 93,
     },
     Spoiled {
+        of: Of::Entry,
         record: ADD_CRON,
         from: 98,
         bytes: &[3],
@@ -242,18 +252,21 @@ const SPOILED_KINDS: [Spoiled; 25] = [
     },
     // A unit that isn't there, no unit, too many of them.
     Spoiled {
+        of: Of::Entry,
         record: ADD_INTERVAL,
         from: 36,
         bytes: &[7],
         at: 36,
     },
     Spoiled {
+        of: Of::Entry,
         record: ADD_INTERVAL,
         from: 40,
         bytes: &[0],
         at: 37,
     },
     Spoiled {
+        of: Of::Entry,
         record: ADD_INTERVAL,
         from: 37,
         bytes: &[0x80],
@@ -261,36 +274,42 @@ const SPOILED_KINDS: [Spoiled; 25] = [
     },
     // A unit of days, no minute, 72 hours, a first second beyond the day, a last one before it and beyond the day.
     Spoiled {
+        of: Of::Entry,
         record: ADD_DAILY,
         from: 36,
         bytes: &[3],
         at: 36,
     },
     Spoiled {
+        of: Of::Entry,
         record: ADD_DAILY,
         from: 40,
         bytes: &[0],
         at: 37,
     },
     Spoiled {
+        of: Of::Entry,
         record: ADD_DAILY,
         from: 36,
         bytes: &[2],
         at: 37,
     },
     Spoiled {
+        of: Of::Entry,
         record: ADD_DAILY,
         from: 41,
         bytes: &[0, 1, 0x51, 0x80],
         at: 41,
     },
     Spoiled {
+        of: Of::Entry,
         record: ADD_DAILY,
         from: 45,
         bytes: &[0, 0, 0x70, 0x7f],
         at: 45,
     },
     Spoiled {
+        of: Of::Entry,
         record: ADD_DAILY,
         from: 45,
         bytes: &[0, 1, 0x51, 0x80],
@@ -298,20 +317,17 @@ const SPOILED_KINDS: [Spoiled; 25] = [
     },
     // No day, and an eighth one.
     Spoiled {
+        of: Of::Entry,
         record: ADD_DAILY,
         from: 49,
         bytes: &[0],
         at: 49,
     },
     Spoiled {
+        of: Of::Entry,
         record: ADD_DAILY,
         from: 49,
         bytes: &[0x80],
         at: 49,
     },
 ];
-
-#[test]
-fn spoiled_kinds(rt: HostRuntime) -> Result<(), Fail> {
-    are_wrong_there(&rt, rt.alloc(), &SPOILED_KINDS)
-}

@@ -1,10 +1,12 @@
 //! Records of calendars and zones with as many items as they may have.
 ghost use Rattle.std.specs.Prelude.{◌<◌, ◌≤◌};
 
-use super::calendars::{HEAD, calendar_again, place_of, zone_again};
-use qz_types::{CalendarRow, ZoneRow};
+use super::{Of, again, place_in};
 use std::alloc::{AllocError, Global};
 use std::test::*;
+
+/// What stands before the kind of a calendar c in UTC.
+const HEAD: &[u8; 10] = b"\x01\x00\x01\x63\x00\x00\x03\x55\x54\x43";
 
 /// The day of a year of 12 months of 31 days, as `month * 100 + day`.
 fn numbered_day(n: u16) -> u16
@@ -48,7 +50,7 @@ fn holiday_of(alloc: Global, count: u16) -> Result<Vec<u8>, AllocError>
 
 /// A zone of so many stretches, each as short as may be.
 fn zone_of(alloc: Global, count: u16) -> Result<Vec<u8>, AllocError> {
-    let mut bytes = Vec::from_slice(alloc, b"\x00\x01\x7a".as_slice())?;
+    let mut bytes = Vec::from_slice(alloc, b"\x01\x00\x01\x7a".as_slice())?;
     bytes.extend_from_slice(&count.to_be_bytes())?;
     for n in 0..count {
         bytes.extend_from_slice(&(u64::from(n) * 172800000).to_be_bytes())?;
@@ -66,7 +68,7 @@ fn full_calendars(rt: HostRuntime) -> Result<(), Fail> {
         holiday_of(rt.alloc(), 4096)?,
     ];
     for record in &records {
-        let bytes = calendar_again(rt.alloc(), record).ok_or("a calendar")?;
+        let bytes = again(rt.alloc(), Of::CalendarRow, record).ok_or("a calendar")?;
         assert_eq!(rt; bytes.as_slice(), record.as_slice());
     }
     Ok(())
@@ -75,7 +77,7 @@ fn full_calendars(rt: HostRuntime) -> Result<(), Fail> {
 #[test]
 fn full_zone(rt: HostRuntime) -> Result<(), Fail> {
     let record = zone_of(rt.alloc(), 512)?;
-    let bytes = zone_again(rt.alloc(), &record).ok_or("a zone")?;
+    let bytes = again(rt.alloc(), Of::ZoneRow, &record).ok_or("a zone")?;
     assert_eq!(rt; bytes.as_slice(), record.as_slice());
     Ok(())
 }
@@ -83,16 +85,16 @@ fn full_zone(rt: HostRuntime) -> Result<(), Fail> {
 #[test]
 fn too_many(rt: HostRuntime) -> Result<(), Fail> {
     assert_eq!(rt;
-        place_of::<CalendarRow>(rt.alloc(), &annual_of(rt.alloc(), 367)?),
-        Some(10)
+        place_in(rt.alloc(), Of::CalendarRow, &annual_of(rt.alloc(), 367)?),
+        Some(11)
     );
     assert_eq!(rt;
-        place_of::<CalendarRow>(rt.alloc(), &holiday_of(rt.alloc(), 4097)?),
-        Some(10)
+        place_in(rt.alloc(), Of::CalendarRow, &holiday_of(rt.alloc(), 4097)?),
+        Some(11)
     );
     assert_eq!(rt;
-        place_of::<ZoneRow>(rt.alloc(), &zone_of(rt.alloc(), 513)?),
-        Some(3)
+        place_in(rt.alloc(), Of::ZoneRow, &zone_of(rt.alloc(), 513)?),
+        Some(4)
     );
     Ok(())
 }

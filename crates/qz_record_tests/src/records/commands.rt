@@ -1,5 +1,5 @@
 //! Records of each command.
-use super::{place_of, written_again};
+use super::{Of, entry_again, place_in};
 use crate::let_go;
 use qz_codec::{ReadError, get_command};
 use qz_types::Entry;
@@ -138,7 +138,7 @@ fn each_sample_both_ways(rt: HostRuntime) -> Result<(), Fail> {
     for sample in SAMPLES {
         let record = joined(alloc, sample.before, sample.bytes)?;
         assert_eq!(rt; printed(alloc, &record)?.as_str(), sample.printed);
-        let bytes = written_again(alloc, &record).ok_or("a record")?;
+        let bytes = entry_again(alloc, &record).ok_or("a record")?;
         assert_eq!(rt; bytes.as_slice(), record.as_slice());
     }
     Ok(())
@@ -151,14 +151,22 @@ fn places_of_clients_and_nodes(rt: HostRuntime) -> Result<(), Fail> {
     for place in 0..=255 {
         let by_client = if place <= 14 { 15 } else { 14 };
         let record = joined(alloc, BY_CLIENT, &[place])?;
-        assert_eq!(rt; place_of(alloc, &record), Some(by_client), "place {place}");
+        assert_eq!(rt;
+            place_in(alloc, Of::Entry, &record),
+            Some(by_client),
+            "place {place}"
+        );
         let by_node = match place {
             15 | 20 => None,
             16..=19 | 21 => Some(26),
             _ => Some(25),
         };
         let record = joined(alloc, BY_NODE, &[place])?;
-        assert_eq!(rt; place_of(alloc, &record), by_node, "place {place}");
+        assert_eq!(rt;
+            place_in(alloc, Of::Entry, &record),
+            by_node,
+            "place {place}"
+        );
     }
     Ok(())
 }
@@ -192,7 +200,7 @@ fn wrong_commands(rt: HostRuntime) -> Result<(), Fail> {
     let alloc = rt.alloc();
     for (before, bytes, at) in WRONG {
         let record = joined(alloc, before, bytes)?;
-        assert_eq!(rt; place_of(alloc, &record), Some(at), "{bytes:?}");
+        assert_eq!(rt; place_in(alloc, Of::Entry, &record), Some(at), "{bytes:?}");
     }
     Ok(())
 }

@@ -1,20 +1,8 @@
 //! Records with each byte set to 00, 01, 7f, 80 and ff in turn, and cut at each length: which of them are records, and
 //! where the others are wrong. The table is that of `tools/spoiled-records.py`, a reader of its own.
-use super::{rows, states};
-use qz_types::{CalendarRow, FiredRow, TriggerRow, ZoneRow};
+use super::{Of, place_in};
 use std::alloc::{AllocError, Global};
 use std::test::*;
-
-/// What a record is of.
-#[derive(Clone, Copy)]
-enum Of {
-    Entry,
-    StateEntry,
-    TriggerRow,
-    FiredRow,
-    CalendarRow,
-    ZoneRow,
-}
 
 struct Row {
     of: Of,
@@ -30,18 +18,6 @@ struct Row {
 struct Seen {
     right: u32,
     places: u32,
-}
-
-// The place at which bytes are no record of this type.
-fn place_in(alloc: Global, of: Of, bytes: &[u8]) -> Option<u32> {
-    match of {
-        Of::Entry => super::place_of(alloc, bytes),
-        Of::StateEntry => states::place_of(alloc, bytes),
-        Of::TriggerRow => rows::place_of::<TriggerRow>(alloc, bytes),
-        Of::FiredRow => rows::place_of::<FiredRow>(alloc, bytes),
-        Of::CalendarRow => rows::place_of::<CalendarRow>(alloc, bytes),
-        Of::ZoneRow => rows::place_of::<ZoneRow>(alloc, bytes),
-    }
 }
 
 // A place goes into the sum as FNV-1a takes a byte; of a right record it is 255.
