@@ -48,127 +48,126 @@ fn next_in(
 }
 
 #[test]
-fn days_in_utc(rt: HostRuntime) {
-    let noon = CronFields {
-        hours: 1 << 12,
-        week: WeekField::Set(0b011_1110),
-        ..MIDNIGHT
-    };
-    let nine = CronFields {
-        hours: 1 << 9,
-        ..MIDNIGHT
-    };
+fn days_of_the_month(rt: HostRuntime) {
+    let nine = 1 << 9;
     let rows = [
-        // 0 0 12 ? * MON-FRI: from Friday to Monday; then with the year 2023 alone
-        (noon, 1704456000000, Some(1704715200000)),
-        (
-            CronFields {
-                years: [1 << 53, 0, 0, 0],
-                ..noon
-            },
-            1704456000000,
-            None,
-        ),
         // 0 0 0 29 2 ?
         (
-            CronFields {
-                day: DayField::Set(1 << 28),
-                months: 2,
-                ..MIDNIGHT
-            },
+            1,
+            DayField::Set(1 << 28),
+            2,
             1709164800000,
             Some(1835395200000),
         ),
-        // 29 February on a Sunday: 2004, 2032
-        (
-            CronFields {
-                day: DayField::Set(1 << 28),
-                months: 2,
-                week: WeekField::Set(1),
-                ..MIDNIGHT
-            },
-            1078012800000,
-            Some(1961625600000),
-        ),
         // 30 February
-        (
-            CronFields {
-                day: DayField::Set(1 << 29),
-                months: 2,
-                ..MIDNIGHT
-            },
-            -1,
-            None,
-        ),
-        // 0 0 9 ? * 6#5: Friday 29 March
-        (
-            CronFields {
-                week: WeekField::Nth { day: 6, nth: 5 },
-                ..nine
-            },
-            1704067200000,
-            Some(1711702800000),
-        ),
+        (1, DayField::Set(1 << 29), 2, -1, None),
         // 0 0 9 1W 6 ?: 1 June is a Saturday
         (
-            CronFields {
-                day: DayField::Nearest { day: 1 },
-                months: 32,
-                ..nine
-            },
+            nine,
+            DayField::Nearest { day: 1 },
+            32,
             1704067200000,
             Some(1717405200000),
         ),
         // 0 0 9 31W 3 ?: 31 March is a Sunday
         (
-            CronFields {
-                day: DayField::Nearest { day: 31 },
-                months: 4,
-                ..nine
-            },
+            nine,
+            DayField::Nearest { day: 31 },
+            4,
             1704067200000,
             Some(1711702800000),
         ),
         // 0 0 9 LW 6 ?: 30 June is a Sunday
         (
-            CronFields {
-                day: DayField::LastWeekday,
-                months: 32,
-                ..nine
-            },
+            nine,
+            DayField::LastWeekday,
+            32,
             1704067200000,
             Some(1719565200000),
         ),
         // 0 0 0 L * ?, L-30, of February 2024
         (
-            CronFields {
-                day: DayField::Last { back: 0 },
-                ..MIDNIGHT
-            },
+            1,
+            DayField::Last { back: 0 },
+            4095,
             1706745600000,
             Some(1709164800000),
         ),
         (
-            CronFields {
-                day: DayField::Last { back: 30 },
-                ..MIDNIGHT
-            },
+            1,
+            DayField::Last { back: 30 },
+            4095,
             1706745600000,
             Some(1709251200000),
         ),
+    ];
+    for (hours, day, months, after, wanted) in rows {
+        let fields = CronFields {
+            hours,
+            day,
+            months,
+            ..MIDNIGHT
+        };
+        assert_eq!(rt; next(&fields, &Zone::utc(), after), wanted);
+    }
+}
+
+#[test]
+fn days_of_the_week(rt: HostRuntime) {
+    let rows = [
+        // 0 0 12 ? * MON-FRI: from Friday to Monday
+        (
+            1 << 12,
+            WeekField::Set(0b011_1110),
+            1704456000000,
+            Some(1704715200000),
+        ),
+        // 0 0 9 ? * 6#5: Friday 29 March
+        (
+            1 << 9,
+            WeekField::Nth { day: 6, nth: 5 },
+            1704067200000,
+            Some(1711702800000),
+        ),
         // 0 0 0 ? * 7L: Saturday 24 February
         (
-            CronFields {
-                week: WeekField::Last { day: 7 },
-                ..MIDNIGHT
-            },
+            1,
+            WeekField::Last { day: 7 },
             1706745600000,
             Some(1708732800000),
         ),
     ];
-    for (fields, after, wanted) in rows {
+    for (hours, week, after, wanted) in rows {
+        let fields = CronFields {
+            hours,
+            week,
+            ..MIDNIGHT
+        };
         assert_eq!(rt; next(&fields, &Zone::utc(), after), wanted);
     }
+}
+
+// 29 February on a Sunday: 2004, 2032. MON-FRI at noon of the year 2023 alone, which is over.
+#[test]
+fn fields_together(rt: HostRuntime) {
+    let leap_sunday = CronFields {
+        day: DayField::Set(1 << 28),
+        months: 2,
+        week: WeekField::Set(1),
+        ..MIDNIGHT
+    };
+    let past = CronFields {
+        hours: 1 << 12,
+        week: WeekField::Set(0b011_1110),
+        years: [1 << 53, 0, 0, 0],
+        ..MIDNIGHT
+    };
+    let zone = Zone::utc();
+    assert_eq!(rt;
+        next(&leap_sunday, &zone, 1078012800000),
+        Some(1961625600000)
+    );
+    assert_eq!(rt; next(&past, &zone, 1704456000000), None);
 }
 
 #[test]
