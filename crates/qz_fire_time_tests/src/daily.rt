@@ -59,39 +59,38 @@ fn work(zone: &Zone) -> DailyTimes<'_> {
 #[test]
 fn times_of_day(rt: HostRuntime) {
     let zone = Zone::utc();
-    let work = work(&zone);
-    // 9:00, 9:30 and 10:00
-    let thrice = DailyTimes {
-        every: 30,
-        from: 9 * HOUR,
-        to: 10 * HOUR,
-        ..work
-    };
+    let rows = [
+        // 16:24, and the next day's 8:00
+        (Unit::Minute, 72, 8, 17, 1704121920000, Some(1704126240000)),
+        (Unit::Minute, 72, 8, 17, 1704126240000, Some(1704182400000)),
+        // 9:00, 9:30 and 10:00: the last time of day is one too
+        (Unit::Minute, 30, 9, 10, 1704101400000, Some(1704103200000)),
+        (Unit::Minute, 30, 9, 10, 1704103200000, Some(1704186000000)),
+        // a unit that isn't even
+        (Unit::Day, 72, 8, 17, MONDAY, Some(1704096000000)),
+    ];
+    for (unit, every, from, to, after, wanted) in rows {
+        let trigger = DailyTimes {
+            unit,
+            every,
+            from: from * HOUR,
+            to: to * HOUR,
+            ..work(&zone)
+        };
+        assert_eq!(rt; next_of(&trigger, after), wanted);
+    }
+}
+
+#[test]
+fn a_step_of_a_day(rt: HostRuntime) {
+    let zone = Zone::utc();
     let midnight = DailyTimes {
         unit: Unit::Hour,
         every: 24,
         ..each(&zone)
     };
-    // a unit that isn't even
-    let daily = DailyTimes {
-        unit: Unit::Day,
-        ..work
-    };
-    let rows = [
-        // 16:24, and the next day's 8:00
-        (work, 1704121920000, Some(1704126240000)),
-        (work, 1704126240000, Some(1704182400000)),
-        // the last time of day is one too
-        (thrice, 1704101400000, Some(1704103200000)),
-        (thrice, 1704103200000, Some(1704186000000)),
-        // a step of a day
-        (midnight, -1, Some(0)),
-        (midnight, MONDAY, Some(1704153600000)),
-        (daily, MONDAY, Some(1704096000000)),
-    ];
-    for (trigger, after, wanted) in rows {
-        assert_eq!(rt; next_of(&trigger, after), wanted);
-    }
+    assert_eq!(rt; next_of(&midnight, -1), Some(0));
+    assert_eq!(rt; next_of(&midnight, MONDAY), Some(1704153600000));
 }
 
 /// The start is the first, and the end is none.
