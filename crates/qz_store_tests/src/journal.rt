@@ -1,4 +1,5 @@
 //! Worked examples: stores that are whole, damaged or of another kind, the room that is left, and a commit that is cut.
+use crate::let_go;
 use qz_civil::List;
 use qz_disk::{Call, CutDisk, Disk, FaultDisk, MemDisk};
 use qz_journal::{
@@ -154,24 +155,23 @@ fn a_commit_makes_four_device_calls(rt: HostRuntime) -> Result<(), Fail> {
     Ok(())
 }
 
-// One commit of `\x07` on a disk that passes so many calls of it and then fails: what it answers, and the lengths of the
-// payloads that a restart finds where this image, the bytes behind the header, was chosen.
-fn cut_commit(
-    alloc: Global,
-    passes: u8,
-    image: &[u8],
-) -> Result<(Result<(), AppendError>, List<usize>), Fail> {
-    let mut disk = disk_of(alloc, &HEADER, b"\0")?;
+// A new store's disk, which passes so many calls behind the three of its opening and then fails. At a crash this image, the
+// bytes behind the header, comes up.
+fn cut_disk(alloc: Global, passes: u8, image: &[u8]) -> Result<CutDisk<MemDisk>, AllocError> {
     let mut chosen = Vec::from_slice(alloc, &HEADER)?;
     chosen.extend_from_slice(image)?;
     let mut images = List::new(alloc);
     images.push(List::from_vec(chosen))?;
+    let mut disk = disk_of(alloc, &HEADER, b"\0")?;
     disk.choose(images);
-    // The opening takes three calls.
-    let disk = CutDisk::new(disk, 3 + u64::from(passes));
-    let Ok((mut journal, _)) = Journal::mount(alloc, disk, TRIGGERS) else {
-        return Err(Fail::from("no journal"));
-    };
+    Ok(CutDisk::new(disk, 3 + u64::from(passes)))
+}
+
+/// What a commit answered, and the lengths of the payloads that a restart finds.
+type Committed = (Result<(), AppendError>, List<usize>);
+
+// One commit of `\x07`, and a crash.
+fn commit(alloc: Global, journal: &mut Journal<CutDisk<MemDisk>>) -> Result<Committed, Fail> {
     let answer = journal.append(b"\x07");
     if answer.is_err() && journal.append(b"\x08") != Err(AppendError::Closed { at: 16 }) {
         return Err(Fail::from("not closed"));
@@ -179,6 +179,16 @@ fn cut_commit(
     journal.crash()?;
     let payloads = journal.remount(alloc)?;
     Ok((answer, lengths(alloc, &payloads)?))
+}
+
+fn cut_commit(alloc: Global, passes: u8, image: &[u8]) -> Result<Committed, Fail> {
+    let disk = cut_disk(alloc, passes, image)?;
+    let Ok((mut journal, _)) = Journal::mount(alloc, disk, TRIGGERS) else {
+        return Err(Fail::from("no journal"));
+    };
+    let committed = commit(alloc, &mut journal);
+    let_go(journal);
+    committed
 }
 
 #[test]
