@@ -147,11 +147,15 @@ fn many_blocks(rt: HostRuntime) -> Result<(), AllocError> {
     Ok(())
 }
 
+// The plan of failures in which these calls fail.
+fn calls(alloc: Global, numbers: &[u64]) -> Result<List<u64>, AllocError> {
+    Ok(List::from_vec(Vec::from_slice(alloc, numbers)?))
+}
+
 #[test]
 fn a_fault_loses_nothing(rt: HostRuntime) -> Result<(), AllocError> {
-    let bytes = list(rt.alloc(), b"a\nb")?;
-    let failing = List::from_vec(vec![in rt.alloc(); 2u64, 3]?);
-    let mut source = FaultSource::new(bytes, failing);
+    let failing = calls(rt.alloc(), &[2, 3])?;
+    let mut source = FaultSource::new(list(rt.alloc(), b"a\nb")?, failing);
     let got = told(rt.alloc(), &mut source)?;
     assert!(rt; got.as_slice() == b"[a]??<b>.".as_slice());
     Ok(())
@@ -170,12 +174,9 @@ fn whole_writes(rt: HostRuntime) {
 
 #[test]
 fn a_write_that_fails(rt: HostRuntime) -> Result<(), AllocError> {
-    let mut sink = FaultSink::new(rt.alloc(), List::from_vec(vec![in rt.alloc(); 2u64, 4]?));
-    let first = write_all(&mut sink, b"ab").is_ok();
-    let second = write_all(&mut sink, b"c").is_ok();
-    let third = sink.flush().is_ok();
-    let fourth = sink.flush().is_ok();
-    assert!(rt; first && !second && third && !fourth);
+    let mut sink = FaultSink::new(rt.alloc(), calls(rt.alloc(), &[2, 4])?);
+    assert!(rt; write_all(&mut sink, b"ab").is_ok() && write_all(&mut sink, b"c").is_err());
+    assert!(rt; sink.flush().is_ok() && sink.flush().is_err());
     assert!(rt; sink.bytes() == b"ab".as_slice() && sink.starved() == 0);
     Ok(())
 }

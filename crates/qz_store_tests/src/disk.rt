@@ -54,24 +54,36 @@ fn a_crash_tears_only_what_was_written(rt: HostRuntime) -> Result<(), Fail> {
     Ok(())
 }
 
-#[test]
-fn each_restart_takes_the_next_image(rt: HostRuntime) -> Result<(), Fail> {
-    let alloc = rt.alloc();
-    let mut disk = MemDisk::new(alloc);
+// A disk that was never written, for which these images were chosen.
+fn disk_with_images(alloc: Global, chosen: &[&[u8]]) -> Result<MemDisk, AllocError> {
     let mut images = List::new(alloc);
-    for image in [b"no image".as_slice(), b"a", b"", b"b"] {
+    for image in chosen {
         images.push(list(alloc, image)?)?;
     }
+    let mut disk = MemDisk::new(alloc);
     disk.choose(images);
+    Ok(disk)
+}
+
+// Whether the disk, after a write at its front and a restart, holds what is wanted.
+fn restarts_as<D: Disk>(alloc: Global, disk: &mut D, bytes: &[u8], want: &[u8]) -> bool {
+    let done = put(disk, 0, bytes) && disk.restart().is_ok();
+    done && content(alloc, disk).as_deref() == Some(want)
+}
+
+#[test]
+fn each_restart_takes_the_next_image(rt: HostRuntime) -> Result<(), Fail> {
+    let mut disk = disk_with_images(rt.alloc(), &[b"no image", b"a", b"", b"b"])?;
     // The second takes none: what was synced by the first can't become shorter or other.
     for (bytes, want) in [
         (b"XY".as_slice(), b"a".as_slice()),
         (b"c", b"b"),
         (b"d", b"d"),
     ] {
-        assert!(rt; put(&mut disk, 0, bytes));
-        assert!(rt; disk.restart().is_ok());
-        assert_eq!(rt; content(alloc, &mut disk).as_deref(), Some(want));
+        assert!(rt;
+            restarts_as(rt.alloc(), &mut disk, bytes, want),
+            "after {bytes:?}"
+        );
     }
     assert_eq!(rt; disk.starved(), 0);
     Ok(())
@@ -80,13 +92,10 @@ fn each_restart_takes_the_next_image(rt: HostRuntime) -> Result<(), Fail> {
 #[test]
 fn a_disk_in_memory_records_its_calls(rt: HostRuntime) -> Result<(), Fail> {
     let alloc = rt.alloc();
-    let mut disk = MemDisk::with_bytes(alloc, list(alloc, b"abc")?);
-    assert!(rt; put(&mut disk, 1, b"X") && disk.sync().is_ok());
-    assert_eq!(rt;
-        content(alloc, &mut disk).as_deref(),
-        Some(b"aXc".as_slice())
-    );
     let bytes = list(alloc, b"X")?;
+    let mut disk = MemDisk::with_bytes(alloc, list(alloc, b"abc")?);
+    let done = put(&mut disk, 1, b"X") && disk.sync().is_ok();
+    assert!(rt; done && content(alloc, &mut disk).as_deref() == Some(b"aXc"));
     let want = [
         Call::Len,
         Call::Write { at: 1, bytes },
@@ -124,6 +133,13 @@ fn the_listed_calls_fail(rt: HostRuntime) -> Result<(), Fail> {
     Ok(())
 }
 
+// Whether two writes, a sync and a restart leave what was written.
+fn keeps_two_writes<D: Disk>(alloc: Global, disk: &mut D) -> bool {
+    let first = put(disk, 0, b"abcde") && disk.sync().is_ok();
+    let second = put(disk, 4, b"XYZ") && disk.restart().is_ok();
+    first && second && content(alloc, disk).as_deref() == Some(b"abcdXYZ")
+}
+
 #[test]
 fn a_file_is_made_at_the_first_write(rt: HostRuntime) -> Result<(), Fail> {
     let alloc = rt.alloc();
@@ -132,12 +148,7 @@ fn a_file_is_made_at_the_first_write(rt: HostRuntime) -> Result<(), Fail> {
     let mut disk = FileDisk::new(rt, Text::from_str(alloc, path.as_str())?);
     assert_eq!(rt; disk.len(), Ok(0));
     assert!(rt; disk.sync().is_ok() && !fs::exists(&rt, path.as_str())?);
-    assert!(rt; put(&mut disk, 0, b"abcde") && disk.sync().is_ok());
-    assert!(rt; put(&mut disk, 4, b"XYZ") && disk.restart().is_ok());
-    assert_eq!(rt;
-        content(alloc, &mut disk).as_deref(),
-        Some(b"abcdXYZ".as_slice())
-    );
+    assert!(rt; keeps_two_writes(alloc, &mut disk));
 
     // Another program cuts the file: what was measured isn't there to be read.
     fs::write(&rt, path.as_str(), "abc")?;

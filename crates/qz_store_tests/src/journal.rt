@@ -119,21 +119,33 @@ fn a_store_is_created_once(rt: HostRuntime) -> Result<(), Fail> {
     assert_eq!(rt; create(&mut disk, STATES), Err(CreateError::Exists));
     assert_eq!(rt; create(&mut disk, TRIGGERS), Err(CreateError::OtherKind));
     assert_eq!(rt; disk.len(), Ok(32));
-    let mut disk = FaultDisk::new(disk, List::from_vec(Vec::from_slice(rt.alloc(), &[1])?));
-    assert_eq!(rt; create(&mut disk, STATES), Err(CreateError::Fault));
-    assert_eq!(rt; create(&mut disk, STATES), Err(CreateError::Exists));
     Ok(())
+}
+
+#[test]
+fn a_store_is_created_after_a_fault(rt: HostRuntime) -> Result<(), Fail> {
+    let failing = List::from_vec(Vec::from_slice(rt.alloc(), &[1])?);
+    let mut disk = FaultDisk::new(MemDisk::new(rt.alloc()), failing);
+    assert_eq!(rt; create(&mut disk, STATES), Err(CreateError::Fault));
+    assert_eq!(rt; create(&mut disk, STATES), Ok(()));
+    Ok(())
+}
+
+// A new store's disk behind an opening and a commit of `\x07`.
+fn committed_disk(alloc: Global) -> Result<MemDisk, Fail> {
+    let disk = disk_of(alloc, &HEADER, b"\0")?;
+    let Ok((mut journal, _)) = Journal::mount(alloc, disk, TRIGGERS) else {
+        return Err(Fail::from("no journal"));
+    };
+    let answer = journal.append(b"\x07");
+    let disk = journal.into_disk();
+    answer?;
+    Ok(disk)
 }
 
 #[test]
 fn a_commit_makes_four_device_calls(rt: HostRuntime) -> Result<(), Fail> {
     let alloc = rt.alloc();
-    let disk = disk_of(alloc, &HEADER, b"\0")?;
-    let Ok((mut journal, _)) = Journal::mount(alloc, disk, TRIGGERS) else {
-        return Err(Fail::from("no journal"));
-    };
-    assert_eq!(rt; journal.append(b"\x07"), Ok(()));
-    let disk = journal.into_disk();
     let body = list(alloc, b"\0\0\0\x01\x07\0")?;
     let gate = list(alloc, b"\xa5")?;
     let want = [
@@ -151,6 +163,7 @@ fn a_commit_makes_four_device_calls(rt: HostRuntime) -> Result<(), Fail> {
         },
         Call::Sync,
     ];
+    let disk = committed_disk(alloc)?;
     assert_eq!(rt; disk.calls(), want.as_slice());
     Ok(())
 }

@@ -2,7 +2,7 @@
 use crate::entries::{T0, acquire, add_job, add_trigger, complete, fire, job, join, key};
 use crate::let_go;
 use qz_model::{PlainStore, StepRefused};
-use qz_types::{Entry, Reply, find, insert};
+use qz_types::{Entry, JobRow, Reply, find, insert};
 use std::alloc::{AllocError, Global};
 use std::test::Fail;
 
@@ -141,18 +141,22 @@ fn refusals(rt: HostRuntime) {
     assert_eq!(rt; refusal(&mut store, fire(alloc, T0, 1)), Some(15));
 }
 
+fn insert_three(alloc: Global, rows: &mut Vec<JobRow>) -> Result<(), Fail> {
+    insert(rows, job(alloc, "b")?)?;
+    insert(rows, job(alloc, "c")?)?;
+    insert(rows, job(alloc, "a")?)?;
+    Ok(())
+}
+
 #[test]
 fn rows_stand_in_the_order_of_their_keys(rt: HostRuntime) -> Result<(), Fail> {
-    let alloc = rt.alloc();
-    let mut rows = Vec::new(alloc);
-    insert(&mut rows, job(alloc, "b")?)?;
-    insert(&mut rows, job(alloc, "c")?)?;
-    insert(&mut rows, job(alloc, "a")?)?;
+    let (first, none) = (key(rt.alloc(), "b")?, key(rt.alloc(), "d")?);
+    let mut rows = Vec::new(rt.alloc());
+    insert_three(rt.alloc(), &mut rows)?;
     for (place, name) in ["a", "b", "c"].iter().enumerate() {
         let row = rows.get(place).ok_or("a row is missing")?;
         assert_eq!(rt; row.key.name.as_str(), *name);
     }
-    assert!(rt; find(&rows, &key(alloc, "b")?).is_some());
-    assert!(rt; find(&rows, &key(alloc, "d")?).is_none());
+    assert!(rt; find(&rows, &first).is_some() && find(&rows, &none).is_none());
     Ok(())
 }
