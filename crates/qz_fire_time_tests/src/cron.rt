@@ -47,61 +47,65 @@ fn next_in(
     }
 }
 
+/// Nine o'clock.
+const NINE: u32 = 1 << 9;
+
+/// Hours, days and months, a moment, and the next fire time.
+const DAYS_OF_THE_MONTH: [(u32, DayField, u16, i64, Option<i64>); 7] = [
+    // 0 0 0 29 2 ?
+    (
+        1,
+        DayField::Set(1 << 28),
+        2,
+        1709164800000,
+        Some(1835395200000),
+    ),
+    // 30 February
+    (1, DayField::Set(1 << 29), 2, -1, None),
+    // 0 0 9 1W 6 ?: 1 June is a Saturday
+    (
+        NINE,
+        DayField::Nearest { day: 1 },
+        32,
+        1704067200000,
+        Some(1717405200000),
+    ),
+    // 0 0 9 31W 3 ?: 31 March is a Sunday
+    (
+        NINE,
+        DayField::Nearest { day: 31 },
+        4,
+        1704067200000,
+        Some(1711702800000),
+    ),
+    // 0 0 9 LW 6 ?: 30 June is a Sunday
+    (
+        NINE,
+        DayField::LastWeekday,
+        32,
+        1704067200000,
+        Some(1719565200000),
+    ),
+    // 0 0 0 L * ?, L-30, of February 2024
+    (
+        1,
+        DayField::Last { back: 0 },
+        4095,
+        1706745600000,
+        Some(1709164800000),
+    ),
+    (
+        1,
+        DayField::Last { back: 30 },
+        4095,
+        1706745600000,
+        Some(1709251200000),
+    ),
+];
+
 #[test]
 fn days_of_the_month(rt: HostRuntime) {
-    let nine = 1 << 9;
-    let rows = [
-        // 0 0 0 29 2 ?
-        (
-            1,
-            DayField::Set(1 << 28),
-            2,
-            1709164800000,
-            Some(1835395200000),
-        ),
-        // 30 February
-        (1, DayField::Set(1 << 29), 2, -1, None),
-        // 0 0 9 1W 6 ?: 1 June is a Saturday
-        (
-            nine,
-            DayField::Nearest { day: 1 },
-            32,
-            1704067200000,
-            Some(1717405200000),
-        ),
-        // 0 0 9 31W 3 ?: 31 March is a Sunday
-        (
-            nine,
-            DayField::Nearest { day: 31 },
-            4,
-            1704067200000,
-            Some(1711702800000),
-        ),
-        // 0 0 9 LW 6 ?: 30 June is a Sunday
-        (
-            nine,
-            DayField::LastWeekday,
-            32,
-            1704067200000,
-            Some(1719565200000),
-        ),
-        // 0 0 0 L * ?, L-30, of February 2024
-        (
-            1,
-            DayField::Last { back: 0 },
-            4095,
-            1706745600000,
-            Some(1709164800000),
-        ),
-        (
-            1,
-            DayField::Last { back: 30 },
-            4095,
-            1706745600000,
-            Some(1709251200000),
-        ),
-    ];
-    for (hours, day, months, after, wanted) in rows {
+    for (hours, day, months, after, wanted) in DAYS_OF_THE_MONTH {
         let fields = CronFields {
             hours,
             day,
@@ -124,7 +128,7 @@ fn days_of_the_week(rt: HostRuntime) {
         ),
         // 0 0 9 ? * 6#5: Friday 29 March
         (
-            1 << 9,
+            NINE,
             WeekField::Nth { day: 6, nth: 5 },
             1704067200000,
             Some(1711702800000),
