@@ -1,6 +1,6 @@
 //! What every layer of the scheduler stands on: texts and lists that contracts see as plain lists, the two
 //! failures that any layer may pass on, zones and their local time, the fields of a cron text, the timing of a trigger,
-//! and the kinds of calendars.
+//! the kinds of calendars, and how a value in hand is let go.
 #![tactic(auto)]
 
 mod calendars;
@@ -9,6 +9,7 @@ mod earliest;
 mod failures;
 mod field_rules;
 mod fields;
+mod kept;
 mod limits;
 mod lists;
 mod spans;
@@ -24,6 +25,7 @@ pub use dates::{Civil, Date, date_of, day_of, days_in_month, weekday_of};
 pub use failures::{Failed, NoMemory};
 pub use field_rules::is_year_set;
 pub use fields::{CronFields, DayField, Field, WeekField, has};
+pub use kept::{beside, let_go};
 pub use limits::{
     ANNUAL_LIMIT, HOLIDAY_LIMIT, LAST, LAST_DAY, LAST_YEAR, LONGEST, NAME_LIMIT, OFFSET_LIMIT,
     STRETCH_LENGTH, STRETCH_LIMIT,

@@ -15,6 +15,7 @@ ghost use Rattle.qz_cluster.specs.Seen.{state_of, Leaves};
 use crate::entries::{client_entry, node_entry};
 use crate::held::{member_of, others, put_reserved};
 use crate::{Cluster, StepEnd};
+use qz_civil::let_go;
 use qz_disk::Disk;
 use qz_trigger_store::SubmitError;
 use qz_types::{Command, Entry, MemberRow, NoMemory, Reply, Step, StepReply, Text};
@@ -137,6 +138,3 @@ impl<D: Disk> Cluster<D> {
         }
     }
 }
-
-// Lets a value go. The cases of its drop are looked at here and nowhere else.
-fn let_go<T: Drop>(_value: T) {}

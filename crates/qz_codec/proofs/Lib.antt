@@ -1,6 +1,7 @@
 pub mod Texts
 pub mod Formats
 pub mod Signs
+pub mod Truths
 pub mod SingleFields
 pub mod NameFormats
 pub mod VariantFormats

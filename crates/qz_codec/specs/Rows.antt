@@ -5,6 +5,7 @@ use Rattle.qz_types.specs.Rows.{TriggerData, FiredData, StateData, is_interval}
 use Rattle.qz_types.specs.declared.limits.TheConstants.{NODE_LIMIT, TIMES_LIMIT}
 use Rattle.qz_types.specs.declared.fired.FiredState.{FiredState}
 use Rattle.qz_types.specs.declared.fired.FiredState.TheVariants as fired_states
+use Rattle.qz_types.specs.declared.keys.Key.{Key}
 use Rattle.qz_types.specs.declared.triggers.TriggerState.{TriggerState}
 use Rattle.qz_types.specs.declared.triggers.TriggerState.TheVariants as trigger_states
 use Rattle.qz_codec.specs.Layout.{number, integer, flag, text, optional, key, spec}
@@ -88,14 +89,10 @@ trigger_at bytes = do
   state ← trigger_state_at times.1
   Ok (record { spec = spec.0; next = next.0; prev = prev.0; times = times.0; state = state.0 }, state.1)
 
-unfoldable pub fired_at : List ℕ → Read FiredData
-fired_at bytes = do
-  entry ← number_at w64 bytes
-  node ← node_at entry.1
-  epoch ← number_at w64 node.1
-  trigger ← key_at epoch.1
-  job ← key_at trigger.1
-  priority ← integer_at w32 job.1
+-- a fired row, of which what stands before its priority is given
+unfoldable pub fired_behind : ℕ → List ℕ → ℕ → Key → Key → List ℕ → Read FiredData
+fired_behind entry node epoch trigger job bytes = do
+  priority ← integer_at w32 bytes
   state ← fired_state_at priority.1
   scheduled ← integer_at w64 state.1
   fired ← optional_at (integer_at w64) scheduled.1
@@ -103,11 +100,11 @@ fired_at bytes = do
   requests_recovery ← flag_at no_concurrent.1
   Ok (
     record {
-      entry = entry.0;
-      node = node.0;
-      epoch = epoch.0;
-      trigger = trigger.0;
-      job = job.0;
+      entry = entry;
+      node = node;
+      epoch = epoch;
+      trigger = trigger;
+      job = job;
       priority = priority.0;
       state = state.0;
       scheduled = scheduled.0;
@@ -117,6 +114,15 @@ fired_at bytes = do
     },
     requests_recovery.1,
   )
+
+unfoldable pub fired_at : List ℕ → Read FiredData
+fired_at bytes = do
+  entry ← number_at w64 bytes
+  node ← node_at entry.1
+  epoch ← number_at w64 node.1
+  trigger ← key_at epoch.1
+  job ← key_at trigger.1
+  fired_behind entry.0 node.0 epoch.0 trigger.0 job.0 job.1
 
 unfoldable pub state_at : List ℕ → Read StateData
 state_at bytes = do

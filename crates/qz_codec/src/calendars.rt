@@ -1,22 +1,22 @@
 //! Records of calendars, both ways.
-ghost use Rattle.std.specs.Prelude.{◌≡◌, ◌++◌, IsTrue, IfOk, OnOk, None};
+ghost use Rattle.std.specs.Prelude.{◌≡◌, ◌<◌, ◌^◌, ◌++◌, IsTrue, IfOk, OnOk, None, length};
 ghost use Rattle.std.specs.Int.{w16, w32};
 ghost use Rattle.std.specs.List.{flat_map};
 ghost use Rattle.qz_civil.specs.Calendars as spec;
 ghost use Rattle.qz_civil.specs.declared.limits.TheConstants.{ANNUAL_LIMIT, HOLIDAY_LIMIT};
-ghost use Rattle.qz_codec.specs.Layout.{number};
-ghost use Rattle.qz_codec.specs.Lists.{items_at, list_at};
+ghost use Rattle.qz_codec.specs.Layout.{number, flag};
+ghost use Rattle.qz_codec.specs.Lists.{items_at, list, list_at};
 ghost use Rattle.qz_codec.specs.Reading.{Gives, checked, byte_at, number_at};
 ghost use Rattle.qz_codec.specs.Calendars as format;
 
 use crate::cron_fields::cron_fields_of;
 use crate::errors::Fault;
 use crate::fields::{bool_at, length_of, u8_at, u16_at, u32_at};
-use crate::rows::{calendar_of, name_of};
+use crate::rows::{calendar_of, make_texts, name_of};
 use crate::writing::kinds::{put_cron_fields, put_u16};
 use crate::writing::{put_bool, put_calendar, put_name, put_u8, put_u32};
-use qz_civil::{ANNUAL_LIMIT, HOLIDAY_LIMIT, is_annual_day, is_holiday};
-use qz_types::{CalendarKind, CalendarRow, List, Text};
+use qz_civil::{ANNUAL_LIMIT, HOLIDAY_LIMIT, beside, is_annual_day, is_holiday};
+use qz_types::{CalendarKind, CalendarRow, List};
 use std::alloc::{AllocError, Global};
 
 fn is_day_behind(before: Option<u16>, day: u16) -> bool
@@ -196,12 +196,14 @@ pub(crate) fn calendar_row_of(alloc: Global, bytes: &[u8]) -> Result<(CalendarRo
 {
     let (name, rest) = name_of(bytes)?;
     let (base, rest) = calendar_of(alloc, rest)?;
-    let (zone, rest) = name_of(rest)?;
-    let (kind, rest) = calendar_kind_of(alloc, rest)?;
+    let (base, (zone, rest)) = beside(base, name_of(rest))?;
+    let (base, (name, zone)) = beside(base, make_texts(alloc, name, zone))?;
+    let named = (name, base, zone);
+    let ((name, base, zone), (kind, rest)) = beside(named, calendar_kind_of(alloc, rest))?;
     let row = CalendarRow {
-        name: Text::from_str(alloc, name)?,
+        name,
         base,
-        zone: Text::from_str(alloc, zone)?,
+        zone,
         kind,
     };
     Ok((row, rest))
@@ -225,6 +227,30 @@ fn put_dates(out: &mut Vec<u8>, dates: &[u32]) -> Result<(), AllocError>
     Ok(())
 }
 
+fn put_day_list(out: &mut Vec<u8>, days: &[u16]) -> Result<(), AllocError>
+    requires { length days.now < 2 ^ 16 }
+    ensures { OnOk result (out.new.items ≡ out.old.items ++ list (number w16) days.now) }
+{
+    put_u16(out, days.len() as u16)?;
+    put_days(out, days)
+}
+
+fn put_date_list(out: &mut Vec<u8>, dates: &[u32]) -> Result<(), AllocError>
+    requires { length dates.now < 2 ^ 16 }
+    ensures { OnOk result (out.new.items ≡ out.old.items ++ list (number w32) dates.now) }
+{
+    put_u16(out, dates.len() as u16)?;
+    put_dates(out, dates)
+}
+
+fn put_day_part(out: &mut Vec<u8>, from: u32, to: u32, inverted: bool) -> Result<(), AllocError>
+    ensures { OnOk result (out.new.items ≡ out.old.items ++ (number w32 from ++ (number w32 to ++ flag inverted))) }
+{
+    put_u32(out, from)?;
+    put_u32(out, to)?;
+    put_bool(out, inverted)
+}
+
 #[tactic(auto, unfolding(crate::specs::Calendars::calendar_kind), using(crate::proofs::Signs::signs))]
 fn put_calendar_kind(out: &mut Vec<u8>, kind: &CalendarKind) -> Result<(), AllocError>
     requires { IsTrue (spec.is_calendar_kind kind.now) }
@@ -234,13 +260,11 @@ fn put_calendar_kind(out: &mut Vec<u8>, kind: &CalendarKind) -> Result<(), Alloc
     match kind {
         CalendarKind::Annual { days } => {
             put_u8(out, 0)?;
-            put_u16(out, days.len() as u16)?;
-            put_days(out, days.as_slice())
+            put_day_list(out, days.as_slice())
         }
         CalendarKind::Holiday { dates } => {
             put_u8(out, 1)?;
-            put_u16(out, dates.len() as u16)?;
-            put_dates(out, dates.as_slice())
+            put_date_list(out, dates.as_slice())
         }
         CalendarKind::Weekly { days } => {
             put_u8(out, 2)?;
@@ -252,9 +276,7 @@ fn put_calendar_kind(out: &mut Vec<u8>, kind: &CalendarKind) -> Result<(), Alloc
         }
         CalendarKind::Daily { from, to, inverted } => {
             put_u8(out, 4)?;
-            put_u32(out, *from)?;
-            put_u32(out, *to)?;
-            put_bool(out, *inverted)
+            put_day_part(out, *from, *to, *inverted)
         }
         CalendarKind::Cron { fields } => {
             put_u8(out, 5)?;

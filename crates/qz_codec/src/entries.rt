@@ -11,6 +11,7 @@ use crate::fields::{i64_at, u32_at};
 use crate::records::{Recorded, read};
 use crate::rows::actor_of;
 use crate::writing::put_entry;
+use qz_civil::beside;
 use qz_types::Entry;
 use std::alloc::{AllocError, Global};
 
@@ -20,8 +21,9 @@ fn entry_of(alloc: Global, bytes: &[u8]) -> Result<(Entry, &[u8]), Fault>
 {
     let (at, rest) = i64_at(bytes)?;
     let (actor, rest) = actor_of(alloc, rest)?;
-    let (seat, rest) = u32_at(rest)?;
-    let (command, rest) = command_of(alloc, &actor, rest)?;
+    let (actor, (seat, rest)) = beside(actor, u32_at(rest))?;
+    let command = command_of(alloc, &actor, rest);
+    let (actor, (command, rest)) = beside(actor, command)?;
     let entry = Entry {
         at,
         actor,

@@ -1,4 +1,5 @@
-//! Reading keys, jobs, triggers and members. A row's fields are read before memory is taken for its texts.
+//! Reading keys, jobs, triggers and members. Names are read as they stand in the bytes, and memory is taken for them last,
+//! so that nothing is in hand where a field is wrong; what has to be is kept beside what is read next.
 ghost use Rattle.std.specs.Prelude.{◌≡◌, ℕ, ℤ, ◌==◌, IsTrue, IfOk, Some, None, option_map};
 ghost use Rattle.std.specs.Int.{w32, w64};
 ghost use Rattle.qz_civil.specs.Timings.{is_timing, is_name};
@@ -9,6 +10,7 @@ ghost use Rattle.qz_codec.specs.Reading.{Gives, name_at, node_at, optional_at, k
 use crate::errors::Fault;
 use crate::fields::{bool_at, end_of, i32_at, span_of, str_at, u64_at};
 use crate::kinds::{kind_of, misfire_of};
+use qz_civil::beside;
 use qz_types::{
     Actor, JobRow, Key, MemberRow, NAME_LIMIT, NODE_LIMIT, PAYLOAD_LIMIT, Text, Timing, TriggerSpec,
 };
@@ -28,15 +30,38 @@ pub(crate) fn node_of(bytes: &[u8]) -> Result<(&str, &[u8]), Fault>
     str_at(bytes, 1, NODE_LIMIT as u16)
 }
 
+/// Memory for two texts.
+pub(crate) fn make_texts(
+    alloc: Global,
+    first: &str,
+    second: &str,
+) -> Result<(Text, Text), AllocError>
+    ensures { IfOk result (λ made. (made.0 ≡ first.now) × (made.1 ≡ second.now)) }
+{
+    let first = Text::from_str(alloc, first)?;
+    beside(first, Text::from_str(alloc, second))
+}
+
 /// Memory for a key of this group and name.
 pub(crate) fn make_key(alloc: Global, names: (&str, &str)) -> Result<Key, AllocError>
     ensures { IfOk result (λ k. k ≡ record { group = names.entry.0.now; name = names.entry.1.now }) }
 {
     let (group, name) = names;
-    Ok(Key {
-        group: Text::from_str(alloc, group)?,
-        name: Text::from_str(alloc, name)?,
-    })
+    let (group, name) = make_texts(alloc, group, name)?;
+    Ok(Key { group, name })
+}
+
+/// Memory for two keys of these groups and names.
+pub(crate) fn make_keys(
+    alloc: Global,
+    first: (&str, &str),
+    second: (&str, &str),
+) -> Result<(Key, Key), AllocError>
+    ensures first { IfOk result (λ k. k.0 ≡ record { group = first.entry.0.now; name = first.entry.1.now }) }
+    ensures second { IfOk result (λ k. k.1 ≡ record { group = second.entry.0.now; name = second.entry.1.now }) }
+{
+    let first = make_key(alloc, first)?;
+    beside(first, make_key(alloc, second))
 }
 
 /// The group and the name of a key.
@@ -58,6 +83,20 @@ pub(crate) fn key_of(alloc: Global, bytes: &[u8]) -> Result<(Key, &[u8]), Fault>
     Ok((make_key(alloc, names)?, rest))
 }
 
+/// Memory for what a job has of texts.
+fn make_job_texts(
+    alloc: Global,
+    names: (&str, &str),
+    class: &str,
+    payload: &str,
+) -> Result<(Key, (Text, Text)), AllocError>
+    ensures key { IfOk result (λ made. made.0 ≡ record { group = names.entry.0.now; name = names.entry.1.now }) }
+    ensures texts { IfOk result (λ made. (made.1.0 ≡ class.now) × (made.1.1 ≡ payload.now)) }
+{
+    let key = make_key(alloc, names)?;
+    beside(key, make_texts(alloc, class, payload))
+}
+
 #[tactic(auto, unfolding(crate::specs::Reading::job_at))]
 pub(crate) fn job_of(alloc: Global, bytes: &[u8]) -> Result<(JobRow, &[u8]), Fault>
     ensures { Gives (λ x. (x.0, x.1.now)) result (job_at bytes.now) }
@@ -68,13 +107,14 @@ pub(crate) fn job_of(alloc: Global, bytes: &[u8]) -> Result<(JobRow, &[u8]), Fau
     let (no_concurrent, rest) = bool_at(rest)?;
     let (requests_recovery, rest) = bool_at(rest)?;
     let (payload, rest) = str_at(rest, 0, PAYLOAD_LIMIT as u16)?;
+    let (key, (class, payload)) = make_job_texts(alloc, names, class, payload)?;
     let job = JobRow {
-        key: make_key(alloc, names)?,
-        class: Text::from_str(alloc, class)?,
+        key,
+        class,
         durable,
         no_concurrent,
         requests_recovery,
-        payload: Text::from_str(alloc, payload)?,
+        payload,
     };
     Ok((job, rest))
 }
@@ -85,9 +125,10 @@ fn timing_of(alloc: Global, bytes: &[u8]) -> Result<(Timing, &[u8]), Fault>
     ensures valid { IfOk result (λ x. IsTrue (is_timing x.0)) }
 {
     let (kind, rest) = kind_of(alloc, bytes)?;
-    let (misfire, rest) = misfire_of(&kind, rest)?;
-    let (start, rest) = span_of(rest)?;
-    let (end, rest) = end_of(rest)?;
+    let misfire = misfire_of(&kind, rest);
+    let (kind, (misfire, rest)) = beside(kind, misfire)?;
+    let (kind, (start, rest)) = beside(kind, span_of(rest))?;
+    let (kind, (end, rest)) = beside(kind, end_of(rest))?;
     let timing = Timing {
         kind,
         misfire,
@@ -119,9 +160,9 @@ pub(crate) fn spec_of(alloc: Global, bytes: &[u8]) -> Result<(TriggerSpec, &[u8]
     let (job, rest) = names_of(rest)?;
     let (priority, rest) = i32_at(rest)?;
     let (calendar, rest) = calendar_of(alloc, rest)?;
-    let key = make_key(alloc, key)?;
-    let job = make_key(alloc, job)?;
-    let (timing, rest) = timing_of(alloc, rest)?;
+    let (calendar, (key, job)) = beside(calendar, make_keys(alloc, key, job))?;
+    let named = (key, job, calendar);
+    let ((key, job, calendar), (timing, rest)) = beside(named, timing_of(alloc, rest))?;
     let spec = TriggerSpec {
         key,
         job,

@@ -156,7 +156,7 @@ pub(crate) fn put_calendar(out: &mut Vec<u8>, calendar: &Option<Text>) -> Result
     }
 }
 
-#[tactic(auto, unfolding(crate::specs::Layout::spec))]
+#[tactic(auto, unfolding(crate::specs::Layout::spec), using(crate::proofs::Signs::signs))]
 pub(crate) fn put_spec(out: &mut Vec<u8>, row: &TriggerSpec) -> Result<(), AllocError>
     requires { IsTrue (is_trigger_spec row.now) }
     ensures bytes { OnOk result (out.new.items ≡ out.old.items ++ spec row.now) }

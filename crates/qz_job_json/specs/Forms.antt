@@ -57,14 +57,21 @@ unbuilt (TriggerOf kind) = []
 abbrev pub unbuilt_kinds : List (List ℕ)
 unbuilt_kinds = codes "cron" ∷ codes "interval" ∷ codes "daily" ∷ []
 
--- the words of lines that aren't built yet
-abbrev pub unbuilt_words : List (List ℕ)
-unbuilt_words =
+-- the words of lines that aren't built yet: what a client asks for
+abbrev pub unbuilt_client_words : List (List ℕ)
+unbuilt_client_words =
     codes "add_calendar" ∷ codes "add_zone" ∷ codes "delete_job" ∷ codes "delete_trigger"
     ∷ codes "pause_trigger" ∷ codes "resume_trigger" ∷ codes "trigger_now" ∷ codes "pause_group"
-    ∷ codes "resume_group" ∷ codes "delete_calendar" ∷ codes "delete_zone" ∷ codes "threshold"
-    ∷ codes "check_in" ∷ codes "leave" ∷ codes "misfires" ∷ codes "stop" ∷ codes "release"
+    ∷ codes "resume_group" ∷ codes "delete_calendar" ∷ codes "delete_zone" ∷ codes "threshold" ∷ []
+
+-- and what a node does, or what is done with one
+abbrev pub unbuilt_node_words : List (List ℕ)
+unbuilt_node_words =
+    codes "check_in" ∷ codes "leave" ∷ codes "misfires" ∷ codes "stop" ∷ codes "release"
     ∷ codes "recover" ∷ codes "forget" ∷ codes "restart" ∷ []
+
+abbrev pub unbuilt_words : List (List ℕ)
+unbuilt_words = unbuilt_client_words ++ unbuilt_node_words
 
 -- the line that a text names, where it is built
 unfoldable pub word_of : List ℕ → Option Word

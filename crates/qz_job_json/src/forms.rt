@@ -1,10 +1,10 @@
 //! The table of the format: which members each object has.
 ghost use Rattle.std.specs.Prelude.{◌≡◌};
-ghost use Rattle.qz_job_json.specs.Forms.{built, unbuilt, unbuilt_kinds, unbuilt_words, word_of, shared, own, kind_word_of};
+ghost use Rattle.qz_job_json.specs.Forms.{built, unbuilt, unbuilt_kinds, unbuilt_client_words, unbuilt_node_words, unbuilt_words, word_of, shared, own, kind_word_of};
 ghost use Rattle.qz_job_json.specs.Members.{is_among};
 
 /// The lines that are built, by the word of their member `do`.
-#[derive(Clone, Copy, PartialEq, Eq, Debug)]
+#[derive(Clone, Copy)]
 pub(crate) enum Word {
     AddJob,
     AddTrigger,
@@ -33,7 +33,7 @@ impl Word {
 }
 
 /// The kinds of triggers, by the word of the member `kind`.
-#[derive(Clone, Copy, PartialEq, Eq, Debug)]
+#[derive(Clone, Copy)]
 pub(crate) enum KindWord {
     Simple,
     Cron,
@@ -91,7 +91,7 @@ fn is_shared(name: &str) -> bool
 }
 
 /// An object of the format: a line, or the job or the trigger in one.
-#[derive(Clone, Copy, PartialEq, Eq, Debug)]
+#[derive(Clone, Copy)]
 pub(crate) enum Form {
     Line(Word),
     Job,
@@ -182,8 +182,16 @@ pub(crate) fn is_unbuilt_kind(kind: &str) -> bool
 }
 
 /// Whether a word of the format names a line that isn't built yet.
+#[tactic(auto, using(crate::proofs::Names::among_either))]
 pub(crate) fn is_unbuilt_word(text: &str) -> bool
     ensures { result ≡ is_among unbuilt_words text.now }
+{
+    is_unbuilt_client_word(text) || is_unbuilt_node_word(text)
+}
+
+/// What a client asks for.
+fn is_unbuilt_client_word(text: &str) -> bool
+    ensures { result ≡ is_among unbuilt_client_words text.now }
 {
     matches!(
         text,
@@ -199,13 +207,15 @@ pub(crate) fn is_unbuilt_word(text: &str) -> bool
             | "delete_calendar"
             | "delete_zone"
             | "threshold"
-            | "check_in"
-            | "leave"
-            | "misfires"
-            | "stop"
-            | "release"
-            | "recover"
-            | "forget"
-            | "restart"
+    )
+}
+
+/// What a node does, or what is done with one.
+fn is_unbuilt_node_word(text: &str) -> bool
+    ensures { result ≡ is_among unbuilt_node_words text.now }
+{
+    matches!(
+        text,
+        "check_in" | "leave" | "misfires" | "stop" | "release" | "recover" | "forget" | "restart"
     )
 }

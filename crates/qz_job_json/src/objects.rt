@@ -1,36 +1,35 @@
 //! The jobs and triggers in lines.
-ghost use Rattle.std.specs.Prelude.{◌≡◌, IsTrue, IfOk, IfSome, codes};
+ghost use Rattle.std.specs.Prelude.{◌≡◌, IsTrue, IfOk, IfSome, option_map, codes};
 ghost use Rattle.serde_json.specs.View.{view};
 ghost use Rattle.qz_types.specs.Rows.{is_key, is_trigger_spec};
 ghost use Rattle.qz_job_json.specs.Members.{text_at};
-ghost use Rattle.qz_job_json.specs.Objects.{key_at, job_of, trigger_of, plain_job, one_shot, is_simple};
+ghost use Rattle.qz_job_json.specs.Objects.{make_key, key_at, job_of, trigger_of, plain_job, one_shot, is_simple};
 
 use crate::forms::Form;
 use crate::members::{group_at, has_only, name_at, span_at, text_at};
 use qz_types::{JobRow, Key, Kind, NoMemory, Text, Timing, TriggerSpec};
 use serde_json::Value;
-use std::alloc::Global;
+use std::alloc::{AllocError, Global};
 
-/// The key of the members under these names.
+/// The group and the name of the key that the members under these names are.
 #[tactic(auto, unfolding(crate::specs::Objects::key_at))]
-pub(crate) fn key_at(
-    alloc: Global,
-    value: &Value,
-    group: &str,
-    name: &str,
-) -> Result<Option<Key>, NoMemory>
-    ensures value { IfOk result (λ key. key ≡ key_at group.now name.now (view value.now)) }
-    ensures valid { IfOk result (λ key. IfSome key (λ k. IsTrue (is_key k))) }
+pub(crate) fn names_at<'v>(value: &'v Value, group: &str, name: &str) -> Option<(&'v str, &'v str)>
+    ensures value { option_map (λ x. make_key x.0.now x.1.now) result ≡ key_at group.now name.now (view value.now) }
+    ensures valid { IfSome result (λ x. IsTrue (is_key (make_key x.0.now x.1.now))) }
 {
-    let Some(group) = group_at(value, group) else {
-        return Ok(None);
-    };
-    let Some(name) = name_at(value, name) else {
-        return Ok(None);
-    };
+    let group = group_at(value, group)?;
+    let name = name_at(value, name)?;
+    Some((group, name))
+}
+
+/// Memory for a key of this group and name.
+pub(crate) fn make_key(alloc: Global, names: (&str, &str)) -> Result<Key, AllocError>
+    ensures { IfOk result (λ key. key ≡ make_key names.entry.0.now names.entry.1.now) }
+{
+    let (group, name) = names;
     let group = Text::from_str(alloc, group)?;
     let name = Text::from_str(alloc, name)?;
-    Ok(Some(Key { group, name }))
+    Ok(Key { group, name })
 }
 
 /// The job that the object is; None is another shape.
@@ -44,12 +43,14 @@ pub(crate) fn job_of(alloc: Global, value: &Value) -> Result<Option<JobRow>, NoM
     let Some(class) = name_at(value, "class") else {
         return Ok(None);
     };
-    let Some(key) = key_at(alloc, value, "group", "name")? else {
+    let Some(names) = names_at(value, "group", "name") else {
         return Ok(None);
     };
+    let key = make_key(alloc, names)?;
+    let class = Text::from_str(alloc, class)?;
     Ok(Some(JobRow {
         key,
-        class: Text::from_str(alloc, class)?,
+        class,
         durable: false,
         no_concurrent: false,
         requests_recovery: false,
@@ -99,11 +100,13 @@ pub(crate) fn trigger_of(alloc: Global, value: &Value) -> Result<Option<TriggerS
     let Some(start) = span_at(value, "start") else {
         return Ok(None);
     };
-    let Some(key) = key_at(alloc, value, "group", "name")? else {
+    let Some(key) = names_at(value, "group", "name") else {
         return Ok(None);
     };
-    let Some(job) = key_at(alloc, value, "job_group", "job")? else {
+    let Some(job) = names_at(value, "job_group", "job") else {
         return Ok(None);
     };
+    let key = make_key(alloc, key)?;
+    let job = make_key(alloc, job)?;
     Ok(Some(one_shot(start, key, job)))
 }

@@ -3,6 +3,7 @@ ghost use Rattle.std.specs.Prelude.{◌≡◌, ◌⊎◌, ◌≤ℤ◌, pos, neg
 ghost use Rattle.serde_json.specs.View.{view};
 ghost use Rattle.qz_civil.specs.Timings.{is_name, is_every, is_kind, is_misfire, is_timing, is_daily_time};
 ghost use Rattle.qz_types.specs.Rows.{is_calendar, is_trigger_spec};
+ghost use Rattle.qz_job_json.specs.Objects.{make_key};
 ghost use Rattle.qz_job_json.specs.Schedules as spec;
 
 use crate::clocks::{days_at, second_or};
@@ -11,11 +12,11 @@ use crate::lines::LineFault;
 use crate::members::{
     has_only, integer_or, name_at, name_or, number_at, optional_span_at, span_at, text_at,
 };
-use crate::objects::key_at;
-use qz_civil::{Kind, LONGEST, Timing, Unit};
-use qz_types::{Text, TriggerSpec};
+use crate::objects::{make_key, names_at};
+use qz_civil::{Kind, LONGEST, Timing, Unit, beside};
+use qz_types::{Key, Text, TriggerSpec};
 use serde_json::Value;
-use std::alloc::Global;
+use std::alloc::{AllocError, Global};
 
 /// How many seconds a daily schedule's step has at most.
 const DAY_SECONDS: u64 = 86400;
@@ -187,17 +188,41 @@ fn priority_at(value: &Value) -> Option<i32>
     Some(priority as i32)
 }
 
-fn calendar_at(alloc: Global, value: &Value) -> Result<Option<Text>, LineFault>
-    ensures value { (result ≡ Err LineFault.NoMemory) ⊎ (result ≡ spec.or_shape (spec.calendar_at (view value.now))) }
-    ensures valid { IfOk result (λ calendar. IsTrue (is_calendar calendar)) }
+fn calendar_at(value: &Value) -> Option<Option<&str>>
+    ensures value { option_map (λ calendar. option_map (λ text. text.now) calendar) result ≡ spec.calendar_at (view value.now) }
+    ensures valid { IfSome result (λ calendar. IsTrue (is_calendar (option_map (λ text. text.now) calendar))) }
 {
     match value.get("calendar") {
-        Some(_) => {
-            let name = name_at(value, "calendar").ok_or(LineFault::Shape)?;
-            Ok(Some(Text::from_str(alloc, name)?))
-        }
+        Some(_) => name_at(value, "calendar").map(Some),
+        None => Some(None),
+    }
+}
+
+/// Memory for the name of a calendar, if there is one.
+fn make_calendar(alloc: Global, name: Option<&str>) -> Result<Option<Text>, AllocError>
+    ensures { IfOk result (λ calendar. calendar ≡ option_map (λ text. text.now) name.entry) }
+{
+    match name {
+        Some(name) => Ok(Some(Text::from_str(alloc, name)?)),
         None => Ok(None),
     }
+}
+
+/// Memory for the names of a trigger.
+fn make_names(
+    alloc: Global,
+    key: (&str, &str),
+    job: (&str, &str),
+    calendar: Option<&str>,
+) -> Result<(Key, Key, Option<Text>), AllocError>
+    ensures key { IfOk result (λ made. made.0 ≡ make_key key.entry.0.now key.entry.1.now) }
+    ensures job { IfOk result (λ made. made.1 ≡ make_key job.entry.0.now job.entry.1.now) }
+    ensures calendar { IfOk result (λ made. made.2 ≡ option_map (λ text. text.now) calendar.entry) }
+{
+    let calendar = make_calendar(alloc, calendar)?;
+    let (calendar, key) = beside(calendar, make_key(alloc, key))?;
+    let ((calendar, key), job) = beside((calendar, key), make_key(alloc, job))?;
+    Ok((key, job, calendar))
 }
 
 /// A trigger of that kind.
@@ -206,11 +231,12 @@ fn timed_trigger_of(alloc: Global, value: &Value, word: KindWord) -> Result<Trig
     ensures value { (result ≡ Err LineFault.NoMemory) ⊎ (result ≡ spec.timed_trigger_of word (view value.now)) }
     ensures valid { IfOk result (λ trigger. IsTrue (is_trigger_spec trigger)) }
 {
-    let key = key_at(alloc, value, "group", "name")?.ok_or(LineFault::Shape)?;
-    let job = key_at(alloc, value, "job_group", "job")?.ok_or(LineFault::Shape)?;
+    let key = names_at(value, "group", "name").ok_or(LineFault::Shape)?;
+    let job = names_at(value, "job_group", "job").ok_or(LineFault::Shape)?;
     let priority = priority_at(value).ok_or(LineFault::Shape)?;
-    let calendar = calendar_at(alloc, value)?;
-    let timing = timing_of(alloc, value, word)?;
+    let calendar = calendar_at(value).ok_or(LineFault::Shape)?;
+    let named = make_names(alloc, key, job, calendar)?;
+    let ((key, job, calendar), timing) = beside(named, timing_of(alloc, value, word))?;
     Ok(TriggerSpec {
         key,
         job,

@@ -13,6 +13,7 @@ ghost use Rattle.qz_job_json.specs.declared.forms.Word.TheVariants.{AddJob, AddT
 use crate::forms::Word;
 use crate::members::{node_at, number_at, span_at};
 use crate::objects::{job_of, trigger_of};
+use qz_civil::let_go;
 use qz_types::{Code, Command, NoMemory, Step, Text};
 use serde_json::Value;
 use std::alloc::Global;
@@ -74,9 +75,6 @@ fn node_of(alloc: Global, value: &Value) -> Result<Option<Text>, NoMemory>
         None => Ok(None),
     }
 }
-
-// Lets a value go. The cases of its drop are looked at here and nowhere else.
-fn let_go<T: Drop>(_value: T) {}
 
 /// What a node does under the epoch that it holds.
 fn by_node(node: Option<Text>, command: Option<Command>) -> Option<Step>

@@ -14,6 +14,7 @@ mod firing;
 mod membership;
 mod scheduling;
 
+use qz_civil::let_go;
 use qz_types::{
     Actor, Command, Entry, FIRST_THRESHOLD, FiredRow, JobRow, LAST, MemberRow, NoMemory, Refusal,
     Reply, TriggerRow,
@@ -243,6 +244,3 @@ impl PlainStore {
         at.max(0).min(self.horizon()).max(self.last_moment())
     }
 }
-
-// Lets a value go. The cases of its drop are looked at here and nowhere else.
-fn let_go<T: Drop>(_value: T) {}

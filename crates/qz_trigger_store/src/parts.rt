@@ -4,8 +4,7 @@ ghost use Rattle.qz_model.specs.Tables.{empty};
 ghost use Rattle.qz_model.specs.History.{replay_from, replies_from, moments_from};
 
 use crate::TriggerStore;
-use crate::submitting::let_go;
-use qz_civil::List;
+use qz_civil::{List, let_go};
 use qz_disk::Disk;
 use qz_types::{Entry, Reply};
 

@@ -11,8 +11,7 @@ ghost use Rattle.qz_trigger_store.specs.Bytes.{IsRecord, records};
 ghost use Rattle.qz_trigger_store.specs.Facts.{IsLegalFrom-prop};
 ghost use Rattle.qz_trigger_store.specs.Opening.{IsUnfit, IsStopped};
 
-use crate::submitting::let_go;
-use qz_civil::List;
+use qz_civil::{List, let_go};
 use qz_codec::{ReadError, get_command};
 use qz_journal::MountError;
 use qz_model::{PlainStore, StepRefused, Worked};

@@ -13,7 +13,7 @@ ghost use Rattle.qz_trigger_store.specs.Seen.{seen, IsAsBefore, LeavesEither};
 ghost use Rattle.qz_trigger_store.specs.Steps.{Submits, IsPrepareCause};
 
 use crate::{SubmitError, TriggerStore};
-use qz_civil::List;
+use qz_civil::{List, let_go};
 use qz_codec::put_command;
 use qz_disk::Disk;
 use qz_journal::{JournalFull, fits};
@@ -31,9 +31,6 @@ struct Prepared {
     reply: Reply,
     kept: Reply,
 }
-
-// Lets a value go. The cases of its drop are looked at here and nowhere else.
-pub(crate) fn let_go<T: Drop>(_value: T) {}
 
 fn copy_reply(reply: &Reply) -> Result<Reply, NoMemory>
     ensures { IfOk result (λ copy. copy ≡ reply.now) }

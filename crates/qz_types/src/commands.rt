@@ -112,7 +112,7 @@ pub enum Command {
 }
 
 /// Who asks for a transaction.
-#[derive(Clone, Drop)]
+#[derive(Drop)]
 pub enum Actor {
     Client,
     /// A node under the epoch that it holds.
@@ -120,7 +120,7 @@ pub enum Actor {
 }
 
 /// A transaction as histories keep it. A node's commands have a node as actor, the others a client.
-#[derive(Clone, Drop)]
+#[derive(Drop)]
 pub struct Entry {
     /// The reading of the clock, in ms since 1970-01-01T00:00:00Z. Any number: it is clamped when it is recorded.
     pub at: i64,

@@ -3,7 +3,6 @@
 
 mod calendars;
 mod commands;
-mod copies;
 mod fired;
 mod jobs;
 mod keys;

@@ -38,7 +38,7 @@ impl StateRow {
 }
 
 /// One transaction of the state store, without its reading.
-#[derive(Clone, Debug, Drop)]
+#[derive(Debug, Drop)]
 pub enum StateCommand {
     /// The node lives, and means to check in again after `interval` ms.
     CheckIn { node: Text, interval: i64 },
@@ -47,7 +47,7 @@ pub enum StateCommand {
 }
 
 /// A transaction of the state store as its history keeps it.
-#[derive(Clone, Drop)]
+#[derive(Drop)]
 pub struct StateEntry {
     /// The reading of the clock, in ms since 1970-01-01T00:00:00Z. Any number: it is clamped when it is recorded.
     pub at: i64,

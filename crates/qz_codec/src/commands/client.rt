@@ -11,6 +11,7 @@ use crate::errors::Fault;
 use crate::fields::{bool_at, interval_of};
 use crate::rows::{job_of, key_of, name_of, node_of, spec_of};
 use crate::zones::zone_row_of;
+use qz_civil::beside;
 use qz_types::{Command, Text};
 use std::alloc::Global;
 
@@ -19,7 +20,7 @@ pub(super) fn add_job_of(alloc: Global, bytes: &[u8]) -> Result<(Command, &[u8])
     ensures valid { IfOk result (λ x. IsTrue (is_command x.0) × (is_of_node x.0 ≡ false)) }
 {
     let (job, rest) = job_of(alloc, bytes)?;
-    let (replace, rest) = bool_at(rest)?;
+    let (job, (replace, rest)) = beside(job, bool_at(rest))?;
     Ok((Command::AddJob { job, replace }, rest))
 }
 
@@ -28,7 +29,7 @@ pub(super) fn add_trigger_of(alloc: Global, bytes: &[u8]) -> Result<(Command, &[
     ensures valid { IfOk result (λ x. IsTrue (is_command x.0) × (is_of_node x.0 ≡ false)) }
 {
     let (spec, rest) = spec_of(alloc, bytes)?;
-    let (replace, rest) = bool_at(rest)?;
+    let (spec, (replace, rest)) = beside(spec, bool_at(rest))?;
     Ok((Command::AddTrigger { spec, replace }, rest))
 }
 
@@ -87,7 +88,7 @@ pub(super) fn add_calendar_of(alloc: Global, bytes: &[u8]) -> Result<(Command, &
     ensures valid { IfOk result (λ x. IsTrue (is_command x.0) × (is_of_node x.0 ≡ false)) }
 {
     let (calendar, rest) = calendar_row_of(alloc, bytes)?;
-    let (replace, rest) = bool_at(rest)?;
+    let (calendar, (replace, rest)) = beside(calendar, bool_at(rest))?;
     Ok((Command::AddCalendar { calendar, replace }, rest))
 }
 

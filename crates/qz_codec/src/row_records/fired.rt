@@ -1,20 +1,22 @@
 //! Records of fired rows.
-ghost use Rattle.std.specs.Prelude.{◌≡◌, ◌<◌, ◌^◌, ◌++◌, ◌∷◌, OnOk, IfSome, FitsSigned, ℕ};
+ghost use Rattle.std.specs.Prelude.{◌≡◌, ◌<◌, ◌^◌, ◌++◌, ◌∷◌, IfOk, OnOk, IfSome, IsTrue, FitsSigned, ℕ};
 ghost use Rattle.std.specs.Int.{w32, w64};
+ghost use Rattle.qz_types.specs.Rows.{is_key, is_node};
 ghost use Rattle.qz_types.specs.declared.limits.TheConstants.{NODE_LIMIT};
 ghost use Rattle.qz_codec.specs.Layout.{number, integer, flag, text, optional, key, recorded};
 ghost use Rattle.qz_codec.specs.Values.{IsText, IsKey};
 ghost use Rattle.qz_codec.specs.Reading.{Gives, reading_by};
-ghost use Rattle.qz_codec.specs.Rows.{fired_state_place, fired, IsFired, fired_state_at, fired_at};
+ghost use Rattle.qz_codec.specs.Rows.{fired_state_place, fired, IsFired, fired_state_at, fired_at, fired_behind};
 
 use super::Packed;
 use super::times::{put_time, time_of};
 use crate::errors::{Fault, ReadError};
 use crate::fields::{bool_at, i32_at, i64_at, u8_at, u64_at};
 use crate::records::{Recorded, read, write};
-use crate::rows::{make_key, names_of, node_of};
+use crate::rows::{make_keys, names_of, node_of};
 use crate::writing::{put_bool, put_i32, put_i64, put_key, put_node, put_u8, put_u64};
-use qz_types::{FiredRow, FiredState, List, NoMemory, Text};
+use qz_civil::beside;
+use qz_types::{FiredRow, FiredState, Key, List, NoMemory, Text};
 use std::alloc::{AllocError, Global};
 
 #[tactic(auto, unfolding(crate::specs::Rows::fired_state_at))]
@@ -29,6 +31,60 @@ fn fired_state_of(bytes: &[u8]) -> Result<(FiredState, &[u8]), Fault>
     }
 }
 
+/// Memory for the names of a fired row.
+fn make_names(
+    alloc: Global,
+    node: &str,
+    trigger: (&str, &str),
+    job: (&str, &str),
+) -> Result<(Text, (Key, Key)), AllocError>
+    ensures node { IfOk result (λ made. made.0 ≡ node.now) }
+    ensures trigger { IfOk result (λ made. made.1.0 ≡ record { group = trigger.entry.0.now; name = trigger.entry.1.now }) }
+    ensures job { IfOk result (λ made. made.1.1 ≡ record { group = job.entry.0.now; name = job.entry.1.now }) }
+{
+    let node = Text::from_str(alloc, node)?;
+    beside(node, make_keys(alloc, trigger, job))
+}
+
+/// A fired row, of which what stands before its priority was read.
+#[tactic(auto, unfolding(crate::specs::Rows::fired_behind))]
+fn progress_of<'a>(
+    alloc: Global,
+    entry: u64,
+    node: &str,
+    epoch: u64,
+    trigger: (&str, &str),
+    job: (&str, &str),
+    bytes: &'a [u8],
+) -> Result<(FiredRow, &'a [u8]), Fault>
+    requires node { IsTrue (is_node node.now) }
+    requires trigger { IsTrue (is_key (record { group = trigger.0.now; name = trigger.1.now })) }
+    requires job { IsTrue (is_key (record { group = job.0.now; name = job.1.now })) }
+    ensures { Gives (λ x. (x.0, x.1.now)) result (fired_behind entry node.now epoch (record { group = trigger.entry.0.now; name = trigger.entry.1.now }) (record { group = job.entry.0.now; name = job.entry.1.now }) bytes.now) }
+{
+    let (priority, rest) = i32_at(bytes)?;
+    let (state, rest) = fired_state_of(rest)?;
+    let (scheduled, rest) = i64_at(rest)?;
+    let (fired, rest) = time_of(rest)?;
+    let (no_concurrent, rest) = bool_at(rest)?;
+    let (requests_recovery, rest) = bool_at(rest)?;
+    let (node, (trigger, job)) = make_names(alloc, node, trigger, job)?;
+    let row = FiredRow {
+        entry,
+        node,
+        epoch,
+        trigger,
+        job,
+        priority,
+        state,
+        scheduled,
+        fired,
+        no_concurrent,
+        requests_recovery,
+    };
+    Ok((row, rest))
+}
+
 #[tactic(auto, unfolding(crate::specs::Rows::fired_at))]
 fn fired_of(alloc: Global, bytes: &[u8]) -> Result<(FiredRow, &[u8]), Fault>
     ensures { Gives (λ x. (x.0, x.1.now)) result (fired_at bytes.now) }
@@ -38,26 +94,7 @@ fn fired_of(alloc: Global, bytes: &[u8]) -> Result<(FiredRow, &[u8]), Fault>
     let (epoch, rest) = u64_at(rest)?;
     let (trigger, rest) = names_of(rest)?;
     let (job, rest) = names_of(rest)?;
-    let (priority, rest) = i32_at(rest)?;
-    let (state, rest) = fired_state_of(rest)?;
-    let (scheduled, rest) = i64_at(rest)?;
-    let (fired, rest) = time_of(rest)?;
-    let (no_concurrent, rest) = bool_at(rest)?;
-    let (requests_recovery, rest) = bool_at(rest)?;
-    let row = FiredRow {
-        entry,
-        node: Text::from_str(alloc, node)?,
-        epoch,
-        trigger: make_key(alloc, trigger)?,
-        job: make_key(alloc, job)?,
-        priority,
-        state,
-        scheduled,
-        fired,
-        no_concurrent,
-        requests_recovery,
-    };
-    Ok((row, rest))
+    progress_of(alloc, entry, node, epoch, trigger, job, rest)
 }
 
 /// The place of the state among all states.

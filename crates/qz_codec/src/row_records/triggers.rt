@@ -13,6 +13,7 @@ use crate::fields::{u8_at, u64_at};
 use crate::records::{Recorded, read, write};
 use crate::rows::spec_of;
 use crate::writing::{put_spec, put_u8, put_u64};
+use qz_civil::beside;
 use qz_types::{List, NoMemory, TIMES_LIMIT, TriggerRow, TriggerState};
 use std::alloc::{AllocError, Global};
 
@@ -50,10 +51,10 @@ fn trigger_of(alloc: Global, bytes: &[u8]) -> Result<(TriggerRow, &[u8]), Fault>
     ensures { Gives (λ x. (x.0, x.1.now)) result (trigger_at bytes.now) }
 {
     let (spec, rest) = spec_of(alloc, bytes)?;
-    let (next, rest) = time_of(rest)?;
-    let (prev, rest) = time_of(rest)?;
-    let (times, rest) = times_of(rest)?;
-    let (state, rest) = trigger_state_of(rest)?;
+    let (spec, (next, rest)) = beside(spec, time_of(rest))?;
+    let (spec, (prev, rest)) = beside(spec, time_of(rest))?;
+    let (spec, (times, rest)) = beside(spec, times_of(rest))?;
+    let (spec, (state, rest)) = beside(spec, trigger_state_of(rest))?;
     let row = TriggerRow {
         spec,
         next,
@@ -79,7 +80,7 @@ fn place_of_state(state: TriggerState) -> u8
     }
 }
 
-#[tactic(auto, unfolding(crate::specs::Rows::trigger))]
+#[tactic(auto, unfolding(crate::specs::Rows::trigger), using(crate::proofs::Signs::signs))]
 fn put_trigger(out: &mut Vec<u8>, row: &TriggerRow) -> Result<(), AllocError>
     ensures bytes { OnOk result (out.new.items ≡ out.old.items ++ trigger row.now) }
     ensures valid { OnOk result (IsTrigger row.now) }

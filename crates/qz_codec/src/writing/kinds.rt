@@ -7,7 +7,7 @@ ghost use Rattle.qz_codec.specs.Layout.{number, integer, text, day_field, week_f
 
 use crate::writing::{put_i64, put_name, put_u8, put_u32, put_u64};
 use qz_civil::{CronFields, DayField, WeekField};
-use qz_types::{Kind, Unit};
+use qz_types::{Kind, Text, Unit};
 use std::alloc::AllocError;
 
 #[tactic(auto, unfolding(crate::specs::Layout::number))]
@@ -102,6 +102,58 @@ fn place_of_unit(unit: Unit) -> u8
     }
 }
 
+#[tactic(auto, using(crate::proofs::Signs::signs))]
+fn put_simple(out: &mut Vec<u8>, interval: i64, count: i64) -> Result<(), AllocError>
+    requires { IsTrue (is_kind (Kind.Simple interval count)) }
+    ensures bytes { OnOk result (out.new.items ≡ out.old.items ++ 0 ∷ (integer w64 interval ++ integer w64 count)) }
+    ensures valid { OnOk result (IsKind (Kind.Simple interval count)) }
+{
+    put_u8(out, 0)?;
+    put_i64(out, interval)?;
+    put_i64(out, count)
+}
+
+#[tactic(auto, using(crate::proofs::Signs::signs))]
+fn put_cron(out: &mut Vec<u8>, fields: &CronFields, zone: &Text) -> Result<(), AllocError>
+    requires { IsTrue (is_kind (Kind.Cron fields.now zone.now)) }
+    ensures bytes { OnOk result (out.new.items ≡ out.old.items ++ 1 ∷ (cron_fields fields.now ++ text zone.now)) }
+    ensures valid { OnOk result (IsKind (Kind.Cron fields.now zone.now)) }
+{
+    put_u8(out, 1)?;
+    put_cron_fields(out, fields)?;
+    put_name(out, zone)
+}
+
+/// How many of which units.
+#[tactic(auto, using(crate::proofs::Signs::signs))]
+fn put_step(out: &mut Vec<u8>, unit: Unit, every: u32) -> Result<(), AllocError>
+    ensures { OnOk result (out.new.items ≡ out.old.items ++ unit_place unit ∷ number w32 every) }
+{
+    put_u8(out, place_of_unit(unit))?;
+    put_u32(out, every)
+}
+
+#[tactic(auto, using(crate::proofs::Signs::signs))]
+fn put_interval(out: &mut Vec<u8>, unit: Unit, every: u32, zone: &Text) -> Result<(), AllocError>
+    requires { IsTrue (is_kind (Kind.Interval unit every zone.now)) }
+    ensures bytes { OnOk result (out.new.items ≡ out.old.items ++ 2 ∷ unit_place unit ∷ (number w32 every ++ text zone.now)) }
+    ensures valid { OnOk result (IsKind (Kind.Interval unit every zone.now)) }
+{
+    put_u8(out, 2)?;
+    put_step(out, unit, every)?;
+    put_name(out, zone)
+}
+
+/// The seconds of the day, and the days.
+#[tactic(auto, using(crate::proofs::Signs::signs))]
+fn put_times(out: &mut Vec<u8>, from: u32, to: u32, days: u8) -> Result<(), AllocError>
+    ensures { OnOk result (out.new.items ≡ out.old.items ++ (number w32 from ++ (number w32 to ++ days ∷ []))) }
+{
+    put_u32(out, from)?;
+    put_u32(out, to)?;
+    put_u8(out, days)
+}
+
 #[tactic(auto, unfolding(crate::specs::Layout::kind), using(crate::proofs::Signs::signs))]
 pub(super) fn put_kind(out: &mut Vec<u8>, k: &Kind) -> Result<(), AllocError>
     requires { IsTrue (is_kind k.now) }
@@ -109,22 +161,9 @@ pub(super) fn put_kind(out: &mut Vec<u8>, k: &Kind) -> Result<(), AllocError>
     ensures valid { OnOk result (IsKind k.now) }
 {
     match k {
-        Kind::Simple { interval, count } => {
-            put_u8(out, 0)?;
-            put_i64(out, *interval)?;
-            put_i64(out, *count)
-        }
-        Kind::Cron { fields, zone } => {
-            put_u8(out, 1)?;
-            put_cron_fields(out, fields)?;
-            put_name(out, zone)
-        }
-        Kind::Interval { unit, every, zone } => {
-            put_u8(out, 2)?;
-            put_u8(out, place_of_unit(*unit))?;
-            put_u32(out, *every)?;
-            put_name(out, zone)
-        }
+        Kind::Simple { interval, count } => put_simple(out, *interval, *count),
+        Kind::Cron { fields, zone } => put_cron(out, fields, zone),
+        Kind::Interval { unit, every, zone } => put_interval(out, *unit, *every, zone),
         Kind::Daily {
             unit,
             every,
@@ -134,11 +173,8 @@ pub(super) fn put_kind(out: &mut Vec<u8>, k: &Kind) -> Result<(), AllocError>
             zone,
         } => {
             put_u8(out, 3)?;
-            put_u8(out, place_of_unit(*unit))?;
-            put_u32(out, *every)?;
-            put_u32(out, *from)?;
-            put_u32(out, *to)?;
-            put_u8(out, *days)?;
+            put_step(out, *unit, *every)?;
+            put_times(out, *from, *to, *days)?;
             put_name(out, zone)
         }
     }

@@ -9,6 +9,7 @@ ghost use Rattle.qz_model.specs.Causes.{IsCause};
 
 use super::{PlainStore, StepRefused};
 use crate::rows::{acquire_trigger, job_of, put_fired};
+use qz_civil::{beside, let_go};
 use qz_types::{
     FIRED_LIMIT, FiredRow, FiredState, JobRow, List, MemberRow, NUMBER_LIMIT, Refusal, Reply,
     Taken, TriggerRow,
@@ -72,7 +73,9 @@ impl PlainStore {
             return Ok(Reply::Acquired(List::new(*self.fired.allocator())));
         };
         let trigger = trigger.copy()?;
-        self.acquire_one(moment, me, &trigger)
+        let reply = self.acquire_one(moment, me, &trigger);
+        let_go(trigger);
+        reply
     }
 
     // A trigger, of which this is a copy, is acquired.
@@ -96,7 +99,7 @@ impl PlainStore {
         };
         let alloc = *self.fired.allocator();
         let Grant { row, taken } = make_grant(alloc, self.next_entry, me, trigger, next, job)?;
-        put_fired(&mut self.fired, row)?;
+        let (taken, ()) = beside(taken, put_fired(&mut self.fired, row))?;
         acquire_trigger(&mut self.triggers, &trigger.spec.key);
         self.next_entry += 1;
         self.last_moment = moment;
@@ -123,7 +126,7 @@ fn make_grant(
     ensures taken { IfOk result (λ grant. grant.taken ≡ record { entry = entry; trigger = trigger.now.spec.key; next = next } ∷ []) }
 {
     let row = acquired_row(entry, me, trigger, next, job)?;
-    let taken = one_taken(alloc, entry, trigger, next)?;
+    let (row, taken) = beside(row, one_taken(alloc, entry, trigger, next))?;
     Ok(Grant { row, taken })
 }
 
@@ -137,12 +140,15 @@ fn acquired_row(
 ) -> Result<FiredRow, AllocError>
     ensures { IfOk result (λ row. row ≡ acquired_row entry me.now trigger.now next job.now) }
 {
+    let node = me.node.copy()?;
+    let (node, key) = beside(node, trigger.spec.key.copy())?;
+    let ((node, key), job_key) = beside((node, key), trigger.spec.job.copy())?;
     Ok(FiredRow {
         entry,
-        node: me.node.copy()?,
+        node,
         epoch: me.epoch,
-        trigger: trigger.spec.key.copy()?,
-        job: trigger.spec.job.copy()?,
+        trigger: key,
+        job: job_key,
         priority: trigger.spec.priority,
         state: FiredState::Acquired,
         scheduled: next,

@@ -13,6 +13,7 @@ use crate::rows::{
     execute_fired, fired_of, job_of, remove_fired, remove_job, remove_trigger, same_key, same_text,
     spend_trigger, trigger_of,
 };
+use qz_civil::{beside, let_go};
 use qz_types::{
     Code, FiredRow, FiredState, JobRow, Key, MemberRow, Refusal, Reply, TriggerRow, TriggerState,
 };
@@ -36,7 +37,9 @@ impl PlainStore {
             return Err(StepRefused::Refused(Refusal::UnknownEntry));
         };
         let row = row.copy()?;
-        self.fire_row(moment, me, &row)
+        let reply = self.fire_row(moment, me, &row);
+        let_go(row);
+        reply
     }
 
     // The execution of a row, of which this is a copy, begins if the row is the member's and acquired.
@@ -99,9 +102,11 @@ impl PlainStore {
         if !is_of(me, row) || is_acquired(row.state) || !is_noop(code) {
             return Err(StepRefused::Refused(Refusal::Unbuilt));
         }
-        let row = row.copy()?;
-        self.end_execution(moment, &row)?;
-        Ok(Reply::Completed { entry: row.entry })
+        let (entry, row) = (row.entry, row.copy()?);
+        let ended = self.end_execution(moment, &row);
+        let_go(row);
+        ended?;
+        Ok(Reply::Completed { entry })
     }
 
     // The execution of a row, of which this is a copy, ends.
@@ -119,7 +124,9 @@ impl PlainStore {
             return Ok(());
         }
         let trigger = trigger.copy()?;
-        self.remove_finished(&trigger)
+        let removed = self.remove_finished(&trigger);
+        let_go(trigger);
+        removed
     }
 
     // A trigger, of which this is a copy, goes, and with it its job if that is an orphan then.
@@ -166,7 +173,7 @@ fn make_start(trigger: &TriggerRow, job: &JobRow) -> Result<Start, AllocError>
     ensures job { IfOk result (λ start. start.job ≡ job.now) }
 {
     let trigger = trigger.copy()?;
-    let job = job.copy()?;
+    let (trigger, job) = beside(trigger, job.copy())?;
     Ok(Start { trigger, job })
 }
 
