@@ -11,7 +11,7 @@ use crate::sets::word_of;
 use qz_civil::Field;
 
 /// The elements of a field: 64 of their values as bits, and the element that is no run of values.
-#[derive(Clone, Copy, PartialEq, Eq, Debug)]
+#[derive(Clone, Copy)]
 pub struct Elements {
     pub word: u64,
     pub day: Option<DayForm>,

@@ -11,7 +11,7 @@ use crate::values::{number, value};
 use qz_civil::Field;
 
 /// What one element is. The second and third name no set of values.
-#[derive(Clone, Copy, PartialEq, Eq, Debug)]
+#[derive(Clone, Copy)]
 pub enum Form {
     Values(Run),
     Day(DayForm),
@@ -19,7 +19,7 @@ pub enum Form {
 }
 
 /// A day of the month that the month's length or its weekdays decide.
-#[derive(Clone, Copy, PartialEq, Eq, Debug)]
+#[derive(Clone, Copy)]
 pub enum DayForm {
     /// `?`.
     Unnamed,
@@ -32,7 +32,7 @@ pub enum DayForm {
 }
 
 /// A day of the week that the month decides.
-#[derive(Clone, Copy, PartialEq, Eq, Debug)]
+#[derive(Clone, Copy)]
 pub enum WeekForm {
     /// `?`.
     Unnamed,

@@ -9,7 +9,7 @@ use crate::values::{number, value};
 use qz_civil::Field;
 
 /// From `first` to `last`, past the greatest value to the least where `last` is smaller, every `step`th.
-#[derive(Clone, Copy, PartialEq, Eq, Debug)]
+#[derive(Clone, Copy)]
 pub struct Run {
     pub first: u16,
     pub last: u16,

@@ -4,7 +4,7 @@ ghost use Rattle.std.specs.Int.{w32, to_be_bytes};
 ghost use Rattle.qz_civil.specs.Causes.{Rose, HasCause};
 ghost use Rattle.qz_disk.specs.Disk.{Only, LeavesOnly, written};
 ghost use Rattle.qz_journal.specs.Layout.{IsPayload, open_gate, body_of, Holds, IsBeforeOrAfter};
-ghost use Rattle.qz_journal.specs.Commits.{IsFull, need_of, room_of};
+ghost use Rattle.qz_journal.specs.Commits.{IsPlaced, IsFull, need_of, room_of};
 ghost use Rattle.qz_journal.specs.Through.{PutsThrough};
 
 use crate::layout::{CLOSED_GATE, OPEN_GATE};
@@ -45,6 +45,30 @@ pub(crate) fn put_through<D: Disk>(disk: &mut D, at: u64, bytes: &[u8]) -> Resul
 {
     disk.write_at(at, bytes)?;
     disk.sync()
+}
+
+// Writes a commit behind the closed gate, and syncs; then opens the gate, and syncs.
+fn put_commit<D: Disk>(disk: &mut D, gate: u64, commit: &[u8]) -> Result<(), Failed>
+    requires place { gate < D.len disk.old }
+    requires end { gate < 2 ^ 28 }
+    ensures length { OnOk result (gate + 1 + length commit.now ≤ D.len disk.new) }
+    ensures cause { HasCause (D.faults disk.old) (D.faults disk.new) result }
+    ensures bytes_read { D.honest → (D.state disk.new).bytes_read ≡ (D.state disk.old).bytes_read }
+    ensures bytes { D.honest → OnOk result ((D.state disk.new).content
+        ≡ written gate (open_gate ∷ []) (written (gate + 1) commit.now (D.state disk.old).content)) }
+    ensures durable { D.honest → OnOk result (Only (D.state disk.new).content (D.state disk.new)) }
+    ensures stands { D.honest → (kind count : ℕ) (payloads : List (List ℕ)) (payload : List ℕ) → IsPayload payload
+        → commit.now ≡ body_of payload ++ 0 ∷ [] → ∥ IsPlaced (D.state disk.old).content kind gate count ∥₁ → Holds (D.state disk.old).content kind payloads
+        → OnOk result (Holds (D.state disk.new).content kind (payloads ++ payload ∷ [])) }
+    ensures any_moment { D.honest → (kind count : ℕ) (payloads : List (List ℕ)) (payload : List ℕ) → IsPayload payload
+        → commit.now ≡ body_of payload ++ 0 ∷ [] → ∥ IsPlaced (D.state disk.old).content kind gate count ∥₁ → Holds (D.state disk.old).content kind payloads
+        → Only (D.state disk.old).content (D.state disk.old)
+        → LeavesOnly (D.state disk.old) (D.state disk.new) (IsBeforeOrAfter kind payloads payload) }
+{
+    if put_through(disk, gate + 1, commit).is_err() {
+        return Err(Failed);
+    }
+    put_through(disk, gate, &[OPEN_GATE])
 }
 
 // The length, the payload and a closed gate, in a buffer that has the room for them.
@@ -114,10 +138,7 @@ impl<D: Disk> Journal<D> {
         }
         fill(&mut self.commit, payload);
         self.closed = Some(self.gate);
-        if put_through(&mut self.disk, self.gate + 1, &self.commit).is_err() {
-            return Err(AppendError::Fault);
-        }
-        if put_through(&mut self.disk, self.gate, &[OPEN_GATE]).is_err() {
+        if put_commit(&mut self.disk, self.gate, &self.commit).is_err() {
             return Err(AppendError::Fault);
         }
         self.gate += 5 + payload.len() as u64;

@@ -15,6 +15,21 @@ use std::alloc::Global;
 /// The length of the longest commit: four bytes of length, a payload and a gate.
 const MAX_COMMIT: usize = crate::MAX_PAYLOAD + 5;
 
+// Syncs, and asks for the length.
+fn settle<D: Disk>(disk: &mut D) -> Result<u64, Failed>
+    ensures length { IfOk result (λ n. n ≡ D.len disk.new) }
+    ensures durable { D.honest → OnOk result (Only (D.state disk.new).content (D.state disk.new)) }
+    ensures content { D.honest → (D.state disk.new).content ≡ (D.state disk.old).content }
+    ensures any_moment { D.honest → LeavesOnly (D.state disk.old) (D.state disk.new) (D.state disk.old).IsImage }
+    ensures bytes_read { D.honest → (D.state disk.new).bytes_read ≡ (D.state disk.old).bytes_read }
+    ensures cause { HasCause (D.faults disk.old) (D.faults disk.new) result }
+{
+    if disk.sync().is_err() {
+        return Err(Failed);
+    }
+    disk.len()
+}
+
 // Syncs, and reads all in one call.
 fn read_all<D: Disk>(alloc: Global, disk: &mut D) -> Result<Vec<u8>, MountError>
     ensures bytes { D.honest → IfOk result (λ bytes. bytes.items ≡ (D.state disk.old).content) }
@@ -24,10 +39,7 @@ fn read_all<D: Disk>(alloc: Global, disk: &mut D) -> Result<Vec<u8>, MountError>
     ensures later { D.faults disk.old ≤ D.faults disk.new }
     ensures fault { IfErr result (λ e. (e ≡ MountError.NoMemory) ⊎ ((e ≡ MountError.Fault) × Rose (D.faults disk.old) (D.faults disk.new))) }
 {
-    if disk.sync().is_err() {
-        return Err(MountError::Fault);
-    }
-    let Ok(len) = disk.len() else {
+    let Ok(len) = settle(disk) else {
         return Err(MountError::Fault);
     };
     let Ok(mut bytes) = vec![in alloc; 0; len as usize] else {

@@ -1,11 +1,11 @@
 //! The bytes of a store file, read gate by gate.
-ghost use Rattle.std.specs.Prelude.{◌≡◌, ◌⊎◌, ◌+◌, ◌≤◌, ℕ, length, take, IfOk, IfErr, true, false};
+ghost use Rattle.std.specs.Prelude.{◌≡◌, ◌⊎◌, ◌+◌, ◌≤◌, ◌++◌, ◌∷◌, [], ℕ, length, take, IfOk, IfErr, OnOk, true, false};
 ghost use Rattle.qz_journal.specs.Layout.{IsHeader, Holds, end_of};
 ghost use Rattle.qz_journal.specs.Opening.{IsDamagedBehind};
 
 use crate::MountError;
 use crate::layout::{HEADER_LENGTH, is_header, is_open, split_block};
-use qz_civil::List;
+use qz_civil::{List, let_go};
 use std::alloc::Global;
 
 // What stands in the bytes of a store: payloads, and behind them a closed gate or a bad place, at the offset `gate`.
@@ -49,8 +49,13 @@ pub(crate) fn parse(alloc: Global, bytes: &[u8], kind: u8) -> Result<Parsed, Mou
                 is_whole: false,
             });
         };
-        let copy = Vec::from_slice(alloc, payload)?;
-        payloads.push(List::from_vec(copy))?;
+        match add(alloc, &mut payloads, payload) {
+            Ok(()) => {}
+            Err(error) => {
+                let_go(payloads);
+                return Err(error);
+            }
+        }
         gate += 5 + payload.len() as u64;
         rest = after;
     }
@@ -59,4 +64,14 @@ pub(crate) fn parse(alloc: Global, bytes: &[u8], kind: u8) -> Result<Parsed, Mou
         gate,
         is_whole: false,
     })
+}
+
+// Puts a copy of a payload behind the others.
+fn add(alloc: Global, payloads: &mut List<List<u8>>, payload: &[u8]) -> Result<(), MountError>
+    ensures ok { OnOk result (payloads.new ≡ payloads.old ++ payload.now ∷ []) }
+    ensures err { IfErr result (λ e. e ≡ MountError.NoMemory) }
+{
+    let copy = Vec::from_slice(alloc, payload)?;
+    payloads.push(List::from_vec(copy))?;
+    Ok(())
 }

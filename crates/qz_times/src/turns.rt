@@ -14,7 +14,7 @@ use qz_job_json::{Asked, LineFault, read_asked};
 use std::alloc::Global;
 
 /// What ends the loop at a line.
-#[derive(Clone, Copy, PartialEq, Eq, Debug)]
+#[derive(Clone, Copy)]
 pub(crate) enum LineEnd {
     /// The line is bad.
     Bad(LineFault),

@@ -9,3 +9,4 @@ pub mod StopLaws
 pub mod TrailLaws
 pub mod TurnLaws
 pub mod UptoLaws
+pub mod WorkLaws

@@ -8,3 +8,4 @@ pub mod Statuses
 pub mod Times
 pub mod Trails
 pub mod Turns
+pub mod Worked

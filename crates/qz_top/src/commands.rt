@@ -5,6 +5,7 @@ ghost use Rattle.qz_top.specs.Calls.{OwnDone, RanOnDisk, NotOpened, Abstained, t
 ghost use Rattle.qz_top.specs.Making.{IsInit, IsOfInit, SaysMade};
 ghost use Rattle.qz_top.specs.Statuses.{error_text, Reported};
 ghost use Rattle.qz_top.specs.Times.{TimesDone};
+ghost use Rattle.qz_top.specs.Worked.{Worked};
 ghost use Rattle.qz_words.specs.Wishes.{wish_of};
 ghost use Rattle.qz_words.specs.declared.wishes.WordFault.{WordFault as Fault};
 ghost use Rattle.qz_words.specs.declared.wishes.Wish.TheVariants as wish;
@@ -90,26 +91,8 @@ fn work<S: Source, K: Sink, D: Disk, C: Clock>(
     states: D,
     clock: &mut C,
 ) -> Ended<D>
-    ensures bad_words { (fault : Fault) → wish_of words.now ≡ Err fault → result.status ≡ Status.BadWords fault }
+    ensures worked { Worked (wish_of words.now) triggers states result (S.left input.old) (S.left input.new) (K.held out.old) (K.held out.new) (C.readings clock.old) (C.readings clock.new) }
     ensures bad_words_only { (fault : Fault) → result.status ≡ Status.BadWords fault → wish_of words.now ≡ Err fault }
-    ensures no_wish { (fault : Fault) → wish_of words.now ≡ Err fault
-        → Abstained (S.left input.old) (S.left input.new) (K.held out.old) (K.held out.new) (C.readings clock.old) (C.readings clock.new) }
-    ensures own { wish_of words.now ≡ Ok wish.Own
-        → OwnDone result.status (trail_of result.trail) (S.left input.old) (S.left input.new) (K.held out.old) (K.held out.new) (C.readings clock.old) (C.readings clock.new) }
-    ensures own_disks { wish_of words.now ≡ Ok wish.Own → (result.triggers ≡ triggers) × (result.states ≡ states) }
-    ensures script { wish_of words.now ≡ Ok wish.Script
-        → RanOnDisk triggers result (S.left input.old) (S.left input.new) (K.held out.old) (K.held out.new) (C.readings clock.old) (C.readings clock.new)
-        ⊎ NotOpened triggers result (S.left input.old) (S.left input.new) (K.held out.old) (K.held out.new) (C.readings clock.old) (C.readings clock.new) }
-    ensures script_states { wish_of words.now ≡ Ok wish.Script → result.states ≡ states }
-    ensures init { wish_of words.now ≡ Ok wish.Init → D.honest → IsInit result.status (D.state triggers) (D.state result.triggers) (D.state states) (D.state result.states) }
-    ensures init_ends { wish_of words.now ≡ Ok wish.Init → IsOfInit result.status }
-    ensures init_says { wish_of words.now ≡ Ok wish.Init → SaysMade result.status (K.held out.old) (K.held out.new) }
-    ensures init_reads { wish_of words.now ≡ Ok wish.Init → (S.left input.new ≡ S.left input.old) × (C.readings clock.new ≡ C.readings clock.old) }
-    ensures times { (after : ℤ) (count : ℕ) → wish_of words.now ≡ Ok (wish.Times after count)
-        → TimesDone result.status (record { after = after; count = count }) (S.left input.old) (S.left input.new) (K.held out.old) (K.held out.new) }
-    ensures times_rest { (after : ℤ) (count : ℕ) → wish_of words.now ≡ Ok (wish.Times after count)
-        → (result.triggers ≡ triggers) × (result.states ≡ states) × (C.readings clock.new ≡ C.readings clock.old) }
-    ensures no_script { (wish_of words.now ≡ Ok wish.Own → ⊥) → (wish_of words.now ≡ Ok wish.Script → ⊥) → trail_of result.trail ≡ [] }
     ensures read { result.status ≡ Status.ReadFault → Rose (S.faults input.old) (S.faults input.new) }
     ensures write { result.status ≡ Status.WriteFault → Rose (K.faults out.old) (K.faults out.new) }
     ensures disk { result.status ≡ Status.DiskFault → Rose (D.faults triggers) (D.faults result.triggers) ⊎ Rose (D.faults states) (D.faults result.states) }

@@ -13,7 +13,7 @@ use qz_types::Store;
 use std::alloc::Global;
 
 /// Why there is no new store on a disk, and none that was left.
-#[derive(Clone, Copy, PartialEq, Eq, Debug)]
+#[derive(Clone, Copy)]
 pub(crate) enum Unmade {
     /// The disk begins with the header of the other store.
     OtherKind,

@@ -1,7 +1,10 @@
 //! A script on the stores of two disks.
-ghost use Rattle.std.specs.Prelude.{◌≡◌, ◌⊎◌};
+ghost use Rattle.std.specs.Prelude.{◌≡◌, ◌⊎◌, ◌≤◌, true, false, None, []};
 ghost use Rattle.qz_civil.specs.Causes.{Rose};
-ghost use Rattle.qz_top.specs.Calls.{RanOnDisk, NotOpened, refusal_of};
+ghost use Rattle.qz_trigger_store.specs.Bytes.{Stands};
+ghost use Rattle.qz_cluster.specs.Steps.{ClusterState};
+ghost use Rattle.qz_top.specs.Calls.{begun, RanOnDisk, NotOpened, refusal_of};
+ghost use Rattle.qz_top.specs.Seen.{run_of};
 
 use crate::Status;
 use crate::ended::{Ended, Trail, ran_no_script};
@@ -30,14 +33,34 @@ pub(crate) fn script_on_disk<S: Source, K: Sink, D: Disk, C: Clock>(
     ensures read { result.status ≡ Status.ReadFault → Rose (S.faults input.old) (S.faults input.new) }
     ensures write { result.status ≡ Status.WriteFault → Rose (K.faults out.old) (K.faults out.new) }
 {
-    let cluster = match Cluster::mount(alloc, triggers) {
-        Ok(cluster) => cluster,
-        Err((error, triggers)) => return ran_no_script(alloc, refusal_of(error), triggers, states),
-    };
-    let mut run = match Run::begin(alloc, cluster, false) {
-        Ok(run) => run,
-        Err(cluster) => return ran_no_script(alloc, Status::NoMemory, cluster.into_disk(), states),
-    };
+    match Cluster::mount(alloc, triggers) {
+        Ok(cluster) => match Run::begin(alloc, cluster, false) {
+            Ok(run) => run_opened(alloc, input, out, run, states, clock),
+            Err(cluster) => ran_no_script(alloc, Status::NoMemory, cluster.into_disk(), states),
+        },
+        Err((error, triggers)) => ran_no_script(alloc, refusal_of(error), triggers, states),
+    }
+}
+
+// A script on the store that was opened.
+fn run_opened<S: Source, K: Sink, D: Disk, C: Clock>(
+    alloc: Global,
+    input: &mut S,
+    out: &mut K,
+    mut run: Run<D>,
+    states: D,
+    clock: &mut C,
+) -> Ended<D>
+    // from this state on, and of a disk that it was mounted from
+    ensures done { (triggers : D) (B : ClusterState) → run_of run ≡ begun false B → B.triggers.is_open ≡ true → B.triggers.undecided ≡ None → B.held ≡ []
+        → (D.honest → Stands (D.state triggers).content B.triggers.history) → D.faults triggers ≤ B.triggers.faults
+        → RanOnDisk triggers result (S.left input.old) (S.left input.new) (K.held out.old) (K.held out.new) (C.readings clock.old) (C.readings clock.new) }
+    ensures states { result.states ≡ states }
+    ensures disk { (triggers : D) (B : ClusterState) → run_of run ≡ begun false B → B.triggers.is_open ≡ true → D.faults triggers ≤ B.triggers.faults
+        → result.status ≡ Status.DiskFault → Rose (D.faults triggers) (D.faults result.triggers) }
+    ensures read { result.status ≡ Status.ReadFault → Rose (S.faults input.old) (S.faults input.new) }
+    ensures write { result.status ≡ Status.WriteFault → Rose (K.faults out.old) (K.faults out.new) }
+{
     let status = run_lines(alloc, input, out, &mut run, clock);
     let Run {
         cluster,

@@ -1,6 +1,7 @@
 //! A script on stores in memory.
-ghost use Rattle.std.specs.Prelude.{◌≡◌, IfSome, true};
+ghost use Rattle.std.specs.Prelude.{◌≡◌, IfSome, true, []};
 ghost use Rattle.qz_civil.specs.Causes.{Rose};
+ghost use Rattle.qz_journal.specs.Layout.{Holds};
 ghost use Rattle.qz_cluster.specs.Seen.{state_of};
 ghost use Rattle.qz_top.specs.Calls.{begun, trail_of, OwnDone};
 ghost use Rattle.qz_top.specs.Seen.{run_of, states_in};
@@ -8,8 +9,9 @@ ghost use Rattle.qz_top.specs.Trails.{new_cluster};
 
 use crate::Status;
 use crate::ended::{Ended, Trail};
-use crate::runs::{Run, let_go};
+use crate::runs::Run;
 use crate::scripts::run_lines;
+use qz_civil::let_go;
 use qz_cluster::Cluster;
 use qz_disk::{Disk, MemDisk};
 use qz_io::{Clock, Sink, Source};
@@ -91,20 +93,26 @@ fn new_run(alloc: Global) -> Option<Run<MemDisk>>
 fn new_stores(alloc: Global) -> Option<Cluster<MemDisk>>
     ensures { IfSome result (λ c. state_of c ≡ new_cluster (state_of c).triggers.faults) }
 {
-    let mut triggers = MemDisk::new(alloc);
-    let mut states = MemDisk::new(alloc);
-    match create(&mut states, STATES) {
-        Ok(()) => {}
-        Err(_) => return None,
-    }
-    match create(&mut triggers, TRIGGERS) {
-        Ok(()) => {}
-        Err(_) => return None,
-    }
+    let_go(new_store(alloc, STATES)?);
+    let triggers = new_store(alloc, TRIGGERS)?;
     match Cluster::mount(alloc, triggers) {
         Ok(cluster) => Some(cluster),
         Err(refused) => {
             let_go(refused);
+            None
+        }
+    }
+}
+
+// A disk in memory that has an empty store of this kind.
+fn new_store(alloc: Global, kind: u8) -> Option<MemDisk>
+    ensures { IfSome result (λ disk. Holds (⟦<MemDisk as Disk>⟧.state disk).content kind []) }
+{
+    let mut disk = MemDisk::new(alloc);
+    match create(&mut disk, kind) {
+        Ok(()) => Some(disk),
+        Err(_) => {
+            let_go(disk);
             None
         }
     }

@@ -3,7 +3,7 @@ ghost use Rattle.std.specs.Prelude.{◌≡◌, ◌++◌, codes, OnOk};
 ghost use Rattle.std.specs.Fmt.{decimal};
 ghost use Rattle.std.specs.Io.KnownBytes.{Appends};
 ghost use Rattle.qz_civil.specs.Causes.{HasCause};
-ghost use Rattle.qz_top.specs.Statuses.{kind_text, store_text, need_text, room_text, error_text, Reported};
+ghost use Rattle.qz_top.specs.Statuses.{kind_text, store_text, error_text, Reported};
 
 use crate::{BadKind, Status};
 use itoa::Buffer;
@@ -49,39 +49,36 @@ fn write_damaged<E: Sink>(store: Store, at: u64, err: &mut E) -> Result<(), Fail
     ensures ok { OnOk result (Appends (E.held err.old) (E.held err.new) (error_text (Status.Damaged store at))) }
     ensures cause { HasCause (E.faults err.old) (E.faults err.new) result }
 {
-    let mut buffer = Buffer::new();
-    write_all(err, b"qz: ")?;
-    write_all(err, name_of(store).as_bytes())?;
-    write_all(err, b" damaged at ")?;
-    write_all(err, buffer.format(at).as_bytes())?;
+    write_store(store, err)?;
+    write_number(b" damaged at ", at, err)?;
     write_all(err, b"\n")
+}
+
+fn write_store<E: Sink>(store: Store, err: &mut E) -> Result<(), Failed>
+    ensures ok { OnOk result (Appends (E.held err.old) (E.held err.new) (codes "qz: " ++ store_text store)) }
+    ensures cause { HasCause (E.faults err.old) (E.faults err.new) result }
+{
+    write_all(err, b"qz: ")?;
+    write_all(err, name_of(store).as_bytes())
 }
 
 fn write_full<E: Sink>(need: u64, room: u64, err: &mut E) -> Result<(), Failed>
     ensures ok { OnOk result (Appends (E.held err.old) (E.held err.new) (error_text (Status.JournalFull need room))) }
     ensures cause { HasCause (E.faults err.old) (E.faults err.new) result }
 {
-    write_need(need, err)?;
-    write_room(room, err)
-}
-
-fn write_need<E: Sink>(need: u64, err: &mut E) -> Result<(), Failed>
-    ensures ok { OnOk result (Appends (E.held err.old) (E.held err.new) (need_text need)) }
-    ensures cause { HasCause (E.faults err.old) (E.faults err.new) result }
-{
-    let mut buffer = Buffer::new();
-    write_all(err, b"qz: journal full need ")?;
-    write_all(err, buffer.format(need).as_bytes())
-}
-
-fn write_room<E: Sink>(room: u64, err: &mut E) -> Result<(), Failed>
-    ensures ok { OnOk result (Appends (E.held err.old) (E.held err.new) (room_text room)) }
-    ensures cause { HasCause (E.faults err.old) (E.faults err.new) result }
-{
-    let mut buffer = Buffer::new();
-    write_all(err, b" room ")?;
-    write_all(err, buffer.format(room).as_bytes())?;
+    write_number(b"qz: journal full need ", need, err)?;
+    write_number(b" room ", room, err)?;
     write_all(err, b"\n")
+}
+
+// A text, and a number behind it.
+fn write_number<E: Sink>(text: &[u8], number: u64, err: &mut E) -> Result<(), Failed>
+    ensures ok { OnOk result (Appends (E.held err.old) (E.held err.new) (text.now ++ decimal number)) }
+    ensures cause { HasCause (E.faults err.old) (E.faults err.new) result }
+{
+    let mut buffer = Buffer::new();
+    write_all(err, text)?;
+    write_all(err, buffer.format(number).as_bytes())
 }
 
 fn name_of(store: Store) -> &'static str
@@ -97,9 +94,14 @@ fn write_bad_line<E: Sink>(line: u64, kind: BadKind, err: &mut E) -> Result<(), 
     ensures ok { OnOk result (Appends (E.held err.old) (E.held err.new) (error_text (Status.BadLine line kind))) }
     ensures cause { HasCause (E.faults err.old) (E.faults err.new) result }
 {
-    let mut buffer = Buffer::new();
-    write_all(err, b"qz: line ")?;
-    write_all(err, buffer.format(line).as_bytes())?;
+    write_number(b"qz: line ", line, err)?;
+    write_reason(kind, err)
+}
+
+fn write_reason<E: Sink>(kind: BadKind, err: &mut E) -> Result<(), Failed>
+    ensures ok { OnOk result (Appends (E.held err.old) (E.held err.new) (codes ": " ++ kind_text kind ++ codes "\n")) }
+    ensures cause { HasCause (E.faults err.old) (E.faults err.new) result }
+{
     write_all(err, b": ")?;
     write_kind(kind, err)?;
     write_all(err, b"\n")
@@ -113,17 +115,8 @@ fn write_kind<E: Sink>(kind: BadKind, err: &mut E) -> Result<(), Failed>
         BadKind::TooLong => write_all(err, b"too long"),
         BadKind::NotJson => write_all(err, b"not JSON"),
         BadKind::Shape => write_all(err, b"not a step"),
-        BadKind::Cron(error) => write_cron(error.number(), err),
+        BadKind::Cron(error) => write_number(b"bad cron ", u64::from(error.number()), err),
         BadKind::TooManyLines => write_all(err, b"too many lines"),
         BadKind::NotHere => write_all(err, b"not here"),
     }
-}
-
-fn write_cron<E: Sink>(number: u8, err: &mut E) -> Result<(), Failed>
-    ensures ok { OnOk result (Appends (E.held err.old) (E.held err.new) (codes "bad cron " ++ decimal number)) }
-    ensures cause { HasCause (E.faults err.old) (E.faults err.new) result }
-{
-    let mut buffer = Buffer::new();
-    write_all(err, b"bad cron ")?;
-    write_all(err, buffer.format(number).as_bytes())
 }

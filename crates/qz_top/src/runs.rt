@@ -12,6 +12,3 @@ pub(crate) struct Run<D: Disk> {
     /// Whether the disk is the call's own. That it fails is then want of memory.
     pub(crate) is_own: bool,
 }
-
-// Lets a value go. The cases of its drop are looked at here and nowhere else.
-pub(crate) fn let_go<T: Drop>(_value: T) {}

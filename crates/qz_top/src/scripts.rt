@@ -1,5 +1,5 @@
 //! The script loop.
-ghost use Rattle.std.specs.Prelude.{◌≡◌, ◌≤◌, ℕ, ℤ, List, Err, OnErr, not};
+ghost use Rattle.std.specs.Prelude.{◌≡◌, ◌≤◌, ℕ, ℤ, List, [], Err, OnErr, not};
 ghost use Rattle.qz_civil.specs.Causes.{Rose};
 ghost use Rattle.qz_types.specs.declared.steps.StepReply.{StepReply};
 ghost use Rattle.qz_top.specs.Inputs.{TurnDone, BeyondDone};
@@ -10,6 +10,7 @@ ghost use Rattle.qz_top.specs.Statuses.{status_at, Finishes};
 use crate::runs::Run;
 use crate::turns::{LineEnd, do_line};
 use crate::{BadKind, Status};
+use qz_civil::let_go;
 use qz_disk::Disk;
 use qz_io::{Clock, LINE_COUNT_LIMIT, LineReader, Seen, Sink, Source};
 use std::alloc::Global;
@@ -29,18 +30,40 @@ pub(crate) fn run_lines<S: Source, K: Sink, D: Disk, C: Clock>(
     ensures read { result ≡ Status.ReadFault → Rose (S.faults input.old) (S.faults input.new) }
     ensures write { result ≡ Status.WriteFault → Rose (K.faults out.old) (K.faults out.new) }
 {
-    let mut reader = match LineReader::new(alloc) {
-        Ok(reader) => reader,
-        Err(_) => return Status::NoMemory,
-    };
+    match LineReader::new(alloc) {
+        Ok(mut reader) => {
+            let status = run_read(alloc, &mut reader, run, input, out, clock);
+            let_go(reader);
+            status
+        }
+        Err(_) => Status::NoMemory,
+    }
+}
+
+/// The same, with a reader that holds nothing yet.
+fn run_read<S: Source, K: Sink, D: Disk, C: Clock>(
+    alloc: Global,
+    reader: &mut LineReader,
+    run: &mut Run<D>,
+    input: &mut S,
+    out: &mut K,
+    clock: &mut C,
+) -> Status
+    requires { reader.old.pending ≡ [] }
+    ensures run { (lines : List (List ℕ)) × (readings : List ℤ) × (replies : List StepReply)
+        × IsRun result (run_of run.old) (run_of run.new) (S.left input.old) (S.left input.new) (K.held out.old) (K.held out.new) (C.readings clock.old) (C.readings clock.new) lines readings replies }
+    ensures called { IsOfScript result }
+    ensures read { result ≡ Status.ReadFault → Rose (S.faults input.old) (S.faults input.new) }
+    ensures write { result ≡ Status.WriteFault → Rose (K.faults out.old) (K.faults out.new) }
+{
     for number in 0..LINE_COUNT_LIMIT {
-        match turn(alloc, &mut reader, run, input, out, clock) {
+        match turn(alloc, reader, run, input, out, clock) {
             Ok(true) => {}
             Ok(false) => return finish(out, run.cluster.closed()),
             Err(end) => return status_at(end, number + 1),
         }
     }
-    match beyond(&mut reader, input) {
+    match beyond(reader, input) {
         Ok(true) => Status::BadLine {
             line: LINE_COUNT_LIMIT + 1,
             fault: BadKind::TooManyLines,

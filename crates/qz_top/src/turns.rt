@@ -13,7 +13,8 @@ ghost use Rattle.qz_top.specs.Trails.{Went, is_fault};
 ghost use Rattle.qz_top.specs.Turns.{IsOwn, taken_reading, line_end, StepDone, LineDone, NotDone, NotAnswered};
 
 use crate::BadKind;
-use crate::runs::{Run, let_go};
+use crate::runs::Run;
+use qz_civil::let_go;
 use qz_cluster::StepEnd;
 use qz_disk::Disk;
 use qz_io::{Clock, Sink, write_all};
@@ -24,7 +25,7 @@ use std::alloc::Global;
 use std::snapshot::Snapshot;
 
 /// What ends a script at a line.
-#[derive(Clone, Copy, PartialEq, Eq, Debug)]
+#[derive(Clone, Copy)]
 pub(crate) enum LineEnd {
     /// The line is bad. It did nothing.
     Bad(BadKind),

@@ -1,7 +1,7 @@
 use Rattle.std.proofs.Common.{◌≡◌, ◌≤◌, ℕ, ℤ, List, length}
 use Rattle.qz_top.specs.Inputs.{Upto}
 use Rattle.qz_top.specs.Seen.{run_of}
-use Rattle.qz_top.proofs.scripts.run_lines.Given as goal
+use Rattle.qz_top.proofs.scripts.run_read.Given as goal
 
 abbrev pub invariant-loop-number : goal.invariant-loop-number
 invariant-loop-number g l = record {

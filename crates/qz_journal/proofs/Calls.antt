@@ -1,0 +1,88 @@
+-- What the groups of device calls leave, from what each call does.
+use Rattle.std.proofs.Common.{◌≡◌, ℕ, List, length, drop, Result, false, sym, ◌∙◌, subst, ap, arith, length-take, length-drop}
+use Rattle.std.specs.Prelude.{Ok, Err, OnOk}
+use Rattle.std.specs.Result.{is_err, IsErr}
+use Rattle.qz_disk.specs.Disk.{DiskState, Torn, Only, Stays, LeavesOnly, IsLawful, Measured, Reads, Writes, Syncs, written}
+use Rattle.qz_disk.proofs.Moments.{started, goes_on, torn_same}
+use Rattle.qz_journal.specs.Through.{PutsThrough, OnlyReads}
+use Rattle.qz_journal.proofs.Append.{on_ok}
+use Rattle.qz_journal.proofs.Undecided.{was_image}
+
+always : {T E : Type 0} (r : Result T E) (P : Type 0) → P → OnOk r P
+always (Ok x) P p = p
+always (Err e) P p = tt
+
+pub sync_leaves : {T E : Type 0} (r : Result T E) (s t : DiskState) → IsLawful s → Syncs r s t → LeavesOnly s t s.IsImage
+sync_leaves (Ok x) s t lawful told = goes_on s s t s.IsImage (started s s.IsImage lawful (λ b is. is)) told.time (λ b is. subst s.IsImage (sym (told.durable b is)) lawful.content)
+sync_leaves (Err e) s t lawful told = goes_on s s t s.IsImage (started s s.IsImage lawful (λ b is. is)) told.time (λ b is. (told.failed.images b).0 is)
+
+-- a sync, and the length
+pub settle_leaves : {T E : Type 0} (r : Result T E) (s m t : DiskState) → IsLawful s → IsLawful m → Syncs r s m → Measured m t → LeavesOnly s t s.IsImage
+settle_leaves r s m t before between synced told =
+    let leaves = sync_leaves r s m before synced in
+    goes_on s m t s.IsImage leaves told.time (λ b is. was_image s m between leaves b ((told.same.images b).0 is))
+
+pub settle_durable : {T E U F : Type 0} (q : Result T E) (r : Result U F) (s m t : DiskState) → is_err q ≡ false → Syncs q s m → Measured m t → OnOk r (Only t.content t)
+settle_durable q r s m t ok synced told =
+    always r (Only t.content t) (λ b is. on_ok q _ ok synced.durable b ((told.same.images b).0 is) ∙ sym synced.content ∙ sym told.same.content)
+
+-- and then a read from the first byte on
+pub read_reads : {T E : Type 0} (r : Result T E) (into : List ℕ) (s m t : DiskState) → IsLawful m → m.content ≡ s.content → LeavesOnly s m s.IsImage → m.bytes_read ≡ s.bytes_read → Reads 0 r into m t → OnlyReads s t
+read_reads (Ok x) into s m t lawful content leaves none told = record {
+  content = told.same.content ∙ content;
+  any_moment = goes_on s m t s.IsImage leaves told.time (λ b is. was_image s m lawful leaves b ((told.same.images b).0 is));
+  bytes_read = omega (arith, none, told.bytes_read, ap length told.bytes, length-take (length into) (drop 0 m.content), length-drop 0 m.content, ap length content);
+}
+read_reads (Err e) into s m t lawful content leaves none told = record {
+  content = told.same.content ∙ content;
+  any_moment = goes_on s m t s.IsImage leaves told.time (λ b is. was_image s m lawful leaves b ((told.same.images b).0 is));
+  bytes_read = omega (arith, none, told.failed);
+}
+
+pub write_leaves : {T E : Type 0} (r : Result T E) (at : ℕ) (bytes from : List ℕ) (s t : DiskState) → IsLawful s → Writes at bytes r s t → Only from s → LeavesOnly s t (Torn at (length bytes) from)
+write_leaves r at bytes from s t lawful told only =
+    goes_on s s t (Torn at (length bytes) from) (started s (Torn at (length bytes) from) lawful (λ b is. subst (Torn at (length bytes) from) (sym (only b is)) (torn_same at (length bytes) from))) told.time
+    (λ b is. let was = told.images b is in subst (λ (a : List ℕ). Torn at (length bytes) a b) (only was.0 was.1) was.2)
+
+-- a write that failed
+pub put_failed : {T E U : Type 0} (e : E) (r : Result T E) (at : ℕ) (bytes : List ℕ) (s t : DiskState) → IsErr r → IsLawful s → Writes {T = U} at bytes (Err e) s t → PutsThrough at bytes r s t
+put_failed e (Ok x) at bytes s t failed lawful told = cc
+put_failed e (Err f) at bytes s t failed lawful told = record {
+  content = tt;
+  durable = tt;
+  any_moment = λ from only. write_leaves (Err e) at bytes from s t lawful told only;
+  bytes_read = told.bytes_read;
+}
+
+-- a write, and a sync
+pub puts : {T U E : Type 0} (x : U) (r : Result T E) (at : ℕ) (bytes : List ℕ) (s m t : DiskState) → IsLawful s → IsLawful m → Writes {E = E} at bytes (Ok x) s m → Syncs r m t → PutsThrough at bytes r s t
+puts x r at bytes s m t before between wrote synced = record {
+  content = always r (t.content ≡ written at bytes s.content) (synced.content ∙ wrote.content);
+  durable = stands r synced;
+  any_moment = λ from only.
+      let leaves = write_leaves (Ok x) at bytes from s m before wrote only in
+      goes_on s m t (Torn at (length bytes) from) leaves synced.time
+      (λ b is. let was = wrote.images b (image r synced b is) in subst (λ (a : List ℕ). Torn at (length bytes) a b) (only was.0 was.1) was.2);
+  bytes_read = synced.bytes_read ∙ wrote.bytes_read;
+}
+  where
+    stands : {T E : Type 0} (r : Result T E) → Syncs r m t → OnOk r (Only t.content t)
+    stands (Ok y) synced = λ b is. synced.durable b is ∙ sym synced.content
+    stands (Err e) synced = tt
+
+    image : {T E : Type 0} (r : Result T E) → Syncs r m t → (b : List ℕ) → t.IsImage b → m.IsImage b
+    image (Ok y) synced b is = subst m.IsImage (sym (synced.durable b is)) between.content
+    image (Err e) synced b is = (synced.failed.images b).0 is
+
+pub both_stay : (s m t : DiskState) → Stays s m → Stays m t → Stays s t
+both_stay s m t first second = record {
+  content = second.content ∙ first.content;
+  images = λ b. (λ is. (first.images b).0 ((second.images b).0 is), λ is. (second.images b).1 ((first.images b).1 is));
+}
+
+pub len_leaves : (s t : DiskState) → IsLawful s → Measured s t → LeavesOnly s t s.IsImage
+len_leaves s t lawful told = goes_on s s t s.IsImage (started s s.IsImage lawful (λ b is. is)) told.time (λ b is. (told.same.images b).0 is)
+
+-- the length, and a read
+pub front_leaves : {T E : Type 0} (r : Result T E) (at : ℕ) (into : List ℕ) (s m t : DiskState) → IsLawful s → Measured s m → Reads at r into m t → LeavesOnly s t s.IsImage
+front_leaves r at into s m t lawful measured told = goes_on s m t s.IsImage (len_leaves s m lawful measured) told.time (λ b is. (measured.same.images b).0 ((told.same.images b).0 is))

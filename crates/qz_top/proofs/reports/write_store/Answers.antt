@@ -1,0 +1,6 @@
+use Rattle.std.specs.Prelude.{codes}
+use Rattle.qz_top.proofs.Pieces.{wrote_both}
+use Rattle.qz_top.proofs.reports.write_store.Goals as goal
+
+pub returns-clause-ok : goal.returns-clause-ok
+returns-clause-ok g c = wrote_both _ _ _ _ (codes "qz: ") _ c.in_ok-write_all.ensures.ok (rw (c.as_bytes.ensures.value, c.name_of.ensures) at c.write_all-2.ensures.ok)
