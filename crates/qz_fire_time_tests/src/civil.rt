@@ -4,36 +4,45 @@ mod rules;
 mod zones;
 
 use qz_civil::{List, NoMemory, Text};
+use std::alloc::Global;
 use std::cmp::Ordering;
 use std::test::Fail;
 
-#[test]
-fn lists_keep_their_items(rt: HostRuntime) -> Result<(), Fail> {
-    let alloc = rt.alloc();
+// Whether a list holds what was put in, in its order, and a copy too.
+fn keeps_its_items(alloc: Global) -> Result<bool, Fail> {
     let mut list = List::new(alloc);
-    assert!(rt; list.is_empty());
+    let was_empty = list.is_empty();
     list.push(7u64)?;
     list.push(9)?;
     list.insert(1, 8)?;
-    assert!(rt; list.len() == 3);
-    assert_eq!(rt; list.as_slice(), [7, 8, 9].as_slice());
-    assert!(rt; list == list.clone()?);
-    assert_eq!(rt; list.remove(0), 7);
-    let items = list.into_vec();
-    assert_eq!(rt; List::from_vec(items).as_slice(), [8, 9].as_slice());
+    let copy = list.clone()?;
+    let is_whole = list.len() == 3 && list.as_slice() == [7, 8, 9].as_slice() && list == copy;
+    let first = list.remove(0);
+    let rest = List::from_vec(list.into_vec());
+    Ok(was_empty && is_whole && first == 7 && rest.as_slice() == [8, 9].as_slice())
+}
+
+#[test]
+fn lists_keep_their_items(rt: HostRuntime) -> Result<(), Fail> {
+    assert!(rt; keeps_its_items(rt.alloc())?);
     Ok(())
+}
+
+// Whether B comes before a, and each is the same as its copy alone.
+fn is_ordered_by_bytes(alloc: Global) -> Result<bool, Fail> {
+    let upper = Text::from_str(alloc, "B")?;
+    let lower = Text::from_str(alloc, "a")?;
+    let copy = upper.copy()?;
+    let is_told_apart = upper.same(&copy) && !upper.same(&lower);
+    let is_less = upper.cmp(&lower) == Ordering::Less;
+    let again = Text::from_string(upper.into_string());
+    Ok(is_told_apart && is_less && again.as_str() == "B")
 }
 
 #[test]
 fn texts_are_ordered_by_bytes(rt: HostRuntime) -> Result<(), Fail> {
-    let alloc = rt.alloc();
-    let upper = Text::from_str(alloc, "B")?;
-    let lower = Text::from_str(alloc, "a")?;
-    assert!(rt; upper.cmp(&lower) == Ordering::Less);
-    assert!(rt; upper.same(&upper.copy()?) && !upper.same(&lower));
-    assert!(rt; Text::new(alloc).len() == 0);
-    let again = Text::from_string(upper.into_string());
-    assert_eq!(rt; again.as_str(), "B");
-    assert_eq!(rt; NoMemory.to_string(alloc)?.as_str(), "no memory");
+    assert!(rt; is_ordered_by_bytes(rt.alloc())?);
+    assert!(rt; Text::new(rt.alloc()).len() == 0);
+    assert!(rt; NoMemory.to_string(rt.alloc())?.as_str() == "no memory");
     Ok(())
 }

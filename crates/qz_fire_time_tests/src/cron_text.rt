@@ -1,6 +1,7 @@
 //! Texts with what they say, and with their faults.
 use qz_civil::{CronFields, DayField, WeekField};
 use qz_cron_text::{CronError, parse, print};
+use std::alloc::Global;
 use std::test::Fail;
 
 /// The text's fault, if it has one.
@@ -19,7 +20,10 @@ fn other_numbers_of_fields(rt: HostRuntime) {
         ("x 60 0/0", 3),
     ];
     for (text, found) in &table {
-        assert_eq!(rt; fault(text), Some(CronError::FieldCount { found: *found }));
+        assert!(rt;
+            fault(text) == Some(CronError::FieldCount { found: *found }),
+            "at {text}"
+        );
     }
 }
 
@@ -46,12 +50,13 @@ fn elements_of_no_form(rt: HostRuntime) {
         ("0 0 0 ? * 1 L", 7, 12),
     ];
     for (text, field, at) in &table {
-        assert_eq!(rt;
-            fault(text),
-            Some(CronError::BadToken {
-                field: *field,
-                at: *at
-            })
+        assert!(rt;
+            fault(text)
+                == Some(CronError::BadToken {
+                    field: *field,
+                    at: *at
+                }),
+            "at {text}"
         );
     }
 }
@@ -77,12 +82,13 @@ fn values_out_of_range(rt: HostRuntime) {
         ("0 0 0 ? * 1 2030-1960", 7, 2030),
     ];
     for (text, field, value) in &table {
-        assert_eq!(rt;
-            fault(text),
-            Some(CronError::OutOfRange {
-                field: *field,
-                value: *value
-            })
+        assert!(rt;
+            fault(text)
+                == Some(CronError::OutOfRange {
+                    field: *field,
+                    value: *value
+                }),
+            "at {text}"
         );
     }
 }
@@ -104,7 +110,7 @@ fn faults_of_whole_fields_and_texts(rt: HostRuntime) {
         ("0 0 0 ? * 2#1,2#2", CronError::NotAlone { field: 6 }),
     ];
     for (text, want) in &table {
-        assert_eq!(rt; fault(text), Some(*want));
+        assert!(rt; fault(text) == Some(*want), "at {text}");
     }
 }
 
@@ -131,7 +137,7 @@ fn of_several_faults_the_first(rt: HostRuntime) {
         ),
     ];
     for (text, want) in &table {
-        assert_eq!(rt; fault(text), Some(*want));
+        assert!(rt; fault(text) == Some(*want), "at {text}");
     }
 }
 
@@ -179,10 +185,17 @@ fn faults_have_numbers_and_texts(rt: HostRuntime) -> Result<(), Fail> {
         ),
     ];
     for (error, number, text) in &table {
-        assert_eq!(rt; error.number(), *number);
-        assert_eq!(rt; error.to_string(alloc)?.as_str(), *text);
+        assert!(rt; error.number() == *number);
+        assert!(rt; error.to_string(alloc)?.as_str() == *text, "at {text}");
     }
     Ok(())
+}
+
+// Whether what the text says is printed so, and what is printed says the same.
+fn prints_as(alloc: Global, text: &str, canonical: &str) -> Result<bool, Fail> {
+    let fields = parse(text)?;
+    let printed = print(alloc, &fields)?;
+    Ok(printed.as_str() == canonical && parse(printed.as_str())? == fields)
 }
 
 #[test]
@@ -213,10 +226,7 @@ fn texts_with_their_canonical_texts(rt: HostRuntime) -> Result<(), Fail> {
         ),
     ];
     for (text, canonical) in &table {
-        let fields = parse(text)?;
-        let printed = print(rt.alloc(), &fields)?;
-        assert_eq!(rt; printed.as_str(), *canonical);
-        assert_eq!(rt; parse(printed.as_str())?, fields);
+        assert!(rt; prints_as(rt.alloc(), text, canonical)?, "{text}");
     }
     Ok(())
 }
@@ -232,7 +242,7 @@ fn texts_with_their_fields(rt: HostRuntime) -> Result<(), Fail> {
         week: WeekField::Set(0b0111110),
         years: [u64::MAX, u64::MAX, 3, 0],
     };
-    assert_eq!(rt; parse("0 30 8 ? * MON-FRI")?, every_morning);
+    assert!(rt; parse("0 30 8 ? * MON-FRI")? == every_morning);
     let some_years = CronFields {
         seconds: 1 | 1 << 59,
         minutes: 1,
@@ -242,6 +252,6 @@ fn texts_with_their_fields(rt: HostRuntime) -> Result<(), Fail> {
         week: WeekField::Any,
         years: [1, 1, 2, 0],
     };
-    assert_eq!(rt; parse("0,59 0 23 1W JAN ? 1970,2034,2099")?, some_years);
+    assert!(rt; parse("0,59 0 23 1W JAN ? 1970,2034,2099")? == some_years);
     Ok(())
 }

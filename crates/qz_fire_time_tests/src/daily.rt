@@ -77,7 +77,7 @@ fn times_of_day(rt: HostRuntime) {
             to: to * HOUR,
             ..work(&zone)
         };
-        assert_eq!(rt; next_of(&trigger, after), wanted);
+        assert!(rt; next_of(&trigger, after) == wanted, "at {after}");
     }
 }
 
@@ -89,8 +89,8 @@ fn a_step_of_a_day(rt: HostRuntime) {
         every: 24,
         ..each(&zone)
     };
-    assert_eq!(rt; next_of(&midnight, -1), Some(0));
-    assert_eq!(rt; next_of(&midnight, MONDAY), Some(1704153600000));
+    assert!(rt; next_of(&midnight, -1) == Some(0));
+    assert!(rt; next_of(&midnight, MONDAY) == Some(1704153600000));
 }
 
 /// The start is the first, and the end is none.
@@ -115,7 +115,7 @@ fn both_ends(rt: HostRuntime) {
             end,
             ..work(&zone)
         };
-        assert_eq!(rt; next_of(&trigger, after), wanted);
+        assert!(rt; next_of(&trigger, after) == wanted, "at {after}");
     }
 }
 
@@ -132,7 +132,7 @@ fn each_second(rt: HostRuntime) {
         (LAST, None),
     ];
     for (after, wanted) in rows {
-        assert_eq!(rt; next_of(&each(&zone), after), wanted);
+        assert!(rt; next_of(&each(&zone), after) == wanted, "at {after}");
     }
 }
 
@@ -157,15 +157,19 @@ fn days_of_the_week(rt: HostRuntime) {
         (0, MONDAY, None),
     ];
     for (days, after, wanted) in rows {
-        assert_eq!(rt; next_of(&DailyTimes { days, ..noon }, after), wanted);
+        assert!(rt;
+            next_of(&DailyTimes { days, ..noon }, after) == wanted,
+            "at {after}"
+        );
     }
 }
 
-// 2:00, 2:30 and 3:00, where the clock goes from 2 to 3 o'clock on 31 March, and from 3 to 2 on 27 October.
-#[test]
-fn an_hour_lost_and_found(rt: HostRuntime) -> Result<(), Fail> {
-    let table = [(0, 3600), (1711846800000, 7200), (1729990800000, 3600)];
-    let zone = zone_of(rt.alloc(), &table)?;
+// From 2:00 to 3:00, each half hour, in the zone of the table.
+fn next_early(alloc: Global, table: &[(i64, i32)], after: i64) -> Result<Option<i64>, Fail>
+    requires low { negsuc 0 ≤ℤ after }
+    requires high { after ≤ℤ LAST }
+{
+    let zone = zone_of(alloc, table)?;
     let early = DailyTimes {
         unit: Unit::Minute,
         every: 30,
@@ -173,6 +177,13 @@ fn an_hour_lost_and_found(rt: HostRuntime) -> Result<(), Fail> {
         to: 3 * HOUR,
         ..each(&zone)
     };
+    Ok(next_of(&early, after))
+}
+
+// 2:00, 2:30 and 3:00, where the clock goes from 2 to 3 o'clock on 31 March, and from 3 to 2 on 27 October.
+#[test]
+fn an_hour_lost_and_found(rt: HostRuntime) -> Result<(), Fail> {
+    let table = [(0, 3600), (1711846800000, 7200), (1729990800000, 3600)];
     let rows = [
         (1711763999999, Some(1711764000000)),
         (1711764000000, Some(1711846800000)),
@@ -185,9 +196,25 @@ fn an_hour_lost_and_found(rt: HostRuntime) -> Result<(), Fail> {
         (1729994400000, Some(1730077200000)),
     ];
     for (after, wanted) in rows {
-        assert_eq!(rt; next_of(&early, after), wanted);
+        assert!(rt;
+            next_early(rt.alloc(), &table, after)? == wanted,
+            "at {after}"
+        );
     }
     Ok(())
+}
+
+// Each second of these days, at this offset from UTC.
+fn next_at(alloc: Global, offset: i32, days: u8, after: i64) -> Result<Option<i64>, Fail>
+    requires low { negsuc 0 ≤ℤ after }
+    requires high { after ≤ℤ LAST }
+{
+    let zone = zone_of(alloc, &[(0, offset)])?;
+    let trigger = DailyTimes {
+        days,
+        ..each(&zone)
+    };
+    Ok(next_of(&trigger, after))
 }
 
 // The weekday is the local clock's: 1970-01-01 was a Thursday, and so was 2099-12-31.
@@ -203,16 +230,9 @@ fn the_farthest_clocks(rt: HostRuntime) -> Result<(), Fail> {
         (64800, 127, 4102444799000, None),
     ];
     for (offset, days, after, wanted) in rows {
-        let zone = zone_of(rt.alloc(), &[(0, offset)])?;
-        assert_eq!(rt;
-            next_of(
-                &DailyTimes {
-                    days,
-                    ..each(&zone)
-                },
-                after
-            ),
-            wanted
+        assert!(rt;
+            next_at(rt.alloc(), offset, days, after)? == wanted,
+            "at {after}"
         );
     }
     Ok(())

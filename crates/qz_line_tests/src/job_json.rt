@@ -1,12 +1,10 @@
 //! Lines with what they say: the step as its `Debug` text, `blank`, or the fault.
 mod asked;
 
+use qz_civil::let_go;
 use qz_job_json::{Given, LineFault, read_step};
 use std::alloc::{AllocError, Global};
 use std::test::Fail;
-
-// Lets a value go. The cases of its drop are looked at here and nowhere else.
-fn let_go<T: Drop>(_value: T) {}
 
 fn text_of(alloc: Global, read: &Result<Option<Given>, LineFault>) -> Result<String, AllocError> {
     match read {
@@ -16,11 +14,12 @@ fn text_of(alloc: Global, read: &Result<Option<Given>, LineFault>) -> Result<Str
     }
 }
 
-fn meaning(alloc: Global, line: &[u8]) -> Result<String, AllocError> {
-    let read = read_step(alloc, line);
+// Whether the line says this. What it says is let go here and nowhere else.
+fn says(alloc: Global, line: &str, want: &str) -> Result<bool, AllocError> {
+    let read = read_step(alloc, line.as_bytes());
     let text = text_of(alloc, &read);
     let_go(read);
-    text
+    Ok(text?.as_str() == want)
 }
 
 // What is wrong with a line. A step is let go here and nowhere else.
@@ -59,8 +58,7 @@ fn lines_are_steps(rt: HostRuntime) -> Result<(), Fail> {
         (" \t\r ", "blank"),
     ];
     for (line, want) in table {
-        let said = meaning(rt.alloc(), line.as_bytes())?;
-        assert_eq!(rt; said.as_str(), want, "at {line}");
+        assert!(rt; says(rt.alloc(), line, want)?, "at {line}");
     }
     Ok(())
 }
@@ -124,13 +122,18 @@ fn faults_come_in_their_order(rt: HostRuntime) -> Result<(), Fail> {
         (r#"["do"]"#, LineFault::Shape),
     ];
     for (line, want) in table {
-        assert_eq!(rt;
-            fault_of(rt.alloc(), line.as_bytes()),
-            Some(want),
+        assert!(rt;
+            fault_of(rt.alloc(), line.as_bytes()) == Some(want),
             "at {line}"
         );
     }
     Ok(())
+}
+
+/// The fault of a line with this reading of the clock.
+fn fault_of_reading(alloc: Global, number: &str) -> Result<Option<LineFault>, AllocError> {
+    let line = format!(in alloc; "{{\"do\":\"join\",\"node\":\"A\",\"at\":{number}}}")?;
+    Ok(fault_of(alloc, line.as_bytes()))
 }
 
 /// Numbers of 64 bits are steps, and other JSON numbers aren't; what the JSON reader can't hold isn't JSON.
@@ -148,8 +151,7 @@ fn numbers_have_64_bits(rt: HostRuntime) -> Result<(), Fail> {
         ("1e999", Some(LineFault::NotJson)),
     ];
     for (number, want) in table {
-        let line = format!(in alloc; "{{\"do\":\"join\",\"node\":\"A\",\"at\":{number}}}")?;
-        assert_eq!(rt; fault_of(alloc, line.as_bytes()), want, "at {number}");
+        assert!(rt; fault_of_reading(alloc, number)? == want, "at {number}");
     }
     Ok(())
 }
@@ -171,10 +173,10 @@ fn fault_of_row(alloc: Global, byte: u8, count: usize) -> Result<Option<LineFaul
 #[test]
 fn lengths_have_limits(rt: HostRuntime) -> Result<(), Fail> {
     let alloc = rt.alloc();
-    assert_eq!(rt; fault_of_row(alloc, b' ', 65536)?, None);
-    assert_eq!(rt; fault_of_row(alloc, b' ', 65537)?, Some(LineFault::TooLong));
-    assert_eq!(rt; fault_of_row(alloc, b'9', 400)?, Some(LineFault::NotJson));
-    assert_eq!(rt; fault_of_row(alloc, b'\xff', 2)?, Some(LineFault::NotJson));
+    assert!(rt; fault_of_row(alloc, b' ', 65536)? == None);
+    assert!(rt; fault_of_row(alloc, b' ', 65537)? == Some(LineFault::TooLong));
+    assert!(rt; fault_of_row(alloc, b'9', 400)? == Some(LineFault::NotJson));
+    assert!(rt; fault_of_row(alloc, b'\xff', 2)? == Some(LineFault::NotJson));
     Ok(())
 }
 
@@ -186,8 +188,8 @@ fn fault_of_nested(alloc: Global, depth: usize) -> Result<Option<LineFault>, All
 
 #[test]
 fn arrays_nest_127_deep(rt: HostRuntime) -> Result<(), Fail> {
-    assert_eq!(rt; fault_of_nested(rt.alloc(), 127)?, Some(LineFault::Shape));
-    assert_eq!(rt; fault_of_nested(rt.alloc(), 128)?, Some(LineFault::NotJson));
+    assert!(rt; fault_of_nested(rt.alloc(), 127)? == Some(LineFault::Shape));
+    assert!(rt; fault_of_nested(rt.alloc(), 128)? == Some(LineFault::NotJson));
     Ok(())
 }
 
@@ -202,7 +204,7 @@ fn fault_of_node(alloc: Global, count: usize) -> Result<Option<LineFault>, Alloc
 
 #[test]
 fn nodes_have_120_bytes(rt: HostRuntime) -> Result<(), Fail> {
-    assert_eq!(rt; fault_of_node(rt.alloc(), 120)?, None);
-    assert_eq!(rt; fault_of_node(rt.alloc(), 121)?, Some(LineFault::Shape));
+    assert!(rt; fault_of_node(rt.alloc(), 120)? == None);
+    assert!(rt; fault_of_node(rt.alloc(), 121)? == Some(LineFault::Shape));
     Ok(())
 }

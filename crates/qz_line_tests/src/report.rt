@@ -1,6 +1,7 @@
 //! Replies with their lines.
 ghost use Rattle.std.specs.Prelude.{◌≡◌, IfOk};
 
+use qz_civil::{beside, let_go};
 use qz_report::{reply_line, times_line};
 use qz_types::{JobRow, Key, List, NoMemory, Refusal, Reply, StepReply, Taken, Text};
 use std::alloc::{AllocError, Global};
@@ -16,95 +17,90 @@ fn key(alloc: Global, group: &str, name: &str) -> Result<Key, AllocError>
     })
 }
 
-// The line of a reply, which is let go here and nowhere else.
-fn line_of(alloc: Global, reply: StepReply) -> Result<Text, NoMemory> {
-    reply_line(alloc, &reply)
+// Whether this is the reply's line. The reply and its line are let go here and nowhere else.
+fn has_line(alloc: Global, reply: StepReply, line: &str) -> bool {
+    let told = reply_line(alloc, &reply);
+    let_go(reply);
+    match told {
+        Ok(text) => text.as_str() == line,
+        Err(NoMemory) => false,
+    }
 }
 
-fn refused(alloc: Global, refusal: Refusal) -> Result<Text, NoMemory> {
-    line_of(alloc, StepReply::Refused(refusal))
+fn is_answered(alloc: Global, reply: Reply, line: &str) -> bool {
+    has_line(alloc, StepReply::Ok(reply), line)
 }
 
-#[test]
-fn replies_have_their_lines(rt: HostRuntime) -> Result<(), Fail> {
-    let alloc = rt.alloc();
-    let next = 1704067200000;
-    let joined = Reply::Joined {
+fn is_refused(alloc: Global, refusal: Refusal, line: &str) -> bool {
+    has_line(alloc, StepReply::Refused(refusal), line)
+}
+
+// A node became a member, and its former self had executions.
+fn joined() -> Reply {
+    Reply::Joined {
         epoch: 1,
         executions: 20,
         triggers: 3,
-    };
-    let completed = Reply::Completed { entry: u64::MAX };
-    assert_eq!(rt;
-        line_of(alloc, StepReply::Ok(Reply::Done))?.as_str(),
-        "ok\n"
-    );
-    assert_eq!(rt;
-        line_of(alloc, StepReply::Ok(Reply::Added { next }))?.as_str(),
-        "ok next 1704067200000\n"
-    );
-    assert_eq!(rt;
-        line_of(alloc, StepReply::Ok(joined))?.as_str(),
-        "joined 1 executions 20 triggers 3\n"
-    );
-    assert_eq!(rt;
-        line_of(alloc, StepReply::Ok(completed))?.as_str(),
-        "completed 18446744073709551615\n"
-    );
-    assert_eq!(rt; line_of(alloc, StepReply::Fault)?.as_str(), "fault\n");
-    assert_eq!(rt; line_of(alloc, StepReply::Closed)?.as_str(), "closed\n");
-    assert_eq!(rt; line_of(alloc, StepReply::Stopped)?.as_str(), "stopped\n");
-    Ok(())
+    }
 }
 
 #[test]
-fn refusals_have_their_lines(rt: HostRuntime) -> Result<(), Fail> {
+fn replies_have_their_lines(rt: HostRuntime) {
     let alloc = rt.alloc();
-    assert_eq!(rt; refused(alloc, Refusal::Unbuilt)?.as_str(), "refused 0\n");
-    assert_eq!(rt;
-        refused(alloc, Refusal::Fenced { live: Some(7) })?.as_str(),
-        "refused 1 live 7\n"
+    let next = 1704067200000;
+    let entry = u64::MAX;
+    assert!(rt; is_answered(alloc, Reply::Done, "ok\n"));
+    assert!(rt; is_answered(alloc, Reply::Added { next }, "ok next 1704067200000\n"));
+    assert!(rt; is_answered(alloc, joined(), "joined 1 executions 20 triggers 3\n"));
+    assert!(rt;
+        is_answered(
+            alloc,
+            Reply::Completed { entry },
+            "completed 18446744073709551615\n"
+        )
     );
-    assert_eq!(rt;
-        refused(alloc, Refusal::Fenced { live: None })?.as_str(),
-        "refused 1 live none\n"
+    assert!(rt; has_line(alloc, StepReply::Fault, "fault\n"));
+    assert!(rt; has_line(alloc, StepReply::Closed, "closed\n"));
+    assert!(rt; has_line(alloc, StepReply::Stopped, "stopped\n"));
+}
+
+#[test]
+fn refusals_have_their_lines(rt: HostRuntime) {
+    let alloc = rt.alloc();
+    assert!(rt; is_refused(alloc, Refusal::Unbuilt, "refused 0\n"));
+    assert!(rt;
+        is_refused(
+            alloc,
+            Refusal::Fenced { live: Some(7) },
+            "refused 1 live 7\n"
+        )
     );
-    assert_eq!(rt;
-        refused(alloc, Refusal::UnknownJob)?.as_str(),
-        "refused 3\n"
+    assert!(rt;
+        is_refused(
+            alloc,
+            Refusal::Fenced { live: None },
+            "refused 1 live none\n"
+        )
     );
-    assert_eq!(rt;
-        refused(alloc, Refusal::UnknownEntry)?.as_str(),
-        "refused 15\n"
+    assert!(rt; is_refused(alloc, Refusal::UnknownJob, "refused 3\n"));
+    assert!(rt; is_refused(alloc, Refusal::UnknownEntry, "refused 15\n"));
+    assert!(rt; is_refused(alloc, Refusal::Early { next: -1 }, "refused 19 next -1\n"));
+    assert!(rt; is_refused(alloc, Refusal::ZoneExists, "refused 10\n"));
+    assert!(rt;
+        is_refused(
+            alloc,
+            Refusal::TooMany { count: 4096 },
+            "refused 22 count 4096\n"
+        )
     );
-    assert_eq!(rt;
-        refused(alloc, Refusal::Early { next: -1 })?.as_str(),
-        "refused 19 next -1\n"
-    );
-    assert_eq!(rt;
-        refused(alloc, Refusal::ZoneExists)?.as_str(),
-        "refused 10\n"
-    );
-    assert_eq!(rt;
-        refused(alloc, Refusal::TooMany { count: 4096 })?.as_str(),
-        "refused 22 count 4096\n"
-    );
-    Ok(())
 }
 
 #[test]
 fn acquired_keys_are_escaped(rt: HostRuntime) -> Result<(), Fail> {
     let alloc = rt.alloc();
-    let none = Reply::Acquired(List::new(alloc));
-    assert_eq!(rt;
-        line_of(alloc, StepReply::Ok(none))?.as_str(),
-        "acquired none\n"
-    );
-    let two = Reply::Acquired(two_taken(alloc)?);
-    assert_eq!(rt;
-        line_of(alloc, StepReply::Ok(two))?.as_str(),
-        "acquired 2 a%2Fb/50%25%20%C3%A9 5 1 !~/%7F%0A 4\n"
-    );
+    let line = "acquired 2 a%2Fb/50%25%20%C3%A9 5 1 !~/%7F%0A 4\n";
+    assert!(rt; is_answered(alloc, Reply::Acquired(List::new(alloc)), "acquired none\n"));
+    assert!(rt; is_answered(alloc, Reply::Acquired(two_taken(alloc)?), line));
     Ok(())
 }
 
@@ -129,49 +125,60 @@ fn taken_one(
     })
 }
 
-fn fired(alloc: Global, next: Option<i64>) -> Result<Text, NoMemory> {
-    let job = JobRow {
-        key: key(alloc, "DEFAULT", "report")?,
-        class: Text::from_str(alloc, "ok")?,
+fn job(alloc: Global) -> Result<JobRow, AllocError> {
+    let key = key(alloc, "DEFAULT", "report")?;
+    let (key, class) = beside(key, Text::from_str(alloc, "ok"))?;
+    Ok(JobRow {
+        key,
+        class,
         durable: false,
         no_concurrent: false,
         requests_recovery: false,
         payload: Text::new(alloc),
-    };
-    let trigger = key(alloc, "DEFAULT", "t1")?;
-    line_of(
-        alloc,
-        StepReply::Ok(Reply::Fired {
-            entry: 1,
-            scheduled: 10,
-            fired: 12,
-            next,
-            trigger,
-            job,
-        }),
-    )
+    })
+}
+
+fn fired(alloc: Global, next: Option<i64>) -> Result<Reply, AllocError> {
+    let job = job(alloc)?;
+    let (job, trigger) = beside(job, key(alloc, "DEFAULT", "t1"))?;
+    Ok(Reply::Fired {
+        entry: 1,
+        scheduled: 10,
+        fired: 12,
+        next,
+        trigger,
+        job,
+    })
 }
 
 #[test]
 fn fired_tells_the_next_time(rt: HostRuntime) -> Result<(), Fail> {
-    let none = fired(rt.alloc(), None)?;
-    assert_eq!(rt; none.as_str(), "fired 1 scheduled 10 at 12 next none\n");
-    let some = fired(rt.alloc(), Some(20))?;
-    assert_eq!(rt; some.as_str(), "fired 1 scheduled 10 at 12 next 20\n");
+    let alloc = rt.alloc();
+    let none = "fired 1 scheduled 10 at 12 next none\n";
+    let some = "fired 1 scheduled 10 at 12 next 20\n";
+    assert!(rt; is_answered(alloc, fired(alloc, None)?, none));
+    assert!(rt; is_answered(alloc, fired(alloc, Some(20))?, some));
     Ok(())
+}
+
+// Whether this is the line of a trigger with these times.
+fn have_line(alloc: Global, times: &[i64], line: &str) -> Result<bool, NoMemory> {
+    let key = key(alloc, "a b", "t1")?;
+    let told = times_line(alloc, &key, times);
+    let_go(key);
+    Ok(told?.as_str() == line)
 }
 
 #[test]
 fn times_have_their_lines(rt: HostRuntime) -> Result<(), Fail> {
     let alloc = rt.alloc();
-    let key = key(alloc, "a b", "t1")?;
-    assert_eq!(rt;
-        times_line(alloc, &key, &[])?.as_str(),
-        "times a%20b/t1 none\n"
-    );
-    assert_eq!(rt;
-        times_line(alloc, &key, &[0, 1704067200000])?.as_str(),
-        "times a%20b/t1 0 1704067200000\n"
+    assert!(rt; have_line(alloc, &[], "times a%20b/t1 none\n")?);
+    assert!(rt;
+        have_line(
+            alloc,
+            &[0, 1704067200000],
+            "times a%20b/t1 0 1704067200000\n"
+        )?
     );
     Ok(())
 }

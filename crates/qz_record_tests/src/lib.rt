@@ -3,7 +3,3 @@
 
 #[cfg(test)]
 mod records;
-
-// Lets a value go. The cases of its drop are looked at here and nowhere else.
-#[cfg(test)]
-pub(crate) fn let_go<T: Drop>(_value: T) {}

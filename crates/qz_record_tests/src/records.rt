@@ -6,7 +6,7 @@ mod limits;
 mod rows;
 mod states;
 
-use crate::let_go;
+use qz_civil::let_go;
 use qz_codec::*;
 use qz_types::{
     Actor, CalendarRow, Command, Entry, FiredRow, JobRow, List, MemberRow, StateRow, Text,
@@ -230,30 +230,35 @@ const SIX: [(Of, &[u8]); 6] = [
     (Of::Entry, COMPLETE),
 ];
 
-// Each is read, and written as before.
-fn go_both_ways(rt: &impl Abort, alloc: Global, samples: &[(Of, &[u8])]) -> Result<(), Fail> {
-    for (of, record) in samples {
-        let bytes = again(alloc, *of, record).ok_or("a record")?;
-        assert_eq!(rt; bytes.as_slice(), *record, "{of:?}");
+// Whether a record is read, and written as before.
+fn is_again(alloc: Global, of: Of, record: &[u8]) -> bool {
+    match again(alloc, of, record) {
+        Some(bytes) => bytes.as_slice() == record,
+        None => false,
     }
-    Ok(())
+}
+
+fn go_both_ways(rt: &impl Abort, alloc: Global, samples: &[(Of, &[u8])]) {
+    for (of, record) in samples {
+        assert!(rt; is_again(alloc, *of, record), "{of:?}");
+    }
 }
 
 #[test]
-fn both_ways(rt: HostRuntime) -> Result<(), Fail> {
-    go_both_ways(&rt, rt.alloc(), &SIX)?;
-    go_both_ways(&rt, rt.alloc(), &kinds::SAMPLES)?;
-    go_both_ways(&rt, rt.alloc(), &states::SAMPLES)?;
-    go_both_ways(&rt, rt.alloc(), &rows::SAMPLES)?;
-    go_both_ways(&rt, rt.alloc(), &calendars::SAMPLES)
+fn both_ways(rt: HostRuntime) {
+    go_both_ways(&rt, rt.alloc(), &SIX);
+    go_both_ways(&rt, rt.alloc(), &kinds::SAMPLES);
+    go_both_ways(&rt, rt.alloc(), &states::SAMPLES);
+    go_both_ways(&rt, rt.alloc(), &rows::SAMPLES);
+    go_both_ways(&rt, rt.alloc(), &calendars::SAMPLES);
 }
 
 // A record that is cut is wrong at the place of the field that is missing.
 fn are_cut_at(rt: &impl Abort, alloc: Global, of: Of, record: &[u8], places: &[u32]) {
-    assert_eq!(rt; record.len(), places.len());
+    assert!(rt; record.len() == places.len());
     for (size, place) in places.iter().enumerate() {
         let cut = record.get(..size).unwrap_or(record);
-        assert_eq!(rt; place_in(alloc, of, cut), Some(*place), "{size} bytes");
+        assert!(rt; place_in(alloc, of, cut) == Some(*place), "{size} bytes");
     }
 }
 
@@ -429,9 +434,8 @@ const SPOILED: [Spoiled; 18] = [
 fn are_wrong_there(rt: &impl Abort, alloc: Global, rows: &[Spoiled]) -> Result<(), Fail> {
     for spoiled in rows {
         let bytes = spoil(alloc, spoiled)?;
-        assert_eq!(rt;
-            place_in(alloc, spoiled.of, &bytes),
-            Some(spoiled.at),
+        assert!(rt;
+            place_in(alloc, spoiled.of, &bytes) == Some(spoiled.at),
             "{:?} from {}",
             spoiled.of,
             spoiled.from

@@ -3,7 +3,7 @@ ghost use Rattle.std.specs.Prelude.{IsTrue, IfOk};
 ghost use Rattle.qz_types.specs.Rows.{is_node};
 ghost use Rattle.qz_types.specs.Steps.{is_step};
 
-use crate::let_go;
+use qz_civil::let_go;
 use qz_cluster::{Cluster, StepEnd};
 use qz_disk::{Disk, FaultDisk, MemDisk};
 use qz_journal::{TRIGGERS, create};

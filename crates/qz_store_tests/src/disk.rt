@@ -1,5 +1,5 @@
 //! Worked examples of crashes, the disks that fail by a rule, and one real file.
-use qz_civil::{List, Text};
+use qz_civil::{List, Text, let_go};
 use qz_disk::{Call, CutDisk, Disk, FaultDisk, FileDisk, MemDisk};
 use std::alloc::{AllocError, Global};
 use std::test::Fail;
@@ -17,6 +17,14 @@ fn content<D: Disk>(alloc: Global, disk: &mut D) -> Option<Vec<u8>> {
     Some(held)
 }
 
+// Whether the disk holds these bytes.
+fn holds<D: Disk>(alloc: Global, disk: &mut D, bytes: &[u8]) -> bool {
+    match content(alloc, disk) {
+        Some(held) => held.as_slice() == bytes,
+        None => false,
+    }
+}
+
 // A write at this offset, where the disk is that long.
 fn put<D: Disk>(disk: &mut D, at: u64, bytes: &[u8]) -> bool {
     match disk.len() {
@@ -32,7 +40,9 @@ fn comes_up(alloc: Global, bytes: &[u8]) -> Result<bool, AllocError> {
     images.push(list(alloc, bytes)?)?;
     disk.choose(images);
     let done = put(&mut disk, 2, b"XY") && disk.restart().is_ok();
-    Ok(done && content(alloc, &mut disk).as_deref() == Some(bytes))
+    let held = holds(alloc, &mut disk, bytes);
+    let_go(disk);
+    Ok(done && held)
 }
 
 #[test]
@@ -49,7 +59,7 @@ fn a_crash_tears_only_what_was_written(rt: HostRuntime) -> Result<(), Fail> {
         (b"aBXY", false),
     ];
     for (bytes, is_image) in table {
-        assert_eq!(rt; comes_up(rt.alloc(), bytes)?, is_image, "at {bytes:?}");
+        assert!(rt; comes_up(rt.alloc(), bytes)? == is_image, "at {bytes:?}");
     }
     Ok(())
 }
@@ -67,69 +77,77 @@ fn disk_with_images(alloc: Global, chosen: &[&[u8]]) -> Result<MemDisk, AllocErr
 
 // Whether the disk, after a write at its front and a restart, holds what is wanted.
 fn restarts_as<D: Disk>(alloc: Global, disk: &mut D, bytes: &[u8], want: &[u8]) -> bool {
-    let done = put(disk, 0, bytes) && disk.restart().is_ok();
-    done && content(alloc, disk).as_deref() == Some(want)
+    put(disk, 0, bytes) && disk.restart().is_ok() && holds(alloc, disk, want)
+}
+
+// The second takes none: what was synced by the first can't become shorter or other.
+fn takes_two_of_four_images<D: Disk>(alloc: Global, disk: &mut D) -> bool {
+    restarts_as(alloc, disk, b"XY", b"a")
+        && restarts_as(alloc, disk, b"c", b"b")
+        && restarts_as(alloc, disk, b"d", b"d")
 }
 
 #[test]
 fn each_restart_takes_the_next_image(rt: HostRuntime) -> Result<(), Fail> {
     let mut disk = disk_with_images(rt.alloc(), &[b"no image", b"a", b"", b"b"])?;
-    // The second takes none: what was synced by the first can't become shorter or other.
-    for (bytes, want) in [
-        (b"XY".as_slice(), b"a".as_slice()),
-        (b"c", b"b"),
-        (b"d", b"d"),
-    ] {
-        assert!(rt;
-            restarts_as(rt.alloc(), &mut disk, bytes, want),
-            "after {bytes:?}"
-        );
-    }
-    assert_eq!(rt; disk.starved(), 0);
+    assert!(rt; takes_two_of_four_images(rt.alloc(), &mut disk) && disk.starved() == 0);
     Ok(())
+}
+
+// Whether these are a write of `X` at 1, a sync, and a reading of three bytes.
+fn are_those_of_a_change(calls: &[Call]) -> bool {
+    match calls {
+        [
+            Call::Len,
+            Call::Write { at: 1, bytes },
+            Call::Sync,
+            Call::Len,
+            Call::Read { at: 0, count: 3 },
+        ] => bytes.as_slice() == b"X".as_slice(),
+        _ => false,
+    }
 }
 
 #[test]
 fn a_disk_in_memory_records_its_calls(rt: HostRuntime) -> Result<(), Fail> {
-    let alloc = rt.alloc();
-    let bytes = list(alloc, b"X")?;
-    let mut disk = MemDisk::with_bytes(alloc, list(alloc, b"abc")?);
+    let mut disk = MemDisk::with_bytes(rt.alloc(), list(rt.alloc(), b"abc")?);
     let done = put(&mut disk, 1, b"X") && disk.sync().is_ok();
-    assert!(rt; done && content(alloc, &mut disk).as_deref() == Some(b"aXc"));
-    let want = [
-        Call::Len,
-        Call::Write { at: 1, bytes },
-        Call::Sync,
-        Call::Len,
-        Call::Read { at: 0, count: 3 },
-    ];
-    assert_eq!(rt; disk.calls(), want.as_slice());
+    let held = holds(rt.alloc(), &mut disk, b"aXc");
+    let are_right = are_those_of_a_change(disk.calls());
+    let_go(disk);
+    assert!(rt; done && held && are_right);
     Ok(())
+}
+
+// Whether the disk fails behind a write, and a restart ends that.
+fn is_cut_up_to_a_restart<D: Disk>(alloc: Global, disk: &mut D) -> bool {
+    let written = put(disk, 0, b"X");
+    let cut = disk.sync().is_err() && disk.len().is_err();
+    written && cut && disk.restart().is_ok() && holds(alloc, disk, b"Xbc")
 }
 
 #[test]
 fn a_cut_ends_with_a_restart(rt: HostRuntime) -> Result<(), Fail> {
-    let alloc = rt.alloc();
-    let inner = MemDisk::with_bytes(alloc, list(alloc, b"abc")?);
+    let inner = MemDisk::with_bytes(rt.alloc(), list(rt.alloc(), b"abc")?);
     let mut disk = CutDisk::new(inner, 2);
-    assert!(rt; put(&mut disk, 0, b"X"));
-    assert!(rt; disk.sync().is_err() && disk.len().is_err());
-    assert!(rt; disk.restart().is_ok());
-    assert_eq!(rt;
-        content(alloc, &mut disk).as_deref(),
-        Some(b"Xbc".as_slice())
-    );
+    assert!(rt; is_cut_up_to_a_restart(rt.alloc(), &mut disk));
     Ok(())
+}
+
+// Which of five calls fail.
+fn failing<D: Disk>(disk: &mut D) -> [bool; 5] {
+    let mut failed = [false; 5];
+    for call in 0..5 {
+        failed[call] = disk.sync().is_err();
+    }
+    failed
 }
 
 #[test]
 fn the_listed_calls_fail(rt: HostRuntime) -> Result<(), Fail> {
-    let alloc = rt.alloc();
-    let inner = MemDisk::new(alloc);
-    let mut disk = FaultDisk::new(inner, List::from_vec(Vec::from_slice(alloc, &[2, 4])?));
-    for (number, fails) in [(1, false), (2, true), (3, false), (4, true), (5, false)] {
-        assert_eq!(rt; disk.sync().is_err(), fails, "call {number}");
-    }
+    let listed = List::from_vec(Vec::from_slice(rt.alloc(), &[2, 4])?);
+    let mut disk = FaultDisk::new(MemDisk::new(rt.alloc()), listed);
+    assert!(rt; failing(&mut disk) == [false, true, false, true, false]);
     Ok(())
 }
 
@@ -137,25 +155,43 @@ fn the_listed_calls_fail(rt: HostRuntime) -> Result<(), Fail> {
 fn keeps_two_writes<D: Disk>(alloc: Global, disk: &mut D) -> bool {
     let first = put(disk, 0, b"abcde") && disk.sync().is_ok();
     let second = put(disk, 4, b"XYZ") && disk.restart().is_ok();
-    first && second && content(alloc, disk).as_deref() == Some(b"abcdXYZ")
+    first && second && holds(alloc, disk, b"abcdXYZ")
+}
+
+// A file's name in the folder for such.
+fn file_name(rt: HostRuntime) -> Result<Text, Fail> {
+    let name = format!(in rt.alloc(); "qz-disk-test-{}", process::id(rt.process()))?;
+    let path = env::temp_dir(&rt)?.join(rt.alloc(), name.as_str())?;
+    Ok(Text::from_str(rt.alloc(), path.as_str())?)
+}
+
+// Whether a disk is empty, makes no file by itself, and keeps what is written.
+fn keeps_a_file(rt: HostRuntime, path: &str) -> Result<bool, Fail> {
+    let mut disk = FileDisk::new(rt, Text::from_str(rt.alloc(), path)?);
+    let empty = disk.len() == Ok(0) && disk.sync().is_ok();
+    let made = fs::exists(&rt, path);
+    let kept = keeps_two_writes(rt.alloc(), &mut disk);
+    let_go(disk);
+    Ok(empty && !made? && kept)
+}
+
+// Whether it is found out that another program cuts the file: what was measured isn't there to be read.
+fn finds_a_cut(rt: HostRuntime, path: &str) -> Result<bool, Fail> {
+    let mut disk = FileDisk::new(rt, Text::from_str(rt.alloc(), path)?);
+    let mut front = [0; 3];
+    let long = disk.len() == Ok(7);
+    let cut = fs::write(&rt, path, "a");
+    let fails = long && disk.read(0, &mut front).is_err();
+    let_go(disk);
+    cut?;
+    Ok(fails)
 }
 
 #[test]
 fn a_file_is_made_at_the_first_write(rt: HostRuntime) -> Result<(), Fail> {
-    let alloc = rt.alloc();
-    let name = format!(in alloc; "qz-disk-test-{}", process::id(rt.process()))?;
-    let path = env::temp_dir(&rt)?.join(alloc, name.as_str())?;
-    let mut disk = FileDisk::new(rt, Text::from_str(alloc, path.as_str())?);
-    assert_eq!(rt; disk.len(), Ok(0));
-    assert!(rt; disk.sync().is_ok() && !fs::exists(&rt, path.as_str())?);
-    assert!(rt; keeps_two_writes(alloc, &mut disk));
-
-    // Another program cuts the file: what was measured isn't there to be read.
-    fs::write(&rt, path.as_str(), "abc")?;
-    let mut front = [0; 7];
-    assert!(rt; disk.len() == Ok(3));
-    fs::write(&rt, path.as_str(), "a")?;
-    assert!(rt; disk.read(0, &mut front[..3]).is_err());
+    let path = file_name(rt)?;
+    let is_right = keeps_a_file(rt, path.as_str())? && finds_a_cut(rt, path.as_str())?;
     fs::remove_file(&rt, path.as_str())?;
+    assert!(rt; is_right);
     Ok(())
 }

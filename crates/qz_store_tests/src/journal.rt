@@ -1,6 +1,5 @@
 //! Worked examples: stores that are whole, damaged or of another kind, the room that is left, and a commit that is cut.
-use crate::let_go;
-use qz_civil::List;
+use qz_civil::{List, let_go};
 use qz_disk::{Call, CutDisk, Disk, FaultDisk, MemDisk};
 use qz_journal::{
     AppendError, CreateError, Journal, JournalFull, MountError, STATES, TRIGGERS, create, fits,
@@ -61,7 +60,7 @@ fn the_header_decides_whether_it_is_a_store(rt: HostRuntime) -> Result<(), Fail>
     for (front, want) in table {
         let disk = disk_of(rt.alloc(), front, b"\0and any bytes")?;
         let found = opened(rt.alloc(), disk, TRIGGERS);
-        assert_eq!(rt; found.err(), want, "at {front:?}");
+        assert!(rt; found.err() == want, "at {front:?}");
     }
     Ok(())
 }
@@ -74,6 +73,12 @@ fn found_behind(alloc: Global, behind: &[u8]) -> Result<(Option<u64>, List<usize
         Err(MountError::Damaged { at }) => Ok((Some(at), List::new(alloc))),
         Err(error) => Err(Fail::from(error)),
     }
+}
+
+// Whether that is this place, or these lengths.
+fn finds(alloc: Global, behind: &[u8], at: Option<u64>, lengths: &[usize]) -> Result<bool, Fail> {
+    let found = found_behind(alloc, behind)?;
+    Ok(found.0 == at && found.1.as_slice() == lengths)
 }
 
 #[test]
@@ -93,11 +98,7 @@ fn the_least_bad_place_is_answered(rt: HostRuntime) -> Result<(), Fail> {
         (b"\xa5\0\0\0\x01\x07\xa5\0\0\0\x02\x08\x09\0", None, &[1, 2]),
     ];
     for (behind, at, lengths) in table {
-        let found = found_behind(rt.alloc(), behind)?;
-        assert!(rt;
-            found.0 == at && found.1.as_slice() == lengths,
-            "at {behind:?}"
-        );
+        assert!(rt; finds(rt.alloc(), behind, at, lengths)?, "at {behind:?}");
     }
     Ok(())
 }
@@ -105,29 +106,40 @@ fn the_least_bad_place_is_answered(rt: HostRuntime) -> Result<(), Fail> {
 #[test]
 fn the_room_ends_at_the_limits(rt: HostRuntime) {
     let full = |need, room| Err(JournalFull { need, room });
-    assert_eq!(rt; fits(268435450, 3, 34), full(39, 5));
-    assert_eq!(rt; fits(16, 4194304, 34), full(39, 0));
-    assert_eq!(rt; fits(268435416, 3, 34), Ok(()));
-    assert_eq!(rt; fits(268435417, 3, 34), full(39, 38));
-    assert_eq!(rt; fits(1 << 63, 3, 1), full(6, 0));
+    assert!(rt; fits(268435450, 3, 34) == full(39, 5));
+    assert!(rt; fits(16, 4194304, 34) == full(39, 0));
+    assert!(rt; fits(268435416, 3, 34) == Ok(()));
+    assert!(rt; fits(268435417, 3, 34) == full(39, 38));
+    assert!(rt; fits(1 << 63, 3, 1) == full(6, 0));
+}
+
+// Whether a store is created in place of what else stands on the disk, and none in its place.
+fn is_created_once<D: Disk>(disk: &mut D) -> bool {
+    create(disk, STATES) == Ok(())
+        && create(disk, STATES) == Err(CreateError::Exists)
+        && create(disk, TRIGGERS) == Err(CreateError::OtherKind)
+        && disk.len() == Ok(32)
 }
 
 #[test]
 fn a_store_is_created_once(rt: HostRuntime) -> Result<(), Fail> {
     let mut disk = disk_of(rt.alloc(), b"some other file, which is longer", b"")?;
-    assert_eq!(rt; create(&mut disk, STATES), Ok(()));
-    assert_eq!(rt; create(&mut disk, STATES), Err(CreateError::Exists));
-    assert_eq!(rt; create(&mut disk, TRIGGERS), Err(CreateError::OtherKind));
-    assert_eq!(rt; disk.len(), Ok(32));
+    assert!(rt; is_created_once(&mut disk));
     Ok(())
+}
+
+// Whether a store is created on a disk whose first call fails, the second time.
+fn is_created_after_a_fault(alloc: Global) -> Result<bool, AllocError> {
+    let failing = List::from_vec(Vec::from_slice(alloc, &[1])?);
+    let mut disk = FaultDisk::new(MemDisk::new(alloc), failing);
+    let (first, second) = (create(&mut disk, STATES), create(&mut disk, STATES));
+    let_go(disk);
+    Ok(first == Err(CreateError::Fault) && second == Ok(()))
 }
 
 #[test]
 fn a_store_is_created_after_a_fault(rt: HostRuntime) -> Result<(), Fail> {
-    let failing = List::from_vec(Vec::from_slice(rt.alloc(), &[1])?);
-    let mut disk = FaultDisk::new(MemDisk::new(rt.alloc()), failing);
-    assert_eq!(rt; create(&mut disk, STATES), Err(CreateError::Fault));
-    assert_eq!(rt; create(&mut disk, STATES), Ok(()));
+    assert!(rt; is_created_after_a_fault(rt.alloc())?);
     Ok(())
 }
 
@@ -164,7 +176,7 @@ fn a_commit_makes_four_device_calls(rt: HostRuntime) -> Result<(), Fail> {
         Call::Sync,
     ];
     let disk = committed_disk(alloc)?;
-    assert_eq!(rt; disk.calls(), want.as_slice());
+    assert!(rt; disk.calls() == want.as_slice());
     Ok(())
 }
 

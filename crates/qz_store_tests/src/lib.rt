@@ -13,7 +13,3 @@ mod journal;
 mod model;
 #[cfg(test)]
 mod trigger_store;
-
-// Lets a value go. The cases of its drop are looked at here and nowhere else.
-#[cfg(test)]
-pub(crate) fn let_go<T: Drop>(_value: T) {}

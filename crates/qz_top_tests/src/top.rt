@@ -1,4 +1,5 @@
 //! Worked examples through the top call, over objects in memory.
+use qz_civil::let_go;
 use qz_cron_text::CronError;
 use qz_disk::{Disk, FaultDisk, MemDisk};
 use qz_io::{FaultSink, FaultSource, ListClock, MemSink, MemSource, Sink, Source};
@@ -44,9 +45,6 @@ const EARLY: &str = r#"{"do":"add_job","at":1704067190000,"job":{"name":"report"
 const EARLY_REPLIES: &str =
     "ok\nok next 1704067200000\njoined 1 executions 0 triggers 0\nacquired 1 DEFAULT/t1 1704067200000
 refused 19 next 1704067200000\nfired 1 scheduled 1704067200000 at 1704067200000 next none\n";
-
-// Lets a value go. The cases of its drop are looked at here and nowhere else.
-fn let_go<T: Drop>(_value: T) {}
 
 /// What a call is given beside its disks.
 #[derive(Drop)]
@@ -214,44 +212,70 @@ fn bad_lines_are_named(rt: HostRuntime) -> Result<(), Fail> {
     Ok(())
 }
 
-// How a call without words ends, which reads and writes so.
-fn status_of<S: Source, K: Sink>(
+// Whether a call without words, which reads and writes so, says this error and ends so.
+fn ends<S: Source, K: Sink>(
     alloc: Global,
     input: &mut S,
     out: &mut K,
-    err: &mut MemSink,
-) -> Result<Status, AllocError> {
+    error: &str,
+    status: Status,
+) -> Result<bool, AllocError> {
     let mut clock = clock(alloc)?;
+    let mut err = MemSink::new(alloc);
     let (triggers, states) = (MemDisk::new(alloc), MemDisk::new(alloc));
-    let ended = command(alloc, &[], input, out, err, triggers, states, &mut clock);
-    let status = ended.status;
-    let_go(ended);
-    Ok(status)
+    let ended = command(
+        alloc,
+        &[],
+        input,
+        out,
+        &mut err,
+        triggers,
+        states,
+        &mut clock,
+    );
+    let is_right = ended.status == status && err.bytes() == error.as_bytes();
+    let_go((ended, err));
+    Ok(is_right)
+}
+
+// Whether a failing input leaves the replies to what was read.
+fn keeps_what_was_answered(alloc: Global) -> Result<bool, AllocError> {
+    let (script, failing) = (bytes_of(alloc, SIX)?, numbers(alloc, &[2])?);
+    let mut input = FaultSource::new(script, failing);
+    let mut out = MemSink::new(alloc);
+    let is_right = ends(
+        alloc,
+        &mut input,
+        &mut out,
+        "qz: read fault\n",
+        Status::ReadFault,
+    );
+    let is_kept = out.bytes() == SIX_REPLIES.as_bytes();
+    let_go((input, out));
+    Ok(is_right? && is_kept)
+}
+
+// Whether a failing output holds the replies before.
+fn holds_the_replies_before(alloc: Global) -> Result<bool, AllocError> {
+    let (script, failing) = (bytes_of(alloc, SIX)?, numbers(alloc, &[2])?);
+    let mut input = MemSource::new(script);
+    let mut out = FaultSink::new(alloc, failing);
+    let is_right = ends(
+        alloc,
+        &mut input,
+        &mut out,
+        "qz: write fault\n",
+        Status::WriteFault,
+    );
+    let is_kept = out.bytes() == b"ok\n".as_slice();
+    let_go((input, out));
+    Ok(is_right? && is_kept)
 }
 
 #[test]
 fn faults_keep_what_was_answered(rt: HostRuntime) -> Result<(), Fail> {
-    let alloc = rt.alloc();
-    let mut input = FaultSource::new(bytes_of(alloc, SIX)?, numbers(alloc, &[2])?);
-    let mut out = MemSink::new(alloc);
-    let mut err = MemSink::new(alloc);
-    let status = status_of(alloc, &mut input, &mut out, &mut err)?;
-    assert!(rt; status == Status::ReadFault);
-    assert!(rt; out.bytes() == SIX_REPLIES.as_bytes());
-    assert!(rt; err.bytes() == "qz: read fault\n".as_bytes());
-    Ok(())
-}
-
-#[test]
-fn a_failed_output_holds_the_replies_before(rt: HostRuntime) -> Result<(), Fail> {
-    let alloc = rt.alloc();
-    let mut input = MemSource::new(bytes_of(alloc, SIX)?);
-    let mut out = FaultSink::new(alloc, numbers(alloc, &[2])?);
-    let mut err = MemSink::new(alloc);
-    let status = status_of(alloc, &mut input, &mut out, &mut err)?;
-    assert!(rt; status == Status::WriteFault);
-    assert!(rt; out.bytes() == "ok\n".as_bytes());
-    assert!(rt; err.bytes() == "qz: write fault\n".as_bytes());
+    assert!(rt; keeps_what_was_answered(rt.alloc())?);
+    assert!(rt; holds_the_replies_before(rt.alloc())?);
     Ok(())
 }
 

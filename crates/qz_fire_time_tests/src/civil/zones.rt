@@ -124,13 +124,20 @@ fn find(rt: &impl Abort, zone: &Zone, rows: &[Row]) {
             second,
             milli: 0,
         };
-        assert_eq!(rt; zone.instants_of(civil), (first, last), "{civil:?}");
+        assert!(rt; zone.instants_of(civil) == (first, last), "{civil:?}");
         if let Some(ms) = last.or(first) {
             assert!(rt; 0 <= ms && ms <= LAST);
-            assert_eq!(rt; zone.civil(ms), civil);
-            assert_eq!(rt; zone.earliest_at(zone.local(ms)), first);
+            assert!(rt; zone.civil(ms) == civil);
+            assert!(rt; zone.earliest_at(zone.local(ms)) == first);
         }
     }
+}
+
+// The same of the zone of a table.
+fn find_in(rt: &impl Abort, alloc: Global, stretches: &[Begin], rows: &[Row]) -> Result<(), Fail> {
+    let zone = Zone::table(list_of(alloc, stretches)?)?;
+    find(rt, &zone, rows);
+    Ok(())
 }
 
 #[test]
@@ -146,7 +153,7 @@ fn local_times_have_at_most_two_timestamps(rt: HostRuntime) -> Result<(), Fail> 
         (LATE, LATE_ROWS),
     ];
     for (stretches, rows) in tables.iter() {
-        find(&rt, &Zone::table(list_of(alloc, stretches)?)?, rows);
+        find_in(&rt, alloc, stretches, rows)?;
     }
     find(&rt, &Zone::fixed(-1080), WEST_ROWS);
     find(&rt, &Zone::fixed(1080), EAST_ROWS);
@@ -191,14 +198,13 @@ fn bad_zones_are_refused_in_order(rt: HostRuntime) -> Result<(), Fail> {
     ];
     for (stretches, want) in rows.iter() {
         let fault = Zone::table(list_of(alloc, stretches)?).err();
-        assert_eq!(rt; fault, Some(*want));
+        assert!(rt; fault == Some(*want));
     }
     Ok(())
 }
 
-#[test]
-fn a_zone_has_at_most_512_stretches(rt: HostRuntime) -> Result<(), Fail> {
-    let alloc = rt.alloc();
+// As many stretches as there may be, each of 48 hours.
+fn longest_list(alloc: Global) -> Result<List<Stretch>, Fail> {
     let mut list = List::new(alloc);
     for place in 0..512i64 {
         list.push(Stretch {
@@ -206,22 +212,33 @@ fn a_zone_has_at_most_512_stretches(rt: HostRuntime) -> Result<(), Fail> {
             offset: 0,
         })?;
     }
-    let mut longer = list.clone()?;
-    let zone = Zone::table(list)?;
-    assert!(rt; zone.stretch_at(511 * 172800000 - 1) == 510 && zone.stretch_at(LAST) == 511);
-    assert_eq!(rt; zone.offset_until(172800000 - 1), (0, Some(172800000)));
-    assert_eq!(rt; zone.offset_until(LAST), (0, None));
-    // The last one is bad too.
-    longer.push(Stretch {
+    Ok(list)
+}
+
+// Whether such a zone finds its stretches.
+fn finds_512_stretches(alloc: Global) -> Result<bool, Fail> {
+    let zone = Zone::table(longest_list(alloc)?)?;
+    let at = (zone.stretch_at(511 * 172800000 - 1), zone.stretch_at(LAST));
+    let until = (zone.offset_until(172800000 - 1), zone.offset_until(LAST));
+    Ok(at == (510, 511) && until == ((0, Some(172800000)), (0, None)))
+}
+
+// The fault of one stretch more, which is bad too.
+fn fault_of_one_more(alloc: Global) -> Result<Option<BadZone>, Fail> {
+    let mut list = longest_list(alloc)?;
+    list.push(Stretch {
         from: -1,
         offset: 64801,
     })?;
-    let fault = Zone::table(longer).err();
-    assert_eq!(rt; fault, Some(BadZone::TooManyStretches { count: 513 }));
-    let text = BadZone::NotAscending { place: 1 }.to_string(alloc)?;
-    assert_eq!(rt;
-        text.as_str(),
-        "stretch 1 doesn't begin at least 48 hours after the one before"
-    );
+    Ok(Zone::table(list).err())
+}
+
+#[test]
+fn a_zone_has_at_most_512_stretches(rt: HostRuntime) -> Result<(), Fail> {
+    let many = BadZone::TooManyStretches { count: 513 };
+    assert!(rt; finds_512_stretches(rt.alloc())?);
+    assert!(rt; fault_of_one_more(rt.alloc())? == Some(many));
+    let text = BadZone::NotAscending { place: 1 }.to_string(rt.alloc())?;
+    assert!(rt; text.as_str() == "stretch 1 doesn't begin at least 48 hours after the one before");
     Ok(())
 }

@@ -1,6 +1,5 @@
 //! Lines of `times` with what they say: the timing or the zone as a text, or the fault.
-use super::let_go;
-use qz_civil::Zone;
+use qz_civil::{Zone, let_go};
 use qz_cron_text::CronError;
 use qz_job_json::{Asked, LineFault, read_asked};
 use std::alloc::{AllocError, Global};
@@ -19,11 +18,12 @@ fn text_of(alloc: Global, read: &Result<Option<Asked>, LineFault>) -> Result<Str
     }
 }
 
-fn meaning(alloc: Global, line: &str) -> Result<String, AllocError> {
+// Whether the line says this. What it says is let go here and nowhere else.
+fn says(alloc: Global, line: &str, want: &str) -> Result<bool, AllocError> {
     let read = read_asked(alloc, line.as_bytes());
     let text = text_of(alloc, &read);
     let_go(read);
-    text
+    Ok(text?.as_str() == want)
 }
 
 /// The line of a trigger with these members and few others.
@@ -33,9 +33,13 @@ fn trigger(alloc: Global, members: &str) -> Result<String, AllocError> {
     )
 }
 
+fn trigger_says(alloc: Global, members: &str, want: &str) -> Result<bool, AllocError> {
+    let line = trigger(alloc, members)?;
+    says(alloc, line.as_str(), want)
+}
+
 #[test]
 fn triggers_have_their_timings(rt: HostRuntime) -> Result<(), Fail> {
-    let alloc = rt.alloc();
     let table = [
         (
             r#""kind":"simple","interval":9007199254740992,"count":-1,"misfire":5,"end":9"#,
@@ -71,9 +75,7 @@ fn triggers_have_their_timings(rt: HostRuntime) -> Result<(), Fail> {
         ),
     ];
     for (members, want) in table {
-        let line = trigger(alloc, members)?;
-        let said = meaning(alloc, line.as_str())?;
-        assert_eq!(rt; said.as_str(), want, "at {members}");
+        assert!(rt; trigger_says(rt.alloc(), members, want)?, "at {members}");
     }
     Ok(())
 }
@@ -127,9 +129,15 @@ fn other_triggers_are_faults(rt: HostRuntime) -> Result<(), Fail> {
     Ok(())
 }
 
+fn zone_says(alloc: Global, stretches: &str, want: &str) -> Result<bool, AllocError> {
+    let line = format!(in alloc;
+        "{{\"do\":\"add_zone\",\"name\":\"UTC\",\"stretches\":{stretches}}}"
+    )?;
+    says(alloc, line.as_str(), want)
+}
+
 #[test]
 fn zones_have_their_tables(rt: HostRuntime) -> Result<(), Fail> {
-    let alloc = rt.alloc();
     let table = [
         ("[[0,3600],[172800000,-7200]]", "zone 3600 Some(172800000)"),
         ("[[0,-64800]]", "zone -64800 None"),
@@ -147,18 +155,13 @@ fn zones_have_their_tables(rt: HostRuntime) -> Result<(), Fail> {
         ("[[0,0]],\"at\":null", "Shape"),
     ];
     for (stretches, want) in table {
-        let line = format!(in alloc;
-            "{{\"do\":\"add_zone\",\"name\":\"UTC\",\"stretches\":{stretches}}}"
-        )?;
-        let said = meaning(alloc, line.as_str())?;
-        assert_eq!(rt; said.as_str(), want, "at {stretches}");
+        assert!(rt; zone_says(rt.alloc(), stretches, want)?, "at {stretches}");
     }
     Ok(())
 }
 
 #[test]
 fn faults_of_times_come_in_their_order(rt: HostRuntime) -> Result<(), Fail> {
-    let alloc = rt.alloc();
     let table = [
         ("\t \r", "blank"),
         (r#"{"do":"add_zone""#, "NotJson"),
@@ -182,20 +185,17 @@ fn faults_of_times_come_in_their_order(rt: HostRuntime) -> Result<(), Fail> {
         ),
     ];
     for (line, want) in table {
-        let said = meaning(alloc, line)?;
-        assert_eq!(rt; said.as_str(), want, "at {line}");
+        assert!(rt; says(rt.alloc(), line, want)?, "at {line}");
     }
     Ok(())
 }
 
 #[test]
 fn faults_of_cron_texts_have_their_numbers(rt: HostRuntime) -> Result<(), Fail> {
-    let alloc = rt.alloc();
-    let line = trigger(alloc, r#""kind":"cron","cron":"0 0 0 1 * 1""#)?;
-    let fault = read_asked(alloc, line.as_str().as_bytes()).err();
-    assert_eq!(rt; fault, Some(LineFault::Cron(CronError::BothDays)));
-    assert_eq!(rt; CronError::BothDays.number(), 4);
-    let text = format!(in alloc; "{}", LineFault::Cron(CronError::BothDays))?;
-    assert_eq!(rt; text.as_str(), "bad cron");
+    let members = r#""kind":"cron","cron":"0 0 0 1 * 1""#;
+    assert!(rt; trigger_says(rt.alloc(), members, "Cron(BothDays)")?);
+    assert!(rt; CronError::BothDays.number() == 4);
+    let text = format!(in rt.alloc(); "{}", LineFault::Cron(CronError::BothDays))?;
+    assert!(rt; text.as_str() == "bad cron");
     Ok(())
 }

@@ -1,6 +1,6 @@
 //! Records of calendars and zones.
 use super::{Of, Spoiled};
-use crate::let_go;
+use qz_civil::let_go;
 use qz_codec::get_row;
 use qz_types::{CalendarKind, CalendarRow, ZoneRow};
 use std::alloc::Global;
@@ -142,9 +142,9 @@ fn reads_zone(alloc: Global) -> Option<bool> {
 
 #[test]
 fn values(rt: HostRuntime) {
-    assert_eq!(rt; reads_daily(rt.alloc()), Some(true));
-    assert_eq!(rt; reads_annual(rt.alloc()), Some(true));
-    assert_eq!(rt; reads_zone(rt.alloc()), Some(true));
+    assert!(rt; reads_daily(rt.alloc()) == Some(true));
+    assert!(rt; reads_annual(rt.alloc()) == Some(true));
+    assert!(rt; reads_zone(rt.alloc()) == Some(true));
 }
 
 pub(super) const SPOILED_CALENDARS: [Spoiled; 22] = [

@@ -1,6 +1,6 @@
 //! Records of each command.
-use super::{Of, entry_again, place_in};
-use crate::let_go;
+use super::{Of, is_again, place_in};
+use qz_civil::let_go;
 use qz_codec::{ReadError, get_command};
 use qz_types::Entry;
 use std::alloc::{AllocError, Global};
@@ -125,35 +125,41 @@ fn text_of(alloc: Global, read: &Result<Entry, ReadError>) -> Result<String, All
     }
 }
 
-fn printed(alloc: Global, record: &[u8]) -> Result<String, AllocError> {
+// Whether the record is read as what is printed so.
+fn prints(alloc: Global, record: &[u8], printed: &str) -> Result<bool, AllocError> {
     let read = get_command(alloc, record);
     let text = text_of(alloc, &read);
     let_go(read);
-    text
+    Ok(text?.as_str() == printed)
+}
+
+// Whether the record is read as it is printed, and written as before.
+fn goes_both_ways(alloc: Global, sample: &Sample) -> Result<bool, AllocError> {
+    let record = joined(alloc, sample.before, sample.bytes)?;
+    Ok(prints(alloc, &record, sample.printed)? && is_again(alloc, Of::Entry, &record))
 }
 
 #[test]
 fn each_sample_both_ways(rt: HostRuntime) -> Result<(), Fail> {
-    let alloc = rt.alloc();
     for sample in SAMPLES {
-        let record = joined(alloc, sample.before, sample.bytes)?;
-        assert_eq!(rt; printed(alloc, &record)?.as_str(), sample.printed);
-        let bytes = entry_again(alloc, &record).ok_or("a record")?;
-        assert_eq!(rt; bytes.as_slice(), record.as_slice());
+        assert!(rt; goes_both_ways(rt.alloc(), &sample)?, "{}", sample.printed);
     }
     Ok(())
+}
+
+// The place at which a command of these bytes is wrong.
+fn place_behind(alloc: Global, before: &[u8], bytes: &[u8]) -> Result<Option<u32>, AllocError> {
+    let record = joined(alloc, before, bytes)?;
+    Ok(place_in(alloc, Of::Entry, &record))
 }
 
 // A record that ends behind its command's place is wrong at the place, or where a field is missing, or not at all.
 #[test]
 fn places_of_clients_and_nodes(rt: HostRuntime) -> Result<(), Fail> {
-    let alloc = rt.alloc();
     for place in 0..=255 {
         let by_client = if place <= 14 { 15 } else { 14 };
-        let record = joined(alloc, BY_CLIENT, &[place])?;
-        assert_eq!(rt;
-            place_in(alloc, Of::Entry, &record),
-            Some(by_client),
+        assert!(rt;
+            place_behind(rt.alloc(), BY_CLIENT, &[place])? == Some(by_client),
             "place {place}"
         );
         let by_node = match place {
@@ -161,10 +167,8 @@ fn places_of_clients_and_nodes(rt: HostRuntime) -> Result<(), Fail> {
             16..=19 | 21 => Some(26),
             _ => Some(25),
         };
-        let record = joined(alloc, BY_NODE, &[place])?;
-        assert_eq!(rt;
-            place_in(alloc, Of::Entry, &record),
-            by_node,
+        assert!(rt;
+            place_behind(rt.alloc(), BY_NODE, &[place])? == by_node,
             "place {place}"
         );
     }
@@ -197,10 +201,11 @@ const WRONG: [(&[u8], &[u8], u32); 15] = [
 
 #[test]
 fn wrong_commands(rt: HostRuntime) -> Result<(), Fail> {
-    let alloc = rt.alloc();
     for (before, bytes, at) in WRONG {
-        let record = joined(alloc, before, bytes)?;
-        assert_eq!(rt; place_in(alloc, Of::Entry, &record), Some(at), "{bytes:?}");
+        assert!(rt;
+            place_behind(rt.alloc(), before, bytes)? == Some(at),
+            "{bytes:?}"
+        );
     }
     Ok(())
 }

@@ -63,15 +63,13 @@ fn seen_of(alloc: Global, row: &Row) -> Result<Seen, AllocError> {
 fn each_byte_of_a_record(rt: HostRuntime) -> Result<(), Fail> {
     for row in &ROWS {
         let seen = seen_of(rt.alloc(), row)?;
-        assert_eq!(rt;
-            seen.right,
-            row.right,
+        assert!(rt;
+            seen.right == row.right,
             "a record of {} bytes",
             row.record.len()
         );
-        assert_eq!(rt;
-            seen.places,
-            row.places,
+        assert!(rt;
+            seen.places == row.places,
             "a record of {} bytes",
             row.record.len()
         );

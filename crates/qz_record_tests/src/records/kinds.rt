@@ -1,5 +1,5 @@
 //! Records of the kinds of triggers.
-use super::{Of, Spoiled, entry_again};
+use super::{Of, Spoiled, is_again};
 use std::alloc::{AllocError, Global};
 use std::test::*;
 
@@ -127,12 +127,18 @@ pub(super) const SAMPLES: [(Of, &[u8]); 3] = [
     (Of::Entry, ADD_DAILY),
 ];
 
+fn days_are_again(alloc: Global, month: &[u8], week: &[u8]) -> Result<bool, AllocError> {
+    let record = with_days(alloc, month, week)?;
+    Ok(is_again(alloc, Of::Entry, &record))
+}
+
 #[test]
 fn days_both_ways(rt: HostRuntime) -> Result<(), Fail> {
     for (month, week) in DAYS {
-        let record = with_days(rt.alloc(), month, week)?;
-        let bytes = entry_again(rt.alloc(), &record).ok_or("a record")?;
-        assert_eq!(rt; bytes.as_slice(), record.as_slice());
+        assert!(rt;
+            days_are_again(rt.alloc(), month, week)?,
+            "{month:?} {week:?}"
+        );
     }
     Ok(())
 }
@@ -142,8 +148,7 @@ fn units_both_ways(rt: HostRuntime) -> Result<(), Fail> {
     let mut record = Vec::from_slice(rt.alloc(), ADD_INTERVAL)?;
     for unit in 0..7 {
         record[36] = unit;
-        let bytes = entry_again(rt.alloc(), &record).ok_or("a record")?;
-        assert_eq!(rt; bytes.as_slice(), record.as_slice());
+        assert!(rt; is_again(rt.alloc(), Of::Entry, &record), "unit {unit}");
     }
     Ok(())
 }

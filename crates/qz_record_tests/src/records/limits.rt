@@ -1,7 +1,7 @@
 //! Records of calendars and zones with as many items as they may have.
 ghost use Rattle.std.specs.Prelude.{◌<◌, ◌≤◌};
 
-use super::{Of, again, place_in};
+use super::{Of, is_again, place_in};
 use std::alloc::{AllocError, Global};
 use std::test::*;
 
@@ -61,15 +61,19 @@ fn zone_of(alloc: Global, count: u16) -> Result<Vec<u8>, AllocError> {
 
 #[test]
 fn full_calendars(rt: HostRuntime) -> Result<(), Fail> {
-    let records = [
-        annual_of(rt.alloc(), 0)?,
-        annual_of(rt.alloc(), 366)?,
-        holiday_of(rt.alloc(), 0)?,
-        holiday_of(rt.alloc(), 4096)?,
-    ];
-    for record in &records {
-        let bytes = again(rt.alloc(), Of::CalendarRow, record).ok_or("a calendar")?;
-        assert_eq!(rt; bytes.as_slice(), record.as_slice());
+    for days in [0, 366] {
+        let record = annual_of(rt.alloc(), days)?;
+        assert!(rt;
+            is_again(rt.alloc(), Of::CalendarRow, &record),
+            "{days} days"
+        );
+    }
+    for dates in [0, 4096] {
+        let record = holiday_of(rt.alloc(), dates)?;
+        assert!(rt;
+            is_again(rt.alloc(), Of::CalendarRow, &record),
+            "{dates} dates"
+        );
     }
     Ok(())
 }
@@ -77,24 +81,14 @@ fn full_calendars(rt: HostRuntime) -> Result<(), Fail> {
 #[test]
 fn full_zone(rt: HostRuntime) -> Result<(), Fail> {
     let record = zone_of(rt.alloc(), 512)?;
-    let bytes = again(rt.alloc(), Of::ZoneRow, &record).ok_or("a zone")?;
-    assert_eq!(rt; bytes.as_slice(), record.as_slice());
+    assert!(rt; is_again(rt.alloc(), Of::ZoneRow, &record));
     Ok(())
 }
 
 #[test]
 fn too_many(rt: HostRuntime) -> Result<(), Fail> {
-    assert_eq!(rt;
-        place_in(rt.alloc(), Of::CalendarRow, &annual_of(rt.alloc(), 367)?),
-        Some(11)
-    );
-    assert_eq!(rt;
-        place_in(rt.alloc(), Of::CalendarRow, &holiday_of(rt.alloc(), 4097)?),
-        Some(11)
-    );
-    assert_eq!(rt;
-        place_in(rt.alloc(), Of::ZoneRow, &zone_of(rt.alloc(), 513)?),
-        Some(4)
-    );
+    assert!(rt; place_in(rt.alloc(), Of::CalendarRow, &annual_of(rt.alloc(), 367)?) == Some(11));
+    assert!(rt; place_in(rt.alloc(), Of::CalendarRow, &holiday_of(rt.alloc(), 4097)?) == Some(11));
+    assert!(rt; place_in(rt.alloc(), Of::ZoneRow, &zone_of(rt.alloc(), 513)?) == Some(4));
     Ok(())
 }
