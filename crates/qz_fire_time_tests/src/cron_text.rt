@@ -141,50 +141,52 @@ fn of_several_faults_the_first(rt: HostRuntime) {
     }
 }
 
+/// Faults with their numbers and texts.
+const TOLD: [(CronError, u8, &str); 7] = [
+    (
+        CronError::FieldCount { found: 5 },
+        1,
+        "there are 5 fields, and not six or seven",
+    ),
+    (
+        CronError::BadToken { field: 2, at: 4 },
+        2,
+        "field 2 has something else than a value at 4",
+    ),
+    (
+        CronError::OutOfRange {
+            field: 3,
+            value: 24,
+        },
+        3,
+        "24 is out of the range of field 3",
+    ),
+    (
+        CronError::BothDays,
+        4,
+        "both the day of the month and the day of the week are given",
+    ),
+    (
+        CronError::NoDays,
+        5,
+        "neither the day of the month nor the day of the week is given",
+    ),
+    (
+        CronError::BadStep { field: 1 },
+        6,
+        "field 1 has a step that is not 1 to 59",
+    ),
+    (
+        CronError::NotAlone { field: 6 },
+        7,
+        "field 6 has a list with a form that must stand alone",
+    ),
+];
+
 #[test]
 fn faults_have_numbers_and_texts(rt: HostRuntime) -> Result<(), Fail> {
     let alloc = rt.alloc();
-    let table = [
-        (
-            CronError::FieldCount { found: 5 },
-            1,
-            "there are 5 fields, and not six or seven",
-        ),
-        (
-            CronError::BadToken { field: 2, at: 4 },
-            2,
-            "field 2 has something else than a value at 4",
-        ),
-        (
-            CronError::OutOfRange {
-                field: 3,
-                value: 24,
-            },
-            3,
-            "24 is out of the range of field 3",
-        ),
-        (
-            CronError::BothDays,
-            4,
-            "both the day of the month and the day of the week are given",
-        ),
-        (
-            CronError::NoDays,
-            5,
-            "neither the day of the month nor the day of the week is given",
-        ),
-        (
-            CronError::BadStep { field: 1 },
-            6,
-            "field 1 has a step that is not 1 to 59",
-        ),
-        (
-            CronError::NotAlone { field: 6 },
-            7,
-            "field 6 has a list with a form that must stand alone",
-        ),
-    ];
-    for (error, number, text) in &table {
+    for (error, number, text) in &TOLD {
         assert!(rt; error.number() == *number);
         assert!(rt; error.to_string(alloc)?.as_str() == *text, "at {text}");
     }

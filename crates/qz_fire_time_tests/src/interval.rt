@@ -34,60 +34,62 @@ fn next_in(
     }
 }
 
+/// A start, a unit and how many, a moment, and the next fire time in UTC.
+const IN_UTC: [(i64, Unit, u32, i64, Option<i64>); 9] = [
+    // from 2024-01-31T10:00 on: 29 February, 31 March, 30 April
+    (
+        1706695200000,
+        Unit::Month,
+        1,
+        1706695200000,
+        Some(1709200800000),
+    ),
+    (
+        1706695200000,
+        Unit::Month,
+        1,
+        1709200800000,
+        Some(1711879200000),
+    ),
+    (
+        1706695200000,
+        Unit::Month,
+        1,
+        1711879200000,
+        Some(1714471200000),
+    ),
+    // from 2024-02-29 on: 28 February 2025, 29 February 2028
+    (
+        1709164800000,
+        Unit::Year,
+        1,
+        1709164800000,
+        Some(1740700800000),
+    ),
+    (
+        1709164800000,
+        Unit::Year,
+        4,
+        1709164800000,
+        Some(1835395200000),
+    ),
+    // from 2024-01-01T08:00 on: 15 January
+    (
+        1704096000000,
+        Unit::Week,
+        2,
+        1704096000000,
+        Some(1705305600000),
+    ),
+    // even steps
+    (5000, Unit::Second, 90, 5000, Some(95000)),
+    (5000, Unit::Minute, 90, 5000, Some(5405000)),
+    (5000, Unit::Hour, 90, 5000, Some(324005000)),
+];
+
 #[test]
 fn units_in_utc(rt: HostRuntime) {
-    let rows = [
-        // from 2024-01-31T10:00 on: 29 February, 31 March, 30 April
-        (
-            1706695200000,
-            Unit::Month,
-            1,
-            1706695200000,
-            Some(1709200800000),
-        ),
-        (
-            1706695200000,
-            Unit::Month,
-            1,
-            1709200800000,
-            Some(1711879200000),
-        ),
-        (
-            1706695200000,
-            Unit::Month,
-            1,
-            1711879200000,
-            Some(1714471200000),
-        ),
-        // from 2024-02-29 on: 28 February 2025, 29 February 2028
-        (
-            1709164800000,
-            Unit::Year,
-            1,
-            1709164800000,
-            Some(1740700800000),
-        ),
-        (
-            1709164800000,
-            Unit::Year,
-            4,
-            1709164800000,
-            Some(1835395200000),
-        ),
-        // from 2024-01-01T08:00 on: 15 January
-        (
-            1704096000000,
-            Unit::Week,
-            2,
-            1704096000000,
-            Some(1705305600000),
-        ),
-        // even steps
-        (5000, Unit::Second, 90, 5000, Some(95000)),
-        (5000, Unit::Minute, 90, 5000, Some(5405000)),
-        (5000, Unit::Hour, 90, 5000, Some(324005000)),
-    ];
-    for (start, unit, every, after, wanted) in rows {
+    for (start, unit, every, after, wanted) in IN_UTC {
         assert!(rt;
             next(start, None, unit, every, &Zone::utc(), after) == wanted,
             "at {after}"

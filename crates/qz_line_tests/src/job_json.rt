@@ -63,65 +63,67 @@ fn lines_are_steps(rt: HostRuntime) -> Result<(), Fail> {
     Ok(())
 }
 
+/// Lines that are wrong, and how.
+const FAULTY: [(&str, LineFault); 24] = [
+    (r#"{"do":"fire","node":"A""#, LineFault::NotJson),
+    (r#"{"do":"restart"} x"#, LineFault::NotJson),
+    (r#"{"do":"restart","more":1}"#, LineFault::NotHere),
+    (r#"{"do":"stop"}"#, LineFault::NotHere),
+    (
+        r#"{"do":"join","interval":null,"more":1}"#,
+        LineFault::NotHere,
+    ),
+    (r#"{"do":"acquire","node":7,"max":1}"#, LineFault::NotHere),
+    (r#"{"do":"complete","code":"NOOP"}"#, LineFault::NotHere),
+    (r#"{"do":"add_job","job":{"data":""}}"#, LineFault::NotHere),
+    (
+        r#"{"do":"add_job","job":1,"replace":false}"#,
+        LineFault::NotHere,
+    ),
+    (
+        r#"{"do":"add_trigger","trigger":{"kind":"daily"}}"#,
+        LineFault::NotHere,
+    ),
+    (
+        r#"{"do":"add_trigger","trigger":{"priority":5}}"#,
+        LineFault::NotHere,
+    ),
+    (
+        r#"{"do":"add_trigger","trigger":{"kind":"hourly"}}"#,
+        LineFault::Shape,
+    ),
+    (
+        r#"{"do":"add_job","job":{"name":"a","class":"ok","end":1}}"#,
+        LineFault::Shape,
+    ),
+    (
+        r#"{"do":"add_job","job":{"name":"a","class":"ok","group":null}}"#,
+        LineFault::Shape,
+    ),
+    (
+        r#"{"do":"fire","node":"A","entry":1,"code":"NOOP"}"#,
+        LineFault::Shape,
+    ),
+    (r#"{"do":"fire","node":"A"}"#, LineFault::Shape),
+    (r#"{"do":"fire","node":"","entry":1}"#, LineFault::Shape),
+    (r#"{"do":"join","node":"A","at":null}"#, LineFault::Shape),
+    (
+        r#"{"do":"acquire","node":"A","no_later":-1}"#,
+        LineFault::Shape,
+    ),
+    (
+        r#"{"do":"acquire","node":"A","no_later":9007199254740993}"#,
+        LineFault::Shape,
+    ),
+    (r#"{"do":"leap","node":"A"}"#, LineFault::Shape),
+    (r#"{"do":7}"#, LineFault::Shape),
+    (r#"{}"#, LineFault::Shape),
+    (r#"["do"]"#, LineFault::Shape),
+];
+
 #[test]
 fn faults_come_in_their_order(rt: HostRuntime) -> Result<(), Fail> {
-    let table: [(&str, LineFault); 24] = [
-        (r#"{"do":"fire","node":"A""#, LineFault::NotJson),
-        (r#"{"do":"restart"} x"#, LineFault::NotJson),
-        (r#"{"do":"restart","more":1}"#, LineFault::NotHere),
-        (r#"{"do":"stop"}"#, LineFault::NotHere),
-        (
-            r#"{"do":"join","interval":null,"more":1}"#,
-            LineFault::NotHere,
-        ),
-        (r#"{"do":"acquire","node":7,"max":1}"#, LineFault::NotHere),
-        (r#"{"do":"complete","code":"NOOP"}"#, LineFault::NotHere),
-        (r#"{"do":"add_job","job":{"data":""}}"#, LineFault::NotHere),
-        (
-            r#"{"do":"add_job","job":1,"replace":false}"#,
-            LineFault::NotHere,
-        ),
-        (
-            r#"{"do":"add_trigger","trigger":{"kind":"daily"}}"#,
-            LineFault::NotHere,
-        ),
-        (
-            r#"{"do":"add_trigger","trigger":{"priority":5}}"#,
-            LineFault::NotHere,
-        ),
-        (
-            r#"{"do":"add_trigger","trigger":{"kind":"hourly"}}"#,
-            LineFault::Shape,
-        ),
-        (
-            r#"{"do":"add_job","job":{"name":"a","class":"ok","end":1}}"#,
-            LineFault::Shape,
-        ),
-        (
-            r#"{"do":"add_job","job":{"name":"a","class":"ok","group":null}}"#,
-            LineFault::Shape,
-        ),
-        (
-            r#"{"do":"fire","node":"A","entry":1,"code":"NOOP"}"#,
-            LineFault::Shape,
-        ),
-        (r#"{"do":"fire","node":"A"}"#, LineFault::Shape),
-        (r#"{"do":"fire","node":"","entry":1}"#, LineFault::Shape),
-        (r#"{"do":"join","node":"A","at":null}"#, LineFault::Shape),
-        (
-            r#"{"do":"acquire","node":"A","no_later":-1}"#,
-            LineFault::Shape,
-        ),
-        (
-            r#"{"do":"acquire","node":"A","no_later":9007199254740993}"#,
-            LineFault::Shape,
-        ),
-        (r#"{"do":"leap","node":"A"}"#, LineFault::Shape),
-        (r#"{"do":7}"#, LineFault::Shape),
-        (r#"{}"#, LineFault::Shape),
-        (r#"["do"]"#, LineFault::Shape),
-    ];
-    for (line, want) in table {
+    for (line, want) in FAULTY {
         assert!(rt;
             fault_of(rt.alloc(), line.as_bytes()) == Some(want),
             "at {line}"

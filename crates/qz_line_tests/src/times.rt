@@ -50,55 +50,58 @@ fn has_times(
     )
 }
 
+/// Moments and counts, triggers, and what is said of them.
+const TIMED: [((i64, u32), &str, &str); 9] = [
+    (
+        (1704456000000, 1),
+        r#""name":"c","job":"j","start":0,"kind":"cron","cron":"0 0 12 ? * MON-FRI""#,
+        "times DEFAULT/c 1704715200000\n",
+    ),
+    (
+        (1704456000000, 1),
+        r#""name":"c","job":"j","start":0,"kind":"cron","cron":"0 0 12 ? * MON-FRI 2023""#,
+        "times DEFAULT/c none\n",
+    ),
+    (
+        (0, 1000),
+        r#""name":"c","job":"j","start":1500,"end":3000,"kind":"cron","cron":"* * * ? * *""#,
+        "times DEFAULT/c 1000 2000 3000\n",
+    ),
+    (
+        (0, 5),
+        r#""name":"s","group":"g","job":"j","start":5000,"end":7000,"kind":"simple","interval":1000,"count":2"#,
+        "times g/s 5000 6000\n",
+    ),
+    (
+        (1706659200000, 3),
+        r#""name":"i","job":"j","start":1706659200000,"kind":"interval","unit":"MONTH","every":1"#,
+        "times DEFAULT/i 1709164800000 1711843200000 1714435200000\n",
+    ),
+    (
+        (1704121920000, 2),
+        r#""name":"d","job":"j","start":1704067200000,"kind":"daily","unit":"MINUTE","every":72,"from":"08:00:00","to":"17:00:00""#,
+        "times DEFAULT/d 1704126240000 1704182400000\n",
+    ),
+    (
+        (1729902600000, 3),
+        r#""name":"z","job":"j","start":0,"kind":"cron","cron":"0 30 2 * * ?","zone":"CET""#,
+        "times DEFAULT/z 1729989000000 1729992600000 1730079000000\n",
+    ),
+    (
+        (0, 1),
+        r#""name":"z","job":"j","start":0,"kind":"cron","cron":"0 30 2 * * ?","zone":"EET""#,
+        "refused 6\n",
+    ),
+    (
+        (0, 1),
+        r#""name":"z","job":"j","start":0,"kind":"simple","calendar":"free""#,
+        "refused 5\n",
+    ),
+];
+
 #[test]
 fn triggers_have_their_times(rt: HostRuntime) -> Result<(), Fail> {
-    for (query, trigger, replies) in [
-        (
-            (1704456000000, 1),
-            r#""name":"c","job":"j","start":0,"kind":"cron","cron":"0 0 12 ? * MON-FRI""#,
-            "times DEFAULT/c 1704715200000\n",
-        ),
-        (
-            (1704456000000, 1),
-            r#""name":"c","job":"j","start":0,"kind":"cron","cron":"0 0 12 ? * MON-FRI 2023""#,
-            "times DEFAULT/c none\n",
-        ),
-        (
-            (0, 1000),
-            r#""name":"c","job":"j","start":1500,"end":3000,"kind":"cron","cron":"* * * ? * *""#,
-            "times DEFAULT/c 1000 2000 3000\n",
-        ),
-        (
-            (0, 5),
-            r#""name":"s","group":"g","job":"j","start":5000,"end":7000,"kind":"simple","interval":1000,"count":2"#,
-            "times g/s 5000 6000\n",
-        ),
-        (
-            (1706659200000, 3),
-            r#""name":"i","job":"j","start":1706659200000,"kind":"interval","unit":"MONTH","every":1"#,
-            "times DEFAULT/i 1709164800000 1711843200000 1714435200000\n",
-        ),
-        (
-            (1704121920000, 2),
-            r#""name":"d","job":"j","start":1704067200000,"kind":"daily","unit":"MINUTE","every":72,"from":"08:00:00","to":"17:00:00""#,
-            "times DEFAULT/d 1704126240000 1704182400000\n",
-        ),
-        (
-            (1729902600000, 3),
-            r#""name":"z","job":"j","start":0,"kind":"cron","cron":"0 30 2 * * ?","zone":"CET""#,
-            "times DEFAULT/z 1729989000000 1729992600000 1730079000000\n",
-        ),
-        (
-            (0, 1),
-            r#""name":"z","job":"j","start":0,"kind":"cron","cron":"0 30 2 * * ?","zone":"EET""#,
-            "refused 6\n",
-        ),
-        (
-            (0, 1),
-            r#""name":"z","job":"j","start":0,"kind":"simple","calendar":"free""#,
-            "refused 5\n",
-        ),
-    ] {
+    for (query, trigger, replies) in TIMED {
         assert!(rt;
             has_times(rt.alloc(), query, trigger, replies)?,
             "at {trigger}"

@@ -13,53 +13,60 @@ fn asked(alloc: Global, words: &[&str]) -> Result<Result<Wish, WordFault>, Alloc
     Ok(read_words(&texts))
 }
 
+/// Words, and what they ask for.
+const ASKED: [(&[&str], Result<Wish, WordFault>); 17] = [
+    (&[], Ok(Wish::Own)),
+    (&["init"], Ok(Wish::Init)),
+    (&["script"], Ok(Wish::Script)),
+    (&["times", "0", "1"], Ok(Wish::Times { after: 0, count: 1 })),
+    (
+        &["times", "4102444799999", "1000"],
+        Ok(Wish::Times {
+            after: 4102444799999,
+            count: 1000,
+        }),
+    ),
+    (
+        &["times", "0000000000000000007", "07"],
+        Ok(Wish::Times { after: 7, count: 7 }),
+    ),
+    (&["fly"], Err(WordFault::UnknownCommand)),
+    (&["Times", "0", "1"], Err(WordFault::UnknownCommand)),
+    (&["init", "x"], Err(WordFault::WrongCount { found: 1 })),
+    (&["times", "0"], Err(WordFault::WrongCount { found: 1 })),
+    (
+        &["times", "x", "0", "1"],
+        Err(WordFault::WrongCount { found: 3 }),
+    ),
+    (
+        &["times", "-1", "x"],
+        Err(WordFault::BadNumber { place: 1 }),
+    ),
+    (
+        &["times", "4102444800000", ""],
+        Err(WordFault::BadNumber { place: 2 }),
+    ),
+    (
+        &["times", "00000000000000000000", "1"],
+        Err(WordFault::BadNumber { place: 1 }),
+    ),
+    (
+        &["times", "9999999999999999999", "0"],
+        Err(WordFault::OutOfRange { place: 1 }),
+    ),
+    (
+        &["times", "0", "0"],
+        Err(WordFault::OutOfRange { place: 2 }),
+    ),
+    (
+        &["times", "0", "1001"],
+        Err(WordFault::OutOfRange { place: 2 }),
+    ),
+];
+
 #[test]
 fn words_have_their_meaning(rt: HostRuntime) -> Result<(), Fail> {
-    let times = |after, count| Ok(Wish::Times { after, count });
-    let table: [(&[&str], Result<Wish, WordFault>); 17] = [
-        (&[], Ok(Wish::Own)),
-        (&["init"], Ok(Wish::Init)),
-        (&["script"], Ok(Wish::Script)),
-        (&["times", "0", "1"], times(0, 1)),
-        (
-            &["times", "4102444799999", "1000"],
-            times(4102444799999, 1000),
-        ),
-        (&["times", "0000000000000000007", "07"], times(7, 7)),
-        (&["fly"], Err(WordFault::UnknownCommand)),
-        (&["Times", "0", "1"], Err(WordFault::UnknownCommand)),
-        (&["init", "x"], Err(WordFault::WrongCount { found: 1 })),
-        (&["times", "0"], Err(WordFault::WrongCount { found: 1 })),
-        (
-            &["times", "x", "0", "1"],
-            Err(WordFault::WrongCount { found: 3 }),
-        ),
-        (
-            &["times", "-1", "x"],
-            Err(WordFault::BadNumber { place: 1 }),
-        ),
-        (
-            &["times", "4102444800000", ""],
-            Err(WordFault::BadNumber { place: 2 }),
-        ),
-        (
-            &["times", "00000000000000000000", "1"],
-            Err(WordFault::BadNumber { place: 1 }),
-        ),
-        (
-            &["times", "9999999999999999999", "0"],
-            Err(WordFault::OutOfRange { place: 1 }),
-        ),
-        (
-            &["times", "0", "0"],
-            Err(WordFault::OutOfRange { place: 2 }),
-        ),
-        (
-            &["times", "0", "1001"],
-            Err(WordFault::OutOfRange { place: 2 }),
-        ),
-    ];
-    for (words, want) in table {
+    for (words, want) in ASKED {
         assert!(rt; asked(rt.alloc(), words)? == want, "at {words:?}");
     }
     Ok(())
