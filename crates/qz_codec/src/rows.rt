@@ -42,15 +42,6 @@ pub(crate) fn make_texts(
     beside(first, Text::from_str(alloc, second))
 }
 
-/// Memory for a key of this group and name.
-pub(crate) fn make_key(alloc: Global, names: (&str, &str)) -> Result<Key, AllocError>
-    ensures { IfOk result (λ k. k ≡ record { group = names.entry.0.now; name = names.entry.1.now }) }
-{
-    let (group, name) = names;
-    let (group, name) = make_texts(alloc, group, name)?;
-    Ok(Key { group, name })
-}
-
 /// Memory for two keys of these groups and names.
 pub(crate) fn make_keys(
     alloc: Global,
@@ -60,8 +51,8 @@ pub(crate) fn make_keys(
     ensures first { IfOk result (λ k. k.0 ≡ record { group = first.entry.0.now; name = first.entry.1.now }) }
     ensures second { IfOk result (λ k. k.1 ≡ record { group = second.entry.0.now; name = second.entry.1.now }) }
 {
-    let first = make_key(alloc, first)?;
-    beside(first, make_key(alloc, second))
+    let first = Key::new(alloc, first.0, first.1)?;
+    beside(first, Key::new(alloc, second.0, second.1))
 }
 
 /// The group and the name of a key.
@@ -80,7 +71,7 @@ pub(crate) fn key_of(alloc: Global, bytes: &[u8]) -> Result<(Key, &[u8]), Fault>
     ensures valid { IfOk result (λ x. IsTrue (is_key x.0)) }
 {
     let (names, rest) = names_of(bytes)?;
-    Ok((make_key(alloc, names)?, rest))
+    Ok((Key::new(alloc, names.0, names.1)?, rest))
 }
 
 /// Memory for what a job has of texts.
@@ -93,7 +84,7 @@ fn make_job_texts(
     ensures key { IfOk result (λ made. made.0 ≡ record { group = names.entry.0.now; name = names.entry.1.now }) }
     ensures texts { IfOk result (λ made. (made.1.0 ≡ class.now) × (made.1.1 ≡ payload.now)) }
 {
-    let key = make_key(alloc, names)?;
+    let key = Key::new(alloc, names.0, names.1)?;
     beside(key, make_texts(alloc, class, payload))
 }
 

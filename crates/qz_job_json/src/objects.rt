@@ -22,16 +22,6 @@ pub(crate) fn names_at<'v>(value: &'v Value, group: &str, name: &str) -> Option<
     Some((group, name))
 }
 
-/// Memory for a key of this group and name.
-pub(crate) fn make_key(alloc: Global, names: (&str, &str)) -> Result<Key, AllocError>
-    ensures { IfOk result (λ key. key ≡ make_key names.entry.0.now names.entry.1.now) }
-{
-    let (group, name) = names;
-    let group = Text::from_str(alloc, group)?;
-    let name = Text::from_str(alloc, name)?;
-    Ok(Key { group, name })
-}
-
 /// The job that the object is; None is another shape.
 #[tactic(auto, unfolding(crate::specs::Objects::job_of))]
 pub(crate) fn job_of(alloc: Global, value: &Value) -> Result<Option<JobRow>, NoMemory>
@@ -46,7 +36,7 @@ pub(crate) fn job_of(alloc: Global, value: &Value) -> Result<Option<JobRow>, NoM
     let Some(names) = names_at(value, "group", "name") else {
         return Ok(None);
     };
-    let key = make_key(alloc, names)?;
+    let key = Key::new(alloc, names.0, names.1)?;
     let class = Text::from_str(alloc, class)?;
     Ok(Some(JobRow {
         key,
@@ -106,7 +96,7 @@ pub(crate) fn trigger_of(alloc: Global, value: &Value) -> Result<Option<TriggerS
     let Some(job) = names_at(value, "job_group", "job") else {
         return Ok(None);
     };
-    let key = make_key(alloc, key)?;
-    let job = make_key(alloc, job)?;
+    let key = Key::new(alloc, key.0, key.1)?;
+    let job = Key::new(alloc, job.0, job.1)?;
     Ok(Some(one_shot(start, key, job)))
 }

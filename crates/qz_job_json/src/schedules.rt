@@ -12,7 +12,7 @@ use crate::lines::LineFault;
 use crate::members::{
     has_only, integer_or, name_at, name_or, number_at, optional_span_at, span_at, text_at,
 };
-use crate::objects::{make_key, names_at};
+use crate::objects::names_at;
 use qz_civil::{Kind, LONGEST, Timing, Unit, beside};
 use qz_types::{Key, Text, TriggerSpec};
 use serde_json::Value;
@@ -220,8 +220,8 @@ fn make_names(
     ensures calendar { IfOk result (λ made. made.2 ≡ option_map (λ text. text.now) calendar.entry) }
 {
     let calendar = make_calendar(alloc, calendar)?;
-    let (calendar, key) = beside(calendar, make_key(alloc, key))?;
-    let ((calendar, key), job) = beside((calendar, key), make_key(alloc, job))?;
+    let (calendar, key) = beside(calendar, Key::new(alloc, key.0, key.1))?;
+    let ((calendar, key), job) = beside((calendar, key), Key::new(alloc, job.0, job.1))?;
     Ok((key, job, calendar))
 }
 
