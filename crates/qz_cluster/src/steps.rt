@@ -1,5 +1,5 @@
 //! One step.
-ghost use Rattle.std.specs.Prelude.{◌≡◌, ◌<◌, IsTrue, IfOk, IfErr, OnErr, vec_len, vec_capacity};
+ghost use Rattle.std.specs.Prelude.{◌≡◌, ◌<◌, None, IsTrue, IfOk, IfErr, OnErr, vec_len, vec_capacity};
 ghost use Rattle.qz_types.specs.Rows.{is_node};
 ghost use Rattle.qz_types.specs.Steps.{is_step};
 ghost use Rattle.qz_types.specs.Entries.{is_command, is_of_node};
@@ -9,7 +9,7 @@ ghost use Rattle.qz_types.specs.declared.steps.Step.TheVariants as step_is;
 ghost use Rattle.qz_model.specs.Words.{without_member};
 ghost use Rattle.qz_model.specs.Script.{entry_of};
 ghost use Rattle.qz_trigger_store.specs.Seen.{seen, IsAsBefore, LeavesEither};
-ghost use Rattle.qz_cluster.specs.Steps.{Submitted, Refrained, held_behind_join, IsStep, IsCutShort};
+ghost use Rattle.qz_cluster.specs.Steps.{Answered, Submitted, Refrained, held_behind_join, IsStep, IsCutShort};
 ghost use Rattle.qz_cluster.specs.Seen.{state_of, Leaves};
 
 use crate::entries::{client_entry, node_entry};
@@ -51,11 +51,7 @@ impl<D: Disk> Cluster<D> {
         match member_of(&self.held, node) {
             None => {
                 let_go(command);
-                Ok(if self.triggers.closed() {
-                    StepReply::Closed
-                } else {
-                    StepReply::Stopped
-                })
+                Ok(self.unheld())
             }
             Some(member) => match member.copy() {
                 Ok(me) => self.submit(node_entry(me, command, at)),
@@ -64,6 +60,18 @@ impl<D: Disk> Cluster<D> {
                     Err(StepEnd::NoMemory)
                 }
             },
+        }
+    }
+
+    // What a node that holds no epoch is told.
+    fn unheld(&self) -> StepReply
+        ensures told { Answered None result (seen self.now.triggers) (seen self.now.triggers) }
+        ensures leaves { Leaves result self.now.triggers self.now.triggers }
+    {
+        if self.triggers.closed() {
+            StepReply::Closed
+        } else {
+            StepReply::Stopped
         }
     }
 

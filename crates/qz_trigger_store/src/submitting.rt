@@ -1,5 +1,5 @@
 //! One entry more.
-ghost use Rattle.std.specs.Prelude.{◌≡◌, ◌≢◌, ◌++◌, ◌∷◌, ◌≤◌, [], length, IsTrue, IfOk, OnOk, OnErr, IfErr, Err, true};
+ghost use Rattle.std.specs.Prelude.{◌≡◌, ◌≢◌, ◌++◌, ◌∷◌, ◌≤◌, [], length, IsTrue, IfOk, OnOk, OnErr, IfErr, Err, Some, true, false};
 ghost use Rattle.qz_codec.specs.Layout.{record_of};
 ghost use Rattle.qz_codec.specs.Values.{IsEntry};
 ghost use Rattle.qz_journal.specs.Commits.{need_of, room_of};
@@ -168,10 +168,23 @@ impl<D: Disk> TriggerStore<D> {
             Err(_) => {
                 let_go(p);
                 self.accepted = room.shut();
-                self.is_open = false;
-                let_go(mem::replace(&mut self.undecided, Some(entry)));
-                Err(SubmitError::Fault)
+                close(&mut self.is_open, &mut self.undecided, entry)
             }
         }
     }
+}
+
+// Closes a store at a fault, which leaves it unknown whether the disk has the entry.
+fn close(
+    is_open: &mut bool,
+    undecided: &mut Option<Entry>,
+    entry: Entry,
+) -> Result<Reply, SubmitError>
+    ensures closed { is_open.new ≡ false }
+    ensures undecided { undecided.new ≡ Some entry }
+    ensures fault { result ≡ Err SubmitError.Fault }
+{
+    *is_open = false;
+    let_go(mem::replace(undecided, Some(entry)));
+    Err(SubmitError::Fault)
 }

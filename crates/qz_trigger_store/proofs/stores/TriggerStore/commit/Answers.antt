@@ -143,7 +143,7 @@ invariant_of-self-in-Err-append-clause-images g c honest b is =
     let holds = subst (λ (n : ℕ). Holds (g.D.Disk.state s.journal.disk).content n (records es)) (sym s.kind) (s.stands honest c.requires.open) in
     let leaves = Appending.at_kind _ es _ c.args.p.written _ _ s.kind c.as_slice.ensures (c.append.ensures.any_moment honest (s.ready c.requires.open) (records es) holds) in
     let same = ap (λ (l : List EntryData). s.found ++ l) (c.shut.ensures.entries ∙ c.in-Ok.ensures.ok.0) in
-    subst (λ u. MayBe (history_of (s.found ++ c.shut.result.entries)) u b) (sym c.replace.ensures.after)
+    subst (λ u. MayBe (history_of (s.found ++ c.shut.result.entries)) u b) (sym c.close.ensures.undecided)
     (Appending.images_undecided es (s.found ++ c.shut.result.entries) c.args.entry c.args.p.written _ _ same c.requires.written.0 (g.met.D.Disk.lawful honest c.append.new.self.disk) leaves b is)
 
 pub returns-in-Err-append-clause-any_moment : goal.returns-in-Err-append-clause-any_moment
@@ -153,7 +153,7 @@ returns-in-Err-append-clause-any_moment g c honest =
     let holds = subst (λ (n : ℕ). Holds (g.D.Disk.state s.journal.disk).content n (records es)) (sym s.kind) (s.stands honest c.requires.open) in
     let leaves = Appending.at_kind _ es _ c.args.p.written _ _ s.kind c.as_slice.ensures (c.append.ensures.any_moment honest (s.ready c.requires.open) (records es) holds) in
     let same = ap (λ (l : List EntryData). s.found ++ l) (c.shut.ensures.entries ∙ c.in-Ok.ensures.ok.0) in
-    Appending.leaves_undecided es (s.found ++ c.shut.result.entries) es c.args.entry c.args.p.written _ _ s.undecided _ same c.requires.written.0 c.replace.ensures.after leaves
+    Appending.leaves_undecided es (s.found ++ c.shut.result.entries) es c.args.entry c.args.p.written _ _ s.undecided _ same c.requires.written.0 c.close.ensures.undecided leaves
 
 -- where there was no memory
 
