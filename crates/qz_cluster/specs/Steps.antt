@@ -1,5 +1,6 @@
 -- One step of a script at the cluster: what it answers, and what it makes of the trigger store and the held epochs.
-use Rattle.std.specs.Prelude.{◌≡◌, ℕ, ℤ, true, List, Option, Some, None}
+use Rattle.std.specs.Prelude.{◌≡◌, ℕ, ℤ, true, List, Option, Some, None, Ok, Err}
+use Rattle.std.specs.declared.result.Result.{Result}
 use Rattle.qz_types.specs.Rows.{MemberData}
 use Rattle.qz_types.specs.Entries.{EntryData}
 use Rattle.qz_types.specs.declared.commands.Actor.TheVariants as actor
@@ -11,6 +12,8 @@ use Rattle.qz_types.specs.declared.steps.StepReply.{StepReply}
 use Rattle.qz_types.specs.declared.steps.StepReply.TheVariants as reply
 use Rattle.qz_model.specs.Words.{member_of, without_member}
 use Rattle.qz_model.specs.Script.{TimedStep, held_after_join, entry_of}
+use Rattle.qz_trigger_store.specs.declared.errors.SubmitError.{SubmitError}
+use Rattle.qz_trigger_store.specs.declared.errors.SubmitError.TheVariants as submit
 use Rattle.qz_trigger_store.specs.Steps.{StoreState, Same, Appends, Refuses, Overflows, Fails, Stops}
 use Rattle.qz_cluster.specs.declared.errors.StepEnd.{StepEnd}
 use Rattle.qz_cluster.specs.declared.errors.StepEnd.TheVariants as ends
@@ -37,6 +40,14 @@ Submitted e (reply.Refused refusal) s t = Refuses e refusal s t
 Submitted e reply.Fault s t = Fails e s t
 Submitted e reply.Closed s t = Stops s t
 Submitted e reply.Stopped s t = ⊥
+
+-- what comes of a step whose entry wasn't accepted
+abbrev pub unaccepted : SubmitError → Result StepReply StepEnd
+unaccepted (submit.Closed at) = Ok reply.Closed
+unaccepted (submit.Refused refusal) = Ok (reply.Refused refusal)
+unaccepted (submit.JournalFull need room) = Err (ends.JournalFull need room)
+unaccepted submit.NoMemory = Err ends.NoMemory
+unaccepted submit.Fault = Ok reply.Fault
 
 -- Without an entry the answer is that the node is stopped, unless the store is closed.
 abbrev pub Answered : Option EntryData → StepReply → StoreState → StoreState → Type 0

@@ -9,7 +9,7 @@ ghost use Rattle.qz_types.specs.declared.steps.Step.TheVariants as step_is;
 ghost use Rattle.qz_model.specs.Words.{without_member};
 ghost use Rattle.qz_model.specs.Script.{entry_of};
 ghost use Rattle.qz_trigger_store.specs.Seen.{seen, IsAsBefore, LeavesEither};
-ghost use Rattle.qz_cluster.specs.Steps.{Answered, Submitted, Refrained, held_behind_join, IsStep, IsCutShort};
+ghost use Rattle.qz_cluster.specs.Steps.{Answered, Submitted, Refrained, unaccepted, held_behind_join, IsStep, IsCutShort};
 ghost use Rattle.qz_cluster.specs.Seen.{state_of, Leaves};
 
 use crate::entries::{client_entry, node_entry};
@@ -125,6 +125,7 @@ impl<D: Disk> Cluster<D> {
     }
 
     // One transaction.
+    #[tactic(auto, using(crate::proofs::Unaccepted::replies, crate::proofs::Unaccepted::refrains, crate::proofs::Unaccepted::leaves, crate::proofs::Unaccepted::stays))]
     fn submit(&mut self, entry: Entry) -> Result<StepReply, StepEnd>
         ensures ok { IfOk result (λ r. Submitted entry r (seen self.old.triggers) (seen self.new.triggers)) }
         ensures err { IfErr result (λ e. Refrained entry e (seen self.old.triggers) (seen self.new.triggers)) }
@@ -135,14 +136,20 @@ impl<D: Disk> Cluster<D> {
     {
         match self.triggers.submit(entry) {
             Ok(reply) => Ok(StepReply::Ok(reply)),
-            Err(SubmitError::Closed { at: _ }) => Ok(StepReply::Closed),
-            Err(SubmitError::Refused(refusal)) => Ok(StepReply::Refused(refusal)),
-            Err(SubmitError::JournalFull { need, room }) => Err(StepEnd::JournalFull {
-                need,
-                room,
-            }),
-            Err(SubmitError::NoMemory) => Err(StepEnd::NoMemory),
-            Err(SubmitError::Fault) => Ok(StepReply::Fault),
+            Err(error) => unaccepted(error),
         }
+    }
+}
+
+// What comes of a step whose entry wasn't accepted.
+fn unaccepted(error: SubmitError) -> Result<StepReply, StepEnd>
+    ensures { result ≡ unaccepted error }
+{
+    match error {
+        SubmitError::Closed { at: _ } => Ok(StepReply::Closed),
+        SubmitError::Refused(refusal) => Ok(StepReply::Refused(refusal)),
+        SubmitError::JournalFull { need, room } => Err(StepEnd::JournalFull { need, room }),
+        SubmitError::NoMemory => Err(StepEnd::NoMemory),
+        SubmitError::Fault => Ok(StepReply::Fault),
     }
 }
