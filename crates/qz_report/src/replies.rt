@@ -1,5 +1,6 @@
 //! Reply lines.
-ghost use Rattle.std.specs.Prelude.{◌≡◌, ◌++◌, IfOk, OnOk, Some, string_bytes};
+ghost use Rattle.std.specs.Prelude.{◌≡◌, ◌++◌, IfOk, OnOk, Some, codes, string_bytes};
+ghost use Rattle.std.specs.Fmt.{signed_decimal};
 ghost use Rattle.std.specs.List.{flat_map};
 ghost use Rattle.qz_report.specs.Replies.{next_text, taken_text, all_taken_text, ok_text, joined_text, recovery_text, fired_text, refusal_field, refusal_text, step_text, reply_text};
 
@@ -131,8 +132,15 @@ fn push_fired(
 ) -> Result<(), AllocError>
     ensures { OnOk result (string_bytes text.new ≡ string_bytes text.old ++ fired_text entry scheduled fired next) }
 {
-    let next = Next(next);
     write!(text, "fired {entry} scheduled {scheduled}")?;
+    push_moments(text, fired, next)
+}
+
+/// When it fired, and its next time.
+fn push_moments(text: &mut String, fired: i64, next: Option<i64>) -> Result<(), AllocError>
+    ensures { OnOk result (string_bytes text.new ≡ string_bytes text.old ++ codes " at " ++ signed_decimal fired ++ codes " next " ++ next_text next) }
+{
+    let next = Next(next);
     write!(text, " at {fired} next {next}")
 }
 
