@@ -39,6 +39,7 @@ fn copy_reply(reply: &Reply) -> Result<Reply, NoMemory>
 }
 
 // What a transaction comes to.
+#[tactic(auto, using(crate::proofs::Kept::stay_valid))]
 fn work(tables: &PlainStore, entry: &Entry) -> Result<Worked, SubmitError>
     requires { IsTrue (is_entry entry.now) }
     ensures accepted { IfOk result (λ w. transaction tables.now entry.now ≡ accepted w.tables w.reply) }
