@@ -169,23 +169,19 @@ impl<D: Disk> TriggerStore<D> {
             Err(_) => {
                 let_go(p);
                 self.accepted = room.shut();
-                close(&mut self.is_open, &mut self.undecided, entry)
+                Err(close(&mut self.is_open, &mut self.undecided, entry))
             }
         }
     }
 }
 
 // Closes a store at a fault, which leaves it unknown whether the disk has the entry.
-fn close(
-    is_open: &mut bool,
-    undecided: &mut Option<Entry>,
-    entry: Entry,
-) -> Result<Reply, SubmitError>
+fn close(is_open: &mut bool, undecided: &mut Option<Entry>, entry: Entry) -> SubmitError
     ensures closed { is_open.new ≡ false }
     ensures undecided { undecided.new ≡ Some entry }
-    ensures fault { result ≡ Err SubmitError.Fault }
+    ensures fault { result ≡ SubmitError.Fault }
 {
     *is_open = false;
     let_go(mem::replace(undecided, Some(entry)));
-    Err(SubmitError::Fault)
+    SubmitError::Fault
 }
