@@ -3,46 +3,70 @@ mod fields;
 mod rules;
 mod zones;
 
-use qz_civil::{List, NoMemory, Text};
+use qz_civil::{List, NoMemory, Text, beside};
 use std::alloc::Global;
 use std::cmp::Ordering;
 use std::test::Fail;
 
-// Whether a list holds what was put in, in its order, and a copy too.
-fn keeps_its_items(alloc: Global) -> Result<bool, Fail> {
+// Eight is put in last, before nine.
+fn seven_to_nine(alloc: Global) -> Result<List<u64>, Fail> {
     let mut list = List::new(alloc);
-    let was_empty = list.is_empty();
-    list.push(7u64)?;
+    list.push(7)?;
     list.push(9)?;
     list.insert(1, 8)?;
+    Ok(list)
+}
+
+// Whether these are the items, in their order, and those of a copy too.
+fn has_items(list: &List<u64>, items: &[u64]) -> Result<bool, Fail> {
     let copy = list.clone()?;
-    let is_whole = list.len() == 3 && list.as_slice() == [7, 8, 9].as_slice() && list == copy;
+    Ok(list.len() == items.len() && list.as_slice() == items && *list == copy)
+}
+
+// Whether seven is first, and what is left without it are the others.
+fn has_seven_first(mut list: List<u64>) -> bool {
+    if list.is_empty() {
+        return false;
+    }
     let first = list.remove(0);
     let rest = List::from_vec(list.into_vec());
-    Ok(was_empty && is_whole && first == 7 && rest.as_slice() == [8, 9].as_slice())
+    first == 7 && rest.as_slice() == [8, 9].as_slice()
 }
 
 #[test]
 fn lists_keep_their_items(rt: HostRuntime) -> Result<(), Fail> {
-    assert!(rt; keeps_its_items(rt.alloc())?);
+    assert!(rt; List::<u64>::new(rt.alloc()).is_empty());
+    let list = seven_to_nine(rt.alloc())?;
+    assert!(rt; has_items(&list, &[7, 8, 9])?);
+    assert!(rt; has_seven_first(list));
     Ok(())
 }
 
-// Whether B comes before a, and each is the same as its copy alone.
-fn is_ordered_by_bytes(alloc: Global) -> Result<bool, Fail> {
-    let upper = Text::from_str(alloc, "B")?;
-    let lower = Text::from_str(alloc, "a")?;
-    let copy = upper.copy()?;
-    let is_told_apart = upper.same(&copy) && !upper.same(&lower);
-    let is_less = upper.cmp(&lower) == Ordering::Less;
-    let again = Text::from_string(upper.into_string());
-    Ok(is_told_apart && is_less && again.as_str() == "B")
+// Whether the first comes before the second, and is the same as its copy alone.
+fn is_before(first: &Text, second: &Text) -> Result<bool, Fail> {
+    let copy = first.copy()?;
+    let is_told_apart = first.same(&copy) && !first.same(second);
+    Ok(is_told_apart && first.cmp(second) == Ordering::Less)
+}
+
+// Whether the text is a string with these characters, and a text again.
+fn is_string(text: Text, wanted: &str) -> bool {
+    Text::from_string(text.into_string()).as_str() == wanted
 }
 
 #[test]
 fn texts_are_ordered_by_bytes(rt: HostRuntime) -> Result<(), Fail> {
-    assert!(rt; is_ordered_by_bytes(rt.alloc())?);
+    let upper = Text::from_str(rt.alloc(), "B")?;
+    let (upper, lower) = beside(upper, Text::from_str(rt.alloc(), "a"))?;
+    assert!(rt; is_before(&upper, &lower)?);
+    assert!(rt; is_string(upper, "B"));
+    Ok(())
+}
+
+#[test]
+fn texts_begin_empty(rt: HostRuntime) -> Result<(), Fail> {
     assert!(rt; Text::new(rt.alloc()).len() == 0);
-    assert!(rt; NoMemory.to_string(rt.alloc())?.as_str() == "no memory");
+    let told = NoMemory.to_string(rt.alloc())?;
+    assert!(rt; told.as_str() == "no memory");
     Ok(())
 }

@@ -1,9 +1,8 @@
 //! Fire times that were worked out apart from this crate.
-ghost use Rattle.std.specs.Prelude.{negsuc, ◌≤ℤ◌};
-
-use qz_civil::{CronFields, DayField, LAST, List, Stretch, WeekField, Zone};
+use crate::zoned::{Begin, is_moment, zone_of};
+use qz_civil::{CronFields, DayField, WeekField, Zone};
 use qz_cron::next;
-use std::alloc::Global;
+use std::process::Abort;
 use std::test::Fail;
 
 const HOUR: i32 = 3600;
@@ -12,6 +11,9 @@ const HOUR: i32 = 3600;
 const HOURS: u32 = 0xff_ffff;
 
 const MINUTES: u64 = 0xfff_ffff_ffff_ffff;
+
+// Fields, a moment, and the next fire time.
+type Row = (CronFields, i64, Option<i64>);
 
 // A midnight of any day.
 const MIDNIGHT: CronFields = CronFields {
@@ -24,296 +26,278 @@ const MIDNIGHT: CronFields = CronFields {
     years: [u64::MAX, u64::MAX, 3, 0],
 };
 
-// In the zone of the table; a time that is none where the table is no zone.
-fn next_in(
-    alloc: Global,
-    table: &[(i64, i32)],
-    fields: &CronFields,
-    after: i64,
-) -> Result<Option<i64>, Fail>
-    requires low { negsuc 0 ≤ℤ after }
-    requires high { after ≤ℤ LAST }
-{
-    let mut stretches = List::new(alloc);
-    for (from, offset) in table {
-        stretches.push(Stretch {
-            from: *from,
-            offset: *offset,
-        })?;
-    }
-    match Zone::table(stretches) {
-        Ok(zone) => Ok(next(fields, &zone, after)),
-        Err(_) => Ok(Some(i64::MIN)),
-    }
-}
+// 0 0 9 * * ?
+const NINE: CronFields = CronFields {
+    hours: 1 << 9,
+    ..MIDNIGHT
+};
 
-/// Nine o'clock.
-const NINE: u32 = 1 << 9;
+// 0 0 12 * * ?
+const NOON: CronFields = CronFields {
+    hours: 1 << 12,
+    ..MIDNIGHT
+};
 
-/// Hours, days and months, a moment, and the next fire time.
-const DAYS_OF_THE_MONTH: [(u32, DayField, u16, i64, Option<i64>); 7] = [
+// Each second.
+const EACH: CronFields = CronFields {
+    seconds: MINUTES,
+    minutes: MINUTES,
+    hours: HOURS,
+    ..MIDNIGHT
+};
+
+const DAYS_OF_THE_MONTH: &[Row] = &[
     // 0 0 0 29 2 ?
     (
-        1,
-        DayField::Set(1 << 28),
-        2,
+        CronFields {
+            day: DayField::Set(1 << 28),
+            months: 2,
+            ..MIDNIGHT
+        },
         1709164800000,
         Some(1835395200000),
     ),
     // 30 February
-    (1, DayField::Set(1 << 29), 2, -1, None),
+    (
+        CronFields {
+            day: DayField::Set(1 << 29),
+            months: 2,
+            ..MIDNIGHT
+        },
+        -1,
+        None,
+    ),
     // 0 0 9 1W 6 ?: 1 June is a Saturday
     (
-        NINE,
-        DayField::Nearest { day: 1 },
-        32,
+        CronFields {
+            day: DayField::Nearest { day: 1 },
+            months: 32,
+            ..NINE
+        },
         1704067200000,
         Some(1717405200000),
     ),
     // 0 0 9 31W 3 ?: 31 March is a Sunday
     (
-        NINE,
-        DayField::Nearest { day: 31 },
-        4,
+        CronFields {
+            day: DayField::Nearest { day: 31 },
+            months: 4,
+            ..NINE
+        },
         1704067200000,
         Some(1711702800000),
     ),
     // 0 0 9 LW 6 ?: 30 June is a Sunday
     (
-        NINE,
-        DayField::LastWeekday,
-        32,
+        CronFields {
+            day: DayField::LastWeekday,
+            months: 32,
+            ..NINE
+        },
         1704067200000,
         Some(1719565200000),
     ),
     // 0 0 0 L * ?, L-30, of February 2024
     (
-        1,
-        DayField::Last { back: 0 },
-        4095,
+        CronFields {
+            day: DayField::Last { back: 0 },
+            ..MIDNIGHT
+        },
         1706745600000,
         Some(1709164800000),
     ),
     (
-        1,
-        DayField::Last { back: 30 },
-        4095,
+        CronFields {
+            day: DayField::Last { back: 30 },
+            ..MIDNIGHT
+        },
         1706745600000,
         Some(1709251200000),
     ),
 ];
 
-#[test]
-fn days_of_the_month(rt: HostRuntime) {
-    for (hours, day, months, after, wanted) in DAYS_OF_THE_MONTH {
-        let fields = CronFields {
-            hours,
-            day,
-            months,
+const DAYS_OF_THE_WEEK: &[Row] = &[
+    // 0 0 12 ? * MON-FRI: from Friday to Monday
+    (
+        CronFields {
+            week: WeekField::Set(0b011_1110),
+            ..NOON
+        },
+        1704456000000,
+        Some(1704715200000),
+    ),
+    // 0 0 9 ? * 6#5: Friday 29 March
+    (
+        CronFields {
+            week: WeekField::Nth { day: 6, nth: 5 },
+            ..NINE
+        },
+        1704067200000,
+        Some(1711702800000),
+    ),
+    // 0 0 0 ? * 7L: Saturday 24 February
+    (
+        CronFields {
+            week: WeekField::Last { day: 7 },
             ..MIDNIGHT
-        };
-        assert!(rt; next(&fields, &Zone::utc(), after) == wanted, "at {after}");
-    }
-}
+        },
+        1706745600000,
+        Some(1708732800000),
+    ),
+];
 
-#[test]
-fn days_of_the_week(rt: HostRuntime) {
-    let rows = [
-        // 0 0 12 ? * MON-FRI: from Friday to Monday
-        (
-            1 << 12,
-            WeekField::Set(0b011_1110),
-            1704456000000,
-            Some(1704715200000),
-        ),
-        // 0 0 9 ? * 6#5: Friday 29 March
-        (
-            NINE,
-            WeekField::Nth { day: 6, nth: 5 },
-            1704067200000,
-            Some(1711702800000),
-        ),
-        // 0 0 0 ? * 7L: Saturday 24 February
-        (
-            1,
-            WeekField::Last { day: 7 },
-            1706745600000,
-            Some(1708732800000),
-        ),
-    ];
-    for (hours, week, after, wanted) in rows {
-        let fields = CronFields {
-            hours,
-            week,
+const FIELDS_TOGETHER: &[Row] = &[
+    // 29 February on a Sunday: 2004, 2032
+    (
+        CronFields {
+            day: DayField::Set(1 << 28),
+            months: 2,
+            week: WeekField::Set(1),
             ..MIDNIGHT
-        };
-        assert!(rt; next(&fields, &Zone::utc(), after) == wanted, "at {after}");
-    }
-}
+        },
+        1078012800000,
+        Some(1961625600000),
+    ),
+    // MON-FRI at noon of the year 2023 alone, which is over
+    (
+        CronFields {
+            week: WeekField::Set(0b011_1110),
+            years: [1 << 53, 0, 0, 0],
+            ..NOON
+        },
+        1704456000000,
+        None,
+    ),
+];
 
-// 29 February on a Sunday: 2004, 2032. MON-FRI at noon of the year 2023 alone, which is over.
-#[test]
-fn fields_together(rt: HostRuntime) {
-    let leap_sunday = CronFields {
-        day: DayField::Set(1 << 28),
-        months: 2,
-        week: WeekField::Set(1),
-        ..MIDNIGHT
-    };
-    let past = CronFields {
-        hours: 1 << 12,
-        week: WeekField::Set(0b011_1110),
-        years: [1 << 53, 0, 0, 0],
-        ..MIDNIGHT
-    };
-    let zone = Zone::utc();
-    assert!(rt; next(&leap_sunday, &zone, 1078012800000) == Some(1961625600000));
-    assert!(rt; next(&past, &zone, 1704456000000) == None);
+// 0 0 22-2 ? * 2
+const LATE_ON_MONDAYS: CronFields = CronFields {
+    hours: 0b1100_0000_0000_0000_0000_0111,
+    week: WeekField::Set(2),
+    ..MIDNIGHT
+};
+
+const TIMES_OF_DAY: &[Row] = &[
+    (LATE_ON_MONDAYS, 1704074400000, Some(1704146400000)),
+    (LATE_ON_MONDAYS, 1704146400000, Some(1704150000000)),
+    (LATE_ON_MONDAYS, 1704150000000, Some(1704672000000)),
+    (LATE_ON_MONDAYS, 1704672000000, Some(1704675600000)),
+    // each second, at both ends and between two seconds
+    (EACH, -1, Some(0)),
+    (EACH, 0, Some(1000)),
+    (EACH, 999, Some(1000)),
+    (EACH, 4102444798999, Some(4102444799000)),
+    (EACH, 4102444799000, None),
+    (EACH, 4102444799999, None),
+];
+
+// The clock goes from 2 to 3 o'clock on 31 March, and from 3 to 2 on 27 October.
+const SUMMER_TIME: &[Begin] = &[(0, HOUR), (1711846800000, 2 * HOUR), (1729990800000, HOUR)];
+
+// 0 30 2 * * ?
+const HALF_PAST_TWO: CronFields = CronFields {
+    minutes: 1 << 30,
+    hours: 1 << 2,
+    ..MIDNIGHT
+};
+
+const AN_HOUR_LOST_AND_FOUND: &[Row] = &[
+    (HALF_PAST_TWO, 1711762200000, Some(1711931400000)),
+    (HALF_PAST_TWO, 1729902600000, Some(1729989000000)),
+    (HALF_PAST_TWO, 1729989000000, Some(1729992600000)),
+    (HALF_PAST_TWO, 1729992600000, Some(1730079000000)),
+];
+
+const SUMMER: &[Begin] = &[(1711846800000, 2 * HOUR)];
+
+// Before the first stretch its offset holds.
+const BEFORE_SUMMER: &[Row] = &[(HALF_PAST_TWO, 1704067199999, Some(1704069000000))];
+
+// A quarter of an hour, at midnight.
+const QUARTERS: &[Begin] = &[(0, 0), (1710028800000, 900), (1730592000000, 0)];
+
+// 0 5 0 * * ?
+const PAST_MIDNIGHT: CronFields = CronFields {
+    minutes: 1 << 5,
+    ..MIDNIGHT
+};
+
+const A_QUARTER_LOST_AND_FOUND: &[Row] = &[
+    (PAST_MIDNIGHT, 1709942700000, Some(1710114600000)),
+    (PAST_MIDNIGHT, 1730504700000, Some(1730505000000)),
+    (PAST_MIDNIGHT, 1730591400000, Some(1730592300000)),
+    (PAST_MIDNIGHT, 1730592300000, Some(1730678700000)),
+];
+
+// 30 December 2011 is left out, and the last day of 2023 comes twice.
+const DAYS: &[Begin] = &[
+    (0, -10 * HOUR),
+    (1325239200000, 14 * HOUR),
+    (1704067200000, -10 * HOUR),
+];
+
+const LEFT_OUT: CronFields = CronFields {
+    day: DayField::Set(1 << 29),
+    months: 1 << 11,
+    years: [1 << 41, 0, 0, 0],
+    ..NOON
+};
+
+const A_DAY_LOST_AND_FOUND: &[Row] = &[
+    (NOON, 1325109600000, Some(1325196000000)),
+    (NOON, 1325196000000, Some(1325282400000)),
+    (NOON, 1704060000000, Some(1704146400000)),
+    (NOON, 1704146400000, Some(1704232800000)),
+    (LEFT_OUT, -1, None),
+];
+
+// 18 hours from UTC the local years 1969 and 2100 are met, which no text names.
+const FARTHEST_WEST: &[Row] = &[
+    (EACH, -1, Some(64800000)),
+    (EACH, 4102444798000, Some(4102444799000)),
+];
+
+const FARTHEST_EAST: &[Row] = &[
+    (EACH, -1, Some(0)),
+    (EACH, 4102379998000, Some(4102379999000)),
+    (EACH, 4102379999000, None),
+];
+
+const IN_ZONES: &[(&[Begin], &[Row])] = &[
+    (SUMMER_TIME, AN_HOUR_LOST_AND_FOUND),
+    (SUMMER, BEFORE_SUMMER),
+    (QUARTERS, A_QUARTER_LOST_AND_FOUND),
+    (DAYS, A_DAY_LOST_AND_FOUND),
+    (&[(0, -18 * HOUR)], FARTHEST_WEST),
+    (&[(0, 18 * HOUR)], FARTHEST_EAST),
+];
+
+// In the zone the fields are next met as wanted.
+fn check(rt: &impl Abort, zone: &Zone, rows: &[Row]) {
+    for &(fields, after, wanted) in rows.iter() {
+        assert!(rt;
+            is_moment(after) && next(&fields, zone, after) == wanted,
+            "at {after}"
+        );
+    }
 }
 
 #[test]
 fn times_in_utc(rt: HostRuntime) {
-    let late = CronFields {
-        hours: 0b1100_0000_0000_0000_0000_0111,
-        week: WeekField::Set(2),
-        ..MIDNIGHT
-    };
-    let each = CronFields {
-        seconds: MINUTES,
-        minutes: MINUTES,
-        hours: HOURS,
-        ..MIDNIGHT
-    };
-    let rows = [
-        // 0 0 22-2 ? * 2, four times
-        (late, 1704074400000, Some(1704146400000)),
-        (late, 1704146400000, Some(1704150000000)),
-        (late, 1704150000000, Some(1704672000000)),
-        (late, 1704672000000, Some(1704675600000)),
-        // each second, at both ends and between two seconds
-        (each, -1, Some(0)),
-        (each, 0, Some(1000)),
-        (each, 999, Some(1000)),
-        (each, 4102444798999, Some(4102444799000)),
-        (each, 4102444799000, None),
-        (each, 4102444799999, None),
-    ];
-    for (fields, after, wanted) in rows {
-        assert!(rt; next(&fields, &Zone::utc(), after) == wanted, "at {after}");
+    for rows in [
+        DAYS_OF_THE_MONTH,
+        DAYS_OF_THE_WEEK,
+        FIELDS_TOGETHER,
+        TIMES_OF_DAY,
+    ] {
+        check(&rt, &Zone::utc(), rows);
     }
 }
 
-// 0 30 2 * * ? where the clock goes from 2 to 3 o'clock on 31 March, and from 3 to 2 on 27 October.
 #[test]
-fn an_hour_lost_and_found(rt: HostRuntime) -> Result<(), Fail> {
-    let table = [(0, HOUR), (1711846800000, 2 * HOUR), (1729990800000, HOUR)];
-    let early = CronFields {
-        minutes: 1 << 30,
-        hours: 1 << 2,
-        ..MIDNIGHT
-    };
-    let rows = [
-        (1711762200000, Some(1711931400000)),
-        (1729902600000, Some(1729989000000)),
-        (1729989000000, Some(1729992600000)),
-        (1729992600000, Some(1730079000000)),
-    ];
-    for (after, wanted) in rows {
-        assert!(rt;
-            next_in(rt.alloc(), &table, &early, after)? == wanted,
-            "at {after}"
-        );
-    }
-    // before the first stretch its offset holds
-    assert!(rt;
-        next_in(
-            rt.alloc(),
-            &[(1711846800000, 2 * HOUR)],
-            &early,
-            1704067199999
-        )? == Some(1704069000000)
-    );
-    Ok(())
-}
-
-// A quarter of an hour, at midnight: 0 5 0 * * ?.
-#[test]
-fn a_quarter_lost_and_found(rt: HostRuntime) -> Result<(), Fail> {
-    let table = [(0, 0), (1710028800000, 900), (1730592000000, 0)];
-    let midnight = CronFields {
-        minutes: 1 << 5,
-        ..MIDNIGHT
-    };
-    let rows = [
-        (1709942700000, Some(1710114600000)),
-        (1730504700000, Some(1730505000000)),
-        (1730591400000, Some(1730592300000)),
-        (1730592300000, Some(1730678700000)),
-    ];
-    for (after, wanted) in rows {
-        assert!(rt;
-            next_in(rt.alloc(), &table, &midnight, after)? == wanted,
-            "at {after}"
-        );
-    }
-    Ok(())
-}
-
-// 30 December 2011 is left out, and the last day of 2023 comes twice: 0 0 12 * * ?.
-#[test]
-fn a_day_lost_and_found(rt: HostRuntime) -> Result<(), Fail> {
-    let table = [
-        (0, -10 * HOUR),
-        (1325239200000, 14 * HOUR),
-        (1704067200000, -10 * HOUR),
-    ];
-    let noon = CronFields {
-        hours: 1 << 12,
-        ..MIDNIGHT
-    };
-    let left_out = CronFields {
-        day: DayField::Set(1 << 29),
-        months: 1 << 11,
-        years: [1 << 41, 0, 0, 0],
-        ..noon
-    };
-    let rows = [
-        (noon, 1325109600000, Some(1325196000000)),
-        (noon, 1325196000000, Some(1325282400000)),
-        (noon, 1704060000000, Some(1704146400000)),
-        (noon, 1704146400000, Some(1704232800000)),
-        (left_out, -1, None),
-    ];
-    for (fields, after, wanted) in rows {
-        assert!(rt;
-            next_in(rt.alloc(), &table, &fields, after)? == wanted,
-            "at {after}"
-        );
-    }
-    Ok(())
-}
-
-// 18 hours from UTC the local years 1969 and 2100 are met, which no text names.
-#[test]
-fn the_farthest_clocks(rt: HostRuntime) -> Result<(), Fail> {
-    let each = CronFields {
-        seconds: MINUTES,
-        minutes: MINUTES,
-        hours: HOURS,
-        ..MIDNIGHT
-    };
-    let rows = [
-        (-18 * HOUR, -1, Some(64800000)),
-        (-18 * HOUR, 4102444798000, Some(4102444799000)),
-        (18 * HOUR, -1, Some(0)),
-        (18 * HOUR, 4102379998000, Some(4102379999000)),
-        (18 * HOUR, 4102379999000, None),
-    ];
-    for (offset, after, wanted) in rows {
-        assert!(rt;
-            next_in(rt.alloc(), &[(0, offset)], &each, after)? == wanted,
-            "at {after}"
-        );
+fn times_in_zones(rt: HostRuntime) -> Result<(), Fail> {
+    for (stretches, rows) in IN_ZONES.iter() {
+        check(&rt, &zone_of(rt.alloc(), stretches)?, rows);
     }
     Ok(())
 }

@@ -2,143 +2,146 @@
 use qz_civil::{CronFields, DayField, WeekField};
 use qz_cron_text::{CronError, parse, print};
 use std::alloc::Global;
+use std::process::Abort;
 use std::test::Fail;
 
-/// The text's fault, if it has one.
-fn fault(text: &str) -> Option<CronError> {
-    parse(text).err()
+// Whether this is wrong with the text.
+fn is_fault(text: &str, fault: CronError) -> bool {
+    parse(text).err() == Some(fault)
 }
+
+fn check_faults(rt: &impl Abort, rows: &[(&str, CronError)]) {
+    for &(text, fault) in rows.iter() {
+        assert!(rt; is_fault(text, fault), "at {text}");
+    }
+}
+
+/// Texts, and how many fields they have.
+const OTHER_NUMBERS: &[(&str, u32)] = &[
+    ("", 0),
+    (" \t ", 0),
+    ("0 0 0 1 * ", 5),
+    ("1 2 3 4 5 6 7 8", 8),
+    // What stands in the fields isn't looked at yet.
+    ("x 60 0/0", 3),
+];
 
 #[test]
 fn other_numbers_of_fields(rt: HostRuntime) {
-    let table = [
-        ("", 0),
-        (" \t ", 0),
-        ("0 0 0 1 * ", 5),
-        ("1 2 3 4 5 6 7 8", 8),
-        // What stands in the fields isn't looked at yet.
-        ("x 60 0/0", 3),
-    ];
-    for (text, found) in &table {
+    for &(text, found) in OTHER_NUMBERS.iter() {
         assert!(rt;
-            fault(text) == Some(CronError::FieldCount { found: *found }),
+            is_fault(text, CronError::FieldCount { found }),
             "at {text}"
         );
     }
 }
+
+/// Texts, and the field and the place of an element of no form.
+const NO_FORM: &[(&str, u8, u32)] = &[
+    ("a 0 0 ? * 1", 1, 0),
+    ("? 0 0 ? * 1", 1, 0),
+    ("0 ,0 0 ? * 1", 2, 2),
+    ("0 0, 0 ? * 1", 2, 4),
+    ("\t0  0,x 0 ? * 1", 2, 6),
+    ("0 0 12345 ? * 1", 3, 4),
+    ("0 0 L ? * 1", 3, 4),
+    ("0 0 1,*5,60 ? * 1", 3, 6),
+    ("0 0 0 L-3W * ?", 4, 6),
+    ("0 0 0 JAN * ?", 4, 6),
+    ("0 0 0 1/2/3 * ?", 4, 6),
+    ("0 0 0 1- * ?", 4, 6),
+    ("0 0 0 1 JANUARY ?", 5, 8),
+    ("0 0 0 1 1/MAR ?", 5, 8),
+    ("0 0 0 ? * MO", 6, 10),
+    ("0 0 0 ? * 2#", 6, 10),
+    ("0 0 0 ? * 1 +2024", 7, 12),
+    ("0 0 0 ? * 1 L", 7, 12),
+];
 
 #[test]
 fn elements_of_no_form(rt: HostRuntime) {
-    let table = [
-        ("a 0 0 ? * 1", 1, 0),
-        ("? 0 0 ? * 1", 1, 0),
-        ("0 ,0 0 ? * 1", 2, 2),
-        ("0 0, 0 ? * 1", 2, 4),
-        ("\t0  0,x 0 ? * 1", 2, 6),
-        ("0 0 12345 ? * 1", 3, 4),
-        ("0 0 L ? * 1", 3, 4),
-        ("0 0 1,*5,60 ? * 1", 3, 6),
-        ("0 0 0 L-3W * ?", 4, 6),
-        ("0 0 0 JAN * ?", 4, 6),
-        ("0 0 0 1/2/3 * ?", 4, 6),
-        ("0 0 0 1- * ?", 4, 6),
-        ("0 0 0 1 JANUARY ?", 5, 8),
-        ("0 0 0 1 1/MAR ?", 5, 8),
-        ("0 0 0 ? * MO", 6, 10),
-        ("0 0 0 ? * 2#", 6, 10),
-        ("0 0 0 ? * 1 +2024", 7, 12),
-        ("0 0 0 ? * 1 L", 7, 12),
-    ];
-    for (text, field, at) in &table {
+    for &(text, field, at) in NO_FORM.iter() {
         assert!(rt;
-            fault(text)
-                == Some(CronError::BadToken {
-                    field: *field,
-                    at: *at
-                }),
+            is_fault(text, CronError::BadToken { field, at }),
             "at {text}"
         );
     }
 }
+
+/// Texts, and the field and the value that is out of its range.
+const OUT_OF_RANGE: &[(&str, u8, u16)] = &[
+    ("60 0 0 ? * 1", 1, 60),
+    ("0 5-99 0 ? * 1", 2, 99),
+    ("0 99/0 0 ? * 1", 2, 99),
+    ("0 0 24-25 ? * 1", 3, 24),
+    ("0 0 0 0 * ?", 4, 0),
+    ("0 0 0 32W * ?", 4, 32),
+    ("0 0 0 L-31 * ?", 4, 31),
+    ("0 0 0 1 JAN-13 ?", 5, 13),
+    ("0 0 0 ? * 8L", 6, 8),
+    ("0 0 0 ? * 9#9", 6, 9),
+    ("0 0 0 ? * 2#6", 6, 6),
+    ("0 0 0 ? * 2#0", 6, 0),
+    ("0 0 0 ? * 1 1969", 7, 1969),
+    ("0 0 0 ? * 1 2099-2100", 7, 2100),
+    ("0 0 0 ? * 1 2030-2020", 7, 2030),
+    ("0 0 0 ? * 1 2030-1960", 7, 2030),
+];
 
 #[test]
 fn values_out_of_range(rt: HostRuntime) {
-    let table = [
-        ("60 0 0 ? * 1", 1, 60),
-        ("0 5-99 0 ? * 1", 2, 99),
-        ("0 99/0 0 ? * 1", 2, 99),
-        ("0 0 24-25 ? * 1", 3, 24),
-        ("0 0 0 0 * ?", 4, 0),
-        ("0 0 0 32W * ?", 4, 32),
-        ("0 0 0 L-31 * ?", 4, 31),
-        ("0 0 0 1 JAN-13 ?", 5, 13),
-        ("0 0 0 ? * 8L", 6, 8),
-        ("0 0 0 ? * 9#9", 6, 9),
-        ("0 0 0 ? * 2#6", 6, 6),
-        ("0 0 0 ? * 2#0", 6, 0),
-        ("0 0 0 ? * 1 1969", 7, 1969),
-        ("0 0 0 ? * 1 2099-2100", 7, 2100),
-        ("0 0 0 ? * 1 2030-2020", 7, 2030),
-        ("0 0 0 ? * 1 2030-1960", 7, 2030),
-    ];
-    for (text, field, value) in &table {
+    for &(text, field, value) in OUT_OF_RANGE.iter() {
         assert!(rt;
-            fault(text)
-                == Some(CronError::OutOfRange {
-                    field: *field,
-                    value: *value
-                }),
+            is_fault(text, CronError::OutOfRange { field, value }),
             "at {text}"
         );
     }
 }
 
+const WHOLE_FAULTS: &[(&str, CronError)] = &[
+    ("0 0 0 1 * 1", CronError::BothDays),
+    ("0 0 0 L * 2#1", CronError::BothDays),
+    ("0 0 0 * * *", CronError::BothDays),
+    ("0 0 0 ? * ?", CronError::NoDays),
+    ("*/0 0 0 ? * 1", CronError::BadStep { field: 1 }),
+    ("0 /60 0 ? * 1", CronError::BadStep { field: 2 }),
+    ("0 0 1-5/0 ? * 1", CronError::BadStep { field: 3 }),
+    ("0 0 0 ? * 1 1970/60", CronError::BadStep { field: 7 }),
+    ("0 0 0 15W,20 * ?", CronError::NotAlone { field: 4 }),
+    ("0 0 0 1,? * ?", CronError::NotAlone { field: 4 }),
+    ("0 0 0 ? * 1,L", CronError::NotAlone { field: 6 }),
+    ("0 0 0 ? * 2#1,2#2", CronError::NotAlone { field: 6 }),
+];
+
 #[test]
 fn faults_of_whole_fields_and_texts(rt: HostRuntime) {
-    let table = [
-        ("0 0 0 1 * 1", CronError::BothDays),
-        ("0 0 0 L * 2#1", CronError::BothDays),
-        ("0 0 0 * * *", CronError::BothDays),
-        ("0 0 0 ? * ?", CronError::NoDays),
-        ("*/0 0 0 ? * 1", CronError::BadStep { field: 1 }),
-        ("0 /60 0 ? * 1", CronError::BadStep { field: 2 }),
-        ("0 0 1-5/0 ? * 1", CronError::BadStep { field: 3 }),
-        ("0 0 0 ? * 1 1970/60", CronError::BadStep { field: 7 }),
-        ("0 0 0 15W,20 * ?", CronError::NotAlone { field: 4 }),
-        ("0 0 0 1,? * ?", CronError::NotAlone { field: 4 }),
-        ("0 0 0 ? * 1,L", CronError::NotAlone { field: 6 }),
-        ("0 0 0 ? * 2#1,2#2", CronError::NotAlone { field: 6 }),
-    ];
-    for (text, want) in &table {
-        assert!(rt; fault(text) == Some(*want), "at {text}");
-    }
+    check_faults(&rt, WHOLE_FAULTS);
 }
+
+const FIRST_FAULTS: &[(&str, CronError)] = &[
+    (
+        "0 60,x 0 ? * 1",
+        CronError::OutOfRange {
+            field: 2,
+            value: 60,
+        },
+    ),
+    ("0 x,60 0 ? * 1", CronError::BadToken { field: 2, at: 2 }),
+    ("0 0 0 L,x * 1", CronError::BadToken { field: 4, at: 8 }),
+    ("0 0 0 L,1/0 13 1", CronError::BadStep { field: 4 }),
+    ("0 0 0 L,3 13 1", CronError::NotAlone { field: 4 }),
+    (
+        "0 0 0 1 * 1 1969",
+        CronError::OutOfRange {
+            field: 7,
+            value: 1969,
+        },
+    ),
+];
 
 #[test]
 fn of_several_faults_the_first(rt: HostRuntime) {
-    let table = [
-        (
-            "0 60,x 0 ? * 1",
-            CronError::OutOfRange {
-                field: 2,
-                value: 60,
-            },
-        ),
-        ("0 x,60 0 ? * 1", CronError::BadToken { field: 2, at: 2 }),
-        ("0 0 0 L,x * 1", CronError::BadToken { field: 4, at: 8 }),
-        ("0 0 0 L,1/0 13 1", CronError::BadStep { field: 4 }),
-        ("0 0 0 L,3 13 1", CronError::NotAlone { field: 4 }),
-        (
-            "0 0 0 1 * 1 1969",
-            CronError::OutOfRange {
-                field: 7,
-                value: 1969,
-            },
-        ),
-    ];
-    for (text, want) in &table {
-        assert!(rt; fault(text) == Some(*want), "at {text}");
-    }
+    check_faults(&rt, FIRST_FAULTS);
 }
 
 /// Faults with their numbers and texts.
@@ -183,12 +186,16 @@ const TOLD: [(CronError, u8, &str); 7] = [
     ),
 ];
 
+// Whether the fault has this number and this text.
+fn is_told(alloc: Global, &(fault, number, text): &(CronError, u8, &str)) -> Result<bool, Fail> {
+    let told = fault.to_string(alloc)?;
+    Ok(fault.number() == number && told.as_str() == text)
+}
+
 #[test]
 fn faults_have_numbers_and_texts(rt: HostRuntime) -> Result<(), Fail> {
-    let alloc = rt.alloc();
-    for (error, number, text) in &TOLD {
-        assert!(rt; error.number() == *number);
-        assert!(rt; error.to_string(alloc)?.as_str() == *text, "at {text}");
+    for row in TOLD.iter() {
+        assert!(rt; is_told(rt.alloc(), row)?, "at {}", row.2);
     }
     Ok(())
 }
@@ -200,60 +207,63 @@ fn prints_as(alloc: Global, text: &str, canonical: &str) -> Result<bool, Fail> {
     Ok(printed.as_str() == canonical && parse(printed.as_str())? == fields)
 }
 
+/// Texts, and how they are printed.
+const CANONICAL: &[(&str, &str)] = &[
+    ("* * * * * ?", "* * * * * ?"),
+    (
+        "*/20 /30 5/9 1-5/2 3-4 ?",
+        "0,20,40 0,30 5,14,23 1,3,5 3,4 ?",
+    ),
+    (
+        " 00\t007  22-2 ? nov-FEB Mon-fri ",
+        "0 7 0,1,2,22,23 ? 1,2,11,12 2,3,4,5,6",
+    ),
+    ("59-1/2 0 20-4/3 ? * L", "1,59 0 2,20,23 ? * 7"),
+    ("0-59 30-29 0/1 ? 1-12 sun-7", "* * * ? * *"),
+    ("0 0 0 l * ?", "0 0 0 L * ?"),
+    ("0 0 0 L-0 * ?", "0 0 0 L * ?"),
+    ("0 0 0 L-30 * ?", "0 0 0 L-30 * ?"),
+    ("0 0 0 lw * ?", "0 0 0 LW * ?"),
+    ("0 0 0 015w * ?", "0 0 0 15W * ?"),
+    ("0 0 0 ? * fril", "0 0 0 ? * 6L"),
+    ("0 0 0 ? * TUE#5", "0 0 0 ? * 3#5"),
+    ("0 0 0 ? * 1 *", "0 0 0 ? * 1"),
+    (
+        "0 0 0 ? * 1 2096/2,1970-2012/20",
+        "0 0 0 ? * 1 1970,1990,2010,2096,2098",
+    ),
+];
+
 #[test]
 fn texts_with_their_canonical_texts(rt: HostRuntime) -> Result<(), Fail> {
-    let table = [
-        ("* * * * * ?", "* * * * * ?"),
-        (
-            "*/20 /30 5/9 1-5/2 3-4 ?",
-            "0,20,40 0,30 5,14,23 1,3,5 3,4 ?",
-        ),
-        (
-            " 00\t007  22-2 ? nov-FEB Mon-fri ",
-            "0 7 0,1,2,22,23 ? 1,2,11,12 2,3,4,5,6",
-        ),
-        ("59-1/2 0 20-4/3 ? * L", "1,59 0 2,20,23 ? * 7"),
-        ("0-59 30-29 0/1 ? 1-12 sun-7", "* * * ? * *"),
-        ("0 0 0 l * ?", "0 0 0 L * ?"),
-        ("0 0 0 L-0 * ?", "0 0 0 L * ?"),
-        ("0 0 0 L-30 * ?", "0 0 0 L-30 * ?"),
-        ("0 0 0 lw * ?", "0 0 0 LW * ?"),
-        ("0 0 0 015w * ?", "0 0 0 15W * ?"),
-        ("0 0 0 ? * fril", "0 0 0 ? * 6L"),
-        ("0 0 0 ? * TUE#5", "0 0 0 ? * 3#5"),
-        ("0 0 0 ? * 1 *", "0 0 0 ? * 1"),
-        (
-            "0 0 0 ? * 1 2096/2,1970-2012/20",
-            "0 0 0 ? * 1 1970,1990,2010,2096,2098",
-        ),
-    ];
-    for (text, canonical) in &table {
+    for &(text, canonical) in CANONICAL.iter() {
         assert!(rt; prints_as(rt.alloc(), text, canonical)?, "{text}");
     }
     Ok(())
 }
 
+const EVERY_MORNING: CronFields = CronFields {
+    seconds: 1,
+    minutes: 1 << 30,
+    hours: 1 << 8,
+    day: DayField::Any,
+    months: 0xfff,
+    week: WeekField::Set(0b0111110),
+    years: [u64::MAX, u64::MAX, 3, 0],
+};
+
+const SOME_YEARS: CronFields = CronFields {
+    seconds: 1 | 1 << 59,
+    minutes: 1,
+    hours: 1 << 23,
+    day: DayField::Nearest { day: 1 },
+    months: 1,
+    week: WeekField::Any,
+    years: [1, 1, 2, 0],
+};
+
 #[test]
-fn texts_with_their_fields(rt: HostRuntime) -> Result<(), Fail> {
-    let every_morning = CronFields {
-        seconds: 1,
-        minutes: 1 << 30,
-        hours: 1 << 8,
-        day: DayField::Any,
-        months: 0xfff,
-        week: WeekField::Set(0b0111110),
-        years: [u64::MAX, u64::MAX, 3, 0],
-    };
-    assert!(rt; parse("0 30 8 ? * MON-FRI")? == every_morning);
-    let some_years = CronFields {
-        seconds: 1 | 1 << 59,
-        minutes: 1,
-        hours: 1 << 23,
-        day: DayField::Nearest { day: 1 },
-        months: 1,
-        week: WeekField::Any,
-        years: [1, 1, 2, 0],
-    };
-    assert!(rt; parse("0,59 0 23 1W JAN ? 1970,2034,2099")? == some_years);
-    Ok(())
+fn texts_with_their_fields(rt: HostRuntime) {
+    assert!(rt; parse("0 30 8 ? * MON-FRI") == Ok(EVERY_MORNING));
+    assert!(rt; parse("0,59 0 23 1W JAN ? 1970,2034,2099") == Ok(SOME_YEARS));
 }

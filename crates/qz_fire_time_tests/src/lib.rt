@@ -13,3 +13,5 @@ mod daily;
 mod interval;
 #[cfg(test)]
 mod simple;
+#[cfg(test)]
+mod zoned;

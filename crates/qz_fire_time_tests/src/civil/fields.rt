@@ -1,7 +1,6 @@
 //! Dates that meet the fields of a cron text, as a calendar has them.
 use qz_civil::{Civil, CronFields, DayField, Field, LAST_YEAR, WeekField, days_in_month};
 use std::process::Abort;
-use std::test::Fail;
 
 // A year, month, day and weekday, and whether they meet the field.
 type Row = ((i32, u8, u8, u8), bool);
@@ -67,86 +66,90 @@ const THE_FIRST_OF_JUNE: &[Row] = &[
 ];
 
 // Every second.
-fn every() -> CronFields {
-    CronFields {
-        seconds: (1 << 60) - 1,
-        minutes: (1 << 60) - 1,
-        hours: (1 << 24) - 1,
-        day: DayField::Any,
-        months: (1 << 12) - 1,
-        week: WeekField::Any,
-        years: [u64::MAX, u64::MAX, 3, 0],
-    }
+const EVERY: CronFields = CronFields {
+    seconds: (1 << 60) - 1,
+    minutes: (1 << 60) - 1,
+    hours: (1 << 24) - 1,
+    day: DayField::Any,
+    months: (1 << 12) - 1,
+    week: WeekField::Any,
+    years: [u64::MAX, u64::MAX, 3, 0],
+};
+
+const DAYS: &[(DayField, &[Row])] = &[
+    (DayField::Nearest { day: 1 }, FIRST_WEEKDAY),
+    (DayField::Nearest { day: 15 }, NEAREST_TO_15),
+    (DayField::Nearest { day: 31 }, NEAREST_TO_31),
+    (DayField::LastWeekday, LAST_WEEKDAY),
+    (DayField::Last { back: 0 }, LAST_DAY_OF_MONTH),
+    (DayField::Last { back: 30 }, THIRTY_BEFORE_LAST),
+    (DayField::Set(1 << 30), THE_31ST),
+    (DayField::Any, YEARS),
+];
+
+const WEEKS: &[(WeekField, &[Row])] = &[
+    (WeekField::Set(1), SUNDAYS),
+    (WeekField::Last { day: 6 }, LAST_FRIDAY),
+    (WeekField::Nth { day: 6, nth: 5 }, FIFTH_FRIDAY),
+];
+
+// In June of 2024, at 12:34:56.
+const ONCE_A_DAY: CronFields = CronFields {
+    seconds: 1 << 56,
+    minutes: 1 << 34,
+    hours: 1 << 12,
+    months: 1 << 5,
+    years: [1 << 54, 0, 0, 0],
+    ..EVERY
+};
+
+const A_SECOND_LATER: CronFields = CronFields {
+    seconds: 1 << 57,
+    ..EVERY
+};
+
+// Whether the date is one, and at 12:34:56 meets the fields as the row says.
+fn meets(fields: &CronFields, &((year, month, day, weekday), wanted): &Row) -> bool {
+    let civil = Civil {
+        year,
+        month,
+        day,
+        weekday,
+        second: 45296,
+        milli: 789,
+    };
+    let length = days_in_month(year.unsigned_abs(), month);
+    1 <= month
+        && month <= 12
+        && 1 <= day
+        && day <= length
+        && 1 <= weekday
+        && weekday <= 7
+        && fields.meets(civil) == wanted
 }
 
-fn in_days(day: DayField) -> CronFields {
-    CronFields { day, ..every() }
-}
-
-fn in_week(week: WeekField) -> CronFields {
-    CronFields { week, ..every() }
-}
-
-// At 12:34:56 the rows meet the fields as they say.
-fn meet(rt: &impl Abort, fields: &CronFields, rows: &[Row]) {
-    for &((year, month, day, weekday), want) in rows.iter() {
-        let civil = Civil {
-            year,
-            month,
-            day,
-            weekday,
-            second: 45296,
-            milli: 789,
-        };
-        let length = days_in_month(year.unsigned_abs(), month);
-        assert!(rt; 1 <= month && month <= 12);
-        assert!(rt; 1 <= day && day <= length);
-        assert!(rt; 1 <= weekday && weekday <= 7);
-        assert!(rt; fields.meets(civil) == want, "{fields:?} at {civil:?}");
+fn check(rt: &impl Abort, fields: &CronFields, rows: &[Row]) {
+    for row in rows.iter() {
+        assert!(rt; meets(fields, row), "{fields:?} at {row:?}");
     }
 }
 
 #[test]
-fn dates_meet_fields(rt: HostRuntime) -> Result<(), Fail> {
-    meet(&rt, &in_days(DayField::Nearest { day: 1 }), FIRST_WEEKDAY);
-    meet(&rt, &in_days(DayField::Nearest { day: 15 }), NEAREST_TO_15);
-    meet(&rt, &in_days(DayField::Nearest { day: 31 }), NEAREST_TO_31);
-    meet(&rt, &in_days(DayField::LastWeekday), LAST_WEEKDAY);
-    meet(&rt, &in_days(DayField::Last { back: 0 }), LAST_DAY_OF_MONTH);
-    meet(
-        &rt,
-        &in_days(DayField::Last { back: 30 }),
-        THIRTY_BEFORE_LAST,
-    );
-    meet(&rt, &in_days(DayField::Set(1 << 30)), THE_31ST);
-    meet(&rt, &in_week(WeekField::Set(1)), SUNDAYS);
-    meet(&rt, &in_week(WeekField::Last { day: 6 }), LAST_FRIDAY);
-    meet(
-        &rt,
-        &in_week(WeekField::Nth { day: 6, nth: 5 }),
-        FIFTH_FRIDAY,
-    );
-    meet(&rt, &every(), YEARS);
-    let fields = CronFields {
-        seconds: 1 << 56,
-        minutes: 1 << 34,
-        hours: 1 << 12,
-        months: 1 << 5,
-        years: [1 << 54, 0, 0, 0],
-        ..every()
-    };
-    meet(&rt, &fields, THE_FIRST_OF_JUNE);
-    meet(
-        &rt,
-        &CronFields {
-            seconds: 1 << 57,
-            ..every()
-        },
-        &[((2024, 6, 1, 7), false)],
-    );
+fn dates_meet_fields(rt: HostRuntime) {
+    for &(day, rows) in DAYS.iter() {
+        check(&rt, &CronFields { day, ..EVERY }, rows);
+    }
+    for &(week, rows) in WEEKS.iter() {
+        check(&rt, &CronFields { week, ..EVERY }, rows);
+    }
+    check(&rt, &ONCE_A_DAY, THE_FIRST_OF_JUNE);
+    check(&rt, &A_SECOND_LATER, &[((2024, 6, 1, 7), false)]);
+}
+
+#[test]
+fn fields_have_their_limits(rt: HostRuntime) {
     assert!(rt; u32::from(Field::Year.greatest()) == LAST_YEAR);
     assert!(rt;
         Field::DayOfWeek.number() == 6 && Field::Hours.size() == 24 && Field::Month.least() == 1
     );
-    Ok(())
 }

@@ -1,11 +1,9 @@
 //! Local times and their timestamps, as Python's `datetime` has them.
+use crate::zoned::{Begin, list_of, zone_of};
 use qz_civil::{BadZone, Civil, LAST, List, Stretch, Zone};
 use std::alloc::Global;
 use std::process::Abort;
 use std::test::Fail;
-
-// When a stretch begins, and its offset.
-type Begin = (i64, i32);
 
 // A year, month, day, weekday and second of the day, and the timestamps that show them.
 type Row = ((i32, u8, u8, u8, u32), Option<i64>, Option<i64>);
@@ -105,100 +103,112 @@ const UTC_ROWS: &[Row] = &[
     ((-2024, 1, 1, 2, 0), None, None),
 ];
 
-fn list_of(alloc: Global, stretches: &[Begin]) -> Result<List<Stretch>, Fail> {
-    let mut list = List::new(alloc);
-    for &(from, offset) in stretches.iter() {
-        list.push(Stretch { from, offset })?;
-    }
-    Ok(list)
+const TABLES: &[(&[Begin], &[Row])] = &[
+    (BERLIN, BERLIN_ROWS),
+    (QUARTER_SKIPPED, QUARTER_SKIPPED_ROWS),
+    (QUARTER_TWICE, QUARTER_TWICE_ROWS),
+    (DAY_SKIPPED, DAY_SKIPPED_ROWS),
+    (DAY_TWICE, DAY_TWICE_ROWS),
+    (FARTHEST, FARTHEST_ROWS),
+    (LATE, LATE_ROWS),
+];
+
+// Offsets in minutes.
+const FIXED: &[(i32, &[Row])] = &[(-1080, WEST_ROWS), (1080, EAST_ROWS), (0, UTC_ROWS)];
+
+// Whether a timestamp shows the local time, of which this is the earliest one.
+fn shows(zone: &Zone, ms: i64, civil: Civil, first: Option<i64>) -> bool {
+    0 <= ms && ms <= LAST && zone.civil(ms) == civil && zone.earliest_at(zone.local(ms)) == first
 }
 
-// Each local time has the row's timestamps, of which the first is its earliest, and the last shows it.
-fn find(rt: &impl Abort, zone: &Zone, rows: &[Row]) {
-    for &((year, month, day, weekday, second), first, last) in rows.iter() {
-        let civil = Civil {
-            year,
-            month,
-            day,
-            weekday,
-            second,
-            milli: 0,
-        };
-        assert!(rt; zone.instants_of(civil) == (first, last), "{civil:?}");
-        if let Some(ms) = last.or(first) {
-            assert!(rt; 0 <= ms && ms <= LAST);
-            assert!(rt; zone.civil(ms) == civil);
-            assert!(rt; zone.earliest_at(zone.local(ms)) == first);
-        }
-    }
+// Whether the local time has the row's timestamps, of which the first is its earliest, and the last shows it.
+fn is_found(zone: &Zone, &((year, month, day, weekday, second), first, last): &Row) -> bool {
+    let civil = Civil {
+        year,
+        month,
+        day,
+        weekday,
+        second,
+        milli: 0,
+    };
+    let is_shown = match last.or(first) {
+        Some(ms) => shows(zone, ms, civil, first),
+        None => true,
+    };
+    is_shown && zone.instants_of(civil) == (first, last)
 }
 
-// The same of the zone of a table.
-fn find_in(rt: &impl Abort, alloc: Global, stretches: &[Begin], rows: &[Row]) -> Result<(), Fail> {
-    let zone = Zone::table(list_of(alloc, stretches)?)?;
-    find(rt, &zone, rows);
-    Ok(())
+fn check(rt: &impl Abort, zone: &Zone, rows: &[Row]) {
+    for row in rows.iter() {
+        assert!(rt; is_found(zone, row), "{row:?}");
+    }
 }
 
 #[test]
 fn local_times_have_at_most_two_timestamps(rt: HostRuntime) -> Result<(), Fail> {
-    let alloc = rt.alloc();
-    let tables = [
-        (BERLIN, BERLIN_ROWS),
-        (QUARTER_SKIPPED, QUARTER_SKIPPED_ROWS),
-        (QUARTER_TWICE, QUARTER_TWICE_ROWS),
-        (DAY_SKIPPED, DAY_SKIPPED_ROWS),
-        (DAY_TWICE, DAY_TWICE_ROWS),
-        (FARTHEST, FARTHEST_ROWS),
-        (LATE, LATE_ROWS),
-    ];
-    for (stretches, rows) in tables.iter() {
-        find_in(&rt, alloc, stretches, rows)?;
+    for (stretches, rows) in TABLES.iter() {
+        check(&rt, &zone_of(rt.alloc(), stretches)?, rows);
     }
-    find(&rt, &Zone::fixed(-1080), WEST_ROWS);
-    find(&rt, &Zone::fixed(1080), EAST_ROWS);
-    find(&rt, &Zone::utc(), UTC_ROWS);
-    let last = Zone::utc().civil(LAST);
-    assert!(rt; last.year == 2099 && last.second == 86399 && last.milli == 999);
-    let later = Zone::fixed(1080).civil(LAST);
-    assert!(rt; later.year == 2100 && later.second == 64799 && later.milli == 999);
     Ok(())
 }
 
 #[test]
+fn fixed_offsets_have_at_most_one(rt: HostRuntime) {
+    for &(minutes, rows) in FIXED.iter() {
+        assert!(rt; -1080 <= minutes && minutes <= 1080);
+        check(&rt, &Zone::fixed(minutes), rows);
+    }
+}
+
+// The year, the second of the day and the millisecond of the last timestamp, in the zone.
+fn last_of(zone: &Zone) -> (i32, u32, u16) {
+    let last = zone.civil(LAST);
+    (last.year, last.second, last.milli)
+}
+
+#[test]
+fn the_last_timestamp_is_in_2099_or_2100(rt: HostRuntime) {
+    assert!(rt; last_of(&Zone::utc()) == (2099, 86399, 999));
+    assert!(rt; last_of(&Zone::fixed(1080)) == (2100, 64799, 999));
+}
+
+const BAD_ZONES: &[(&[Begin], BadZone)] = &[
+    (&[], BadZone::Empty),
+    (&[(-1, 64801)], BadZone::FromOutOfRange { place: 0 }),
+    (
+        &[(0, 64801), (0, 0)],
+        BadZone::OffsetOutOfRange { place: 0 },
+    ),
+    (
+        &[(0, 0), (0, -64801)],
+        BadZone::OffsetOutOfRange { place: 1 },
+    ),
+    (
+        &[(0, 0), (172799999, 3600), (-1, 0)],
+        BadZone::NotAscending { place: 1 },
+    ),
+    (
+        &[(172800000, 0), (0, 0)],
+        BadZone::NotAscending { place: 1 },
+    ),
+    (
+        &[(0, 0), (4102444800000, 64801)],
+        BadZone::FromOutOfRange { place: 1 },
+    ),
+    (
+        &[(4102444799999, 0), (4102444800000, 0)],
+        BadZone::FromOutOfRange { place: 1 },
+    ),
+];
+
+fn fault_of(alloc: Global, stretches: &[Begin]) -> Result<Option<BadZone>, Fail> {
+    Ok(Zone::table(list_of(alloc, stretches)?).err())
+}
+
+#[test]
 fn bad_zones_are_refused_in_order(rt: HostRuntime) -> Result<(), Fail> {
-    let alloc = rt.alloc();
-    let rows: [(&[Begin], BadZone); 8] = [
-        (&[], BadZone::Empty),
-        (&[(-1, 64801)], BadZone::FromOutOfRange { place: 0 }),
-        (
-            &[(0, 64801), (0, 0)],
-            BadZone::OffsetOutOfRange { place: 0 },
-        ),
-        (
-            &[(0, 0), (0, -64801)],
-            BadZone::OffsetOutOfRange { place: 1 },
-        ),
-        (
-            &[(0, 0), (172799999, 3600), (-1, 0)],
-            BadZone::NotAscending { place: 1 },
-        ),
-        (
-            &[(172800000, 0), (0, 0)],
-            BadZone::NotAscending { place: 1 },
-        ),
-        (
-            &[(0, 0), (4102444800000, 64801)],
-            BadZone::FromOutOfRange { place: 1 },
-        ),
-        (
-            &[(4102444799999, 0), (4102444800000, 0)],
-            BadZone::FromOutOfRange { place: 1 },
-        ),
-    ];
-    for (stretches, want) in rows.iter() {
-        let fault = Zone::table(list_of(alloc, stretches)?).err();
-        assert!(rt; fault == Some(*want));
+    for (stretches, want) in BAD_ZONES.iter() {
+        assert!(rt; fault_of(rt.alloc(), stretches)? == Some(*want), "{want:?}");
     }
     Ok(())
 }
@@ -215,12 +225,11 @@ fn longest_list(alloc: Global) -> Result<List<Stretch>, Fail> {
     Ok(list)
 }
 
-// Whether such a zone finds its stretches.
-fn finds_512_stretches(alloc: Global) -> Result<bool, Fail> {
-    let zone = Zone::table(longest_list(alloc)?)?;
+// Whether the zone of that list finds its stretches.
+fn finds_512_stretches(zone: &Zone) -> bool {
     let at = (zone.stretch_at(511 * 172800000 - 1), zone.stretch_at(LAST));
     let until = (zone.offset_until(172800000 - 1), zone.offset_until(LAST));
-    Ok(at == (510, 511) && until == ((0, Some(172800000)), (0, None)))
+    at == (510, 511) && until == ((0, Some(172800000)), (0, None))
 }
 
 // The fault of one stretch more, which is bad too.
@@ -236,8 +245,14 @@ fn fault_of_one_more(alloc: Global) -> Result<Option<BadZone>, Fail> {
 #[test]
 fn a_zone_has_at_most_512_stretches(rt: HostRuntime) -> Result<(), Fail> {
     let many = BadZone::TooManyStretches { count: 513 };
-    assert!(rt; finds_512_stretches(rt.alloc())?);
     assert!(rt; fault_of_one_more(rt.alloc())? == Some(many));
+    let zone = Zone::table(longest_list(rt.alloc())?)?;
+    assert!(rt; finds_512_stretches(&zone));
+    Ok(())
+}
+
+#[test]
+fn bad_zones_have_texts(rt: HostRuntime) -> Result<(), Fail> {
     let text = BadZone::NotAscending { place: 1 }.to_string(rt.alloc())?;
     assert!(rt; text.as_str() == "stretch 1 doesn't begin at least 48 hours after the one before");
     Ok(())
