@@ -1,7 +1,7 @@
 //! Worked examples, and each call once.
 ghost use Rattle.std.specs.Prelude.{Some};
 
-use qz_civil::{Failed, List};
+use qz_civil::{Failed, List, beside};
 use qz_io::{
     Clock, FaultSink, FaultSource, LINE_LIMIT, LineReader, ListClock, MemSink, MemSource,
     RealClock, Seen, Sink, Source, StdSink, StdSource, write_all,
@@ -47,66 +47,81 @@ fn tell_all<S: Source>(
     Ok(())
 }
 
-/// What a reader hands out of a source, up to the end or a line that is too long.
-fn told<S: Source>(alloc: Global, source: &mut S) -> Result<Vec<u8>, AllocError> {
+// Whether a reader hands this out of the source, up to the end or a line that is too long.
+fn tells<S: Source>(alloc: Global, source: &mut S, want: &[u8]) -> Result<bool, AllocError> {
+    let reader = LineReader::new(alloc).map_err(|_| AllocError);
+    let mut reader = reader?;
     let mut out = Vec::new(alloc);
-    let mut reader = LineReader::new(alloc).map_err(|_| AllocError)?;
     tell_all(&mut out, &mut reader, source)?;
-    Ok(out)
+    Ok(out.as_slice() == want)
+}
+
+/// What a source has, and what a reader hands out of it.
+const LINES: &[(&[u8], &[u8])] = &[
+    (b"", b"."),
+    (b"\n", b"[]."),
+    (b"a\n\nb", b"[a][]<b>."),
+    (b"a\nb\n", b"[a][b]."),
+    (b"\n\nab", b"[][]<ab>."),
+    (b"a\r\n b\n", b"[a\r][ b]."),
+];
+
+fn lines_tell(alloc: Global, bytes: &[u8], want: &[u8]) -> Result<bool, AllocError> {
+    let mut source = MemSource::new(list(alloc, bytes)?);
+    tells(alloc, &mut source, want)
 }
 
 #[test]
 fn lines_of_a_source(rt: HostRuntime) -> Result<(), AllocError> {
-    let rows: [(&[u8], &[u8]); 6] = [
-        (b"", b"."),
-        (b"\n", b"[]."),
-        (b"a\n\nb", b"[a][]<b>."),
-        (b"a\nb\n", b"[a][b]."),
-        (b"\n\nab", b"[][]<ab>."),
-        (b"a\r\n b\n", b"[a\r][ b]."),
-    ];
-    for (bytes, want) in rows {
-        let mut source = MemSource::new(list(rt.alloc(), bytes)?);
-        let got = told(rt.alloc(), &mut source)?;
-        assert!(rt; got.as_slice() == want, "{want:?}");
+    for &(bytes, want) in LINES.iter() {
+        assert!(rt; lines_tell(rt.alloc(), bytes, want)?, "{want:?}");
     }
     Ok(())
 }
 
-/// The lengths of the lines that a reader hands out of so many bytes and what stands behind them; none where one is too
-/// long.
-fn lengths(
-    alloc: Global,
-    many: usize,
-    behind: &[u8],
-) -> Result<Option<(usize, usize)>, AllocError> {
+// The length of the line that the reader hands out next, if it does.
+fn length<S: Source>(reader: &mut LineReader, source: &mut S) -> Option<usize> {
+    match reader.next(source) {
+        Ok(Seen::Line | Seen::Rest) => Some(reader.line().len()),
+        _ => None,
+    }
+}
+
+// The lengths of the first two lines of a source.
+fn lengths_of<S: Source>(alloc: Global, source: &mut S) -> Result<[Option<usize>; 2], AllocError> {
+    let reader = LineReader::new(alloc).map_err(|_| AllocError);
+    let mut reader = reader?;
+    let first = length(&mut reader, source);
+    Ok([first, length(&mut reader, source)])
+}
+
+// So many bytes, and what stands behind them.
+fn long_source(alloc: Global, many: usize, behind: &[u8]) -> Result<MemSource, AllocError> {
     let mut items = vec![in alloc; b'x'; many]?;
     items.extend_from_slice(behind)?;
-    let mut source = MemSource::new(List::from_vec(items));
-    let mut reader = LineReader::new(alloc).map_err(|_| AllocError)?;
-    let mut lengths = (0, 0);
-    if let Ok(Seen::Line | Seen::Rest) = reader.next(&mut source) {
-        lengths.0 = reader.line().len();
-    } else {
-        return Ok(None);
-    }
-    if let Ok(Seen::Line | Seen::Rest) = reader.next(&mut source) {
-        lengths.1 = reader.line().len();
-    }
-    Ok(Some(lengths))
+    Ok(MemSource::new(List::from_vec(items)))
+}
+
+type LongRow = (usize, &'static [u8], [Option<usize>; 2]);
+
+/// So many bytes, what stands behind them, and the lengths of the first two lines.
+const LONG_LINES: &[LongRow] = &[
+    (LINE_LIMIT, b"", [Some(LINE_LIMIT), None]),
+    (LINE_LIMIT, b"\nab\n", [Some(LINE_LIMIT), Some(2)]),
+    (LINE_LIMIT + 1, b"", [None, None]),
+    (LINE_LIMIT + 1, b"\nab\n", [None, None]),
+    (3 * LINE_LIMIT, b"\n", [None, None]),
+];
+
+fn are_lengths(alloc: Global, &(many, behind, want): &LongRow) -> Result<bool, AllocError> {
+    let mut source = long_source(alloc, many, behind)?;
+    Ok(lengths_of(alloc, &mut source)? == want)
 }
 
 #[test]
 fn long_lines(rt: HostRuntime) -> Result<(), AllocError> {
-    let rows: [(usize, &[u8], Option<(usize, usize)>); 5] = [
-        (LINE_LIMIT, b"", Some((LINE_LIMIT, 0))),
-        (LINE_LIMIT, b"\nab\n", Some((LINE_LIMIT, 2))),
-        (LINE_LIMIT + 1, b"", None),
-        (LINE_LIMIT + 1, b"\nab\n", None),
-        (3 * LINE_LIMIT, b"\n", None),
-    ];
-    for (many, behind, want) in rows {
-        assert!(rt; lengths(rt.alloc(), many, behind)? == want, "{many}");
+    for row in LONG_LINES.iter() {
+        assert!(rt; are_lengths(rt.alloc(), row)?, "{}", row.0);
     }
     Ok(())
 }
@@ -128,32 +143,45 @@ impl Source for Slow {
     }
 }
 
+fn slow_source(alloc: Global, bytes: &[u8]) -> Result<Slow, AllocError> {
+    let inner = MemSource::new(list(alloc, bytes)?);
+    Ok(Slow { inner })
+}
+
 #[test]
 fn small_pieces(rt: HostRuntime) -> Result<(), AllocError> {
-    let inner = MemSource::new(list(rt.alloc(), b"abcdefg\nhi\n\njklm")?);
-    let got = told(rt.alloc(), &mut Slow { inner })?;
-    assert!(rt; got.as_slice() == b"[abcdefg][hi][]<jklm>.".as_slice());
+    let mut source = slow_source(rt.alloc(), b"abcdefg\nhi\n\njklm")?;
+    assert!(rt; tells(rt.alloc(), &mut source, b"[abcdefg][hi][]<jklm>.")?);
     Ok(())
+}
+
+// So many lines of 4999 bytes.
+fn block_source(alloc: Global, count: u8) -> Result<MemSource, AllocError> {
+    let block = vec![in alloc; b'x'; 4999]?;
+    let mut bytes = Vec::new(alloc);
+    for _ in 0..count {
+        bytes.extend_from_slice(&block)?;
+        bytes.push(b'\n')?;
+    }
+    Ok(MemSource::new(List::from_vec(bytes)))
+}
+
+// How many lines of 4999 bytes come first.
+fn count_blocks<S: Source>(reader: &mut LineReader, source: &mut S) -> u8 {
+    for at in 0..250u8 {
+        if length(reader, source) != Some(4999) {
+            return at;
+        }
+    }
+    250
 }
 
 #[test]
 fn many_blocks(rt: HostRuntime) -> Result<(), AllocError> {
-    let mut bytes = vec![in rt.alloc(); b'x'; 0]?;
-    for _ in 0..200u8 {
-        for _ in 0..4999u16 {
-            bytes.push(b'x')?;
-        }
-        bytes.push(b'\n')?;
-    }
-    let mut source = MemSource::new(List::from_vec(bytes));
-    let mut reader = LineReader::new(rt.alloc()).map_err(|_| AllocError)?;
-    for at in 0..200u8 {
-        let seen = reader.next(&mut source);
-        assert!(rt;
-            seen == Ok(Seen::Line) && reader.line().len() == 4999,
-            "{at}"
-        );
-    }
+    let source = block_source(rt.alloc(), 200)?;
+    let reader = LineReader::new(rt.alloc()).map_err(|_| AllocError);
+    let (mut source, mut reader) = beside(source, reader)?;
+    assert!(rt; count_blocks(&mut reader, &mut source) == 200);
     assert!(rt; reader.next(&mut source) == Ok(Seen::End));
     Ok(())
 }
@@ -163,24 +191,28 @@ fn calls(alloc: Global, numbers: &[u64]) -> Result<List<u64>, AllocError> {
     Ok(List::from_vec(Vec::from_slice(alloc, numbers)?))
 }
 
+// A source of these bytes, of which these reads fail.
+fn fault_source(alloc: Global, bytes: &[u8], numbers: &[u64]) -> Result<FaultSource, AllocError> {
+    let (bytes, failing) = beside(list(alloc, bytes)?, calls(alloc, numbers))?;
+    Ok(FaultSource::new(bytes, failing))
+}
+
 #[test]
 fn a_fault_loses_nothing(rt: HostRuntime) -> Result<(), AllocError> {
-    let failing = calls(rt.alloc(), &[2, 3])?;
-    let mut source = FaultSource::new(list(rt.alloc(), b"a\nb")?, failing);
-    let got = told(rt.alloc(), &mut source)?;
-    assert!(rt; got.as_slice() == b"[a]??<b>.".as_slice());
+    let mut source = fault_source(rt.alloc(), b"a\nb", &[2, 3])?;
+    assert!(rt; tells(rt.alloc(), &mut source, b"[a]??<b>.")?);
     Ok(())
+}
+
+// Whether two writes and a flush go through, and the sink has both.
+fn takes_both(sink: &mut MemSink) -> bool {
+    let is_written = write_all(sink, b"ab").is_ok() && write_all(sink, b"c").is_ok();
+    is_written && sink.flush().is_ok() && sink.bytes() == b"abc".as_slice() && sink.starved() == 0
 }
 
 #[test]
 fn whole_writes(rt: HostRuntime) {
-    let mut sink = MemSink::new(rt.alloc());
-    assert!(rt;
-        write_all(&mut sink, b"ab").is_ok()
-            && write_all(&mut sink, b"c").is_ok()
-            && sink.flush().is_ok()
-    );
-    assert!(rt; sink.bytes() == b"abc".as_slice() && sink.starved() == 0);
+    assert!(rt; takes_both(&mut MemSink::new(rt.alloc())));
 }
 
 // Which of two writes and two flushes fail.
@@ -193,35 +225,53 @@ fn failing<K: Sink>(sink: &mut K) -> [bool; 4] {
     [writes[0], writes[1], flushes[0], flushes[1]]
 }
 
+// Whether the second write and the second flush fail, and the sink has the first.
+fn loses_the_second(sink: &mut FaultSink) -> bool {
+    let failed = failing(sink);
+    failed == [false, true, false, true] && sink.bytes() == b"ab".as_slice() && sink.starved() == 0
+}
+
 #[test]
 fn a_write_that_fails(rt: HostRuntime) -> Result<(), AllocError> {
-    let mut sink = FaultSink::new(rt.alloc(), calls(rt.alloc(), &[2, 4])?);
-    let failed = failing(&mut sink);
-    assert!(rt;
-        failed == [false, true, false, true]
-            && sink.bytes() == b"ab".as_slice()
-            && sink.starved() == 0
-    );
+    let failing = calls(rt.alloc(), &[2, 4])?;
+    assert!(rt; loses_the_second(&mut FaultSink::new(rt.alloc(), failing)));
     Ok(())
+}
+
+// The first three readings of the clock.
+fn readings(clock: &mut ListClock) -> [i64; 3] {
+    [clock.now(), clock.now(), clock.now()]
+}
+
+fn list_clock(alloc: Global, times: &[i64]) -> Result<ListClock, AllocError> {
+    Ok(ListClock::new(List::from_vec(Vec::from_slice(alloc, times)?)))
 }
 
 #[test]
 fn readings_of_a_list(rt: HostRuntime) -> Result<(), AllocError> {
-    let mut none = ListClock::new(List::new(rt.alloc()));
-    let mut two = ListClock::new(List::from_vec(vec![in rt.alloc(); 7i64, -5]?));
-    assert!(rt; none.now() == 0 && none.now() == 0);
-    assert!(rt; two.now() == 7 && two.now() == -5 && two.now() == -5);
+    assert!(rt; readings(&mut list_clock(rt.alloc(), &[])?) == [0, 0, 0]);
+    assert!(rt; readings(&mut list_clock(rt.alloc(), &[7, -5])?) == [7, -5, -5]);
     Ok(())
 }
 
+// Whether it takes a line and a flush.
+fn takes_line<K: Sink>(sink: &mut K, line: &[u8]) -> bool {
+    write_all(sink, line).is_ok() && sink.flush().is_ok()
+}
+
+fn can_read<S: Source>(source: &mut S) -> bool {
+    source.read(&mut [0u8; 8]).is_ok()
+}
+
 #[test]
-fn real_objects(rt: HostRuntime) {
+fn real_clock(rt: HostRuntime) {
     let mut clock = RealClock::new(&rt);
     assert!(rt; clock.now() > 1_600_000_000_000 && clock.faults() == 0);
-    assert!(rt; write_all(&mut StdSink::new(rt.stdout()), b"out\n").is_ok());
-    let mut err = StdSink::new(rt.stderr());
-    assert!(rt; write_all(&mut err, b"err\n").is_ok() && err.flush().is_ok());
-    let mut source = StdSource::new(rt.reader());
-    let mut into = [0u8; 8];
-    assert!(rt; source.read(&mut into).is_ok());
+}
+
+#[test]
+fn real_streams(rt: HostRuntime) {
+    assert!(rt; takes_line(&mut StdSink::new(rt.stdout()), b"out\n"));
+    assert!(rt; takes_line(&mut StdSink::new(rt.stderr()), b"err\n"));
+    assert!(rt; can_read(&mut StdSource::new(rt.reader())));
 }

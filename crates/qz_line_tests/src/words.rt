@@ -4,17 +4,23 @@ use qz_words::{Wish, WordFault, read_words};
 use std::alloc::{AllocError, Global};
 use std::test::Fail;
 
-// What the words ask for, as a wish or a fault.
-fn asked(alloc: Global, words: &[&str]) -> Result<Result<Wish, WordFault>, AllocError> {
+fn texts_of(alloc: Global, words: &[&str]) -> Result<Vec<Text>, AllocError> {
     let mut texts = Vec::new(alloc);
     for word in words {
-        texts.push(Text::from_str(alloc, word)?)?;
+        let text = Text::from_str(alloc, word)?;
+        texts.push(text)?;
     }
-    Ok(read_words(&texts))
+    Ok(texts)
+}
+
+// Whether the words ask for this, as a wish or a fault.
+fn ask(alloc: Global, words: &[&str], want: Result<Wish, WordFault>) -> Result<bool, AllocError> {
+    let texts = texts_of(alloc, words)?;
+    Ok(read_words(&texts) == want)
 }
 
 /// Words, and what they ask for.
-const ASKED: [(&[&str], Result<Wish, WordFault>); 17] = [
+const ASKED: &[(&[&str], Result<Wish, WordFault>)] = &[
     (&[], Ok(Wish::Own)),
     (&["init"], Ok(Wish::Init)),
     (&["script"], Ok(Wish::Script)),
@@ -66,8 +72,8 @@ const ASKED: [(&[&str], Result<Wish, WordFault>); 17] = [
 
 #[test]
 fn words_have_their_meaning(rt: HostRuntime) -> Result<(), Fail> {
-    for (words, want) in ASKED {
-        assert!(rt; asked(rt.alloc(), words)? == want, "at {words:?}");
+    for &(words, want) in ASKED.iter() {
+        assert!(rt; ask(rt.alloc(), words, want)?, "at {words:?}");
     }
     Ok(())
 }
