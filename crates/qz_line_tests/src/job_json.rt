@@ -5,7 +5,6 @@ use qz_civil::let_go;
 use qz_job_json::{Given, LineFault, read_step};
 use std::alloc::{AllocError, Global};
 use std::process::Abort;
-use std::test::Fail;
 
 fn text_of(alloc: Global, read: &Result<Option<Given>, LineFault>) -> Result<String, AllocError> {
     match read {
@@ -59,7 +58,7 @@ const STEPS: &[(&str, &str)] = &[
 ];
 
 #[test]
-fn lines_are_steps(rt: HostRuntime) -> Result<(), Fail> {
+fn lines_are_steps(rt: HostRuntime) -> Result<(), AllocError> {
     for &(line, want) in STEPS.iter() {
         assert!(rt; says(rt.alloc(), line, want)?, "at {line}");
     }
@@ -82,7 +81,7 @@ fn check_faults(
     alloc: Global,
     around: (&str, &str),
     rows: &[(&str, Option<LineFault>)],
-) -> Result<(), Fail> {
+) -> Result<(), AllocError> {
     for &(words, want) in rows.iter() {
         assert!(rt; has_fault(alloc, around, words, want)?, "at {words}");
     }
@@ -163,7 +162,7 @@ const FAULTY: &[(&str, Option<LineFault>)] = &[
 ];
 
 #[test]
-fn faults_come_in_their_order(rt: HostRuntime) -> Result<(), Fail> {
+fn faults_come_in_their_order(rt: HostRuntime) -> Result<(), AllocError> {
     check_faults(&rt, rt.alloc(), ("", ""), FAULTY)
 }
 
@@ -183,7 +182,7 @@ const NUMBERS: &[(&str, Option<LineFault>)] = &[
 ];
 
 #[test]
-fn numbers_have_64_bits(rt: HostRuntime) -> Result<(), Fail> {
+fn numbers_have_64_bits(rt: HostRuntime) -> Result<(), AllocError> {
     check_faults(&rt, rt.alloc(), READING, NUMBERS)
 }
 
@@ -218,7 +217,7 @@ fn fault_of_long(alloc: Global, row: &LongRow) -> Result<Option<LineFault>, Allo
 }
 
 #[test]
-fn lengths_have_limits(rt: HostRuntime) -> Result<(), Fail> {
+fn lengths_have_limits(rt: HostRuntime) -> Result<(), AllocError> {
     for row in LONG.iter() {
         assert!(rt; fault_of_long(rt.alloc(), row)? == row.4, "{} bytes", row.2);
     }
@@ -233,7 +232,7 @@ fn fault_of_nested(alloc: Global, depth: usize) -> Result<Option<LineFault>, All
 }
 
 #[test]
-fn arrays_nest_127_deep(rt: HostRuntime) -> Result<(), Fail> {
+fn arrays_nest_127_deep(rt: HostRuntime) -> Result<(), AllocError> {
     assert!(rt; fault_of_nested(rt.alloc(), 127)? == Some(LineFault::Shape));
     assert!(rt; fault_of_nested(rt.alloc(), 128)? == Some(LineFault::NotJson));
     Ok(())

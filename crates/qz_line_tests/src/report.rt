@@ -5,16 +5,14 @@ use qz_civil::{beside, let_go};
 use qz_report::{reply_line, times_line};
 use qz_types::{JobRow, Key, List, NoMemory, Refusal, Reply, StepReply, Taken, Text};
 use std::alloc::{AllocError, Global};
-use std::test::Fail;
 
 fn key(alloc: Global, group: &str, name: &str) -> Result<Key, AllocError>
     ensures group { IfOk result (λ key. key.group ≡ group.now) }
     ensures name { IfOk result (λ key. key.name ≡ name.now) }
 {
-    Ok(Key {
-        group: Text::from_str(alloc, group)?,
-        name: Text::from_str(alloc, name)?,
-    })
+    let group = Text::from_str(alloc, group)?;
+    let (group, name) = beside(group, Text::from_str(alloc, name))?;
+    Ok(Key { group, name })
 }
 
 // Whether this is the reply's line. The reply and its line are let go here and nowhere else.
@@ -29,10 +27,6 @@ fn has_line(alloc: Global, reply: StepReply, line: &str) -> bool {
 
 fn is_answered(alloc: Global, reply: Reply, line: &str) -> bool {
     has_line(alloc, StepReply::Ok(reply), line)
-}
-
-fn is_refused(alloc: Global, refusal: Refusal, line: &str) -> bool {
-    has_line(alloc, StepReply::Refused(refusal), line)
 }
 
 // A node became a member, and its former self had executions.
@@ -59,44 +53,43 @@ fn replies_have_their_lines(rt: HostRuntime) {
             "completed 18446744073709551615\n"
         )
     );
+}
+
+#[test]
+fn ends_have_their_lines(rt: HostRuntime) {
+    let alloc = rt.alloc();
     assert!(rt; has_line(alloc, StepReply::Fault, "fault\n"));
     assert!(rt; has_line(alloc, StepReply::Closed, "closed\n"));
     assert!(rt; has_line(alloc, StepReply::Stopped, "stopped\n"));
 }
 
-#[test]
-fn refusals_have_their_lines(rt: HostRuntime) {
-    let alloc = rt.alloc();
-    assert!(rt; is_refused(alloc, Refusal::Unbuilt, "refused 0\n"));
-    assert!(rt;
-        is_refused(
-            alloc,
-            Refusal::Fenced { live: Some(7) },
-            "refused 1 live 7\n"
-        )
-    );
-    assert!(rt;
-        is_refused(
-            alloc,
-            Refusal::Fenced { live: None },
-            "refused 1 live none\n"
-        )
-    );
-    assert!(rt; is_refused(alloc, Refusal::UnknownJob, "refused 3\n"));
-    assert!(rt; is_refused(alloc, Refusal::UnknownEntry, "refused 15\n"));
-    assert!(rt; is_refused(alloc, Refusal::Early { next: -1 }, "refused 19 next -1\n"));
-    assert!(rt; is_refused(alloc, Refusal::ZoneExists, "refused 10\n"));
-    assert!(rt;
-        is_refused(
-            alloc,
-            Refusal::TooMany { count: 4096 },
-            "refused 22 count 4096\n"
-        )
-    );
+/// Refusals, and their lines.
+const REFUSALS: &[(Refusal, &str)] = &[
+    (Refusal::Unbuilt, "refused 0\n"),
+    (Refusal::Fenced { live: Some(7) }, "refused 1 live 7\n"),
+    (Refusal::Fenced { live: None }, "refused 1 live none\n"),
+    (Refusal::UnknownJob, "refused 3\n"),
+    (Refusal::UnknownEntry, "refused 15\n"),
+    (Refusal::Early { next: -1 }, "refused 19 next -1\n"),
+    (Refusal::ZoneExists, "refused 10\n"),
+    (Refusal::TooMany { count: 4096 }, "refused 22 count 4096\n"),
+];
+
+fn is_refused(alloc: Global, refusal: &Refusal, line: &str) -> Result<bool, AllocError> {
+    let refusal = refusal.clone()?;
+    Ok(has_line(alloc, StepReply::Refused(refusal), line))
 }
 
 #[test]
-fn acquired_keys_are_escaped(rt: HostRuntime) -> Result<(), Fail> {
+fn refusals_have_their_lines(rt: HostRuntime) -> Result<(), AllocError> {
+    for (refusal, line) in REFUSALS.iter() {
+        assert!(rt; is_refused(rt.alloc(), refusal, line)?, "at {line}");
+    }
+    Ok(())
+}
+
+#[test]
+fn acquired_keys_are_escaped(rt: HostRuntime) -> Result<(), AllocError> {
     let alloc = rt.alloc();
     let line = "acquired 2 a%2Fb/50%25%20%C3%A9 5 1 !~/%7F%0A 4\n";
     assert!(rt; is_answered(alloc, Reply::Acquired(List::new(alloc)), "acquired none\n"));
@@ -104,11 +97,15 @@ fn acquired_keys_are_escaped(rt: HostRuntime) -> Result<(), Fail> {
     Ok(())
 }
 
-fn two_taken(alloc: Global) -> Result<List<Taken>, NoMemory> {
+fn two_taken(alloc: Global) -> Result<List<Taken>, AllocError> {
     let mut taken = List::new(alloc);
-    taken.push(taken_one(alloc, 2, "a/b", "50% é", 5)?)?;
-    taken.push(taken_one(alloc, 1, "!~", "\u{7f}\n", 4)?)?;
+    push_taken(&mut taken, taken_one(alloc, 2, "a/b", "50% é", 5))?;
+    push_taken(&mut taken, taken_one(alloc, 1, "!~", "\u{7f}\n", 4))?;
     Ok(taken)
+}
+
+fn push_taken(list: &mut List<Taken>, taken: Result<Taken, AllocError>) -> Result<(), AllocError> {
+    Ok(list.push(taken?)?)
 }
 
 fn taken_one(
@@ -152,7 +149,7 @@ fn fired(alloc: Global, next: Option<i64>) -> Result<Reply, AllocError> {
 }
 
 #[test]
-fn fired_tells_the_next_time(rt: HostRuntime) -> Result<(), Fail> {
+fn fired_tells_the_next_time(rt: HostRuntime) -> Result<(), AllocError> {
     let alloc = rt.alloc();
     let none = "fired 1 scheduled 10 at 12 next none\n";
     let some = "fired 1 scheduled 10 at 12 next 20\n";
@@ -170,7 +167,7 @@ fn have_line(alloc: Global, times: &[i64], line: &str) -> Result<bool, NoMemory>
 }
 
 #[test]
-fn times_have_their_lines(rt: HostRuntime) -> Result<(), Fail> {
+fn times_have_their_lines(rt: HostRuntime) -> Result<(), NoMemory> {
     let alloc = rt.alloc();
     assert!(rt; have_line(alloc, &[], "times a%20b/t1 none\n")?);
     assert!(rt;

@@ -5,7 +5,6 @@ use qz_io::{FaultSink, FaultSource, MemSink, MemSource};
 use qz_job_json::LineFault;
 use qz_times::{Query, TimesEnd, run_times};
 use std::alloc::{AllocError, Global};
-use std::test::Fail;
 
 fn bytes_of(alloc: Global, text: &str) -> Result<List<u8>, AllocError> {
     Ok(List::from_vec(Vec::from_slice(alloc, text.as_bytes())?))
@@ -114,7 +113,7 @@ const TIMED: &[(Query, &str, &str)] = &[
 ];
 
 #[test]
-fn triggers_have_their_times(rt: HostRuntime) -> Result<(), Fail> {
+fn triggers_have_their_times(rt: HostRuntime) -> Result<(), AllocError> {
     for row in TIMED.iter() {
         assert!(rt; has_times(rt.alloc(), row)?, "at {}", row.1);
     }
@@ -156,7 +155,7 @@ fn is_ended(
 }
 
 #[test]
-fn inputs_end_in_their_ways(rt: HostRuntime) -> Result<(), Fail> {
+fn inputs_end_in_their_ways(rt: HostRuntime) -> Result<(), AllocError> {
     for row in ENDS.iter() {
         assert!(rt; is_ended(rt.alloc(), row)?, "at {}", row.0);
     }
@@ -189,7 +188,7 @@ fn end_unwritten(alloc: Global) -> Result<TimesEnd, AllocError> {
 }
 
 #[test]
-fn a_failure_ends_it(rt: HostRuntime) -> Result<(), Fail> {
+fn a_failure_ends_it(rt: HostRuntime) -> Result<(), AllocError> {
     assert!(rt; end_unread(rt.alloc())? == TimesEnd::ReadFault);
     assert!(rt; end_unwritten(rt.alloc())? == TimesEnd::WriteFault);
     Ok(())

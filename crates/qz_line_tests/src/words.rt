@@ -2,7 +2,6 @@
 use qz_civil::Text;
 use qz_words::{Wish, WordFault, read_words};
 use std::alloc::{AllocError, Global};
-use std::test::Fail;
 
 fn texts_of(alloc: Global, words: &[&str]) -> Result<Vec<Text>, AllocError> {
     let mut texts = Vec::new(alloc);
@@ -71,7 +70,7 @@ const ASKED: &[(&[&str], Result<Wish, WordFault>)] = &[
 ];
 
 #[test]
-fn words_have_their_meaning(rt: HostRuntime) -> Result<(), Fail> {
+fn words_have_their_meaning(rt: HostRuntime) -> Result<(), AllocError> {
     for &(words, want) in ASKED.iter() {
         assert!(rt; ask(rt.alloc(), words, want)?, "at {words:?}");
     }

@@ -4,7 +4,6 @@ use qz_cron_text::CronError;
 use qz_job_json::{Asked, LineFault, read_asked};
 use std::alloc::{AllocError, Global};
 use std::process::Abort;
-use std::test::Fail;
 
 fn zone_text(alloc: Global, zone: &Zone) -> Result<String, AllocError> {
     format!(in alloc; "zone {} {:?}", zone.offset_at(0), zone.next_start(0))
@@ -46,7 +45,7 @@ fn check(
     alloc: Global,
     around: Around,
     rows: &[(&str, &str)],
-) -> Result<(), Fail> {
+) -> Result<(), AllocError> {
     for &(words, want) in rows.iter() {
         assert!(rt; says(alloc, around, words, want)?, "at {words}");
     }
@@ -95,7 +94,7 @@ const TIMINGS: &[(&str, &str)] = &[
 ];
 
 #[test]
-fn triggers_have_their_timings(rt: HostRuntime) -> Result<(), Fail> {
+fn triggers_have_their_timings(rt: HostRuntime) -> Result<(), AllocError> {
     check(&rt, rt.alloc(), TRIGGER, TIMINGS)
 }
 
@@ -172,7 +171,7 @@ const OTHER_TRIGGERS: &[(&str, &str)] = &[
 ];
 
 #[test]
-fn other_triggers_are_faults(rt: HostRuntime) -> Result<(), Fail> {
+fn other_triggers_are_faults(rt: HostRuntime) -> Result<(), AllocError> {
     check(&rt, rt.alloc(), TRIGGER, OTHER_TRIGGERS)
 }
 
@@ -197,7 +196,7 @@ const ZONES: &[(&str, &str)] = &[
 ];
 
 #[test]
-fn zones_have_their_tables(rt: HostRuntime) -> Result<(), Fail> {
+fn zones_have_their_tables(rt: HostRuntime) -> Result<(), AllocError> {
     check(&rt, rt.alloc(), ZONE, ZONES)
 }
 
@@ -225,16 +224,27 @@ const FAULTS: &[(&str, &str)] = &[
 ];
 
 #[test]
-fn faults_of_times_come_in_their_order(rt: HostRuntime) -> Result<(), Fail> {
+fn faults_of_times_come_in_their_order(rt: HostRuntime) -> Result<(), AllocError> {
     check(&rt, rt.alloc(), ("", ""), FAULTS)
 }
 
+const CRON_FAULTS: &[(&str, &str)] = &[(r#""kind":"cron","cron":"0 0 0 1 * 1""#, "Cron(BothDays)")];
+
 #[test]
-fn faults_of_cron_texts_have_their_numbers(rt: HostRuntime) -> Result<(), Fail> {
-    let members = r#""kind":"cron","cron":"0 0 0 1 * 1""#;
-    check(&rt, rt.alloc(), TRIGGER, &[(members, "Cron(BothDays)")])?;
+fn faults_of_cron_texts_have_their_numbers(rt: HostRuntime) -> Result<(), AllocError> {
     assert!(rt; CronError::BothDays.number() == 4);
-    let text = format!(in rt.alloc(); "{}", LineFault::Cron(CronError::BothDays))?;
-    assert!(rt; text.as_str() == "bad cron");
+    check(&rt, rt.alloc(), TRIGGER, CRON_FAULTS)
+}
+
+// Whether the fault is told so.
+fn is_told(alloc: Global, fault: LineFault, want: &str) -> Result<bool, AllocError> {
+    let text = format!(in alloc; "{fault}")?;
+    Ok(text.as_str() == want)
+}
+
+#[test]
+fn faults_of_cron_texts_are_told(rt: HostRuntime) -> Result<(), AllocError> {
+    let fault = LineFault::Cron(CronError::BothDays);
+    assert!(rt; is_told(rt.alloc(), fault, "bad cron")?);
     Ok(())
 }
