@@ -4,12 +4,11 @@ mod rules;
 mod zones;
 
 use qz_civil::{List, NoMemory, Text, beside};
-use std::alloc::Global;
+use std::alloc::{AllocError, Global};
 use std::cmp::Ordering;
-use std::test::Fail;
 
 // Eight is put in last, before nine.
-fn seven_to_nine(alloc: Global) -> Result<List<u64>, Fail> {
+fn seven_to_nine(alloc: Global) -> Result<List<u64>, AllocError> {
     let mut list = List::new(alloc);
     list.push(7)?;
     list.push(9)?;
@@ -18,7 +17,7 @@ fn seven_to_nine(alloc: Global) -> Result<List<u64>, Fail> {
 }
 
 // Whether these are the items, in their order, and those of a copy too.
-fn has_items(list: &List<u64>, items: &[u64]) -> Result<bool, Fail> {
+fn has_items(list: &List<u64>, items: &[u64]) -> Result<bool, AllocError> {
     let copy = list.clone()?;
     Ok(list.len() == items.len() && list.as_slice() == items && *list == copy)
 }
@@ -34,7 +33,7 @@ fn has_seven_first(mut list: List<u64>) -> bool {
 }
 
 #[test]
-fn lists_keep_their_items(rt: HostRuntime) -> Result<(), Fail> {
+fn lists_keep_their_items(rt: HostRuntime) -> Result<(), AllocError> {
     assert!(rt; List::<u64>::new(rt.alloc()).is_empty());
     let list = seven_to_nine(rt.alloc())?;
     assert!(rt; has_items(&list, &[7, 8, 9])?);
@@ -43,7 +42,7 @@ fn lists_keep_their_items(rt: HostRuntime) -> Result<(), Fail> {
 }
 
 // Whether the first comes before the second, and is the same as its copy alone.
-fn is_before(first: &Text, second: &Text) -> Result<bool, Fail> {
+fn is_before(first: &Text, second: &Text) -> Result<bool, AllocError> {
     let copy = first.copy()?;
     let is_told_apart = first.same(&copy) && !first.same(second);
     Ok(is_told_apart && first.cmp(second) == Ordering::Less)
@@ -55,7 +54,7 @@ fn is_string(text: Text, wanted: &str) -> bool {
 }
 
 #[test]
-fn texts_are_ordered_by_bytes(rt: HostRuntime) -> Result<(), Fail> {
+fn texts_are_ordered_by_bytes(rt: HostRuntime) -> Result<(), AllocError> {
     let upper = Text::from_str(rt.alloc(), "B")?;
     let (upper, lower) = beside(upper, Text::from_str(rt.alloc(), "a"))?;
     assert!(rt; is_before(&upper, &lower)?);
@@ -64,7 +63,7 @@ fn texts_are_ordered_by_bytes(rt: HostRuntime) -> Result<(), Fail> {
 }
 
 #[test]
-fn texts_begin_empty(rt: HostRuntime) -> Result<(), Fail> {
+fn texts_begin_empty(rt: HostRuntime) -> Result<(), AllocError> {
     assert!(rt; Text::new(rt.alloc()).len() == 0);
     let told = NoMemory.to_string(rt.alloc())?;
     assert!(rt; told.as_str() == "no memory");

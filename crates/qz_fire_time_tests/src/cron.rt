@@ -1,8 +1,7 @@
 //! Fire times that were worked out apart from this crate.
-use crate::zoned::{Begin, is_moment, zone_of};
+use crate::zoned::{Begin, Row, check_in_utc, check_in_zones, is_moment};
 use qz_civil::{CronFields, DayField, WeekField, Zone};
 use qz_cron::next;
-use std::process::Abort;
 use std::test::Fail;
 
 const HOUR: i32 = 3600;
@@ -13,7 +12,7 @@ const HOURS: u32 = 0xff_ffff;
 const MINUTES: u64 = 0xfff_ffff_ffff_ffff;
 
 // Fields, a moment, and the next fire time.
-type Row = (CronFields, i64, Option<i64>);
+type CronRow = (CronFields, i64, Option<i64>);
 
 // A midnight of any day.
 const MIDNIGHT: CronFields = CronFields {
@@ -46,7 +45,7 @@ const EACH: CronFields = CronFields {
     ..MIDNIGHT
 };
 
-const DAYS_OF_THE_MONTH: &[Row] = &[
+const DAYS_OF_THE_MONTH: &[CronRow] = &[
     // 0 0 0 29 2 ?
     (
         CronFields {
@@ -116,7 +115,7 @@ const DAYS_OF_THE_MONTH: &[Row] = &[
     ),
 ];
 
-const DAYS_OF_THE_WEEK: &[Row] = &[
+const DAYS_OF_THE_WEEK: &[CronRow] = &[
     // 0 0 12 ? * MON-FRI: from Friday to Monday
     (
         CronFields {
@@ -146,7 +145,7 @@ const DAYS_OF_THE_WEEK: &[Row] = &[
     ),
 ];
 
-const FIELDS_TOGETHER: &[Row] = &[
+const FIELDS_TOGETHER: &[CronRow] = &[
     // 29 February on a Sunday: 2004, 2032
     (
         CronFields {
@@ -177,7 +176,7 @@ const LATE_ON_MONDAYS: CronFields = CronFields {
     ..MIDNIGHT
 };
 
-const TIMES_OF_DAY: &[Row] = &[
+const TIMES_OF_DAY: &[CronRow] = &[
     (LATE_ON_MONDAYS, 1704074400000, Some(1704146400000)),
     (LATE_ON_MONDAYS, 1704146400000, Some(1704150000000)),
     (LATE_ON_MONDAYS, 1704150000000, Some(1704672000000)),
@@ -201,7 +200,7 @@ const HALF_PAST_TWO: CronFields = CronFields {
     ..MIDNIGHT
 };
 
-const AN_HOUR_LOST_AND_FOUND: &[Row] = &[
+const AN_HOUR_LOST_AND_FOUND: &[CronRow] = &[
     (HALF_PAST_TWO, 1711762200000, Some(1711931400000)),
     (HALF_PAST_TWO, 1729902600000, Some(1729989000000)),
     (HALF_PAST_TWO, 1729989000000, Some(1729992600000)),
@@ -211,7 +210,7 @@ const AN_HOUR_LOST_AND_FOUND: &[Row] = &[
 const SUMMER: &[Begin] = &[(1711846800000, 2 * HOUR)];
 
 // Before the first stretch its offset holds.
-const BEFORE_SUMMER: &[Row] = &[(HALF_PAST_TWO, 1704067199999, Some(1704069000000))];
+const BEFORE_SUMMER: &[CronRow] = &[(HALF_PAST_TWO, 1704067199999, Some(1704069000000))];
 
 // A quarter of an hour, at midnight.
 const QUARTERS: &[Begin] = &[(0, 0), (1710028800000, 900), (1730592000000, 0)];
@@ -222,7 +221,7 @@ const PAST_MIDNIGHT: CronFields = CronFields {
     ..MIDNIGHT
 };
 
-const A_QUARTER_LOST_AND_FOUND: &[Row] = &[
+const A_QUARTER_LOST_AND_FOUND: &[CronRow] = &[
     (PAST_MIDNIGHT, 1709942700000, Some(1710114600000)),
     (PAST_MIDNIGHT, 1730504700000, Some(1730505000000)),
     (PAST_MIDNIGHT, 1730591400000, Some(1730592300000)),
@@ -243,7 +242,7 @@ const LEFT_OUT: CronFields = CronFields {
     ..NOON
 };
 
-const A_DAY_LOST_AND_FOUND: &[Row] = &[
+const A_DAY_LOST_AND_FOUND: &[CronRow] = &[
     (NOON, 1325109600000, Some(1325196000000)),
     (NOON, 1325196000000, Some(1325282400000)),
     (NOON, 1704060000000, Some(1704146400000)),
@@ -252,18 +251,25 @@ const A_DAY_LOST_AND_FOUND: &[Row] = &[
 ];
 
 // 18 hours from UTC the local years 1969 and 2100 are met, which no text names.
-const FARTHEST_WEST: &[Row] = &[
+const FARTHEST_WEST: &[CronRow] = &[
     (EACH, -1, Some(64800000)),
     (EACH, 4102444798000, Some(4102444799000)),
 ];
 
-const FARTHEST_EAST: &[Row] = &[
+const FARTHEST_EAST: &[CronRow] = &[
     (EACH, -1, Some(0)),
     (EACH, 4102379998000, Some(4102379999000)),
     (EACH, 4102379999000, None),
 ];
 
-const IN_ZONES: &[(&[Begin], &[Row])] = &[
+const IN_UTC: &[&[CronRow]] = &[
+    DAYS_OF_THE_MONTH,
+    DAYS_OF_THE_WEEK,
+    FIELDS_TOGETHER,
+    TIMES_OF_DAY,
+];
+
+const IN_ZONES: &[(&[Begin], &[CronRow])] = &[
     (SUMMER_TIME, AN_HOUR_LOST_AND_FOUND),
     (SUMMER, BEFORE_SUMMER),
     (QUARTERS, A_QUARTER_LOST_AND_FOUND),
@@ -272,32 +278,19 @@ const IN_ZONES: &[(&[Begin], &[Row])] = &[
     (&[(0, 18 * HOUR)], FARTHEST_EAST),
 ];
 
-// In the zone the fields are next met as wanted.
-fn check(rt: &impl Abort, zone: &Zone, rows: &[Row]) {
-    for &(fields, after, wanted) in rows.iter() {
-        assert!(rt;
-            is_moment(after) && next(&fields, zone, after) == wanted,
-            "at {after}"
-        );
+impl Row for CronRow {
+    fn holds(&self, zone: &Zone) -> bool {
+        let &(fields, after, wanted) = self;
+        is_moment(after) && next(&fields, zone, after) == wanted
     }
 }
 
 #[test]
 fn times_in_utc(rt: HostRuntime) {
-    for rows in [
-        DAYS_OF_THE_MONTH,
-        DAYS_OF_THE_WEEK,
-        FIELDS_TOGETHER,
-        TIMES_OF_DAY,
-    ] {
-        check(&rt, &Zone::utc(), rows);
-    }
+    check_in_utc(&rt, IN_UTC);
 }
 
 #[test]
 fn times_in_zones(rt: HostRuntime) -> Result<(), Fail> {
-    for (stretches, rows) in IN_ZONES.iter() {
-        check(&rt, &zone_of(rt.alloc(), stretches)?, rows);
-    }
-    Ok(())
+    check_in_zones(&rt, rt.alloc(), IN_ZONES)
 }

@@ -1,9 +1,8 @@
 //! Texts with what they say, and with their faults.
-use qz_civil::{CronFields, DayField, WeekField};
+use qz_civil::{CronFields, DayField, NoMemory, WeekField};
 use qz_cron_text::{CronError, parse, print};
-use std::alloc::Global;
+use std::alloc::{AllocError, Global};
 use std::process::Abort;
-use std::test::Fail;
 
 // Whether this is wrong with the text.
 fn is_fault(text: &str, fault: CronError) -> bool {
@@ -187,13 +186,16 @@ const TOLD: [(CronError, u8, &str); 7] = [
 ];
 
 // Whether the fault has this number and this text.
-fn is_told(alloc: Global, &(fault, number, text): &(CronError, u8, &str)) -> Result<bool, Fail> {
+fn is_told(
+    alloc: Global,
+    &(fault, number, text): &(CronError, u8, &str),
+) -> Result<bool, AllocError> {
     let told = fault.to_string(alloc)?;
     Ok(fault.number() == number && told.as_str() == text)
 }
 
 #[test]
-fn faults_have_numbers_and_texts(rt: HostRuntime) -> Result<(), Fail> {
+fn faults_have_numbers_and_texts(rt: HostRuntime) -> Result<(), AllocError> {
     for row in TOLD.iter() {
         assert!(rt; is_told(rt.alloc(), row)?, "at {}", row.2);
     }
@@ -201,10 +203,12 @@ fn faults_have_numbers_and_texts(rt: HostRuntime) -> Result<(), Fail> {
 }
 
 // Whether what the text says is printed so, and what is printed says the same.
-fn prints_as(alloc: Global, text: &str, canonical: &str) -> Result<bool, Fail> {
-    let fields = parse(text)?;
+fn prints_as(alloc: Global, text: &str, canonical: &str) -> Result<bool, NoMemory> {
+    let Ok(fields) = parse(text) else {
+        return Ok(false);
+    };
     let printed = print(alloc, &fields)?;
-    Ok(printed.as_str() == canonical && parse(printed.as_str())? == fields)
+    Ok(printed.as_str() == canonical && parse(printed.as_str()) == Ok(fields))
 }
 
 /// Texts, and how they are printed.
@@ -235,7 +239,7 @@ const CANONICAL: &[(&str, &str)] = &[
 ];
 
 #[test]
-fn texts_with_their_canonical_texts(rt: HostRuntime) -> Result<(), Fail> {
+fn texts_with_their_canonical_texts(rt: HostRuntime) -> Result<(), NoMemory> {
     for &(text, canonical) in CANONICAL.iter() {
         assert!(rt; prints_as(rt.alloc(), text, canonical)?, "{text}");
     }

@@ -1,8 +1,7 @@
 //! Fire times that were worked out apart from this crate.
-use crate::zoned::{Begin, is_next, zone_of};
+use crate::zoned::{Begin, Row, check_in_utc, check_in_zones, is_next};
 use qz_civil::{LAST, LONGEST, Unit, Zone};
 use qz_daily::DailyTimes;
-use std::process::Abort;
 use std::test::Fail;
 
 const HOUR: u32 = 3600;
@@ -11,7 +10,7 @@ const HOUR: u32 = 3600;
 const MONDAY: i64 = 1704067200000;
 
 // A trigger without its zone.
-#[derive(Clone, Copy)]
+#[derive(Clone, Copy, Debug)]
 struct Daily {
     start: i64,
     end: Option<i64>,
@@ -23,7 +22,7 @@ struct Daily {
 }
 
 // A trigger, a moment, and the next fire time.
-type Row = (Daily, i64, Option<i64>);
+type DailyRow = (Daily, i64, Option<i64>);
 
 // Each second of each day.
 const EACH: Daily = Daily {
@@ -54,7 +53,7 @@ const MORNING: Daily = Daily {
     ..WORK
 };
 
-const TIMES_OF_DAY: &[Row] = &[
+const TIMES_OF_DAY: &[DailyRow] = &[
     // 16:24, and the next day's 8:00
     (WORK, 1704121920000, Some(1704126240000)),
     (WORK, 1704126240000, Some(1704182400000)),
@@ -78,13 +77,13 @@ const MIDNIGHT: Daily = Daily {
     ..EACH
 };
 
-const STEP_OF_A_DAY: &[Row] = &[
+const STEP_OF_A_DAY: &[DailyRow] = &[
     (MIDNIGHT, -1, Some(0)),
     (MIDNIGHT, MONDAY, Some(1704153600000)),
 ];
 
 // The start is the first, and the end is none.
-const BOTH_ENDS: &[Row] = &[
+const BOTH_ENDS: &[DailyRow] = &[
     (
         Daily {
             start: 1704126240000,
@@ -128,7 +127,7 @@ const BOTH_ENDS: &[Row] = &[
 ];
 
 // At both ends of time and between two seconds.
-const EACH_SECOND: &[Row] = &[
+const EACH_SECOND: &[DailyRow] = &[
     (EACH, -1, Some(0)),
     (EACH, 0, Some(1000)),
     (EACH, 999, Some(1000)),
@@ -161,7 +160,7 @@ const SATURDAYS: Daily = Daily {
 
 const NEVER: Daily = Daily { days: 0, ..NOON };
 
-const DAYS_OF_THE_WEEK: &[Row] = &[
+const DAYS_OF_THE_WEEK: &[DailyRow] = &[
     // from a Friday to a Monday
     (WEEKDAYS, 1704456000000, Some(1704715200000)),
     // the first, and a week later
@@ -184,7 +183,7 @@ const EARLY: Daily = Daily {
     ..EACH
 };
 
-const AN_HOUR_LOST_AND_FOUND: &[Row] = &[
+const AN_HOUR_LOST_AND_FOUND: &[DailyRow] = &[
     (EARLY, 1711763999999, Some(1711764000000)),
     (EARLY, 1711764000000, Some(1711846800000)),
     (EARLY, 1711846800000, Some(1711929600000)),
@@ -212,42 +211,44 @@ const FRIDAYS: Daily = Daily {
     ..EACH
 };
 
-const FARTHEST_EAST: &[Row] = &[
+const FARTHEST_EAST: &[DailyRow] = &[
     (FRIDAYS, -1, Some(21600000)),
     (FRIDAYS, 4102379998000, Some(4102380000000)),
     (EACH, 4102444798999, Some(4102444799000)),
     (EACH, 4102444799000, None),
 ];
 
-const FARTHEST_WEST: &[Row] = &[
+const FARTHEST_WEST: &[DailyRow] = &[
     (WEDNESDAYS, -1, Some(0)),
     (WEDNESDAYS, 64799000, Some(583200000)),
     (THURSDAYS, -1, Some(64800000)),
 ];
 
-const IN_ZONES: &[(&[Begin], &[Row])] = &[
+const IN_UTC: &[&[DailyRow]] = &[
+    TIMES_OF_DAY,
+    STEP_OF_A_DAY,
+    BOTH_ENDS,
+    EACH_SECOND,
+    DAYS_OF_THE_WEEK,
+];
+
+const IN_ZONES: &[(&[Begin], &[DailyRow])] = &[
     (SUMMER_TIME, AN_HOUR_LOST_AND_FOUND),
     (&[(0, 64800)], FARTHEST_EAST),
     (&[(0, -64800)], FARTHEST_WEST),
 ];
 
-// In the zone, each row's trigger is next as wanted.
-fn check(rt: &impl Abort, zone: &Zone, rows: &[Row]) {
-    for &(daily, after, wanted) in rows.iter() {
-        assert!(rt; daily.is_next(zone, after, wanted), "at {after}");
-    }
-}
-
-impl Daily {
-    fn is_next(self, zone: &Zone, after: i64, wanted: Option<i64>) -> bool {
+impl Row for DailyRow {
+    fn holds(&self, zone: &Zone) -> bool {
+        let &(daily, after, wanted) = self;
         let trigger = DailyTimes {
-            start: self.start,
-            end: self.end,
-            unit: self.unit,
-            every: self.every,
-            from: self.from,
-            to: self.to,
-            days: self.days,
+            start: daily.start,
+            end: daily.end,
+            unit: daily.unit,
+            every: daily.every,
+            from: daily.from,
+            to: daily.to,
+            days: daily.days,
             zone,
         };
         is_next(&trigger, after, wanted)
@@ -256,21 +257,10 @@ impl Daily {
 
 #[test]
 fn times_in_utc(rt: HostRuntime) {
-    for rows in [
-        TIMES_OF_DAY,
-        STEP_OF_A_DAY,
-        BOTH_ENDS,
-        EACH_SECOND,
-        DAYS_OF_THE_WEEK,
-    ] {
-        check(&rt, &Zone::utc(), rows);
-    }
+    check_in_utc(&rt, IN_UTC);
 }
 
 #[test]
 fn times_in_zones(rt: HostRuntime) -> Result<(), Fail> {
-    for (stretches, rows) in IN_ZONES.iter() {
-        check(&rt, &zone_of(rt.alloc(), stretches)?, rows);
-    }
-    Ok(())
+    check_in_zones(&rt, rt.alloc(), IN_ZONES)
 }

@@ -1,14 +1,15 @@
 //! Fire times that were worked out apart from this crate.
-use crate::zoned::{Begin, is_every, is_moment, is_next, is_span, zone_of};
+use crate::zoned::{
+    Begin, Row, check_in_utc, check_in_zones, is_every, is_moment, is_next, is_span,
+};
 use qz_civil::{LAST, LONGEST, Unit, Zone};
 use qz_interval::{IntervalTimes, next};
-use std::process::Abort;
 use std::test::Fail;
 
 // A start and an end, a unit and how many, a moment, and the next fire time.
-type Row = (i64, Option<i64>, Unit, u32, i64, Option<i64>);
+type IntervalRow = (i64, Option<i64>, Unit, u32, i64, Option<i64>);
 
-const UNITS: &[Row] = &[
+const UNITS: &[IntervalRow] = &[
     // from 2024-01-31T10:00 on: 29 February, 31 March, 30 April
     (
         1706695200000,
@@ -66,7 +67,7 @@ const UNITS: &[Row] = &[
     (5000, None, Unit::Hour, 90, 5000, Some(324005000)),
 ];
 
-const LONGEST_STEPS: &[Row] = &[
+const LONGEST_STEPS: &[IntervalRow] = &[
     (0, None, Unit::Second, 2147483647, 0, Some(2147483647000)),
     (0, None, Unit::Hour, 2147483647, 0, None),
     (0, None, Unit::Week, 2147483647, 0, None),
@@ -74,7 +75,7 @@ const LONGEST_STEPS: &[Row] = &[
 ];
 
 // Each day, from the start on.
-const BOTH_ENDS: &[Row] = &[
+const BOTH_ENDS: &[IntervalRow] = &[
     (
         1704096000000,
         None,
@@ -110,7 +111,7 @@ const BOTH_ENDS: &[Row] = &[
 const SUMMER_TIME: &[Begin] = &[(0, 3600), (1711846800000, 7200), (1729990800000, 3600)];
 
 // At 02:30 each day or month.
-const AN_HOUR_LOST_AND_FOUND: &[Row] = &[
+const AN_HOUR_LOST_AND_FOUND: &[IntervalRow] = &[
     // 31 March is left out
     (
         1711762200000,
@@ -184,7 +185,7 @@ const AN_HOUR_LOST_AND_FOUND: &[Row] = &[
 // The clock goes back by 36 hours, from 18:00 on 1 January to 06:00 on 31 December.
 const BACK_BY_36_HOURS: &[Begin] = &[(0, 64800), (1704067200000, -64800)];
 
-const A_DAY_TWICE: &[Row] = &[
+const A_DAY_TWICE: &[IntervalRow] = &[
     // 10:00 on 1 January comes first before the start, so that 2 January is next
     (
         1704081600000,
@@ -221,41 +222,34 @@ const A_DAY_TWICE: &[Row] = &[
     ),
 ];
 
-const IN_ZONES: &[(&[Begin], &[Row])] = &[
+const IN_UTC: &[&[IntervalRow]] = &[UNITS, LONGEST_STEPS, BOTH_ENDS];
+
+const IN_ZONES: &[(&[Begin], &[IntervalRow])] = &[
     (SUMMER_TIME, AN_HOUR_LOST_AND_FOUND),
     (BACK_BY_36_HOURS, A_DAY_TWICE),
 ];
 
-// Whether the trigger is one, and is next as wanted in the zone.
-fn is_row(zone: &Zone, &(start, end, unit, every, after, wanted): &Row) -> bool {
-    is_span(start)
-        && is_every(every)
-        && is_moment(after)
-        && next(start, end, unit, every, zone, after) == wanted
-        && is_next(
-            &IntervalTimes::new(start, end, unit, every, zone),
-            after,
-            wanted,
-        )
-}
-
-fn check(rt: &impl Abort, zone: &Zone, rows: &[Row]) {
-    for row in rows.iter() {
-        assert!(rt; is_row(zone, row), "at {}", row.4);
+impl Row for IntervalRow {
+    fn holds(&self, zone: &Zone) -> bool {
+        let &(start, end, unit, every, after, wanted) = self;
+        is_span(start)
+            && is_every(every)
+            && is_moment(after)
+            && next(start, end, unit, every, zone, after) == wanted
+            && is_next(
+                &IntervalTimes::new(start, end, unit, every, zone),
+                after,
+                wanted,
+            )
     }
 }
 
 #[test]
 fn times_in_utc(rt: HostRuntime) {
-    for rows in [UNITS, LONGEST_STEPS, BOTH_ENDS] {
-        check(&rt, &Zone::utc(), rows);
-    }
+    check_in_utc(&rt, IN_UTC);
 }
 
 #[test]
 fn times_in_zones(rt: HostRuntime) -> Result<(), Fail> {
-    for (stretches, rows) in IN_ZONES.iter() {
-        check(&rt, &zone_of(rt.alloc(), stretches)?, rows);
-    }
-    Ok(())
+    check_in_zones(&rt, rt.alloc(), IN_ZONES)
 }

@@ -1,17 +1,16 @@
 //! Local times and their timestamps, as Python's `datetime` has them.
-use crate::zoned::{Begin, list_of, zone_of};
+use crate::zoned::{Begin, Row, check, check_in_zones, list_of};
 use qz_civil::{BadZone, Civil, LAST, List, Stretch, Zone};
-use std::alloc::Global;
-use std::process::Abort;
+use std::alloc::{AllocError, Global};
 use std::test::Fail;
 
 // A year, month, day, weekday and second of the day, and the timestamps that show them.
-type Row = ((i32, u8, u8, u8, u32), Option<i64>, Option<i64>);
+type LocalRow = ((i32, u8, u8, u8, u32), Option<i64>, Option<i64>);
 
 // Central Europe in 2024.
 const BERLIN: &[Begin] = &[(0, 3600), (1711846800000, 7200), (1729990800000, 3600)];
 
-const BERLIN_ROWS: &[Row] = &[
+const BERLIN_ROWS: &[LocalRow] = &[
     ((2024, 3, 31, 1, 9000), None, None),
     ((2024, 3, 31, 1, 10800), Some(1711846800000), None),
     (
@@ -32,7 +31,7 @@ const BERLIN_ROWS: &[Row] = &[
 // Nepal's quarter of an hour, and the same one given back.
 const QUARTER_SKIPPED: &[Begin] = &[(0, 19800), (504901800000, 20700)];
 
-const QUARTER_SKIPPED_ROWS: &[Row] = &[
+const QUARTER_SKIPPED_ROWS: &[LocalRow] = &[
     ((1985, 12, 31, 3, 86399), Some(504901799000), None),
     ((1986, 1, 1, 4, 420), None, None),
     ((1986, 1, 1, 4, 900), Some(504901800000), None),
@@ -40,7 +39,7 @@ const QUARTER_SKIPPED_ROWS: &[Row] = &[
 
 const QUARTER_TWICE: &[Begin] = &[(0, 20700), (504901800000, 19800)];
 
-const QUARTER_TWICE_ROWS: &[Row] = &[
+const QUARTER_TWICE_ROWS: &[LocalRow] = &[
     ((1986, 1, 1, 4, 0), Some(504900900000), Some(504901800000)),
     ((1986, 1, 1, 4, 900), Some(504902700000), None),
 ];
@@ -48,7 +47,7 @@ const QUARTER_TWICE_ROWS: &[Row] = &[
 // Samoa's day, and the same one given back.
 const DAY_SKIPPED: &[Begin] = &[(0, -36000), (1325239200000, 50400)];
 
-const DAY_SKIPPED_ROWS: &[Row] = &[
+const DAY_SKIPPED_ROWS: &[LocalRow] = &[
     ((2011, 12, 29, 5, 86399), Some(1325239199000), None),
     ((2011, 12, 30, 6, 43200), None, None),
     ((2011, 12, 31, 7, 0), Some(1325239200000), None),
@@ -56,7 +55,7 @@ const DAY_SKIPPED_ROWS: &[Row] = &[
 
 const DAY_TWICE: &[Begin] = &[(0, 50400), (1325239200000, -36000)];
 
-const DAY_TWICE_ROWS: &[Row] = &[
+const DAY_TWICE_ROWS: &[LocalRow] = &[
     (
         (2011, 12, 30, 6, 43200),
         Some(1325196000000),
@@ -68,7 +67,7 @@ const DAY_TWICE_ROWS: &[Row] = &[
 // The farthest step there is, and back after 48 hours.
 const FARTHEST: &[Begin] = &[(0, -64800), (864000000, 64800), (1036800000, -64800)];
 
-const FARTHEST_ROWS: &[Row] = &[
+const FARTHEST_ROWS: &[LocalRow] = &[
     ((1970, 1, 10, 7, 21600), None, None),
     ((1970, 1, 11, 1, 64800), Some(864000000), None),
     ((1970, 1, 12, 2, 21600), Some(907200000), Some(1036800000)),
@@ -77,25 +76,25 @@ const FARTHEST_ROWS: &[Row] = &[
 // Before its first stretch a zone has that one's offset.
 const LATE: &[Begin] = &[(1711846800000, 7200)];
 
-const LATE_ROWS: &[Row] = &[
+const LATE_ROWS: &[LocalRow] = &[
     ((1970, 1, 1, 5, 3600), None, None),
     ((1970, 1, 1, 5, 7200), Some(0), None),
     ((2024, 3, 31, 1, 10799), Some(1711846799000), None),
 ];
 
-const WEST_ROWS: &[Row] = &[
+const WEST_ROWS: &[LocalRow] = &[
     ((1969, 12, 31, 4, 21599), None, None),
     ((1969, 12, 31, 4, 21600), Some(0), None),
     ((2099, 12, 31, 5, 21600), None, None),
 ];
 
-const EAST_ROWS: &[Row] = &[
+const EAST_ROWS: &[LocalRow] = &[
     ((1970, 1, 1, 5, 64799), None, None),
     ((2100, 1, 1, 6, 64799), Some(4102444799000), None),
     ((2100, 1, 1, 6, 64800), None, None),
 ];
 
-const UTC_ROWS: &[Row] = &[
+const UTC_ROWS: &[LocalRow] = &[
     ((2000, 2, 29, 3, 0), Some(951782400000), None),
     ((2100, 2, 29, 2, 0), None, None),
     ((2023, 2, 29, 4, 0), None, None),
@@ -103,7 +102,7 @@ const UTC_ROWS: &[Row] = &[
     ((-2024, 1, 1, 2, 0), None, None),
 ];
 
-const TABLES: &[(&[Begin], &[Row])] = &[
+const TABLES: &[(&[Begin], &[LocalRow])] = &[
     (BERLIN, BERLIN_ROWS),
     (QUARTER_SKIPPED, QUARTER_SKIPPED_ROWS),
     (QUARTER_TWICE, QUARTER_TWICE_ROWS),
@@ -114,42 +113,36 @@ const TABLES: &[(&[Begin], &[Row])] = &[
 ];
 
 // Offsets in minutes.
-const FIXED: &[(i32, &[Row])] = &[(-1080, WEST_ROWS), (1080, EAST_ROWS), (0, UTC_ROWS)];
+const FIXED: &[(i32, &[LocalRow])] = &[(-1080, WEST_ROWS), (1080, EAST_ROWS), (0, UTC_ROWS)];
 
 // Whether a timestamp shows the local time, of which this is the earliest one.
 fn shows(zone: &Zone, ms: i64, civil: Civil, first: Option<i64>) -> bool {
     0 <= ms && ms <= LAST && zone.civil(ms) == civil && zone.earliest_at(zone.local(ms)) == first
 }
 
-// Whether the local time has the row's timestamps, of which the first is its earliest, and the last shows it.
-fn is_found(zone: &Zone, &((year, month, day, weekday, second), first, last): &Row) -> bool {
-    let civil = Civil {
-        year,
-        month,
-        day,
-        weekday,
-        second,
-        milli: 0,
-    };
-    let is_shown = match last.or(first) {
-        Some(ms) => shows(zone, ms, civil, first),
-        None => true,
-    };
-    is_shown && zone.instants_of(civil) == (first, last)
-}
-
-fn check(rt: &impl Abort, zone: &Zone, rows: &[Row]) {
-    for row in rows.iter() {
-        assert!(rt; is_found(zone, row), "{row:?}");
+// The local time has the row's timestamps, of which the first is its earliest, and the last shows it.
+impl Row for LocalRow {
+    fn holds(&self, zone: &Zone) -> bool {
+        let &((year, month, day, weekday, second), first, last) = self;
+        let civil = Civil {
+            year,
+            month,
+            day,
+            weekday,
+            second,
+            milli: 0,
+        };
+        let is_shown = match last.or(first) {
+            Some(ms) => shows(zone, ms, civil, first),
+            None => true,
+        };
+        is_shown && zone.instants_of(civil) == (first, last)
     }
 }
 
 #[test]
 fn local_times_have_at_most_two_timestamps(rt: HostRuntime) -> Result<(), Fail> {
-    for (stretches, rows) in TABLES.iter() {
-        check(&rt, &zone_of(rt.alloc(), stretches)?, rows);
-    }
-    Ok(())
+    check_in_zones(&rt, rt.alloc(), TABLES)
 }
 
 #[test]
@@ -201,12 +194,12 @@ const BAD_ZONES: &[(&[Begin], BadZone)] = &[
     ),
 ];
 
-fn fault_of(alloc: Global, stretches: &[Begin]) -> Result<Option<BadZone>, Fail> {
+fn fault_of(alloc: Global, stretches: &[Begin]) -> Result<Option<BadZone>, AllocError> {
     Ok(Zone::table(list_of(alloc, stretches)?).err())
 }
 
 #[test]
-fn bad_zones_are_refused_in_order(rt: HostRuntime) -> Result<(), Fail> {
+fn bad_zones_are_refused_in_order(rt: HostRuntime) -> Result<(), AllocError> {
     for (stretches, want) in BAD_ZONES.iter() {
         assert!(rt; fault_of(rt.alloc(), stretches)? == Some(*want), "{want:?}");
     }
@@ -214,7 +207,7 @@ fn bad_zones_are_refused_in_order(rt: HostRuntime) -> Result<(), Fail> {
 }
 
 // As many stretches as there may be, each of 48 hours.
-fn longest_list(alloc: Global) -> Result<List<Stretch>, Fail> {
+fn longest_list(alloc: Global) -> Result<List<Stretch>, AllocError> {
     let mut list = List::new(alloc);
     for place in 0..512i64 {
         list.push(Stretch {
@@ -225,15 +218,23 @@ fn longest_list(alloc: Global) -> Result<List<Stretch>, Fail> {
     Ok(list)
 }
 
-// Whether the zone of that list finds its stretches.
-fn finds_512_stretches(zone: &Zone) -> bool {
+// Whether a zone of that list finds its first and last stretches.
+fn is_found(zone: &Zone) -> bool {
     let at = (zone.stretch_at(511 * 172800000 - 1), zone.stretch_at(LAST));
     let until = (zone.offset_until(172800000 - 1), zone.offset_until(LAST));
     at == (510, 511) && until == ((0, Some(172800000)), (0, None))
 }
 
+// Whether the list is a zone, which finds its stretches.
+fn finds_512_stretches(alloc: Global) -> Result<bool, AllocError> {
+    match Zone::table(longest_list(alloc)?) {
+        Ok(zone) => Ok(is_found(&zone)),
+        Err(_) => Ok(false),
+    }
+}
+
 // The fault of one stretch more, which is bad too.
-fn fault_of_one_more(alloc: Global) -> Result<Option<BadZone>, Fail> {
+fn fault_of_one_more(alloc: Global) -> Result<Option<BadZone>, AllocError> {
     let mut list = longest_list(alloc)?;
     list.push(Stretch {
         from: -1,
@@ -243,16 +244,15 @@ fn fault_of_one_more(alloc: Global) -> Result<Option<BadZone>, Fail> {
 }
 
 #[test]
-fn a_zone_has_at_most_512_stretches(rt: HostRuntime) -> Result<(), Fail> {
+fn a_zone_has_at_most_512_stretches(rt: HostRuntime) -> Result<(), AllocError> {
     let many = BadZone::TooManyStretches { count: 513 };
     assert!(rt; fault_of_one_more(rt.alloc())? == Some(many));
-    let zone = Zone::table(longest_list(rt.alloc())?)?;
-    assert!(rt; finds_512_stretches(&zone));
+    assert!(rt; finds_512_stretches(rt.alloc())?);
     Ok(())
 }
 
 #[test]
-fn bad_zones_have_texts(rt: HostRuntime) -> Result<(), Fail> {
+fn bad_zones_have_texts(rt: HostRuntime) -> Result<(), AllocError> {
     let text = BadZone::NotAscending { place: 1 }.to_string(rt.alloc())?;
     assert!(rt; text.as_str() == "stretch 1 doesn't begin at least 48 hours after the one before");
     Ok(())
