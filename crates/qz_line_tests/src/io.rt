@@ -1,6 +1,7 @@
 //! Worked examples, and each call once.
 ghost use Rattle.std.specs.Prelude.{Some};
 
+use crate::rows::{Row, check};
 use qz_civil::{Failed, List, beside};
 use qz_io::{
     Clock, FaultSink, FaultSource, LINE_LIMIT, LineReader, ListClock, MemSink, MemSource,
@@ -56,8 +57,18 @@ fn tells<S: Source>(alloc: Global, source: &mut S, want: &[u8]) -> Result<bool, 
     Ok(out.as_slice() == want)
 }
 
-/// What a source has, and what a reader hands out of it.
-const LINES: &[(&[u8], &[u8])] = &[
+// What a source has, and what a reader hands out of it.
+type LineRow = (&'static [u8], &'static [u8]);
+
+impl Row for LineRow {
+    fn holds(&self, alloc: Global) -> Result<bool, AllocError> {
+        let &(bytes, want) = self;
+        let mut source = MemSource::new(list(alloc, bytes)?);
+        tells(alloc, &mut source, want)
+    }
+}
+
+const LINES: &[LineRow] = &[
     (b"", b"."),
     (b"\n", b"[]."),
     (b"a\n\nb", b"[a][]<b>."),
@@ -66,17 +77,9 @@ const LINES: &[(&[u8], &[u8])] = &[
     (b"a\r\n b\n", b"[a\r][ b]."),
 ];
 
-fn lines_tell(alloc: Global, bytes: &[u8], want: &[u8]) -> Result<bool, AllocError> {
-    let mut source = MemSource::new(list(alloc, bytes)?);
-    tells(alloc, &mut source, want)
-}
-
 #[test]
 fn lines_of_a_source(rt: HostRuntime) -> Result<(), AllocError> {
-    for &(bytes, want) in LINES.iter() {
-        assert!(rt; lines_tell(rt.alloc(), bytes, want)?, "{want:?}");
-    }
-    Ok(())
+    check(&rt, rt.alloc(), LINES)
 }
 
 // The length of the line that the reader hands out next, if it does.
@@ -102,9 +105,17 @@ fn long_source(alloc: Global, many: usize, behind: &[u8]) -> Result<MemSource, A
     Ok(MemSource::new(List::from_vec(items)))
 }
 
+// So many bytes, what stands behind them, and the lengths of the first two lines.
 type LongRow = (usize, &'static [u8], [Option<usize>; 2]);
 
-/// So many bytes, what stands behind them, and the lengths of the first two lines.
+impl Row for LongRow {
+    fn holds(&self, alloc: Global) -> Result<bool, AllocError> {
+        let &(many, behind, want) = self;
+        let mut source = long_source(alloc, many, behind)?;
+        Ok(lengths_of(alloc, &mut source)? == want)
+    }
+}
+
 const LONG_LINES: &[LongRow] = &[
     (LINE_LIMIT, b"", [Some(LINE_LIMIT), None]),
     (LINE_LIMIT, b"\nab\n", [Some(LINE_LIMIT), Some(2)]),
@@ -113,17 +124,9 @@ const LONG_LINES: &[LongRow] = &[
     (3 * LINE_LIMIT, b"\n", [None, None]),
 ];
 
-fn are_lengths(alloc: Global, &(many, behind, want): &LongRow) -> Result<bool, AllocError> {
-    let mut source = long_source(alloc, many, behind)?;
-    Ok(lengths_of(alloc, &mut source)? == want)
-}
-
 #[test]
 fn long_lines(rt: HostRuntime) -> Result<(), AllocError> {
-    for row in LONG_LINES.iter() {
-        assert!(rt; are_lengths(rt.alloc(), row)?, "{}", row.0);
-    }
-    Ok(())
+    check(&rt, rt.alloc(), LONG_LINES)
 }
 
 /// A source that gives at most three bytes at a time.
@@ -169,7 +172,8 @@ fn block_source(alloc: Global, count: u8) -> Result<MemSource, AllocError> {
 // How many lines of 4999 bytes come first.
 fn count_blocks<S: Source>(reader: &mut LineReader, source: &mut S) -> u8 {
     for at in 0..250u8 {
-        if length(reader, source) != Some(4999) {
+        let seen = reader.next(source);
+        if seen != Ok(Seen::Line) || reader.line().len() != 4999 {
             return at;
         }
     }
@@ -197,10 +201,19 @@ fn fault_source(alloc: Global, bytes: &[u8], numbers: &[u64]) -> Result<FaultSou
     Ok(FaultSource::new(bytes, failing))
 }
 
+fn fault_tells(
+    alloc: Global,
+    bytes: &[u8],
+    numbers: &[u64],
+    want: &[u8],
+) -> Result<bool, AllocError> {
+    let mut source = fault_source(alloc, bytes, numbers)?;
+    tells(alloc, &mut source, want)
+}
+
 #[test]
 fn a_fault_loses_nothing(rt: HostRuntime) -> Result<(), AllocError> {
-    let mut source = fault_source(rt.alloc(), b"a\nb", &[2, 3])?;
-    assert!(rt; tells(rt.alloc(), &mut source, b"[a]??<b>.")?);
+    assert!(rt; fault_tells(rt.alloc(), b"a\nb", &[2, 3], b"[a]??<b>.")?);
     Ok(())
 }
 

@@ -1,6 +1,7 @@
 //! Lines with what they say: the step as its `Debug` text, `blank`, or the fault.
 mod asked;
 
+use crate::rows::{Row, check};
 use qz_civil::let_go;
 use qz_job_json::{Given, LineFault, read_step};
 use std::alloc::{AllocError, Global};
@@ -14,21 +15,25 @@ fn text_of(alloc: Global, read: &Result<Option<Given>, LineFault>) -> Result<Str
     }
 }
 
-// Whether the line says this. What it says is let go here and nowhere else.
-fn says(alloc: Global, line: &str, want: &str) -> Result<bool, AllocError> {
-    let read = read_step(alloc, line.as_bytes());
-    let text = text_of(alloc, &read);
-    let_go(read);
-    Ok(text?.as_str() == want)
-}
-
 // What is wrong with a line. A step is let go here and nowhere else.
 fn fault_of(alloc: Global, line: &[u8]) -> Option<LineFault> {
     read_step(alloc, line).err()
 }
 
-/// Lines, and what they say.
-const STEPS: &[(&str, &str)] = &[
+// A line, and what it says.
+type StepRow = (&'static str, &'static str);
+
+impl Row for StepRow {
+    // What the line says is let go here and nowhere else.
+    fn holds(&self, alloc: Global) -> Result<bool, AllocError> {
+        let read = read_step(alloc, self.0.as_bytes());
+        let text = text_of(alloc, &read);
+        let_go(read);
+        Ok(text?.as_str() == self.1)
+    }
+}
+
+const STEPS: &[StepRow] = &[
     (
         r#"{"do":"add_job","job":{"name":"report","class":"ok"}}"#,
         "Given { at: None, step: Client(AddJob { job: JobRow { key: Key { group: \"DEFAULT\", name: \"report\" }, class: \"ok\", durable: false, no_concurrent: false, requests_recovery: false, payload: \"\" }, replace: false }) }",
@@ -59,10 +64,7 @@ const STEPS: &[(&str, &str)] = &[
 
 #[test]
 fn lines_are_steps(rt: HostRuntime) -> Result<(), AllocError> {
-    for &(line, want) in STEPS.iter() {
-        assert!(rt; says(rt.alloc(), line, want)?, "at {line}");
-    }
-    Ok(())
+    check(&rt, rt.alloc(), STEPS)
 }
 
 // Whether the line of the words between these two has this fault.
@@ -186,10 +188,10 @@ fn numbers_have_64_bits(rt: HostRuntime) -> Result<(), AllocError> {
     check_faults(&rt, rt.alloc(), READING, NUMBERS)
 }
 
-/// A byte so many times between two texts, and the fault of that line.
-type LongRow = (&'static [u8], u8, usize, &'static [u8], Option<LineFault>);
-
 const NODE: &[u8] = br#"{"do":"join","node":""#;
+
+// A text, a byte so many times, a text, and the fault of that line.
+type LongRow = (&'static [u8], u8, usize, &'static [u8], Option<LineFault>);
 
 const LONG: &[LongRow] = &[
     (b"", b' ', 65536, b"", None),
@@ -208,20 +210,19 @@ fn push_row(bytes: &mut Vec<u8>, byte: u8, count: usize) -> Result<(), AllocErro
     Ok(())
 }
 
-fn fault_of_long(alloc: Global, row: &LongRow) -> Result<Option<LineFault>, AllocError> {
-    let &(before, byte, count, behind, _) = row;
-    let mut bytes = Vec::from_slice(alloc, before)?;
-    push_row(&mut bytes, byte, count)?;
-    bytes.extend_from_slice(behind)?;
-    Ok(fault_of(alloc, &bytes))
+impl Row for LongRow {
+    fn holds(&self, alloc: Global) -> Result<bool, AllocError> {
+        let &(before, byte, count, behind, want) = self;
+        let mut bytes = Vec::from_slice(alloc, before)?;
+        push_row(&mut bytes, byte, count)?;
+        bytes.extend_from_slice(behind)?;
+        Ok(fault_of(alloc, &bytes) == want)
+    }
 }
 
 #[test]
 fn lengths_have_limits(rt: HostRuntime) -> Result<(), AllocError> {
-    for row in LONG.iter() {
-        assert!(rt; fault_of_long(rt.alloc(), row)? == row.4, "{} bytes", row.2);
-    }
-    Ok(())
+    check(&rt, rt.alloc(), LONG)
 }
 
 fn fault_of_nested(alloc: Global, depth: usize) -> Result<Option<LineFault>, AllocError> {

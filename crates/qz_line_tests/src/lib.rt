@@ -8,6 +8,8 @@ mod job_json;
 #[cfg(test)]
 mod report;
 #[cfg(test)]
+mod rows;
+#[cfg(test)]
 mod times;
 #[cfg(test)]
 mod words;

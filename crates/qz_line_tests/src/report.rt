@@ -1,6 +1,7 @@
 //! Replies with their lines.
 ghost use Rattle.std.specs.Prelude.{◌≡◌, IfOk};
 
+use crate::rows::{Row, check};
 use qz_civil::{beside, let_go};
 use qz_report::{reply_line, times_line};
 use qz_types::{JobRow, Key, List, NoMemory, Refusal, Reply, StepReply, Taken, Text};
@@ -63,8 +64,17 @@ fn ends_have_their_lines(rt: HostRuntime) {
     assert!(rt; has_line(alloc, StepReply::Stopped, "stopped\n"));
 }
 
-/// Refusals, and their lines.
-const REFUSALS: &[(Refusal, &str)] = &[
+// A refusal, and its line.
+type RefusalRow = (Refusal, &'static str);
+
+impl Row for RefusalRow {
+    fn holds(&self, alloc: Global) -> Result<bool, AllocError> {
+        let refusal = self.0.clone()?;
+        Ok(has_line(alloc, StepReply::Refused(refusal), self.1))
+    }
+}
+
+const REFUSALS: &[RefusalRow] = &[
     (Refusal::Unbuilt, "refused 0\n"),
     (Refusal::Fenced { live: Some(7) }, "refused 1 live 7\n"),
     (Refusal::Fenced { live: None }, "refused 1 live none\n"),
@@ -75,17 +85,9 @@ const REFUSALS: &[(Refusal, &str)] = &[
     (Refusal::TooMany { count: 4096 }, "refused 22 count 4096\n"),
 ];
 
-fn is_refused(alloc: Global, refusal: &Refusal, line: &str) -> Result<bool, AllocError> {
-    let refusal = refusal.clone()?;
-    Ok(has_line(alloc, StepReply::Refused(refusal), line))
-}
-
 #[test]
 fn refusals_have_their_lines(rt: HostRuntime) -> Result<(), AllocError> {
-    for (refusal, line) in REFUSALS.iter() {
-        assert!(rt; is_refused(rt.alloc(), refusal, line)?, "at {line}");
-    }
-    Ok(())
+    check(&rt, rt.alloc(), REFUSALS)
 }
 
 #[test]

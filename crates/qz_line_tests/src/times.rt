@@ -1,7 +1,8 @@
 //! Inputs with what is said to them.
+use crate::rows::{Row, check};
 use qz_civil::{LAST, List, beside};
 use qz_cron_text::CronError;
-use qz_io::{FaultSink, FaultSource, MemSink, MemSource};
+use qz_io::{FaultSink, FaultSource, MemSink, MemSource, Sink, Source};
 use qz_job_json::LineFault;
 use qz_times::{Query, TimesEnd, run_times};
 use std::alloc::{AllocError, Global};
@@ -35,25 +36,25 @@ fn zone_and(alloc: Global, trigger: &str) -> Result<List<u8>, AllocError> {
     bytes_of(alloc, line.as_str())
 }
 
-// Whether this is said of the trigger, behind the zone CET.
-fn has_times(
-    alloc: Global,
-    &(query, trigger, said): &(Query, &str, &str),
-) -> Result<bool, AllocError> {
-    let replies = format!(in alloc; "ok\n{said}")?;
-    let (replies, lines) = beside(replies, zone_and(alloc, trigger))?;
-    Ok(end_of(alloc, lines, replies.as_str(), query) == Some(TimesEnd::Done))
+// A query, a trigger, and what is said of the zone CET and of the trigger behind it.
+type TimedRow = (Query, &'static str, &'static str);
+
+impl Row for TimedRow {
+    fn holds(&self, alloc: Global) -> Result<bool, AllocError> {
+        let &(query, trigger, replies) = self;
+        let lines = zone_and(alloc, trigger)?;
+        Ok(end_of(alloc, lines, replies, query) == Some(TimesEnd::Done))
+    }
 }
 
-/// Moments and counts, triggers, and what is said of them.
-const TIMED: &[(Query, &str, &str)] = &[
+const TIMED: &[TimedRow] = &[
     (
         Query {
             after: 1704456000000,
             count: 1,
         },
         r#""name":"c","job":"j","start":0,"kind":"cron","cron":"0 0 12 ? * MON-FRI""#,
-        "times DEFAULT/c 1704715200000\n",
+        "ok\ntimes DEFAULT/c 1704715200000\n",
     ),
     (
         Query {
@@ -61,7 +62,7 @@ const TIMED: &[(Query, &str, &str)] = &[
             count: 1,
         },
         r#""name":"c","job":"j","start":0,"kind":"cron","cron":"0 0 12 ? * MON-FRI 2023""#,
-        "times DEFAULT/c none\n",
+        "ok\ntimes DEFAULT/c none\n",
     ),
     (
         Query {
@@ -69,12 +70,12 @@ const TIMED: &[(Query, &str, &str)] = &[
             count: 1000,
         },
         r#""name":"c","job":"j","start":1500,"end":3000,"kind":"cron","cron":"* * * ? * *""#,
-        "times DEFAULT/c 1000 2000 3000\n",
+        "ok\ntimes DEFAULT/c 1000 2000 3000\n",
     ),
     (
         Query { after: 0, count: 5 },
         r#""name":"s","group":"g","job":"j","start":5000,"end":7000,"kind":"simple","interval":1000,"count":2"#,
-        "times g/s 5000 6000\n",
+        "ok\ntimes g/s 5000 6000\n",
     ),
     (
         Query {
@@ -82,7 +83,7 @@ const TIMED: &[(Query, &str, &str)] = &[
             count: 3,
         },
         r#""name":"i","job":"j","start":1706659200000,"kind":"interval","unit":"MONTH","every":1"#,
-        "times DEFAULT/i 1709164800000 1711843200000 1714435200000\n",
+        "ok\ntimes DEFAULT/i 1709164800000 1711843200000 1714435200000\n",
     ),
     (
         Query {
@@ -90,7 +91,7 @@ const TIMED: &[(Query, &str, &str)] = &[
             count: 2,
         },
         r#""name":"d","job":"j","start":1704067200000,"kind":"daily","unit":"MINUTE","every":72,"from":"08:00:00","to":"17:00:00""#,
-        "times DEFAULT/d 1704126240000 1704182400000\n",
+        "ok\ntimes DEFAULT/d 1704126240000 1704182400000\n",
     ),
     (
         Query {
@@ -98,30 +99,37 @@ const TIMED: &[(Query, &str, &str)] = &[
             count: 3,
         },
         r#""name":"z","job":"j","start":0,"kind":"cron","cron":"0 30 2 * * ?","zone":"CET""#,
-        "times DEFAULT/z 1729989000000 1729992600000 1730079000000\n",
+        "ok\ntimes DEFAULT/z 1729989000000 1729992600000 1730079000000\n",
     ),
     (
         Query { after: 0, count: 1 },
         r#""name":"z","job":"j","start":0,"kind":"cron","cron":"0 30 2 * * ?","zone":"EET""#,
-        "refused 6\n",
+        "ok\nrefused 6\n",
     ),
     (
         Query { after: 0, count: 1 },
         r#""name":"z","job":"j","start":0,"kind":"simple","calendar":"free""#,
-        "refused 5\n",
+        "ok\nrefused 5\n",
     ),
 ];
 
 #[test]
 fn triggers_have_their_times(rt: HostRuntime) -> Result<(), AllocError> {
-    for row in TIMED.iter() {
-        assert!(rt; has_times(rt.alloc(), row)?, "at {}", row.1);
-    }
-    Ok(())
+    check(&rt, rt.alloc(), TIMED)
 }
 
-/// Inputs, what is written, and how they end.
-const ENDS: &[(&str, &str, TimesEnd)] = &[
+// An input, what is written, and how it ends.
+type EndRow = (&'static str, &'static str, TimesEnd);
+
+impl Row for EndRow {
+    fn holds(&self, alloc: Global) -> Result<bool, AllocError> {
+        let &(lines, replies, end) = self;
+        let lines = bytes_of(alloc, lines)?;
+        Ok(end_of(alloc, lines, replies, FIRST) == Some(end))
+    }
+}
+
+const ENDS: &[EndRow] = &[
     ("", "", TimesEnd::Done),
     (
         "{\"do\":\"add_zone\",\"name\":\"UTC\",\"stretches\":[[0,0]]}\n",
@@ -146,20 +154,9 @@ const ENDS: &[(&str, &str, TimesEnd)] = &[
     ),
 ];
 
-fn is_ended(
-    alloc: Global,
-    &(lines, replies, end): &(&str, &str, TimesEnd),
-) -> Result<bool, AllocError> {
-    let lines = bytes_of(alloc, lines)?;
-    Ok(end_of(alloc, lines, replies, FIRST) == Some(end))
-}
-
 #[test]
 fn inputs_end_in_their_ways(rt: HostRuntime) -> Result<(), AllocError> {
-    for row in ENDS.iter() {
-        assert!(rt; is_ended(rt.alloc(), row)?, "at {}", row.0);
-    }
-    Ok(())
+    check(&rt, rt.alloc(), ENDS)
 }
 
 const FIRST: Query = Query { after: 0, count: 1 };
@@ -169,22 +166,27 @@ fn first_fails(alloc: Global) -> Result<List<u64>, AllocError> {
     Ok(List::from_vec(Vec::from_slice(alloc, &[1])?))
 }
 
-// How a run ends whose first read fails.
-fn end_unread(alloc: Global) -> Result<TimesEnd, AllocError> {
-    let failing = first_fails(alloc)?;
-    let (failing, lines) = beside(failing, bytes_of(alloc, CET))?;
-    let mut input = FaultSource::new(lines, failing);
-    let mut out = MemSink::new(alloc);
-    Ok(run_times(alloc, &mut input, &mut out, FIRST))
+// How a run ends that reads the zone.
+fn end_of_zone<S: Source + Drop, K: Sink + Drop>(
+    alloc: Global,
+    mut input: S,
+    mut out: K,
+) -> TimesEnd {
+    run_times(alloc, &mut input, &mut out, FIRST)
 }
 
-// How a run ends whose first write fails.
+// How it ends where the first read fails.
+fn end_unread(alloc: Global) -> Result<TimesEnd, AllocError> {
+    let (failing, lines) = beside(first_fails(alloc)?, bytes_of(alloc, CET))?;
+    let input = FaultSource::new(lines, failing);
+    Ok(end_of_zone(alloc, input, MemSink::new(alloc)))
+}
+
+// How it ends where the first write fails.
 fn end_unwritten(alloc: Global) -> Result<TimesEnd, AllocError> {
-    let failing = first_fails(alloc)?;
-    let (failing, lines) = beside(failing, bytes_of(alloc, CET))?;
-    let mut input = MemSource::new(lines);
-    let mut out = FaultSink::new(alloc, failing);
-    Ok(run_times(alloc, &mut input, &mut out, FIRST))
+    let (failing, lines) = beside(first_fails(alloc)?, bytes_of(alloc, CET))?;
+    let out = FaultSink::new(alloc, failing);
+    Ok(end_of_zone(alloc, MemSource::new(lines), out))
 }
 
 #[test]

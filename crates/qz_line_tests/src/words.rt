@@ -1,4 +1,5 @@
 //! Words with what they ask for.
+use crate::rows::{Row, check};
 use qz_civil::Text;
 use qz_words::{Wish, WordFault, read_words};
 use std::alloc::{AllocError, Global};
@@ -12,14 +13,18 @@ fn texts_of(alloc: Global, words: &[&str]) -> Result<Vec<Text>, AllocError> {
     Ok(texts)
 }
 
-// Whether the words ask for this, as a wish or a fault.
-fn ask(alloc: Global, words: &[&str], want: Result<Wish, WordFault>) -> Result<bool, AllocError> {
-    let texts = texts_of(alloc, words)?;
-    Ok(read_words(&texts) == want)
+type WordRow = (&'static [&'static str], Result<Wish, WordFault>);
+
+impl Row for WordRow {
+    fn holds(&self, alloc: Global) -> Result<bool, AllocError> {
+        let &(words, want) = self;
+        let texts = texts_of(alloc, words)?;
+        Ok(read_words(&texts) == want)
+    }
 }
 
 /// Words, and what they ask for.
-const ASKED: &[(&[&str], Result<Wish, WordFault>)] = &[
+const ASKED: &[WordRow] = &[
     (&[], Ok(Wish::Own)),
     (&["init"], Ok(Wish::Init)),
     (&["script"], Ok(Wish::Script)),
@@ -71,8 +76,5 @@ const ASKED: &[(&[&str], Result<Wish, WordFault>)] = &[
 
 #[test]
 fn words_have_their_meaning(rt: HostRuntime) -> Result<(), AllocError> {
-    for &(words, want) in ASKED.iter() {
-        assert!(rt; ask(rt.alloc(), words, want)?, "at {words:?}");
-    }
-    Ok(())
+    check(&rt, rt.alloc(), ASKED)
 }
