@@ -1,20 +1,9 @@
 //! Replies with their lines.
-ghost use Rattle.std.specs.Prelude.{◌≡◌, IfOk};
-
 use crate::rows::{Row, check};
 use qz_civil::{beside, let_go};
 use qz_report::{reply_line, times_line};
 use qz_types::{JobRow, Key, List, NoMemory, Refusal, Reply, StepReply, Taken, Text};
 use std::alloc::{AllocError, Global};
-
-fn key(alloc: Global, group: &str, name: &str) -> Result<Key, AllocError>
-    ensures group { IfOk result (λ key. key.group ≡ group.now) }
-    ensures name { IfOk result (λ key. key.name ≡ name.now) }
-{
-    let group = Text::from_str(alloc, group)?;
-    let (group, name) = beside(group, Text::from_str(alloc, name))?;
-    Ok(Key { group, name })
-}
 
 // Whether this is the reply's line. The reply and its line are let go here and nowhere else.
 fn has_line(alloc: Global, reply: StepReply, line: &str) -> bool {
@@ -119,13 +108,13 @@ fn taken_one(
 ) -> Result<Taken, AllocError> {
     Ok(Taken {
         entry,
-        trigger: key(alloc, group, name)?,
+        trigger: Key::new(alloc, group, name)?,
         next,
     })
 }
 
 fn job(alloc: Global) -> Result<JobRow, AllocError> {
-    let key = key(alloc, "DEFAULT", "report")?;
+    let key = Key::new(alloc, "DEFAULT", "report")?;
     let (key, class) = beside(key, Text::from_str(alloc, "ok"))?;
     Ok(JobRow {
         key,
@@ -139,7 +128,7 @@ fn job(alloc: Global) -> Result<JobRow, AllocError> {
 
 fn fired(alloc: Global, next: Option<i64>) -> Result<Reply, AllocError> {
     let job = job(alloc)?;
-    let (job, trigger) = beside(job, key(alloc, "DEFAULT", "t1"))?;
+    let (job, trigger) = beside(job, Key::new(alloc, "DEFAULT", "t1"))?;
     Ok(Reply::Fired {
         entry: 1,
         scheduled: 10,
@@ -162,7 +151,7 @@ fn fired_tells_the_next_time(rt: HostRuntime) -> Result<(), AllocError> {
 
 // Whether this is the line of a trigger with these times.
 fn have_line(alloc: Global, times: &[i64], line: &str) -> Result<bool, NoMemory> {
-    let key = key(alloc, "a b", "t1")?;
+    let key = Key::new(alloc, "a b", "t1")?;
     let told = times_line(alloc, &key, times);
     let_go(key);
     Ok(told?.as_str() == line)
