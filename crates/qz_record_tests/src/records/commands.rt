@@ -126,53 +126,55 @@ fn text_of(alloc: Global, read: &Result<Entry, ReadError>) -> Result<String, All
 }
 
 // Whether the record is read as what is printed so.
-fn prints(alloc: Global, record: &[u8], printed: &str) -> Result<bool, AllocError> {
+fn prints(alloc: Global, record: &[u8], printed: &str) -> bool {
     let read = get_command(alloc, record);
     let text = text_of(alloc, &read);
     let_go(read);
-    Ok(text?.as_str() == printed)
+    matches!(text, Ok(text) if text.as_str() == printed)
 }
 
 // Whether the record is read as it is printed, and written as before.
-fn goes_both_ways(alloc: Global, sample: &Sample) -> Result<bool, AllocError> {
-    let record = joined(alloc, sample.before, sample.bytes)?;
-    Ok(prints(alloc, &record, sample.printed)? && is_again(alloc, Of::Entry, &record))
+fn goes_both_ways(alloc: Global, sample: &Sample) -> bool {
+    match joined(alloc, sample.before, sample.bytes) {
+        Ok(record) => {
+            prints(alloc, &record, sample.printed) && is_again(alloc, Of::Entry, &record)
+        }
+        Err(AllocError) => false,
+    }
 }
 
 #[test]
-fn each_sample_both_ways(rt: HostRuntime) -> Result<(), Fail> {
-    for sample in SAMPLES {
-        assert!(rt; goes_both_ways(rt.alloc(), &sample)?, "{}", sample.printed);
+fn each_sample_both_ways(rt: HostRuntime) {
+    for sample in &SAMPLES {
+        assert!(rt; goes_both_ways(rt.alloc(), sample), "{}", sample.printed);
     }
-    Ok(())
 }
 
-// The place at which a command of these bytes is wrong.
-fn place_behind(alloc: Global, before: &[u8], bytes: &[u8]) -> Result<Option<u32>, AllocError> {
-    let record = joined(alloc, before, bytes)?;
-    Ok(place_in(alloc, Of::Entry, &record))
+// Whether a command of these bytes is wrong at this place.
+fn is_wrong_at(alloc: Global, before: &[u8], bytes: &[u8], at: Option<u32>) -> bool {
+    match joined(alloc, before, bytes) {
+        Ok(record) => place_in(alloc, Of::Entry, &record) == at,
+        Err(AllocError) => false,
+    }
 }
 
 // A record that ends behind its command's place is wrong at the place, or where a field is missing, or not at all.
+fn ends_at_its_place(alloc: Global, place: u8) -> bool {
+    let by_client = if place <= 14 { 15 } else { 14 };
+    let by_node = match place {
+        15 | 20 => None,
+        16..=19 | 21 => Some(26),
+        _ => Some(25),
+    };
+    is_wrong_at(alloc, BY_CLIENT, &[place], Some(by_client))
+        && is_wrong_at(alloc, BY_NODE, &[place], by_node)
+}
+
 #[test]
-fn places_of_clients_and_nodes(rt: HostRuntime) -> Result<(), Fail> {
+fn places_of_clients_and_nodes(rt: HostRuntime) {
     for place in 0..=255 {
-        let by_client = if place <= 14 { 15 } else { 14 };
-        assert!(rt;
-            place_behind(rt.alloc(), BY_CLIENT, &[place])? == Some(by_client),
-            "place {place}"
-        );
-        let by_node = match place {
-            15 | 20 => None,
-            16..=19 | 21 => Some(26),
-            _ => Some(25),
-        };
-        assert!(rt;
-            place_behind(rt.alloc(), BY_NODE, &[place])? == by_node,
-            "place {place}"
-        );
+        assert!(rt; ends_at_its_place(rt.alloc(), place), "place {place}");
     }
-    Ok(())
 }
 
 /// Commands that are wrong, what stands before each, and the place of its fault.
@@ -200,12 +202,11 @@ const WRONG: [(&[u8], &[u8], u32); 15] = [
 ];
 
 #[test]
-fn wrong_commands(rt: HostRuntime) -> Result<(), Fail> {
-    for (before, bytes, at) in WRONG {
+fn wrong_commands(rt: HostRuntime) {
+    for (before, bytes, at) in &WRONG {
         assert!(rt;
-            place_behind(rt.alloc(), before, bytes)? == Some(at),
+            is_wrong_at(rt.alloc(), before, bytes, Some(*at)),
             "{bytes:?}"
         );
     }
-    Ok(())
 }

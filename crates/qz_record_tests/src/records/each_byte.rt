@@ -59,22 +59,22 @@ fn seen_of(alloc: Global, row: &Row) -> Result<Seen, AllocError> {
     Ok(seen)
 }
 
+fn is_seen(alloc: Global, row: &Row) -> bool {
+    match seen_of(alloc, row) {
+        Ok(seen) => seen.right == row.right && seen.places == row.places,
+        Err(AllocError) => false,
+    }
+}
+
 #[test]
-fn each_byte_of_a_record(rt: HostRuntime) -> Result<(), Fail> {
+fn each_byte_of_a_record(rt: HostRuntime) {
     for row in &ROWS {
-        let seen = seen_of(rt.alloc(), row)?;
         assert!(rt;
-            seen.right == row.right,
-            "a record of {} bytes",
-            row.record.len()
-        );
-        assert!(rt;
-            seen.places == row.places,
+            is_seen(rt.alloc(), row),
             "a record of {} bytes",
             row.record.len()
         );
     }
-    Ok(())
 }
 
 const ROWS: [Row; 15] = [

@@ -59,36 +59,34 @@ fn zone_of(alloc: Global, count: u16) -> Result<Vec<u8>, AllocError> {
     Ok(bytes)
 }
 
-#[test]
-fn full_calendars(rt: HostRuntime) -> Result<(), Fail> {
-    for days in [0, 366] {
-        let record = annual_of(rt.alloc(), days)?;
-        assert!(rt;
-            is_again(rt.alloc(), Of::CalendarRow, &record),
-            "{days} days"
-        );
+fn is_full(alloc: Global, of: Of, record: Result<Vec<u8>, AllocError>) -> bool {
+    match record {
+        Ok(record) => is_again(alloc, of, &record),
+        Err(AllocError) => false,
     }
-    for dates in [0, 4096] {
-        let record = holiday_of(rt.alloc(), dates)?;
-        assert!(rt;
-            is_again(rt.alloc(), Of::CalendarRow, &record),
-            "{dates} dates"
-        );
-    }
-    Ok(())
 }
 
 #[test]
-fn full_zone(rt: HostRuntime) -> Result<(), Fail> {
-    let record = zone_of(rt.alloc(), 512)?;
-    assert!(rt; is_again(rt.alloc(), Of::ZoneRow, &record));
-    Ok(())
+fn full_calendars_and_zones(rt: HostRuntime) {
+    let alloc = rt.alloc();
+    assert!(rt; is_full(alloc, Of::CalendarRow, annual_of(alloc, 0)));
+    assert!(rt; is_full(alloc, Of::CalendarRow, annual_of(alloc, 366)));
+    assert!(rt; is_full(alloc, Of::CalendarRow, holiday_of(alloc, 0)));
+    assert!(rt; is_full(alloc, Of::CalendarRow, holiday_of(alloc, 4096)));
+    assert!(rt; is_full(alloc, Of::ZoneRow, zone_of(alloc, 512)));
+}
+
+fn place_of(alloc: Global, of: Of, record: Result<Vec<u8>, AllocError>) -> Option<u32> {
+    match record {
+        Ok(record) => place_in(alloc, of, &record),
+        Err(AllocError) => None,
+    }
 }
 
 #[test]
-fn too_many(rt: HostRuntime) -> Result<(), Fail> {
-    assert!(rt; place_in(rt.alloc(), Of::CalendarRow, &annual_of(rt.alloc(), 367)?) == Some(11));
-    assert!(rt; place_in(rt.alloc(), Of::CalendarRow, &holiday_of(rt.alloc(), 4097)?) == Some(11));
-    assert!(rt; place_in(rt.alloc(), Of::ZoneRow, &zone_of(rt.alloc(), 513)?) == Some(4));
-    Ok(())
+fn too_many(rt: HostRuntime) {
+    let alloc = rt.alloc();
+    assert!(rt; place_of(alloc, Of::CalendarRow, annual_of(alloc, 367)) == Some(11));
+    assert!(rt; place_of(alloc, Of::CalendarRow, holiday_of(alloc, 4097)) == Some(11));
+    assert!(rt; place_of(alloc, Of::ZoneRow, zone_of(alloc, 513)) == Some(4));
 }

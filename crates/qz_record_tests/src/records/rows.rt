@@ -140,22 +140,24 @@ fn reads_state(alloc: Global) -> Option<bool> {
     Some(is_right)
 }
 
-// Whether the group is read, and written as before.
-fn group_goes_both_ways(alloc: Global) -> Result<bool, Fail> {
-    let group: Text = get_row(alloc, GROUP)?;
-    let same = Text::from_str(alloc, "g")?;
-    let is_right = group.same(&same);
-    let bytes = put_row(alloc, &same);
-    Ok(is_right && bytes?.as_slice() == GROUP.as_slice())
+fn reads_group(alloc: Global) -> Option<bool> {
+    let group: Text = get_row(alloc, GROUP).ok()?;
+    Some(group.as_str() == "g")
+}
+
+fn writes_group(alloc: Global) -> Option<bool> {
+    let group = Text::from_str(alloc, "g").ok()?;
+    let bytes = put_row(alloc, &group).ok()?;
+    Some(bytes.as_slice() == GROUP.as_slice())
 }
 
 #[test]
-fn values(rt: HostRuntime) -> Result<(), Fail> {
-    assert!(rt; group_goes_both_ways(rt.alloc())?);
+fn values(rt: HostRuntime) {
+    assert!(rt; reads_group(rt.alloc()) == Some(true));
+    assert!(rt; writes_group(rt.alloc()) == Some(true));
     assert!(rt; reads_trigger(rt.alloc()) == Some(true));
     assert!(rt; reads_fired(rt.alloc()) == Some(true));
     assert!(rt; reads_state(rt.alloc()) == Some(true));
-    Ok(())
 }
 
 // The state of the trigger whose record has this byte at its end.
