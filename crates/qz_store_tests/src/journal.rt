@@ -5,15 +5,9 @@ use qz_journal::{
     AppendError, CreateError, Journal, JournalFull, MountError, STATES, TRIGGERS, create, fits,
 };
 use std::alloc::{AllocError, Global};
-use std::test::Fail;
+use std::process::Abort;
 
-const HEADER: [u8; 16] = [
-    b'Q', b'Z', b'2', b'3', 1, b'T', 0, 0, 0, 0, 0, 0, 0, 0, 0, 0,
-];
-
-fn list(alloc: Global, bytes: &[u8]) -> Result<List<u8>, AllocError> {
-    Ok(List::from_vec(Vec::from_slice(alloc, bytes)?))
-}
+const HEADER: &[u8] = b"QZ23\x01T\0\0\0\0\0\0\0\0\0\0";
 
 // A disk with these two pieces.
 fn disk_of(alloc: Global, front: &[u8], behind: &[u8]) -> Result<MemDisk, AllocError> {
@@ -22,85 +16,95 @@ fn disk_of(alloc: Global, front: &[u8], behind: &[u8]) -> Result<MemDisk, AllocE
     Ok(MemDisk::with_bytes(alloc, List::from_vec(bytes)))
 }
 
-// The lengths of the payloads that an opening finds, or why there are none.
-fn opened(alloc: Global, disk: MemDisk, kind: u8) -> Result<List<usize>, MountError> {
-    match Journal::mount(alloc, disk, kind) {
-        Ok((_, payloads)) => lengths(alloc, &payloads),
-        Err((error, _)) => Err(error),
+// Whether the payloads have these lengths.
+fn have_lengths(payloads: &[List<u8>], lengths: &[usize]) -> bool {
+    for (place, payload) in payloads.iter().enumerate() {
+        if lengths.get(place) != Some(&payload.len()) {
+            return false;
+        }
+    }
+    payloads.len() == lengths.len()
+}
+
+/// The lengths of the payloads that an opening finds, or why there are none.
+type Found = Result<&'static [usize], MountError>;
+
+// Whether an opening finds that.
+fn opens_as<D: Disk>(alloc: Global, disk: D, found: &Found) -> bool {
+    match Journal::mount(alloc, disk, TRIGGERS) {
+        Ok((_, payloads)) => {
+            matches!(found, Ok(lengths) if have_lengths(payloads.as_slice(), lengths))
+        }
+        Err((error, _)) => *found == Err(error),
     }
 }
 
-fn lengths(alloc: Global, payloads: &List<List<u8>>) -> Result<List<usize>, MountError> {
-    let mut found = List::new(alloc);
-    for payload in payloads.as_slice() {
-        found.push(payload.len())?;
+/// The two pieces of a disk's bytes, and what an opening of it finds.
+type Opening = (&'static [u8], &'static [u8], Found);
+
+fn is_opened(alloc: Global, opening: &Opening) -> bool {
+    match disk_of(alloc, opening.0, opening.1) {
+        Ok(disk) => opens_as(alloc, disk, &opening.2),
+        Err(AllocError) => false,
     }
-    Ok(found)
 }
+
+fn are_opened(rt: &impl Abort, alloc: Global, openings: &[Opening]) {
+    for opening in openings {
+        assert!(rt;
+            is_opened(alloc, opening),
+            "at {:?} {:?}",
+            opening.0,
+            opening.1
+        );
+    }
+}
+
+const ANY_BYTES: &[u8] = b"\0and any bytes";
+
+const NOT_A_STORE: Found = Err(MountError::NotAStore);
+
+/// No header, half of one, one of the other kind, one of another version, one with a byte that is reserved, and a whole one.
+const HEADERS: [Opening; 6] = [
+    (b"", ANY_BYTES, NOT_A_STORE),
+    (b"QZ23\x01", ANY_BYTES, NOT_A_STORE),
+    (b"QZ23\x01S\0\0\0\0\0\0\0\0\0\0", ANY_BYTES, NOT_A_STORE),
+    (b"QZ23\x02T\0\0\0\0\0\0\0\0\0\0", ANY_BYTES, NOT_A_STORE),
+    (b"QZ23\x01T\0\0\0\0\0\0\0\0\0\x01", ANY_BYTES, NOT_A_STORE),
+    (HEADER, ANY_BYTES, Ok(&[])),
+];
 
 #[test]
-fn the_header_decides_whether_it_is_a_store(rt: HostRuntime) -> Result<(), Fail> {
-    let states = [
-        b'Q', b'Z', b'2', b'3', 1, b'S', 0, 0, 0, 0, 0, 0, 0, 0, 0, 0,
-    ];
-    let version_2 = [
-        b'Q', b'Z', b'2', b'3', 2, b'T', 0, 0, 0, 0, 0, 0, 0, 0, 0, 0,
-    ];
-    let reserved = [
-        b'Q', b'Z', b'2', b'3', 1, b'T', 0, 0, 0, 0, 0, 0, 0, 0, 0, 1,
-    ];
-    let table: [(&[u8], Option<MountError>); 6] = [
-        (b"", Some(MountError::NotAStore)),
-        (b"QZ23\x01", Some(MountError::NotAStore)),
-        (&states, Some(MountError::NotAStore)),
-        (&version_2, Some(MountError::NotAStore)),
-        (&reserved, Some(MountError::NotAStore)),
-        (&HEADER, None),
-    ];
-    for (front, want) in table {
-        let disk = disk_of(rt.alloc(), front, b"\0and any bytes")?;
-        let found = opened(rt.alloc(), disk, TRIGGERS);
-        assert!(rt; found.err() == want, "at {front:?}");
-    }
-    Ok(())
+fn the_header_decides_whether_it_is_a_store(rt: HostRuntime) {
+    are_opened(&rt, rt.alloc(), &HEADERS);
 }
 
-// Where a store with these bytes behind its header is damaged, or the lengths of its payloads.
-fn found_behind(alloc: Global, behind: &[u8]) -> Result<(Option<u64>, List<usize>), Fail> {
-    let disk = disk_of(alloc, &HEADER, behind)?;
-    match opened(alloc, disk, TRIGGERS) {
-        Ok(lengths) => Ok((None, lengths)),
-        Err(MountError::Damaged { at }) => Ok((Some(at), List::new(alloc))),
-        Err(error) => Err(Fail::from(error)),
-    }
-}
+const DAMAGED_AT_16: Found = Err(MountError::Damaged { at: 16 });
 
-// Whether that is this place, or these lengths.
-fn finds(alloc: Global, behind: &[u8], at: Option<u64>, lengths: &[usize]) -> Result<bool, Fail> {
-    let found = found_behind(alloc, behind)?;
-    Ok(found.0 == at && found.1.as_slice() == lengths)
-}
+const DAMAGED_AT_22: Found = Err(MountError::Damaged { at: 22 });
+
+const PAYLOADS: [Opening; 12] = [
+    (HEADER, b"", DAMAGED_AT_16),
+    (HEADER, b"\xa5\0\0\0\x10\x01\x02\x03", DAMAGED_AT_16),
+    (HEADER, b"\0any bytes", Ok(&[])),
+    (HEADER, b"\x5a", Ok(&[])),
+    (HEADER, b"\xff", Ok(&[])),
+    (HEADER, b"\xa5\0\0\0\x01\x07", DAMAGED_AT_22),
+    (HEADER, b"\xa5\0\0\0\x01\x07\xa5", DAMAGED_AT_22),
+    (HEADER, b"\xa5\0\0\0\x01\x07\xa5\0\0", DAMAGED_AT_22),
+    (HEADER, b"\xa5\0\0\0\x01\x07\xa5\0\0\0\0\0", DAMAGED_AT_22),
+    (HEADER, b"\xa5\0\0\0\x01\x07\xa5\0\0\x80\x01", DAMAGED_AT_22),
+    (HEADER, b"\xa5\0\0\0\x01\x07\x5a\xa5", Ok(&[1])),
+    (
+        HEADER,
+        b"\xa5\0\0\0\x01\x07\xa5\0\0\0\x02\x08\x09\0",
+        Ok(&[1, 2]),
+    ),
+];
 
 #[test]
-fn the_least_bad_place_is_answered(rt: HostRuntime) -> Result<(), Fail> {
-    let table: [(&[u8], Option<u64>, &[usize]); 12] = [
-        (b"", Some(16), &[]),
-        (b"\xa5\0\0\0\x10\x01\x02\x03", Some(16), &[]),
-        (b"\0any bytes", None, &[]),
-        (b"\x5a", None, &[]),
-        (b"\xff", None, &[]),
-        (b"\xa5\0\0\0\x01\x07", Some(22), &[]),
-        (b"\xa5\0\0\0\x01\x07\xa5", Some(22), &[]),
-        (b"\xa5\0\0\0\x01\x07\xa5\0\0", Some(22), &[]),
-        (b"\xa5\0\0\0\x01\x07\xa5\0\0\0\0\0", Some(22), &[]),
-        (b"\xa5\0\0\0\x01\x07\xa5\0\0\x80\x01", Some(22), &[]),
-        (b"\xa5\0\0\0\x01\x07\x5a\xa5", None, &[1]),
-        (b"\xa5\0\0\0\x01\x07\xa5\0\0\0\x02\x08\x09\0", None, &[1, 2]),
-    ];
-    for (behind, at, lengths) in table {
-        assert!(rt; finds(rt.alloc(), behind, at, lengths)?, "at {behind:?}");
-    }
-    Ok(())
+fn the_least_bad_place_is_answered(rt: HostRuntime) {
+    are_opened(&rt, rt.alloc(), &PAYLOADS);
 }
 
 #[test]
@@ -121,124 +125,147 @@ fn is_created_once<D: Disk>(disk: &mut D) -> bool {
         && disk.len() == Ok(32)
 }
 
+fn is_created_on_another_file(alloc: Global) -> Option<bool> {
+    let mut disk = disk_of(alloc, b"some other file, which is longer", b"").ok()?;
+    let is_right = is_created_once(&mut disk);
+    let_go(disk);
+    Some(is_right)
+}
+
 #[test]
-fn a_store_is_created_once(rt: HostRuntime) -> Result<(), Fail> {
-    let mut disk = disk_of(rt.alloc(), b"some other file, which is longer", b"")?;
-    assert!(rt; is_created_once(&mut disk));
-    Ok(())
+fn a_store_is_created_once(rt: HostRuntime) {
+    assert!(rt; is_created_on_another_file(rt.alloc()) == Some(true));
 }
 
 // Whether a store is created on a disk whose first call fails, the second time.
-fn is_created_after_a_fault(alloc: Global) -> Result<bool, AllocError> {
-    let failing = List::from_vec(Vec::from_slice(alloc, &[1])?);
-    let mut disk = FaultDisk::new(MemDisk::new(alloc), failing);
+fn is_created_after_a_fault(alloc: Global) -> Option<bool> {
+    let failing = Vec::from_slice(alloc, &[1]).ok()?;
+    let mut disk = FaultDisk::new(MemDisk::new(alloc), List::from_vec(failing));
     let (first, second) = (create(&mut disk, STATES), create(&mut disk, STATES));
     let_go(disk);
-    Ok(first == Err(CreateError::Fault) && second == Ok(()))
+    Some(first == Err(CreateError::Fault) && second == Ok(()))
 }
 
 #[test]
-fn a_store_is_created_after_a_fault(rt: HostRuntime) -> Result<(), Fail> {
-    assert!(rt; is_created_after_a_fault(rt.alloc())?);
-    Ok(())
+fn a_store_is_created_after_a_fault(rt: HostRuntime) {
+    assert!(rt; is_created_after_a_fault(rt.alloc()) == Some(true));
 }
 
-// A new store's disk behind an opening and a commit of `\x07`.
-fn committed_disk(alloc: Global) -> Result<MemDisk, Fail> {
-    let disk = disk_of(alloc, &HEADER, b"\0")?;
+// The disk behind an opening and a commit of `\x07`.
+fn committed<D: Disk>(alloc: Global, disk: D) -> Option<D> {
     let Ok((mut journal, _)) = Journal::mount(alloc, disk, TRIGGERS) else {
-        return Err(Fail::from("no journal"));
+        return None;
     };
     let answer = journal.append(b"\x07");
     let disk = journal.into_disk();
-    answer?;
-    Ok(disk)
+    if answer.is_ok() { Some(disk) } else { None }
+}
+
+fn is_write(call: &Call, offset: u64, payload: &[u8]) -> bool {
+    matches!(call, Call::Write { at, bytes } if *at == offset && bytes.as_slice() == payload)
+}
+
+// Whether these are the three calls of an opening.
+fn are_those_of_an_opening(calls: &[Call]) -> bool {
+    matches!(
+        calls,
+        [Call::Sync, Call::Len, Call::Read { at: 0, count: 17 }]
+    )
+}
+
+// Whether these are the four calls of a commit: the body, a sync, the gate, a sync.
+fn are_those_of_a_commit(calls: &[Call]) -> bool {
+    match calls {
+        [body, Call::Sync, gate, Call::Sync] => {
+            is_write(body, 17, b"\0\0\0\x01\x07\0") && is_write(gate, 16, b"\xa5")
+        }
+        _ => false,
+    }
+}
+
+fn commit_makes_four_calls(alloc: Global) -> Option<bool> {
+    let disk = disk_of(alloc, HEADER, b"\0").ok()?;
+    let disk = committed(alloc, disk)?;
+    let calls = disk.calls();
+    let is_right = calls.len() == 7
+        && are_those_of_an_opening(&calls[..3])
+        && are_those_of_a_commit(&calls[3..]);
+    let_go(disk);
+    Some(is_right)
 }
 
 #[test]
-fn a_commit_makes_four_device_calls(rt: HostRuntime) -> Result<(), Fail> {
-    let alloc = rt.alloc();
-    let body = list(alloc, b"\0\0\0\x01\x07\0")?;
-    let gate = list(alloc, b"\xa5")?;
-    let want = [
-        Call::Sync,
-        Call::Len,
-        Call::Read { at: 0, count: 17 },
-        Call::Write {
-            at: 17,
-            bytes: body,
-        },
-        Call::Sync,
-        Call::Write {
-            at: 16,
-            bytes: gate,
-        },
-        Call::Sync,
-    ];
-    let disk = committed_disk(alloc)?;
-    assert!(rt; disk.calls() == want.as_slice());
-    Ok(())
+fn a_commit_makes_four_device_calls(rt: HostRuntime) {
+    assert!(rt; commit_makes_four_calls(rt.alloc()) == Some(true));
 }
 
-// A new store's disk, which passes so many calls behind the three of its opening and then fails. At a crash this image, the
-// bytes behind the header, comes up.
+/// How many calls pass behind the three of an opening, till the disk fails; the bytes behind the header that come up at a
+/// crash; what a commit of `\x07` answers then; and the lengths of the payloads that a restart finds.
+type Cut = (u8, &'static [u8], Result<(), AppendError>, &'static [usize]);
+
+// A new store's disk that is cut so.
 fn cut_disk(alloc: Global, passes: u8, image: &[u8]) -> Result<CutDisk<MemDisk>, AllocError> {
-    let mut chosen = Vec::from_slice(alloc, &HEADER)?;
+    let mut chosen = Vec::from_slice(alloc, HEADER)?;
     chosen.extend_from_slice(image)?;
     let mut images = List::new(alloc);
     images.push(List::from_vec(chosen))?;
-    let mut disk = disk_of(alloc, &HEADER, b"\0")?;
+    let mut disk = disk_of(alloc, HEADER, b"\0")?;
     disk.choose(images);
     Ok(CutDisk::new(disk, 3 + u64::from(passes)))
 }
 
-/// What a commit answered, and the lengths of the payloads that a restart finds.
-type Committed = (Result<(), AppendError>, List<usize>);
-
-// One commit of `\x07`, and a crash.
-fn commit(alloc: Global, journal: &mut Journal<CutDisk<MemDisk>>) -> Result<Committed, Fail> {
-    let answer = journal.append(b"\x07");
-    if answer.is_err() && journal.append(b"\x08") != Err(AppendError::Closed { at: 16 }) {
-        return Err(Fail::from("not closed"));
-    }
-    journal.crash()?;
-    let payloads = journal.remount(alloc)?;
-    Ok((answer, lengths(alloc, &payloads)?))
+// Whether a crash and a restart leave payloads of these lengths.
+fn restarts_with<D: Disk>(alloc: Global, journal: &mut Journal<D>, lengths: &[usize]) -> bool {
+    journal.crash().is_ok()
+        && matches!(
+            journal.remount(alloc),
+            Ok(payloads) if have_lengths(payloads.as_slice(), lengths)
+        )
 }
 
-fn cut_commit(alloc: Global, passes: u8, image: &[u8]) -> Result<Committed, Fail> {
-    let disk = cut_disk(alloc, passes, image)?;
+// Whether a commit of `\x07` is answered so, and a fault closes the journal.
+fn commits<D: Disk>(journal: &mut Journal<D>, answer: Result<(), AppendError>) -> bool {
+    journal.append(b"\x07") == answer
+        && (answer.is_ok() || journal.append(b"\x08") == Err(AppendError::Closed { at: 16 }))
+}
+
+fn is_cut_on<D: Disk>(alloc: Global, disk: D, cut: &Cut) -> bool {
     let Ok((mut journal, _)) = Journal::mount(alloc, disk, TRIGGERS) else {
-        return Err(Fail::from("no journal"));
+        return false;
     };
-    let committed = commit(alloc, &mut journal);
+    let is_right = commits(&mut journal, cut.2) && restarts_with(alloc, &mut journal, cut.3);
     let_go(journal);
-    committed
+    is_right
 }
+
+fn is_cut(alloc: Global, cut: &Cut) -> bool {
+    match cut_disk(alloc, cut.0, cut.1) {
+        Ok(disk) => is_cut_on(alloc, disk, cut),
+        Err(AllocError) => false,
+    }
+}
+
+const FAULT: Result<(), AppendError> = Err(AppendError::Fault);
+
+/// What is no image is passed over, and the bytes come up as they were written.
+const NO_IMAGE: &[u8] = b"";
+
+const CUTS: [Cut; 10] = [
+    (0, NO_IMAGE, FAULT, &[]),
+    (1, NO_IMAGE, FAULT, &[]),
+    (1, b"\0\xa5\xa5\xa5", FAULT, &[]),
+    (2, NO_IMAGE, FAULT, &[]),
+    (2, b"\xa5\0\0\0\x01\x07\0", FAULT, &[]),
+    (3, NO_IMAGE, FAULT, &[1]),
+    (3, b"\0\0\0\0\x01\x07\0", FAULT, &[]),
+    (3, b"\x25\0\0\0\x01\x07\0", FAULT, &[]),
+    (4, NO_IMAGE, Ok(()), &[1]),
+    (4, b"\0\0\0\0\x01\x07\0", Ok(()), &[1]),
+];
 
 #[test]
-fn a_commit_that_is_cut_is_there_or_not(rt: HostRuntime) -> Result<(), Fail> {
-    let fault = Err(AppendError::Fault);
-    // What is no image is passed over, and the bytes come up as they were written.
-    let no_image: &[u8] = b"";
-    let table: [(u8, &[u8], Result<(), AppendError>, &[usize]); 10] = [
-        (0, no_image, fault, &[]),
-        (1, no_image, fault, &[]),
-        (1, b"\0\xa5\xa5\xa5", fault, &[]),
-        (2, no_image, fault, &[]),
-        (2, b"\xa5\0\0\0\x01\x07\0", fault, &[]),
-        (3, no_image, fault, &[1]),
-        (3, b"\0\0\0\0\x01\x07\0", fault, &[]),
-        (3, b"\x25\0\0\0\x01\x07\0", fault, &[]),
-        (4, no_image, Ok(()), &[1]),
-        (4, b"\0\0\0\0\x01\x07\0", Ok(()), &[1]),
-    ];
-    for (passes, image, answer, found) in table {
-        let (answered, lengths) = cut_commit(rt.alloc(), passes, image)?;
-        assert!(rt;
-            answered == answer && lengths.as_slice() == found,
-            "at {passes} {image:?}"
-        );
+fn a_commit_that_is_cut_is_there_or_not(rt: HostRuntime) {
+    for cut in &CUTS {
+        assert!(rt; is_cut(rt.alloc(), cut), "at {} {:?}", cut.0, cut.1);
     }
-    Ok(())
 }

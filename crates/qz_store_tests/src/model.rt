@@ -1,10 +1,12 @@
 //! The worked examples.
+ghost use Rattle.std.specs.Prelude.{IsTrue};
+ghost use Rattle.qz_civil.specs.Timings.{is_name};
+
 use crate::entries::{T0, acquire, add_job, add_trigger, complete, fire, job, join, key};
 use qz_civil::let_go;
 use qz_model::{PlainStore, StepRefused};
-use qz_types::{Entry, JobRow, Key, Reply, find, insert};
+use qz_types::{Entry, JobRow, Reply, find, insert};
 use std::alloc::{AllocError, Global};
-use std::test::Fail;
 
 // What the store answers to what is asked. None is a refusal, or want of memory.
 fn answer(store: &mut PlainStore, entry: Result<Entry, AllocError>) -> Option<Reply> {
@@ -101,18 +103,32 @@ fn refusal(store: &mut PlainStore, entry: Result<Entry, AllocError>) -> Option<u
     number
 }
 
+// Whether a trigger is acquired that was added with its job, by a node that joined.
+fn acquires_the_first(alloc: Global, store: &mut PlainStore, at: i64) -> bool {
+    adds_job(alloc, store, at)
+        && adds_trigger(alloc, store, at)
+        && joins(alloc, store, at)
+        && acquires(alloc, store, at)
+}
+
+// Whether nothing but a member is left.
+fn is_left_with_a_member(store: &PlainStore) -> bool {
+    store.jobs().is_empty()
+        && store.triggers().is_empty()
+        && store.fired().is_empty()
+        && store.members().len() == 1
+}
+
 #[test]
 fn six_commands(rt: HostRuntime) {
     let alloc = rt.alloc();
     let mut store = PlainStore::new(alloc);
-    assert!(rt; adds_job(alloc, &mut store, T0));
-    assert!(rt; adds_trigger(alloc, &mut store, T0));
-    assert!(rt; joins(alloc, &mut store, T0));
-    assert!(rt; acquires(alloc, &mut store, T0));
-    assert!(rt; fires(alloc, &mut store, T0));
-    assert!(rt; completes(alloc, &mut store, T0));
-    assert!(rt; store.jobs().is_empty() && store.triggers().is_empty() && store.fired().is_empty());
-    assert!(rt; store.members().len() == 1);
+    let is_right = acquires_the_first(alloc, &mut store, T0)
+        && fires(alloc, &mut store, T0)
+        && completes(alloc, &mut store, T0)
+        && is_left_with_a_member(&store);
+    let_go(store);
+    assert!(rt; is_right);
 }
 
 #[test]
@@ -120,58 +136,69 @@ fn fires_no_earlier_than_planned(rt: HostRuntime) {
     let alloc = rt.alloc();
     let at = T0 - 10000;
     let mut store = PlainStore::new(alloc);
-    assert!(rt; adds_job(alloc, &mut store, at));
-    assert!(rt; adds_trigger(alloc, &mut store, at));
-    assert!(rt; joins(alloc, &mut store, at));
-    assert!(rt; acquires(alloc, &mut store, at));
-    assert!(rt; refusal(&mut store, fire(alloc, T0 - 1, 1)) == Some(19));
-    assert!(rt; store.last_moment() == at);
-    assert!(rt; fires(alloc, &mut store, T0));
+    let is_right = acquires_the_first(alloc, &mut store, at)
+        && refusal(&mut store, fire(alloc, T0 - 1, 1)) == Some(19)
+        && store.last_moment() == at
+        && fires(alloc, &mut store, T0);
+    let_go(store);
+    assert!(rt; is_right);
 }
 
 #[test]
 fn refusals(rt: HostRuntime) {
     let alloc = rt.alloc();
     let mut store = PlainStore::new(alloc);
-    assert!(rt; refusal(&mut store, fire(alloc, T0, 1)) == Some(1));
-    assert!(rt; refusal(&mut store, add_trigger(alloc, T0)) == Some(3));
-    assert!(rt; adds_job(alloc, &mut store, T0));
-    assert!(rt; refusal(&mut store, add_job(alloc, T0)) == Some(0));
-    assert!(rt; joins(alloc, &mut store, T0));
-    assert!(rt; refusal(&mut store, fire(alloc, T0, 1)) == Some(15));
+    let is_right = refusal(&mut store, fire(alloc, T0, 1)) == Some(1)
+        && refusal(&mut store, add_trigger(alloc, T0)) == Some(3)
+        && adds_job(alloc, &mut store, T0)
+        && refusal(&mut store, add_job(alloc, T0)) == Some(0)
+        && joins(alloc, &mut store, T0)
+        && refusal(&mut store, fire(alloc, T0, 1)) == Some(15);
+    let_go(store);
+    assert!(rt; is_right);
 }
 
-fn insert_three(alloc: Global, rows: &mut Vec<JobRow>) -> Result<(), Fail> {
-    insert(rows, job(alloc, "b")?)?;
-    insert(rows, job(alloc, "c")?)?;
-    insert(rows, job(alloc, "a")?)?;
-    Ok(())
-}
-
-fn are_named(rows: &[JobRow], names: [&str; 3]) -> bool {
-    match rows {
-        [first, second, third] => {
-            first.key.name.as_str() == names[0]
-                && second.key.name.as_str() == names[1]
-                && third.key.name.as_str() == names[2]
-        }
-        _ => false,
+// Whether a job of this name is put in its place.
+fn inserts(alloc: Global, rows: &mut Vec<JobRow>, name: &str) -> bool
+    requires { IsTrue (is_name name.now) }
+{
+    match job(alloc, name) {
+        Ok(row) => insert(rows, row).is_ok(),
+        Err(AllocError) => false,
     }
 }
 
-fn has(rows: &[JobRow], key: Result<Key, AllocError>) -> Result<bool, AllocError> {
-    let key = key?;
-    Ok(find(rows, &key).is_some())
+fn is_named(rows: &[JobRow], place: usize, name: &str) -> bool {
+    match rows.get(place) {
+        Some(row) => row.key.name.as_str() == name,
+        None => false,
+    }
+}
+
+// Whether a row has this name.
+fn has(alloc: Global, rows: &[JobRow], name: &str) -> Option<bool>
+    requires { IsTrue (is_name name.now) }
+{
+    let key = key(alloc, name).ok()?;
+    Some(find(rows, &key).is_some())
+}
+
+fn insert_three(alloc: Global, rows: &mut Vec<JobRow>) -> bool {
+    inserts(alloc, rows, "b") && inserts(alloc, rows, "c") && inserts(alloc, rows, "a")
+}
+
+fn are_in_order(rows: &[JobRow]) -> bool {
+    rows.len() == 3 && is_named(rows, 0, "a") && is_named(rows, 1, "b") && is_named(rows, 2, "c")
 }
 
 #[test]
-fn rows_stand_in_the_order_of_their_keys(rt: HostRuntime) -> Result<(), Fail> {
-    let mut rows = Vec::new(rt.alloc());
-    insert_three(rt.alloc(), &mut rows)?;
-    let first = has(&rows, key(rt.alloc(), "b"));
-    let none = has(&rows, key(rt.alloc(), "d"));
-    let are_right = are_named(&rows, ["a", "b", "c"]);
+fn rows_stand_in_the_order_of_their_keys(rt: HostRuntime) {
+    let alloc = rt.alloc();
+    let mut rows = Vec::new(alloc);
+    let is_right = insert_three(alloc, &mut rows)
+        && are_in_order(&rows)
+        && has(alloc, &rows, "b") == Some(true)
+        && has(alloc, &rows, "d") == Some(false);
     let_go(rows);
-    assert!(rt; are_right && first? && !none?);
-    Ok(())
+    assert!(rt; is_right);
 }

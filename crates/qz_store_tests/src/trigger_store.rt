@@ -7,17 +7,16 @@ use qz_journal::{Journal, TRIGGERS, create};
 use qz_trigger_store::{MountError, SubmitError, TriggerStore};
 use qz_types::{Entry, List};
 use std::alloc::{AllocError, Global};
-use std::test::Fail;
 
 // A disk with the store that has no entries.
-fn new_disk(alloc: Global) -> Result<MemDisk, Fail> {
+fn new_disk(alloc: Global) -> Option<MemDisk> {
     let mut disk = MemDisk::new(alloc);
-    create(&mut disk, TRIGGERS)?;
-    Ok(disk)
+    let made = create(&mut disk, TRIGGERS);
+    if made.is_ok() { Some(disk) } else { None }
 }
 
 // Why a disk isn't opened.
-fn refused(alloc: Global, disk: MemDisk) -> Option<MountError> {
+fn refused<D: Disk>(alloc: Global, disk: D) -> Option<MountError> {
     match TriggerStore::mount(alloc, disk).err() {
         Some((error, _)) => Some(error),
         None => None,
@@ -25,7 +24,7 @@ fn refused(alloc: Global, disk: MemDisk) -> Option<MountError> {
 }
 
 /// What came of an entry.
-#[derive(Clone, Copy, PartialEq, Eq, Debug)]
+#[derive(Clone, Copy, PartialEq)]
 enum Came {
     Accepted,
     Refused,
@@ -48,7 +47,10 @@ fn reason(error: SubmitError) -> Came {
     }
 }
 
-fn submit<D: Disk>(store: &mut TriggerStore<D>, entry: Entry) -> Came {
+fn submit<D: Disk>(store: &mut TriggerStore<D>, entry: Result<Entry, AllocError>) -> Came {
+    let Ok(entry) = entry else {
+        return Came::Starved;
+    };
     match store.submit(entry) {
         Ok(reply) => {
             let_go(reply);
@@ -59,26 +61,24 @@ fn submit<D: Disk>(store: &mut TriggerStore<D>, entry: Entry) -> Came {
 }
 
 // Whether a job, its trigger and a node are accepted.
-fn takes_three<D: Disk>(alloc: Global, store: &mut TriggerStore<D>) -> Result<bool, AllocError> {
-    let job = submit(store, add_job(alloc, T0)?);
-    let trigger = submit(store, add_trigger(alloc, T0)?);
-    let node = submit(store, join(alloc, T0)?);
-    Ok(job == Came::Accepted && trigger == Came::Accepted && node == Came::Accepted)
+fn takes_three<D: Disk>(alloc: Global, store: &mut TriggerStore<D>) -> bool {
+    submit(store, add_job(alloc, T0)) == Came::Accepted
+        && submit(store, add_trigger(alloc, T0)) == Came::Accepted
+        && submit(store, join(alloc, T0)) == Came::Accepted
 }
 
 // Whether the trigger is acquired and fired, and the job isn't added again.
-fn takes_two<D: Disk>(alloc: Global, store: &mut TriggerStore<D>) -> Result<bool, AllocError> {
-    let acquired = submit(store, acquire(alloc, T0)?);
-    let fired = submit(store, fire(alloc, T0 + 1, 1)?);
-    let again = submit(store, add_job(alloc, T0)?);
-    Ok(acquired == Came::Accepted && fired == Came::Accepted && again == Came::Refused)
+fn takes_two<D: Disk>(alloc: Global, store: &mut TriggerStore<D>) -> bool {
+    submit(store, acquire(alloc, T0)) == Came::Accepted
+        && submit(store, fire(alloc, T0 + 1, 1)) == Came::Accepted
+        && submit(store, add_job(alloc, T0)) == Came::Refused
 }
 
 // The disk of a store that took three entries.
-fn filled(alloc: Global, disk: MemDisk) -> Option<MemDisk> {
+fn filled<D: Disk>(alloc: Global, disk: D) -> Option<D> {
     match TriggerStore::mount(alloc, disk) {
         Ok(mut store) => {
-            let taken = matches!(takes_three(alloc, &mut store), Ok(true));
+            let taken = takes_three(alloc, &mut store);
             let is_right = taken && store.history_len() == 3 && store.added().len() == 3;
             let disk = store.into_disk();
             if is_right { Some(disk) } else { None }
@@ -91,11 +91,11 @@ fn filled(alloc: Global, disk: MemDisk) -> Option<MemDisk> {
 }
 
 // Whether the store opens with these entries and takes two more.
-fn goes_on(alloc: Global, disk: MemDisk) -> bool {
+fn goes_on<D: Disk>(alloc: Global, disk: D) -> bool {
     match TriggerStore::mount(alloc, disk) {
         Ok(mut store) => {
             let found = store.history_len() == 3 && store.added().is_empty();
-            let taken = matches!(takes_two(alloc, &mut store), Ok(true));
+            let taken = takes_two(alloc, &mut store);
             let is_right = store.history_len() == 5 && store.replies().len() == 2;
             let moments = store.moments().as_slice() == [T0, T0 + 1].as_slice();
             let_go(store);
@@ -108,69 +108,86 @@ fn goes_on(alloc: Global, disk: MemDisk) -> bool {
     }
 }
 
-#[test]
-fn a_store_goes_on_after_it_was_opened_again(rt: HostRuntime) -> Result<(), Fail> {
-    let alloc = rt.alloc();
-    let disk = filled(alloc, new_disk(alloc)?).ok_or("three entries aren't taken")?;
-    assert!(rt; goes_on(alloc, disk));
-    Ok(())
+fn goes_on_from_a_new_disk(alloc: Global) -> Option<bool> {
+    let disk = filled(alloc, new_disk(alloc)?)?;
+    Some(goes_on(alloc, disk))
 }
 
 #[test]
-fn a_payload_that_is_cut_is_damage(rt: HostRuntime) -> Result<(), Fail> {
-    let alloc = rt.alloc();
+fn a_store_goes_on_after_it_was_opened_again(rt: HostRuntime) {
+    assert!(rt; goes_on_from_a_new_disk(rt.alloc()) == Some(true));
+}
+
+// Why a disk with these bytes isn't opened.
+fn refused_bytes(alloc: Global, bytes: &[u8]) -> Option<MountError> {
+    let bytes = Vec::from_slice(alloc, bytes).ok()?;
+    refused(alloc, MemDisk::with_bytes(alloc, List::from_vec(bytes)))
+}
+
+#[test]
+fn a_payload_that_is_cut_is_damage(rt: HostRuntime) {
     let bytes = b"QZ23\x01T\0\0\0\0\0\0\0\0\0\0\xa5\0\0\0\x10\x01\x02\x03";
-    let disk = MemDisk::with_bytes(alloc, List::from_vec(Vec::from_slice(alloc, bytes)?));
-    assert!(rt; refused(alloc, disk) == Some(MountError::Damaged { at: 16 }));
-    Ok(())
+    assert!(rt; refused_bytes(rt.alloc(), bytes) == Some(MountError::Damaged { at: 16 }));
+}
+
+// Whether a payload is put, whatever it is.
+fn puts<D: Disk>(journal: &mut Journal<D>, payload: &[u8]) -> bool {
+    !payload.is_empty()
+        && payload.len() <= qz_journal::MAX_PAYLOAD
+        && journal.append(payload).is_ok()
+}
+
+// The disk of a journal with these payloads.
+fn disk_with<D: Disk>(alloc: Global, disk: D, payloads: [&[u8]; 2]) -> Option<D> {
+    let Ok((mut journal, _)) = Journal::mount(alloc, disk, TRIGGERS) else {
+        return None;
+    };
+    let are_put = puts(&mut journal, payloads[0]) && puts(&mut journal, payloads[1]);
+    let disk = journal.into_disk();
+    if are_put { Some(disk) } else { None }
 }
 
 // Why a store isn't opened whose journal has these payloads, whatever they are.
-fn damage_of(alloc: Global, payloads: [&[u8]; 2]) -> Result<Option<MountError>, Fail> {
-    let Ok((mut journal, _)) = Journal::mount(alloc, new_disk(alloc)?, TRIGGERS) else {
-        return Err(Fail::from("no journal"));
-    };
-    for payload in payloads {
-        if payload.is_empty() || payload.len() > qz_journal::MAX_PAYLOAD {
-            return Err(Fail::from("no payload"));
-        }
-        journal.append(payload)?;
-    }
-    Ok(refused(alloc, journal.into_disk()))
+fn damage_of(alloc: Global, payloads: [&[u8]; 2]) -> Option<MountError> {
+    let disk = disk_with(alloc, new_disk(alloc)?, payloads)?;
+    refused(alloc, disk)
 }
 
 // The record of an entry that adds a job. The entry is let go here and nowhere else.
-fn job_record(alloc: Global) -> Result<List<u8>, Fail> {
-    let entry = add_job(alloc, T0)?;
-    let record = put_command(alloc, &entry);
+fn job_record(alloc: Global) -> Option<List<u8>> {
+    let entry = add_job(alloc, T0).ok()?;
+    let record = put_command(alloc, &entry).ok();
     let_go(entry);
-    Ok(record?)
+    record
 }
 
-#[test]
-fn what_a_replay_refuses_is_damage_at_its_gate(rt: HostRuntime) -> Result<(), Fail> {
-    let job = job_record(rt.alloc())?;
+// Whether the record of a job again and a byte that is none are damage behind that record.
+fn are_damage_behind_a_job(alloc: Global) -> Option<bool> {
+    let job = job_record(alloc)?;
     let behind = Some(MountError::Damaged {
         at: 21 + job.len() as u64,
     });
-    let again = damage_of(rt.alloc(), [job.as_slice(), job.as_slice()])?;
-    let other = damage_of(rt.alloc(), [job.as_slice(), b"\x01"])?;
-    assert!(rt; again == behind && other == behind);
-    Ok(())
+    let again = damage_of(alloc, [job.as_slice(), job.as_slice()]);
+    let other = damage_of(alloc, [job.as_slice(), b"\x01"]);
+    Some(again == behind && other == behind)
+}
+
+#[test]
+fn what_a_replay_refuses_is_damage_at_its_gate(rt: HostRuntime) {
+    assert!(rt; are_damage_behind_a_job(rt.alloc()) == Some(true));
 }
 
 // Whether an entry fails, and the next one finds the store closed.
-fn is_closed_by<D: Disk>(alloc: Global, store: &mut TriggerStore<D>) -> Result<bool, AllocError> {
-    let first = submit(store, add_job(alloc, T0)?);
-    let second = submit(store, add_job(alloc, T0)?);
-    Ok(first == Came::Failed && second == Came::Closed(16))
+fn is_closed_by<D: Disk>(alloc: Global, store: &mut TriggerStore<D>) -> bool {
+    submit(store, add_job(alloc, T0)) == Came::Failed
+        && submit(store, add_job(alloc, T0)) == Came::Closed(16)
 }
 
 // The disk of a store that was closed by a fault.
-fn failed(alloc: Global, disk: FaultDisk<MemDisk>) -> Option<FaultDisk<MemDisk>> {
+fn failed<D: Disk>(alloc: Global, disk: D) -> Option<D> {
     match TriggerStore::mount(alloc, disk) {
         Ok(mut store) => {
-            let closed = matches!(is_closed_by(alloc, &mut store), Ok(true));
+            let closed = is_closed_by(alloc, &mut store);
             let is_right = closed && store.closed() && store.added().is_empty();
             let disk = store.into_disk();
             if is_right { Some(disk) } else { None }
@@ -196,13 +213,18 @@ fn is_empty<D: Disk>(alloc: Global, disk: D) -> bool {
     }
 }
 
+// A new store's disk whose fourth call fails: the first behind the three of an opening.
+fn failing_disk(alloc: Global) -> Option<FaultDisk<MemDisk>> {
+    let failing = Vec::from_slice(alloc, &[4]).ok()?;
+    Some(FaultDisk::new(new_disk(alloc)?, List::from_vec(failing)))
+}
+
+fn is_empty_behind_a_fault(alloc: Global) -> Option<bool> {
+    let disk = failed(alloc, failing_disk(alloc)?)?;
+    Some(is_empty(alloc, disk))
+}
+
 #[test]
-fn a_fault_closes_the_store(rt: HostRuntime) -> Result<(), Fail> {
-    let alloc = rt.alloc();
-    // An opening takes three calls.
-    let failing = List::from_vec(Vec::from_slice(alloc, &[4])?);
-    let disk = FaultDisk::new(new_disk(alloc)?, failing);
-    let disk = failed(alloc, disk).ok_or("the store isn't closed")?;
-    assert!(rt; is_empty(alloc, disk));
-    Ok(())
+fn a_fault_closes_the_store(rt: HostRuntime) {
+    assert!(rt; is_empty_behind_a_fault(rt.alloc()) == Some(true));
 }
