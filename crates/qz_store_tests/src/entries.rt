@@ -15,10 +15,7 @@ pub(super) fn key(alloc: Global, name: &str) -> Result<Key, AllocError>
     requires { IsTrue (is_name name.now) }
     ensures { IfOk result (λ key. IsTrue (is_key key)) }
 {
-    Ok(Key {
-        group: Text::from_str(alloc, "DEFAULT")?,
-        name: Text::from_str(alloc, name)?,
-    })
+    Key::new(alloc, "DEFAULT", name)
 }
 
 pub(super) fn job(alloc: Global, name: &str) -> Result<JobRow, AllocError>
