@@ -43,22 +43,20 @@ fn is_date_behind(before: Option<u32>, date: u32) -> bool
 fn day_of(before: Option<u16>, bytes: &[u8]) -> Result<(u16, &[u8]), Fault>
     ensures { Gives (λ x. (x.0, x.1.now)) result (format.next_day_at before bytes.now) }
 {
-    let (day, rest) = u16_at(bytes)?;
-    if !is_day_behind(before, day) {
-        return Err(Fault::at(bytes));
+    match u16_at(bytes) {
+        Ok((day, _)) if !is_day_behind(before, day) => Err(Fault::at(bytes)),
+        read => read,
     }
-    Ok((day, rest))
 }
 
 /// A date right behind this one.
 fn date_of(before: Option<u32>, bytes: &[u8]) -> Result<(u32, &[u8]), Fault>
     ensures { Gives (λ x. (x.0, x.1.now)) result (format.next_date_at before bytes.now) }
 {
-    let (date, rest) = u32_at(bytes)?;
-    if !is_date_behind(before, date) {
-        return Err(Fault::at(bytes));
+    match u32_at(bytes) {
+        Ok((date, _)) if !is_date_behind(before, date) => Err(Fault::at(bytes)),
+        read => read,
     }
-    Ok((date, rest))
 }
 
 /// So many days.
@@ -116,11 +114,10 @@ fn weekdays_of(bytes: &[u8]) -> Result<(u8, &[u8]), Fault>
     ensures exact { Gives (λ x. (x.0, x.1.now)) result (checked (λ n. spec.is_calendar_kind (CalendarKind.Weekly n)) byte_at bytes.now) }
     ensures valid { IfOk result (λ x. IsTrue (spec.is_calendar_kind (CalendarKind.Weekly x.0))) }
 {
-    let (days, rest) = u8_at(bytes)?;
-    if days >= 128 {
-        return Err(Fault::at(bytes));
+    match u8_at(bytes) {
+        Ok((days, _)) if days >= 128 => Err(Fault::at(bytes)),
+        read => read,
     }
-    Ok((days, rest))
 }
 
 /// Any of the 31 days; none too.
@@ -128,11 +125,10 @@ fn month_days_of(bytes: &[u8]) -> Result<(u32, &[u8]), Fault>
     ensures exact { Gives (λ x. (x.0, x.1.now)) result (checked (λ n. spec.is_calendar_kind (CalendarKind.Monthly n)) (number_at w32) bytes.now) }
     ensures valid { IfOk result (λ x. IsTrue (spec.is_calendar_kind (CalendarKind.Monthly x.0))) }
 {
-    let (days, rest) = u32_at(bytes)?;
-    if days >= 1 << 31 {
-        return Err(Fault::at(bytes));
+    match u32_at(bytes) {
+        Ok((days, _)) if days >= 1 << 31 => Err(Fault::at(bytes)),
+        read => read,
     }
-    Ok((days, rest))
 }
 
 /// A ms of the day that isn't before `from`.
@@ -140,11 +136,10 @@ fn milli_of_day(from: u32, bytes: &[u8]) -> Result<(u32, &[u8]), Fault>
     ensures exact { Gives (λ x. (x.0, x.1.now)) result (checked (spec.is_day_part from) (number_at w32) bytes.now) }
     ensures valid { IfOk result (λ x. IsTrue (spec.is_day_part from x.0)) }
 {
-    let (milli, rest) = u32_at(bytes)?;
-    if milli < from || milli > 86399999 {
-        return Err(Fault::at(bytes));
+    match u32_at(bytes) {
+        Ok((milli, _)) if milli < from || milli > 86399999 => Err(Fault::at(bytes)),
+        read => read,
     }
-    Ok((milli, rest))
 }
 
 #[tactic(auto, unfolding(crate::specs::Calendars::day_part_at))]

@@ -13,55 +13,50 @@ fn u64_set_of(field: Field, bytes: &[u8]) -> Result<(u64, &[u8]), Fault>
     ensures exact { Gives (λ x. (x.0, x.1.now)) result (set_at field w64 bytes.now) }
     ensures valid { IfOk result (λ x. IsTrue (rules.is_set field x.0)) }
 {
-    let (set, rest) = u64_at(bytes)?;
-    if !field.is_set(set) {
-        return Err(Fault::at(bytes));
+    match u64_at(bytes) {
+        Ok((set, _)) if !field.is_set(set) => Err(Fault::at(bytes)),
+        read => read,
     }
-    Ok((set, rest))
 }
 
 fn u32_set_of(field: Field, bytes: &[u8]) -> Result<(u32, &[u8]), Fault>
     ensures exact { Gives (λ x. (x.0, x.1.now)) result (set_at field w32 bytes.now) }
     ensures valid { IfOk result (λ x. IsTrue (rules.is_set field x.0)) }
 {
-    let (set, rest) = u32_at(bytes)?;
-    if !field.is_set(u64::from(set)) {
-        return Err(Fault::at(bytes));
+    match u32_at(bytes) {
+        Ok((set, _)) if !field.is_set(u64::from(set)) => Err(Fault::at(bytes)),
+        read => read,
     }
-    Ok((set, rest))
 }
 
 fn u16_set_of(field: Field, bytes: &[u8]) -> Result<(u16, &[u8]), Fault>
     ensures exact { Gives (λ x. (x.0, x.1.now)) result (set_at field w16 bytes.now) }
     ensures valid { IfOk result (λ x. IsTrue (rules.is_set field x.0)) }
 {
-    let (set, rest) = u16_at(bytes)?;
-    if !field.is_set(u64::from(set)) {
-        return Err(Fault::at(bytes));
+    match u16_at(bytes) {
+        Ok((set, _)) if !field.is_set(u64::from(set)) => Err(Fault::at(bytes)),
+        read => read,
     }
-    Ok((set, rest))
 }
 
 fn u8_set_of(field: Field, bytes: &[u8]) -> Result<(u8, &[u8]), Fault>
     ensures exact { Gives (λ x. (x.0, x.1.now)) result (checked (rules.is_set field) byte_at bytes.now) }
     ensures valid { IfOk result (λ x. IsTrue (rules.is_set field x.0)) }
 {
-    let (set, rest) = u8_at(bytes)?;
-    if !field.is_set(u64::from(set)) {
-        return Err(Fault::at(bytes));
+    match u8_at(bytes) {
+        Ok((set, _)) if !field.is_set(u64::from(set)) => Err(Fault::at(bytes)),
+        read => read,
     }
-    Ok((set, rest))
 }
 
 fn value_of(field: Field, bytes: &[u8]) -> Result<(u8, &[u8]), Fault>
     ensures exact { Gives (λ x. (x.0, x.1.now)) result (checked (rules.is_value field) byte_at bytes.now) }
     ensures valid { IfOk result (λ x. IsTrue (rules.is_value field x.0)) }
 {
-    let (value, rest) = u8_at(bytes)?;
-    if !field.is_value(u16::from(value)) {
-        return Err(Fault::at(bytes));
+    match u8_at(bytes) {
+        Ok((value, _)) if !field.is_value(u16::from(value)) => Err(Fault::at(bytes)),
+        read => read,
     }
-    Ok((value, rest))
 }
 
 /// How many days before the month's last day.
@@ -69,11 +64,10 @@ fn back_of(bytes: &[u8]) -> Result<(u8, &[u8]), Fault>
     ensures exact { Gives (λ x. (x.0, x.1.now)) result (checked (λ n. nat_le n 30) byte_at bytes.now) }
     ensures valid { IfOk result (λ x. IsTrue (nat_le x.0 30)) }
 {
-    let (back, rest) = u8_at(bytes)?;
-    if back > 30 {
-        return Err(Fault::at(bytes));
+    match u8_at(bytes) {
+        Ok((back, _)) if back > 30 => Err(Fault::at(bytes)),
+        read => read,
     }
-    Ok((back, rest))
 }
 
 #[tactic(auto, unfolding(crate::specs::Reading::day_at, qz_civil::specs::Fields::is_day_field))]
@@ -106,11 +100,10 @@ fn week_number_of(bytes: &[u8]) -> Result<(u8, &[u8]), Fault>
     ensures exact { Gives (λ x. (x.0, x.1.now)) result (checked (λ n. nat_le 1 n && nat_le n 5) byte_at bytes.now) }
     ensures valid { IfOk result (λ x. IsTrue (nat_le 1 x.0 && nat_le x.0 5)) }
 {
-    let (nth, rest) = u8_at(bytes)?;
-    if nth < 1 || nth > 5 {
-        return Err(Fault::at(bytes));
+    match u8_at(bytes) {
+        Ok((nth, _)) if nth < 1 || nth > 5 => Err(Fault::at(bytes)),
+        read => read,
     }
-    Ok((nth, rest))
 }
 
 #[tactic(auto, unfolding(crate::specs::Reading::nth_at, qz_civil::specs::Fields::is_week_field))]
@@ -176,11 +169,10 @@ fn week_of(day: DayField, bytes: &[u8]) -> Result<(WeekField, &[u8]), Fault>
 fn third_word_of(bytes: &[u8]) -> Result<(u64, &[u8]), Fault>
     ensures { Gives (λ x. (x.0, x.1.now)) result (checked (λ w. nat_lt w (2 ^ (rules.size Year - 128))) (number_at w64) bytes.now) }
 {
-    let (word, rest) = u64_at(bytes)?;
-    if word >= 1 << (Field::Year.size() - 128) {
-        return Err(Fault::at(bytes));
+    match u64_at(bytes) {
+        Ok((word, _)) if word >= 1 << (Field::Year.size() - 128) => Err(Fault::at(bytes)),
+        read => read,
     }
-    Ok((word, rest))
 }
 
 /// Bit j of word i is the year 1970 + 64 * i + j.

@@ -19,7 +19,7 @@ pub enum ReadError {
 }
 
 /// Why a field was not read.
-#[derive(Clone, Copy, PartialEq, Eq, Debug)]
+#[derive(Clone, Copy)]
 pub(crate) enum Fault {
     /// The field that begins where so many bytes are left is wrong.
     Wrong { left: usize },

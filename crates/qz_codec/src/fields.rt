@@ -107,11 +107,10 @@ pub(crate) fn span_of(bytes: &[u8]) -> Result<(i64, &[u8]), Fault>
     ensures exact { Gives (λ x. (x.0, x.1.now)) result (span_at bytes.now) }
     ensures valid { IfOk result (λ x. IsTrue (is_span x.0)) }
 {
-    let (span, rest) = i64_at(bytes)?;
-    if !is_between(0, LONGEST, span) {
-        return Err(Fault::at(bytes));
+    match i64_at(bytes) {
+        Ok((span, _)) if !is_between(0, LONGEST, span) => Err(Fault::at(bytes)),
+        read => read,
     }
-    Ok((span, rest))
 }
 
 /// A check-in interval or a threshold, in ms.
@@ -119,11 +118,10 @@ pub(crate) fn interval_of(bytes: &[u8]) -> Result<(i64, &[u8]), Fault>
     ensures exact { Gives (λ x. (x.0, x.1.now)) result (checked is_interval (integer_at w64) bytes.now) }
     ensures valid { IfOk result (λ x. IsTrue (is_interval x.0)) }
 {
-    let (interval, rest) = i64_at(bytes)?;
-    if !is_between(1, INTERVAL_LIMIT, interval) {
-        return Err(Fault::at(bytes));
+    match i64_at(bytes) {
+        Ok((interval, _)) if !is_between(1, INTERVAL_LIMIT, interval) => Err(Fault::at(bytes)),
+        read => read,
     }
-    Ok((interval, rest))
 }
 
 pub(crate) fn end_of(bytes: &[u8]) -> Result<(Option<i64>, &[u8]), Fault>

@@ -24,11 +24,10 @@ fn count_of(interval: i64, bytes: &[u8]) -> Result<(i64, &[u8]), Fault>
     ensures exact { Gives (λ x. (x.0, x.1.now)) result (checked (λ n. is_kind (Kind.Simple interval n)) (integer_at w64) bytes.now) }
     ensures valid { IfOk result (λ x. IsTrue (is_kind (Kind.Simple interval x.0))) }
 {
-    let (count, rest) = i64_at(bytes)?;
-    if !is_simple(interval, count) {
-        return Err(Fault::at(bytes));
+    match i64_at(bytes) {
+        Ok((count, _)) if !is_simple(interval, count) => Err(Fault::at(bytes)),
+        read => read,
     }
-    Ok((count, rest))
 }
 
 #[tactic(auto, unfolding(crate::specs::Reading::simple_at))]
@@ -74,11 +73,10 @@ fn every_of(bytes: &[u8]) -> Result<(u32, &[u8]), Fault>
     ensures exact { Gives (λ x. (x.0, x.1.now)) result (checked is_every (number_at w32) bytes.now) }
     ensures valid { IfOk result (λ x. IsTrue (is_every x.0)) }
 {
-    let (every, rest) = u32_at(bytes)?;
-    if every < 1 || every > 2147483647 {
-        return Err(Fault::at(bytes));
+    match u32_at(bytes) {
+        Ok((every, _)) if every < 1 || every > 2147483647 => Err(Fault::at(bytes)),
+        read => read,
     }
-    Ok((every, rest))
 }
 
 #[tactic(auto, unfolding(crate::specs::Reading::interval_at))]
@@ -97,11 +95,10 @@ fn interval_of(alloc: Global, bytes: &[u8]) -> Result<(Kind, &[u8]), Fault>
 fn even_unit_of(bytes: &[u8]) -> Result<(Unit, &[u8]), Fault>
     ensures { Gives (λ x. (x.0, x.1.now)) result (checked is_even unit_at bytes.now) }
 {
-    let (unit, rest) = unit_of(bytes)?;
-    if unit.seconds() == 0 {
-        return Err(Fault::at(bytes));
+    match unit_of(bytes) {
+        Ok((unit, _)) if unit.seconds() == 0 => Err(Fault::at(bytes)),
+        read => read,
     }
-    Ok((unit, rest))
 }
 
 /// How many of these units, which are a second to a day.
@@ -123,11 +120,10 @@ fn second_of_day(from: u32, bytes: &[u8]) -> Result<(u32, &[u8]), Fault>
     ensures exact { Gives (λ x. (x.0, x.1.now)) result (checked (is_second_from from) (number_at w32) bytes.now) }
     ensures valid { IfOk result (λ x. IsTrue (is_second_from from x.0)) }
 {
-    let (second, rest) = u32_at(bytes)?;
-    if second < from || second >= 86400 {
-        return Err(Fault::at(bytes));
+    match u32_at(bytes) {
+        Ok((second, _)) if second < from || second >= 86400 => Err(Fault::at(bytes)),
+        read => read,
     }
-    Ok((second, rest))
 }
 
 /// Some of the seven days.
@@ -135,11 +131,10 @@ fn days_of(bytes: &[u8]) -> Result<(u8, &[u8]), Fault>
     ensures exact { Gives (λ x. (x.0, x.1.now)) result (checked is_day_set byte_at bytes.now) }
     ensures valid { IfOk result (λ x. IsTrue (is_day_set x.0)) }
 {
-    let (days, rest) = u8_at(bytes)?;
-    if days < 1 || days > 127 {
-        return Err(Fault::at(bytes));
+    match u8_at(bytes) {
+        Ok((days, _)) if days < 1 || days > 127 => Err(Fault::at(bytes)),
+        read => read,
     }
-    Ok((days, rest))
 }
 
 #[tactic(auto, unfolding(crate::specs::Reading::daily_at))]

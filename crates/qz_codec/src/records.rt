@@ -52,11 +52,10 @@ pub(crate) trait Recorded: Sized + Drop {
 fn version_of(bytes: &[u8]) -> Result<(u8, &[u8]), Fault>
     ensures { Gives (λ x. (x.0, x.1.now)) result (checked (λ n. n == 1) byte_at bytes.now) }
 {
-    let (version, rest) = u8_at(bytes)?;
-    if version != VERSION {
-        return Err(Fault::at(bytes));
+    match u8_at(bytes) {
+        Ok((version, _)) if version != VERSION => Err(Fault::at(bytes)),
+        read => read,
     }
-    Ok((version, rest))
 }
 
 #[tactic(auto, unfolding(crate::specs::Reading::whole_at))]

@@ -21,21 +21,19 @@ use std::alloc::{AllocError, Global};
 fn from_of(before: Option<i64>, bytes: &[u8]) -> Result<(i64, &[u8]), Fault>
     ensures { Gives (λ x. (x.0, x.1.now)) result (checked (format.may_begin before) (integer_at w64) bytes.now) }
 {
-    let (from, rest) = i64_at(bytes)?;
-    if !may_begin(before, from) {
-        return Err(Fault::at(bytes));
+    match i64_at(bytes) {
+        Ok((from, _)) if !may_begin(before, from) => Err(Fault::at(bytes)),
+        read => read,
     }
-    Ok((from, rest))
 }
 
 fn offset_of(bytes: &[u8]) -> Result<(i32, &[u8]), Fault>
     ensures { Gives (λ x. (x.0, x.1.now)) result (checked spec.is_offset (integer_at w32) bytes.now) }
 {
-    let (offset, rest) = i32_at(bytes)?;
-    if !is_offset(offset) {
-        return Err(Fault::at(bytes));
+    match i32_at(bytes) {
+        Ok((offset, _)) if !is_offset(offset) => Err(Fault::at(bytes)),
+        read => read,
     }
-    Ok((offset, rest))
 }
 
 fn start_of(stretch: Option<Stretch>) -> Option<i64>

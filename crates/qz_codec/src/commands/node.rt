@@ -44,11 +44,10 @@ fn max_of(bytes: &[u8]) -> Result<(u32, &[u8]), Fault>
     ensures exact { Gives (λ x. (x.0, x.1.now)) result (checked (is_long 1 ACQUIRE_LIMIT) (number_at w32) bytes.now) }
     ensures valid { IfOk result (λ x. (1 ≤ x.0) × (x.0 ≤ ACQUIRE_LIMIT)) }
 {
-    let (max, rest) = u32_at(bytes)?;
-    if max < 1 || max > ACQUIRE_LIMIT {
-        return Err(Fault::at(bytes));
+    match u32_at(bytes) {
+        Ok((max, _)) if max < 1 || max > ACQUIRE_LIMIT => Err(Fault::at(bytes)),
+        read => read,
     }
-    Ok((max, rest))
 }
 
 #[tactic(auto, unfolding(crate::specs::Reading::acquire_at))]

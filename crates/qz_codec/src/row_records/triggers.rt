@@ -22,11 +22,10 @@ fn times_of(bytes: &[u8]) -> Result<(u64, &[u8]), Fault>
     ensures exact { Gives (λ x. (x.0, x.1.now)) result (checked (λ n. nat_le n TIMES_LIMIT) (number_at w64) bytes.now) }
     ensures valid { IfOk result (λ x. x.0 ≤ TIMES_LIMIT) }
 {
-    let (times, rest) = u64_at(bytes)?;
-    if times > TIMES_LIMIT {
-        return Err(Fault::at(bytes));
+    match u64_at(bytes) {
+        Ok((times, _)) if times > TIMES_LIMIT => Err(Fault::at(bytes)),
+        read => read,
     }
-    Ok((times, rest))
 }
 
 #[tactic(auto, unfolding(crate::specs::Rows::trigger_state_at))]
