@@ -6,7 +6,7 @@ ghost use Rattle.qz_civil.specs.Calendars as spec;
 ghost use Rattle.qz_civil.specs.declared.limits.TheConstants.{ANNUAL_LIMIT, HOLIDAY_LIMIT};
 ghost use Rattle.qz_codec.specs.Layout.{number, flag};
 ghost use Rattle.qz_codec.specs.Lists.{items_at, list, list_at};
-ghost use Rattle.qz_codec.specs.Reading.{Gives, checked, byte_at, number_at};
+ghost use Rattle.qz_codec.specs.Reading.{Gives, as_variant, checked, byte_at, number_at, cron_fields_at};
 ghost use Rattle.qz_codec.specs.Calendars as format;
 
 use crate::cron_fields::cron_fields_of;
@@ -109,26 +109,52 @@ fn dates_of(alloc: Global, bytes: &[u8]) -> Result<(List<u32>, &[u8]), Fault>
     counted_dates_of(alloc, count, rest)
 }
 
+fn annual_of(alloc: Global, bytes: &[u8]) -> Result<(CalendarKind, &[u8]), Fault>
+    ensures exact { Gives (λ x. (x.0, x.1.now)) result (as_variant CalendarKind.Annual (list_at 0 ANNUAL_LIMIT format.next_day_at bytes.now)) }
+    ensures valid { IfOk result (λ x. IsTrue (spec.is_calendar_kind x.0)) }
+{
+    let (days, rest) = days_of(alloc, bytes)?;
+    Ok((CalendarKind::Annual { days }, rest))
+}
+
+fn holiday_of(alloc: Global, bytes: &[u8]) -> Result<(CalendarKind, &[u8]), Fault>
+    ensures exact { Gives (λ x. (x.0, x.1.now)) result (as_variant CalendarKind.Holiday (list_at 0 HOLIDAY_LIMIT format.next_date_at bytes.now)) }
+    ensures valid { IfOk result (λ x. IsTrue (spec.is_calendar_kind x.0)) }
+{
+    let (dates, rest) = dates_of(alloc, bytes)?;
+    Ok((CalendarKind::Holiday { dates }, rest))
+}
+
 /// Any of the seven days; none too.
-fn weekdays_of(bytes: &[u8]) -> Result<(u8, &[u8]), Fault>
-    ensures exact { Gives (λ x. (x.0, x.1.now)) result (checked (λ n. spec.is_calendar_kind (CalendarKind.Weekly n)) byte_at bytes.now) }
-    ensures valid { IfOk result (λ x. IsTrue (spec.is_calendar_kind (CalendarKind.Weekly x.0))) }
+fn weekly_of(bytes: &[u8]) -> Result<(CalendarKind, &[u8]), Fault>
+    ensures exact { Gives (λ x. (x.0, x.1.now)) result (as_variant CalendarKind.Weekly (checked (λ n. spec.is_calendar_kind (CalendarKind.Weekly n)) byte_at bytes.now)) }
+    ensures valid { IfOk result (λ x. IsTrue (spec.is_calendar_kind x.0)) }
 {
     match u8_at(bytes) {
         Ok((days, _)) if days >= 128 => Err(Fault::at(bytes)),
-        read => read,
+        Ok((days, rest)) => Ok((CalendarKind::Weekly { days }, rest)),
+        Err(fault) => Err(fault),
     }
 }
 
 /// Any of the 31 days; none too.
-fn month_days_of(bytes: &[u8]) -> Result<(u32, &[u8]), Fault>
-    ensures exact { Gives (λ x. (x.0, x.1.now)) result (checked (λ n. spec.is_calendar_kind (CalendarKind.Monthly n)) (number_at w32) bytes.now) }
-    ensures valid { IfOk result (λ x. IsTrue (spec.is_calendar_kind (CalendarKind.Monthly x.0))) }
+fn monthly_of(bytes: &[u8]) -> Result<(CalendarKind, &[u8]), Fault>
+    ensures exact { Gives (λ x. (x.0, x.1.now)) result (as_variant CalendarKind.Monthly (checked (λ n. spec.is_calendar_kind (CalendarKind.Monthly n)) (number_at w32) bytes.now)) }
+    ensures valid { IfOk result (λ x. IsTrue (spec.is_calendar_kind x.0)) }
 {
     match u32_at(bytes) {
         Ok((days, _)) if days >= 1 << 31 => Err(Fault::at(bytes)),
-        read => read,
+        Ok((days, rest)) => Ok((CalendarKind::Monthly { days }, rest)),
+        Err(fault) => Err(fault),
     }
+}
+
+fn cron_of(bytes: &[u8]) -> Result<(CalendarKind, &[u8]), Fault>
+    ensures exact { Gives (λ x. (x.0, x.1.now)) result (as_variant CalendarKind.Cron (cron_fields_at bytes.now)) }
+    ensures valid { IfOk result (λ x. IsTrue (spec.is_calendar_kind x.0)) }
+{
+    let (fields, rest) = cron_fields_of(bytes)?;
+    Ok((CalendarKind::Cron { fields }, rest))
 }
 
 /// A ms of the day that isn't before `from`.
@@ -160,27 +186,12 @@ fn calendar_kind_of(alloc: Global, bytes: &[u8]) -> Result<(CalendarKind, &[u8])
 {
     let (place, rest) = u8_at(bytes)?;
     match place {
-        0 => {
-            let (days, rest) = days_of(alloc, rest)?;
-            Ok((CalendarKind::Annual { days }, rest))
-        }
-        1 => {
-            let (dates, rest) = dates_of(alloc, rest)?;
-            Ok((CalendarKind::Holiday { dates }, rest))
-        }
-        2 => {
-            let (days, rest) = weekdays_of(rest)?;
-            Ok((CalendarKind::Weekly { days }, rest))
-        }
-        3 => {
-            let (days, rest) = month_days_of(rest)?;
-            Ok((CalendarKind::Monthly { days }, rest))
-        }
+        0 => annual_of(alloc, rest),
+        1 => holiday_of(alloc, rest),
+        2 => weekly_of(rest),
+        3 => monthly_of(rest),
         4 => day_part_of(rest),
-        5 => {
-            let (fields, rest) = cron_fields_of(rest)?;
-            Ok((CalendarKind::Cron { fields }, rest))
-        }
+        5 => cron_of(rest),
         _ => Err(Fault::at(bytes)),
     }
 }
@@ -192,9 +203,8 @@ pub(crate) fn calendar_row_of(alloc: Global, bytes: &[u8]) -> Result<(CalendarRo
     let (name, rest) = name_of(bytes)?;
     let (base, rest) = calendar_of(alloc, rest)?;
     let (base, (zone, rest)) = beside(base, name_of(rest))?;
-    let (base, (name, zone)) = beside(base, make_texts(alloc, name, zone))?;
-    let named = (name, base, zone);
-    let ((name, base, zone), (kind, rest)) = beside(named, calendar_kind_of(alloc, rest))?;
+    let named = beside(base, make_texts(alloc, name, zone))?;
+    let ((base, (name, zone)), (kind, rest)) = beside(named, calendar_kind_of(alloc, rest))?;
     let row = CalendarRow {
         name,
         base,

@@ -7,8 +7,8 @@ ghost use Rattle.qz_codec.specs.Reading.{Gives, checked, byte_at, number_at, int
 use crate::cron_fields::cron_fields_of;
 use crate::errors::Fault;
 use crate::fields::{i8_at, i64_at, is_between, span_of, u8_at, u32_at};
-use crate::rows::name_of;
-use qz_types::{Kind, LONGEST, Text, Unit};
+use crate::rows::owned_name_of;
+use qz_types::{Kind, LONGEST, Unit};
 use std::alloc::Global;
 
 /// Once, or with an interval of at least 1 ms and a count from -1 to 2147483647.
@@ -46,8 +46,7 @@ fn cron_of(alloc: Global, bytes: &[u8]) -> Result<(Kind, &[u8]), Fault>
     ensures valid { IfOk result (λ x. IsTrue (is_kind x.0)) }
 {
     let (fields, rest) = cron_fields_of(bytes)?;
-    let (zone, rest) = name_of(rest)?;
-    let zone = Text::from_str(alloc, zone)?;
+    let (zone, rest) = owned_name_of(alloc, rest)?;
     Ok((Kind::Cron { fields, zone }, rest))
 }
 
@@ -86,8 +85,7 @@ fn interval_of(alloc: Global, bytes: &[u8]) -> Result<(Kind, &[u8]), Fault>
 {
     let (unit, rest) = unit_of(bytes)?;
     let (every, rest) = every_of(rest)?;
-    let (zone, rest) = name_of(rest)?;
-    let zone = Text::from_str(alloc, zone)?;
+    let (zone, rest) = owned_name_of(alloc, rest)?;
     Ok((Kind::Interval { unit, every, zone }, rest))
 }
 
@@ -147,8 +145,7 @@ fn daily_of(alloc: Global, bytes: &[u8]) -> Result<(Kind, &[u8]), Fault>
     let (from, rest) = second_of_day(0, rest)?;
     let (to, rest) = second_of_day(from, rest)?;
     let (days, rest) = days_of(rest)?;
-    let (zone, rest) = name_of(rest)?;
-    let zone = Text::from_str(alloc, zone)?;
+    let (zone, rest) = owned_name_of(alloc, rest)?;
     let kind = Kind::Daily {
         unit,
         every,

@@ -30,6 +30,24 @@ pub(crate) fn node_of(bytes: &[u8]) -> Result<(&str, &[u8]), Fault>
     str_at(bytes, 1, NODE_LIMIT as u16)
 }
 
+/// A name, in memory of its own.
+pub(crate) fn owned_name_of(alloc: Global, bytes: &[u8]) -> Result<(Text, &[u8]), Fault>
+    ensures exact { Gives (λ x. (x.0, x.1.now)) result (name_at bytes.now) }
+    ensures valid { IfOk result (λ x. IsTrue (is_name x.0)) }
+{
+    let (name, rest) = name_of(bytes)?;
+    Ok((Text::from_str(alloc, name)?, rest))
+}
+
+/// A node, in memory of its own.
+pub(crate) fn owned_node_of(alloc: Global, bytes: &[u8]) -> Result<(Text, &[u8]), Fault>
+    ensures exact { Gives (λ x. (x.0, x.1.now)) result (node_at bytes.now) }
+    ensures valid { IfOk result (λ x. IsTrue (is_node x.0)) }
+{
+    let (node, rest) = node_of(bytes)?;
+    Ok((Text::from_str(alloc, node)?, rest))
+}
+
 /// Memory for two texts.
 pub(crate) fn make_texts(
     alloc: Global,
@@ -138,8 +156,8 @@ pub(crate) fn calendar_of(alloc: Global, bytes: &[u8]) -> Result<(Option<Text>, 
     if !some {
         return Ok((None, rest));
     }
-    let (name, rest) = name_of(rest)?;
-    Ok((Some(Text::from_str(alloc, name)?), rest))
+    let (name, rest) = owned_name_of(alloc, rest)?;
+    Ok((Some(name), rest))
 }
 
 #[tactic(auto, unfolding(crate::specs::Reading::spec_at))]
@@ -151,9 +169,8 @@ pub(crate) fn spec_of(alloc: Global, bytes: &[u8]) -> Result<(TriggerSpec, &[u8]
     let (job, rest) = names_of(rest)?;
     let (priority, rest) = i32_at(rest)?;
     let (calendar, rest) = calendar_of(alloc, rest)?;
-    let (calendar, (key, job)) = beside(calendar, make_keys(alloc, key, job))?;
-    let named = (key, job, calendar);
-    let ((key, job, calendar), (timing, rest)) = beside(named, timing_of(alloc, rest))?;
+    let named = beside(calendar, make_keys(alloc, key, job))?;
+    let ((calendar, (key, job)), (timing, rest)) = beside(named, timing_of(alloc, rest))?;
     let spec = TriggerSpec {
         key,
         job,

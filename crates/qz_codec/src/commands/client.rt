@@ -9,10 +9,10 @@ ghost use Rattle.qz_codec.specs.Calendars.{calendar_row_at};
 use crate::calendars::calendar_row_of;
 use crate::errors::Fault;
 use crate::fields::{bool_at, interval_of};
-use crate::rows::{job_of, key_of, name_of, node_of, spec_of};
+use crate::rows::{job_of, key_of, owned_name_of, owned_node_of, spec_of};
 use crate::zones::zone_row_of;
 use qz_civil::beside;
-use qz_types::{Command, Text};
+use qz_types::Command;
 use std::alloc::Global;
 
 pub(super) fn add_job_of(alloc: Global, bytes: &[u8]) -> Result<(Command, &[u8]), Fault>
@@ -69,8 +69,7 @@ pub(super) fn pause_group_of(alloc: Global, bytes: &[u8]) -> Result<(Command, &[
     ensures exact { Gives (λ x. (x.0, x.1.now)) result (as_variant PauseGroup (name_at bytes.now)) }
     ensures valid { IfOk result (λ x. IsTrue (is_command x.0) × (is_of_node x.0 ≡ false)) }
 {
-    let (group, rest) = name_of(bytes)?;
-    let group = Text::from_str(alloc, group)?;
+    let (group, rest) = owned_name_of(alloc, bytes)?;
     Ok((Command::PauseGroup { group }, rest))
 }
 
@@ -78,8 +77,7 @@ pub(super) fn resume_group_of(alloc: Global, bytes: &[u8]) -> Result<(Command, &
     ensures exact { Gives (λ x. (x.0, x.1.now)) result (as_variant ResumeGroup (name_at bytes.now)) }
     ensures valid { IfOk result (λ x. IsTrue (is_command x.0) × (is_of_node x.0 ≡ false)) }
 {
-    let (group, rest) = name_of(bytes)?;
-    let group = Text::from_str(alloc, group)?;
+    let (group, rest) = owned_name_of(alloc, bytes)?;
     Ok((Command::ResumeGroup { group }, rest))
 }
 
@@ -96,8 +94,7 @@ pub(super) fn delete_calendar_of(alloc: Global, bytes: &[u8]) -> Result<(Command
     ensures exact { Gives (λ x. (x.0, x.1.now)) result (as_variant DeleteCalendar (name_at bytes.now)) }
     ensures valid { IfOk result (λ x. IsTrue (is_command x.0) × (is_of_node x.0 ≡ false)) }
 {
-    let (name, rest) = name_of(bytes)?;
-    let name = Text::from_str(alloc, name)?;
+    let (name, rest) = owned_name_of(alloc, bytes)?;
     Ok((Command::DeleteCalendar { name }, rest))
 }
 
@@ -113,8 +110,7 @@ pub(super) fn delete_zone_of(alloc: Global, bytes: &[u8]) -> Result<(Command, &[
     ensures exact { Gives (λ x. (x.0, x.1.now)) result (as_variant DeleteZone (name_at bytes.now)) }
     ensures valid { IfOk result (λ x. IsTrue (is_command x.0) × (is_of_node x.0 ≡ false)) }
 {
-    let (name, rest) = name_of(bytes)?;
-    let name = Text::from_str(alloc, name)?;
+    let (name, rest) = owned_name_of(alloc, bytes)?;
     Ok((Command::DeleteZone { name }, rest))
 }
 
@@ -138,7 +134,6 @@ pub(super) fn join_of(alloc: Global, bytes: &[u8]) -> Result<(Command, &[u8]), F
     ensures exact { Gives (λ x. (x.0, x.1.now)) result (as_variant Join (node_at bytes.now)) }
     ensures valid { IfOk result (λ x. IsTrue (is_command x.0) × (is_of_node x.0 ≡ false)) }
 {
-    let (node, rest) = node_of(bytes)?;
-    let node = Text::from_str(alloc, node)?;
+    let (node, rest) = owned_node_of(alloc, bytes)?;
     Ok((Command::Join { node }, rest))
 }

@@ -8,8 +8,8 @@ ghost use Rattle.qz_codec.specs.Reading.{Gives, as_variant, checked, number_at, 
 
 use crate::errors::Fault;
 use crate::fields::{span_of, u8_at, u32_at, u64_at};
-use crate::rows::node_of;
-use qz_types::{ACQUIRE_LIMIT, Code, Command, Text};
+use crate::rows::owned_node_of;
+use qz_types::{ACQUIRE_LIMIT, Code, Command};
 use std::alloc::Global;
 
 /// The code at this place among all codes.
@@ -96,7 +96,6 @@ pub(super) fn recover_of(alloc: Global, bytes: &[u8]) -> Result<(Command, &[u8])
     ensures exact { Gives (λ x. (x.0, x.1.now)) result (as_variant Recover (node_at bytes.now)) }
     ensures valid { IfOk result (λ x. IsTrue (is_command x.0) × (is_of_node x.0 ≡ true)) }
 {
-    let (node, rest) = node_of(bytes)?;
-    let node = Text::from_str(alloc, node)?;
+    let (node, rest) = owned_node_of(alloc, bytes)?;
     Ok((Command::Recover { node }, rest))
 }

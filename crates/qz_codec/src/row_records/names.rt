@@ -3,22 +3,15 @@ ghost use Rattle.std.specs.Prelude.{IsTrue};
 ghost use Rattle.qz_civil.specs.Timings.{is_name};
 ghost use Rattle.qz_codec.specs.Layout.{text, recorded};
 ghost use Rattle.qz_codec.specs.Values.{IsName};
-ghost use Rattle.qz_codec.specs.Reading.{Gives, name_at, reading_by};
+ghost use Rattle.qz_codec.specs.Reading.{name_at, reading_by};
 
 use super::Packed;
 use crate::errors::{Fault, ReadError};
 use crate::records::{Recorded, read, write};
-use crate::rows::name_of;
+use crate::rows::owned_name_of;
 use crate::writing::put_name;
 use qz_types::{List, NoMemory, Text};
 use std::alloc::{AllocError, Global};
-
-fn owned_name_of(alloc: Global, bytes: &[u8]) -> Result<(Text, &[u8]), Fault>
-    ensures { Gives (λ x. (x.0, x.1.now)) result (name_at bytes.now) }
-{
-    let (name, rest) = name_of(bytes)?;
-    Ok((Text::from_str(alloc, name)?, rest))
-}
 
 impl Recorded for Text {
     ghost can_put = { λ name. IsTrue (is_name name) };

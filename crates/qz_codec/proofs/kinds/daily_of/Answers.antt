@@ -1,6 +1,3 @@
-use Rattle.std.proofs.Common.{sym, subst}
-use Rattle.std.specs.Prelude.{IsTrue}
-use Rattle.qz_civil.specs.Timings.{is_name}
 use Rattle.qz_codec.proofs.Truths.{both_true}
 use Rattle.qz_codec.proofs.kinds.daily_of.Goals as goal
 
@@ -8,4 +5,4 @@ pub returns-clause-valid : goal.returns-clause-valid
 returns-clause-valid c =
     both_true _ _
     (both_true _ _ c.in_ok-every.ensures.valid c.in_ok-to.ensures.valid)
-    (both_true _ _ c.in_ok-days.ensures.valid (subst (λ zone. IsTrue (is_name zone)) (sym c.in_ok-zone-2.ensures) c.in_ok-zone.ensures.valid))
+    (both_true _ _ c.in_ok-days.ensures.valid c.in_ok-zone.ensures.valid)
