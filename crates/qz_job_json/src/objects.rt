@@ -7,6 +7,7 @@ ghost use Rattle.qz_job_json.specs.Objects.{make_key, key_at, job_of, trigger_of
 
 use crate::forms::Form;
 use crate::members::{group_at, has_only, name_at, span_at, text_at};
+use qz_civil::beside;
 use qz_types::{JobRow, Key, Kind, NoMemory, Text, Timing, TriggerSpec};
 use serde_json::Value;
 use std::alloc::{AllocError, Global};
@@ -20,6 +21,19 @@ pub(crate) fn names_at<'v>(value: &'v Value, group: &str, name: &str) -> Option<
     let group = group_at(value, group)?;
     let name = name_at(value, name)?;
     Some((group, name))
+}
+
+/// Memory for the keys of a trigger and of its job.
+pub(crate) fn make_keys(
+    alloc: Global,
+    key: (&str, &str),
+    job: (&str, &str),
+) -> Result<(Key, Key), AllocError>
+    ensures key { IfOk result (λ made. made.0 ≡ make_key key.entry.0.now key.entry.1.now) }
+    ensures job { IfOk result (λ made. made.1 ≡ make_key job.entry.0.now job.entry.1.now) }
+{
+    let key = Key::new(alloc, key.0, key.1)?;
+    beside(key, Key::new(alloc, job.0, job.1))
 }
 
 /// The job that the object is; None is another shape.
@@ -37,7 +51,7 @@ pub(crate) fn job_of(alloc: Global, value: &Value) -> Result<Option<JobRow>, NoM
         return Ok(None);
     };
     let key = Key::new(alloc, names.0, names.1)?;
-    let class = Text::from_str(alloc, class)?;
+    let (key, class) = beside(key, Text::from_str(alloc, class))?;
     Ok(Some(JobRow {
         key,
         class,
@@ -96,7 +110,6 @@ pub(crate) fn trigger_of(alloc: Global, value: &Value) -> Result<Option<TriggerS
     let Some(job) = names_at(value, "job_group", "job") else {
         return Ok(None);
     };
-    let key = Key::new(alloc, key.0, key.1)?;
-    let job = Key::new(alloc, job.0, job.1)?;
+    let (key, job) = make_keys(alloc, key, job)?;
     Ok(Some(one_shot(start, key, job)))
 }

@@ -12,7 +12,7 @@ use crate::lines::LineFault;
 use crate::members::{
     has_only, integer_or, name_at, name_or, number_at, optional_span_at, span_at, text_at,
 };
-use crate::objects::names_at;
+use crate::objects::{make_keys, names_at};
 use qz_civil::{Kind, LONGEST, Timing, Unit, beside};
 use qz_types::{Key, Text, TriggerSpec};
 use serde_json::Value;
@@ -214,15 +214,13 @@ fn make_names(
     key: (&str, &str),
     job: (&str, &str),
     calendar: Option<&str>,
-) -> Result<(Key, Key, Option<Text>), AllocError>
-    ensures key { IfOk result (λ made. made.0 ≡ make_key key.entry.0.now key.entry.1.now) }
-    ensures job { IfOk result (λ made. made.1 ≡ make_key job.entry.0.now job.entry.1.now) }
-    ensures calendar { IfOk result (λ made. made.2 ≡ option_map (λ text. text.now) calendar.entry) }
+) -> Result<(Option<Text>, (Key, Key)), AllocError>
+    ensures calendar { IfOk result (λ made. made.0 ≡ option_map (λ text. text.now) calendar.entry) }
+    ensures key { IfOk result (λ made. made.1.0 ≡ make_key key.entry.0.now key.entry.1.now) }
+    ensures job { IfOk result (λ made. made.1.1 ≡ make_key job.entry.0.now job.entry.1.now) }
 {
     let calendar = make_calendar(alloc, calendar)?;
-    let (calendar, key) = beside(calendar, Key::new(alloc, key.0, key.1))?;
-    let ((calendar, key), job) = beside((calendar, key), Key::new(alloc, job.0, job.1))?;
-    Ok((key, job, calendar))
+    beside(calendar, make_keys(alloc, key, job))
 }
 
 /// A trigger of that kind.
@@ -236,7 +234,7 @@ fn timed_trigger_of(alloc: Global, value: &Value, word: KindWord) -> Result<Trig
     let priority = priority_at(value).ok_or(LineFault::Shape)?;
     let calendar = calendar_at(value).ok_or(LineFault::Shape)?;
     let named = make_names(alloc, key, job, calendar)?;
-    let ((key, job, calendar), timing) = beside(named, timing_of(alloc, value, word))?;
+    let ((calendar, (key, job)), timing) = beside(named, timing_of(alloc, value, word))?;
     Ok(TriggerSpec {
         key,
         job,

@@ -2,7 +2,7 @@
 ghost use Rattle.std.specs.Prelude.{◌≡◌, IfOk};
 
 use crate::Key;
-use qz_civil::{Text, Timing};
+use qz_civil::{Text, Timing, beside};
 use std::alloc::AllocError;
 use std::marker::Model;
 
@@ -22,17 +22,35 @@ impl Clone for TriggerSpec {
     ghost is_clone = { λ a b. b ≡ a };
 
     fn clone(&self) -> Result<Self, AllocError> {
+        let keys = self.copy_keys()?;
+        let ((key, job), (calendar, timing)) = beside(keys, self.copy_times())?;
         Ok(TriggerSpec {
-            key: self.key.clone()?,
-            job: self.job.clone()?,
+            key,
+            job,
             priority: self.priority,
-            calendar: self.calendar.clone()?,
-            timing: self.timing.clone()?,
+            calendar,
+            timing,
         })
     }
 }
 
 impl TriggerSpec {
+    // Its own key and its job's.
+    fn copy_keys(&self) -> Result<(Key, Key), AllocError>
+        ensures { IfOk result (λ keys. (keys.0 ≡ self.now.key) × (keys.1 ≡ self.now.job)) }
+    {
+        let key = self.key.clone()?;
+        beside(key, self.job.clone())
+    }
+
+    // When it fires.
+    fn copy_times(&self) -> Result<(Option<Text>, Timing), AllocError>
+        ensures { IfOk result (λ times. (times.0 ≡ self.now.calendar) × (times.1 ≡ self.now.timing)) }
+    {
+        let calendar = self.calendar.clone()?;
+        beside(calendar, self.timing.clone())
+    }
+
     /// The same trigger again.
     pub fn copy(&self) -> Result<Self, AllocError>
         ensures { IfOk result (λ spec. spec ≡ self.now) }
