@@ -80,6 +80,11 @@ false_true e = absurd (clash e)
     clash : false ≡ true → ⊥
     clash x = cc
 
+pub both_true : (p q : Bool) → (p && q) ≡ true → (p ≡ true) × (q ≡ true)
+both_true true true both = (refl, refl)
+both_true true false both = false_true both
+both_true false q both = false_true both
+
 no_bits : (w : ℕ) → ((i : ℕ) → bit_at w i ≡ 1 → ⊥) → w ≡ 0
 no_bits w none = same_from_bits w 0 (λ i. by_bit i (bit_at w i == 1) refl)
   where
@@ -119,19 +124,14 @@ has_low field run v (k, within, at) =
 pub all_numbers : (set : List ℕ) (n i : ℕ) → has_all set n ≡ true → i < n → has_word set i ≡ true
 unfolding has_all
 all_numbers set zero i all less = absurd (omega arith)
-all_numbers set (suc n) i all less = step (nat_lt i n) refl (all_numbers set n i (first (has_all set n) (has_word set n) all))
+all_numbers set (suc n) i all less = step (nat_lt i n) refl (all_numbers set n i both.0)
   where
-    first : (a b : Bool) → (a && b) ≡ true → a ≡ true
-    first true b e = refl
-    first false b e = e
-
-    second : (a b : Bool) → (a && b) ≡ true → b ≡ true
-    second true b e = e
-    second false b e = false_true e
+    both : (has_all set n ≡ true) × (has_word set n ≡ true)
+    both = both_true (has_all set n) (has_word set n) all
 
     step : (t : Bool) → nat_lt i n ≡ t → (i < n → has_word set i ≡ true) → has_word set i ≡ true
     step true low before = before (grind (arith, low))
-    step false high before = let same : i ≡ n = grind (arith, high) in ap (λ (j : ℕ). has_word set j) same ∙ second (has_all set n) (has_word set n) all
+    step false high before = let same : i ≡ n = grind (arith, high) in ap (λ (j : ℕ). has_word set j) same ∙ both.1
 
 star_is_set : (field : Field) (set : List ℕ) (word : ℕ) → has_all set (size field) ≡ true → IsWordFrom field set 0 word → IsSet field 0 (42 ∷ []) word
 star_is_set field set word all is =

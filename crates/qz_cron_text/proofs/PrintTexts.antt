@@ -3,6 +3,7 @@ use Rattle.std.proofs.Common.{◌≡◌, ◌≢◌, ◌∙◌, ap, sym, refl, su
 use Rattle.std.specs.Prelude.{Option, Some, None, ◌==◌, ◌||◌, not, nat_lt, ◌⊎◌, codes, Ok}
 use Rattle.std.specs.Fmt.{decimal as printed}
 use Rattle.std.specs.Int.{bit_at, IsInRange}
+use Rattle.std.proofs.lemmas.Bool.{ltb-true}
 use Rattle.std.proofs.lemmas.List.{append_assoc, append-nil}
 use Rattle.std.proofs.lemmas.Nat.Bits.{bit_at_ones, same_from_bits_below}
 use Rattle.qz_civil.specs.declared.fields.Field.TheVariants.{Seconds, Minutes, Hours, DayOfMonth, Month, DayOfWeek, Year}
@@ -11,7 +12,7 @@ use Rattle.qz_civil.specs.declared.fields.DayField.TheVariants as day
 use Rattle.qz_civil.specs.declared.fields.WeekField.{WeekField}
 use Rattle.qz_civil.specs.declared.fields.WeekField.TheVariants as week
 use Rattle.qz_civil.specs.declared.fields.CronFields.{CronFields}
-use Rattle.qz_civil.specs.Fields.{least, greatest, size, is_value, has, has_word, is_set, is_year_set, is_day_field, is_week_field, is_any_day, is_any_week, is_time_fields, is_date_fields, is_cron_fields}
+use Rattle.qz_civil.specs.Fields.{least, greatest, size, is_value, has, has_word, is_set, is_within_words, has_some, is_year_set, is_day_field, is_week_field, is_any_day, is_any_week, is_time_fields, is_date_fields, is_cron_fields}
 use Rattle.qz_cron_text.specs.declared.forms.Form.TheVariants.{Day, Week}
 use Rattle.qz_cron_text.specs.declared.forms.DayForm.TheVariants as days
 use Rattle.qz_cron_text.specs.declared.forms.WeekForm.TheVariants as weeks
@@ -21,7 +22,7 @@ use Rattle.qz_cron_text.specs.Reading.{reading}
 use Rattle.qz_cron_text.proofs.ElementLaws.{value_in_range}
 use Rattle.qz_cron_text.proofs.GrammarLaws.{reading_read}
 use Rattle.qz_cron_text.proofs.PrintSets.{printed_numeral, IsWordFrom, member_runs, members_elements, members_bits}
-use Rattle.qz_cron_text.proofs.PrintStars.{set_is, low_bit, bit_has, has_bit, word_members, all_numbers, false_true}
+use Rattle.qz_cron_text.proofs.PrintStars.{set_is, low_bit, bit_has, has_bit, word_members, all_numbers, false_true, both_true}
 
 -- days are printed as numerals
 month_day_small : (d : ℕ) → IsOf DayOfMonth d → d < 10000
@@ -121,20 +122,21 @@ year_words (a ∷ []) four valid = absurd (omega (arith, four))
 year_words (a ∷ b ∷ []) four valid = absurd (omega (arith, four))
 year_words (a ∷ b ∷ c ∷ []) four valid = absurd (omega (arith, four))
 year_words (a ∷ b ∷ c ∷ d ∷ []) four valid =
-    let a_small : nat_lt a (2 ^ 64) ≡ true = grind (arith, valid) in
-    let b_small : nat_lt b (2 ^ 64) ≡ true = grind (arith, valid) in
-    let c_small : nat_lt c (2 ^ 2) ≡ true = grind (arith, valid) in
-    let d_none : d ≡ 0 = grind (arith, valid) in
-    let some : (nat_lt 0 a || (nat_lt 0 b || (nat_lt 0 c || (nat_lt 0 d || false)))) ≡ true = grind (arith, valid) in
+    let both = both_true (has_some (a ∷ b ∷ c ∷ d ∷ [])) (is_within_words 130 (a ∷ b ∷ c ∷ d ∷ [])) valid in
+    let from_first = both_true (nat_lt a (2 ^ 64)) (is_within_words 66 (b ∷ c ∷ d ∷ [])) both.1 in
+    let from_second = both_true (nat_lt b (2 ^ 64)) (is_within_words 2 (c ∷ d ∷ [])) from_first.1 in
+    let from_third = both_true (nat_lt c (2 ^ 2)) (is_within_words 0 (d ∷ [])) from_second.1 in
+    let fourth : nat_lt d 1 ≡ true = (both_true (nat_lt d 1) true from_third.1).0 in
+    let d_none : d ≡ 0 = grind (arith, fourth) in
     record {
       first = a;
       second = b;
       third = c;
       is = ap (λ (x : ℕ). a ∷ b ∷ c ∷ x ∷ []) d_none;
-      first_small = grind (arith, a_small);
-      second_small = grind (arith, b_small);
-      third_small = grind (arith, c_small);
-      some = some_word a b c (sym (ap (λ (x : ℕ). nat_lt 0 a || (nat_lt 0 b || (nat_lt 0 c || (nat_lt 0 x || false)))) d_none) ∙ some);
+      first_small = ltb-true a (2 ^ 64) from_first.0;
+      second_small = ltb-true b (2 ^ 64) from_second.0;
+      third_small = ltb-true c (2 ^ 2) from_third.0;
+      some = some_word a b c (sym (ap (λ (x : ℕ). has_some (a ∷ b ∷ c ∷ x ∷ [])) d_none) ∙ both.0);
     }
 year_words (a ∷ b ∷ c ∷ d ∷ e ∷ more) four valid = absurd (omega (arith, four))
 
