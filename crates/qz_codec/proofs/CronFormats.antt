@@ -10,7 +10,7 @@ use Rattle.qz_civil.specs.declared.fields.Field.{Field}
 use Rattle.qz_civil.specs.declared.fields.Field.TheVariants.{Seconds, Minutes, Hours, DayOfMonth, Month, DayOfWeek, Year}
 use Rattle.qz_civil.specs.declared.fields.WeekField.{WeekField}
 use Rattle.qz_civil.specs.declared.fields.WeekField.TheVariants as week_days
-use Rattle.qz_civil.specs.Fields.{size, least, greatest, is_set, is_value, is_year_set, is_day_field, is_week_field, is_any_day, is_any_week, is_time_fields, is_date_fields, is_cron_fields}
+use Rattle.qz_civil.specs.Fields.{size, least, greatest, is_set, is_value, is_within_words, has_some, is_year_set, is_day_field, is_week_field, is_any_day, is_any_week, is_time_fields, is_date_fields, is_cron_fields}
 use Rattle.qz_codec.specs.Layout.{number, day_field, week_field, words, cron_fields}
 use Rattle.qz_codec.specs.Reading.{Read, as_variant, checked, byte_at, set_at, day_at, nth_at, named_week_at, any_week_at, years_at, cron_fields_at}
 use Rattle.qz_codec.proofs.Formats.{IsFormat, Any, Also, Both, field, last, same}
@@ -214,7 +214,13 @@ third_below w h = grind arith
 
 fourth_below : (a b c d : ℕ) → is_year_set (a ∷ b ∷ c ∷ d ∷ []) ≡ true → d < 2 ^ 64
 unfolding is_year_set size
-fourth_below a b c d h = grind arith
+fourth_below a b c d h =
+    let both = both_true (has_some (a ∷ b ∷ c ∷ d ∷ [])) (is_within_words 130 (a ∷ b ∷ c ∷ d ∷ [])) h in
+    let from_first = both_true (nat_lt a (2 ^ 64)) (is_within_words 66 (b ∷ c ∷ d ∷ [])) both.others in
+    let from_second = both_true (nat_lt b (2 ^ 64)) (is_within_words 2 (c ∷ d ∷ [])) from_first.others in
+    let from_third = both_true (nat_lt c (2 ^ 2)) (is_within_words 0 (d ∷ [])) from_second.others in
+    let none : nat_lt d 1 ≡ true = (both_true (nat_lt d 1) true from_third.others).first in
+    grind (arith, none)
 
 abbrev IsFourLong : List ℕ → Type 0
 IsFourLong ws = length ws ≡ 4
