@@ -1,5 +1,6 @@
 //! Worked examples of crashes, the disks that fail by a rule, and one real file.
-use qz_civil::{List, Text, let_go};
+use crate::rows::{Row, check};
+use qz_civil::{List, Text, beside, let_go};
 use qz_disk::{Call, CutDisk, Disk, FaultDisk, FileDisk, MemDisk};
 use std::alloc::{AllocError, Global};
 use std::{env, fs, process};
@@ -32,13 +33,28 @@ fn put<D: Disk>(disk: &mut D, at: u64, bytes: &[u8]) -> bool {
     }
 }
 
+fn disk_with(alloc: Global, bytes: &[u8]) -> Result<MemDisk, AllocError> {
+    Ok(MemDisk::with_bytes(alloc, list(alloc, bytes)?))
+}
+
+fn push_image(
+    images: &mut List<List<u8>>,
+    image: Result<List<u8>, AllocError>,
+) -> Result<(), AllocError> {
+    Ok(images.push(image?)?)
+}
+
+fn lists(alloc: Global, pieces: &[&[u8]]) -> Result<List<List<u8>>, AllocError> {
+    let mut lists = List::new(alloc);
+    for &piece in pieces.iter() {
+        push_image(&mut lists, list(alloc, piece))?;
+    }
+    Ok(lists)
+}
+
 // A disk with these bytes, for which these images were chosen.
 fn disk_with_images(alloc: Global, bytes: &[u8], chosen: &[&[u8]]) -> Result<MemDisk, AllocError> {
-    let mut images = List::new(alloc);
-    for image in chosen {
-        images.push(list(alloc, image)?)?;
-    }
-    let mut disk = MemDisk::with_bytes(alloc, list(alloc, bytes)?);
+    let (images, mut disk) = beside(lists(alloc, chosen)?, disk_with(alloc, bytes))?;
     disk.choose(images);
     Ok(disk)
 }
@@ -48,16 +64,18 @@ fn restarts_as<D: Disk>(alloc: Global, disk: &mut D, at: u64, bytes: &[u8], want
     put(disk, at, bytes) && disk.restart().is_ok() && holds(alloc, disk, want)
 }
 
-// `abc` is synced, and then `XY` written at 2. Whether these bytes come up, if they are chosen.
-fn comes_up(alloc: Global, bytes: &[u8]) -> Option<bool> {
-    let mut disk = disk_with_images(alloc, b"abc", &[bytes]).ok()?;
-    let is_right = restarts_as(alloc, &mut disk, 2, b"XY", bytes);
-    let_go(disk);
-    Some(is_right)
+// Bytes, and whether they come up, if they are chosen: `abc` is synced, and then `XY` written at 2.
+type Image = (&'static [u8], bool);
+
+impl Row for Image {
+    fn holds(&self, alloc: Global) -> Result<bool, AllocError> {
+        let &(bytes, is_image) = self;
+        let mut disk = disk_with_images(alloc, b"abc", &[bytes])?;
+        Ok(restarts_as(alloc, &mut disk, 2, b"XY", bytes) == is_image)
+    }
 }
 
-/// Bytes, and whether they can come up.
-const IMAGES: [(&[u8], bool); 9] = [
+const IMAGES: &[Image] = &[
     (b"abc", true),
     (b"abX", true),
     (b"ab\0", true),
@@ -70,13 +88,8 @@ const IMAGES: [(&[u8], bool); 9] = [
 ];
 
 #[test]
-fn a_crash_tears_only_what_was_written(rt: HostRuntime) {
-    for (bytes, is_image) in &IMAGES {
-        assert!(rt;
-            comes_up(rt.alloc(), bytes) == Some(*is_image),
-            "at {bytes:?}"
-        );
-    }
+fn a_crash_tears_only_what_was_written(rt: HostRuntime) -> Result<(), AllocError> {
+    check(&rt, rt.alloc(), IMAGES)
 }
 
 // The second takes none: what was synced by the first can't become shorter or other.
@@ -86,16 +99,13 @@ fn takes_two_of_four_images<D: Disk>(alloc: Global, disk: &mut D) -> bool {
         && restarts_as(alloc, disk, 0, b"d", b"d")
 }
 
-fn takes_two_images(alloc: Global) -> Option<bool> {
-    let mut disk = disk_with_images(alloc, b"", &[b"no image", b"a", b"", b"b"]).ok()?;
-    let is_right = takes_two_of_four_images(alloc, &mut disk) && disk.starved() == 0;
-    let_go(disk);
-    Some(is_right)
-}
-
 #[test]
-fn each_restart_takes_the_next_image(rt: HostRuntime) {
-    assert!(rt; takes_two_images(rt.alloc()) == Some(true));
+fn each_restart_takes_the_next_image(rt: HostRuntime) -> Result<(), AllocError> {
+    let mut disk = disk_with_images(rt.alloc(), b"", &[b"no image", b"a", b"", b"b"])?;
+    let is_right = takes_two_of_four_images(rt.alloc(), &mut disk) && disk.starved() == 0;
+    let_go(disk);
+    assert!(rt; is_right);
+    Ok(())
 }
 
 // Whether these are a write of `X` at 1, a sync, and a reading of three bytes.
@@ -112,60 +122,50 @@ fn are_those_of_a_change(calls: &[Call]) -> bool {
     }
 }
 
-fn records_its_calls(alloc: Global) -> Option<bool> {
-    let mut disk = MemDisk::with_bytes(alloc, list(alloc, b"abc").ok()?);
+fn records_its_calls(alloc: Global, mut disk: MemDisk) -> bool {
     let done = put(&mut disk, 1, b"X") && disk.sync().is_ok();
     let held = holds(alloc, &mut disk, b"aXc");
-    let are_right = are_those_of_a_change(disk.calls());
-    let_go(disk);
-    Some(done && held && are_right)
+    done && held && are_those_of_a_change(disk.calls())
 }
 
 #[test]
-fn a_disk_in_memory_records_its_calls(rt: HostRuntime) {
-    assert!(rt; records_its_calls(rt.alloc()) == Some(true));
+fn a_disk_in_memory_records_its_calls(rt: HostRuntime) -> Result<(), AllocError> {
+    let disk = disk_with(rt.alloc(), b"abc")?;
+    assert!(rt; records_its_calls(rt.alloc(), disk));
+    Ok(())
 }
 
 // Whether the disk fails behind a write, and a restart ends that.
-fn is_cut_up_to_a_restart<D: Disk>(alloc: Global, disk: &mut D) -> bool {
-    let written = put(disk, 0, b"X");
+fn is_cut_up_to_a_restart<D: Disk>(alloc: Global, mut disk: D) -> bool {
+    let written = put(&mut disk, 0, b"X");
     let cut = disk.sync().is_err() && disk.len().is_err();
-    written && cut && disk.restart().is_ok() && holds(alloc, disk, b"Xbc")
-}
-
-fn is_cut(alloc: Global) -> Option<bool> {
-    let inner = MemDisk::with_bytes(alloc, list(alloc, b"abc").ok()?);
-    let mut disk = CutDisk::new(inner, 2);
-    let is_right = is_cut_up_to_a_restart(alloc, &mut disk);
-    let_go(disk);
-    Some(is_right)
+    written && cut && disk.restart().is_ok() && holds(alloc, &mut disk, b"Xbc")
 }
 
 #[test]
-fn a_cut_ends_with_a_restart(rt: HostRuntime) {
-    assert!(rt; is_cut(rt.alloc()) == Some(true));
+fn a_cut_ends_with_a_restart(rt: HostRuntime) -> Result<(), AllocError> {
+    let disk = CutDisk::new(disk_with(rt.alloc(), b"abc")?, 2);
+    assert!(rt; is_cut_up_to_a_restart(rt.alloc(), disk));
+    Ok(())
 }
 
-// Whether of five calls the second and the fourth fail.
-fn fails_at_two_and_four<D: Disk>(disk: &mut D) -> bool {
-    disk.sync().is_ok()
-        && disk.sync().is_err()
-        && disk.sync().is_ok()
-        && disk.sync().is_err()
-        && disk.sync().is_ok()
-}
-
-fn listed_calls_fail(alloc: Global) -> Option<bool> {
-    let listed = Vec::from_slice(alloc, &[2, 4]).ok()?;
-    let mut disk = FaultDisk::new(MemDisk::new(alloc), List::from_vec(listed));
-    let is_right = fails_at_two_and_four(&mut disk);
-    let_go(disk);
-    Some(is_right)
+// Which of five calls fail.
+fn failing<D: Disk>(mut disk: D) -> [bool; 5] {
+    [
+        disk.sync().is_err(),
+        disk.sync().is_err(),
+        disk.sync().is_err(),
+        disk.sync().is_err(),
+        disk.sync().is_err(),
+    ]
 }
 
 #[test]
-fn the_listed_calls_fail(rt: HostRuntime) {
-    assert!(rt; listed_calls_fail(rt.alloc()) == Some(true));
+fn the_listed_calls_fail(rt: HostRuntime) -> Result<(), AllocError> {
+    let listed = List::from_vec(Vec::from_slice(rt.alloc(), &[2, 4])?);
+    let disk = FaultDisk::new(MemDisk::new(rt.alloc()), listed);
+    assert!(rt; failing(disk) == [false, true, false, true, false]);
+    Ok(())
 }
 
 // Whether two writes, a sync and a restart leave what was written.
@@ -184,36 +184,39 @@ fn file_name(rt: HostRuntime) -> Option<Text> {
 }
 
 // Whether a disk is empty, makes no file by itself, and keeps what is written.
-fn keeps_a_file(rt: HostRuntime, path: &str) -> Option<bool> {
-    let mut disk = FileDisk::new(rt, Text::from_str(rt.alloc(), path).ok()?);
+fn keeps_a_file<D: Disk>(rt: HostRuntime, path: &str, mut disk: D) -> bool {
     let empty = disk.len() == Ok(0) && disk.sync().is_ok();
     let made_none = matches!(fs::exists(&rt, path), Ok(false));
-    let kept = keeps_two_writes(rt.alloc(), &mut disk);
-    let_go(disk);
-    Some(empty && made_none && kept)
+    empty && made_none && keeps_two_writes(rt.alloc(), &mut disk)
 }
 
 // Whether it is found out that another program cuts the file: what was measured isn't there to be read.
-fn finds_a_cut(rt: HostRuntime, path: &str) -> Option<bool> {
-    let mut disk = FileDisk::new(rt, Text::from_str(rt.alloc(), path).ok()?);
-    let mut front = [0; 3];
+fn finds_a_cut<D: Disk>(rt: HostRuntime, path: &str, mut disk: D) -> bool {
     let long = disk.len() == Ok(7);
     let cut = fs::write(&rt, path, "a").is_ok();
-    let fails = long && disk.read(0, &mut front).is_err();
-    let_go(disk);
-    Some(cut && fails)
+    long && cut && disk.read(0, &mut [0; 3]).is_err()
 }
 
-fn makes_a_file(rt: HostRuntime) -> Option<bool> {
-    let path = file_name(rt)?;
-    let is_kept = keeps_a_file(rt, path.as_str()) == Some(true);
-    let is_right = is_kept && finds_a_cut(rt, path.as_str()) == Some(true);
-    let removed = fs::remove_file(&rt, path.as_str()).is_ok();
-    let_go(path);
-    Some(is_right && removed)
+// Whether a file is kept, and then cut, and can be removed.
+fn is_made(rt: HostRuntime, path: &str) -> Result<bool, AllocError> {
+    let kept = keeps_a_file(
+        rt,
+        path,
+        FileDisk::new(rt, Text::from_str(rt.alloc(), path)?),
+    );
+    let cut = finds_a_cut(
+        rt,
+        path,
+        FileDisk::new(rt, Text::from_str(rt.alloc(), path)?),
+    );
+    let removed = fs::remove_file(&rt, path).is_ok();
+    Ok(kept && cut && removed)
 }
 
 #[test]
 fn a_file_is_made_at_the_first_write(rt: HostRuntime) {
-    assert!(rt; makes_a_file(rt) == Some(true));
+    let path = file_name(rt);
+    let is_made = matches!(&path, Some(path) if is_made(rt, path.as_str()) == Ok(true));
+    let_go(path);
+    assert!(rt; is_made);
 }

@@ -1,19 +1,23 @@
 //! Worked examples: stores that are whole, damaged or of another kind, the room that is left, and a commit that is cut.
-use qz_civil::{List, let_go};
+use crate::rows::{Row, check};
+use qz_civil::{List, beside, let_go};
 use qz_disk::{Call, CutDisk, Disk, FaultDisk, MemDisk};
 use qz_journal::{
     AppendError, CreateError, Journal, JournalFull, MountError, STATES, TRIGGERS, create, fits,
 };
 use std::alloc::{AllocError, Global};
-use std::process::Abort;
 
 const HEADER: &[u8] = b"QZ23\x01T\0\0\0\0\0\0\0\0\0\0";
 
-// A disk with these two pieces.
-fn disk_of(alloc: Global, front: &[u8], behind: &[u8]) -> Result<MemDisk, AllocError> {
+fn joined(alloc: Global, front: &[u8], behind: &[u8]) -> Result<List<u8>, AllocError> {
     let mut bytes = Vec::from_slice(alloc, front)?;
     bytes.extend_from_slice(behind)?;
-    Ok(MemDisk::with_bytes(alloc, List::from_vec(bytes)))
+    Ok(List::from_vec(bytes))
+}
+
+// A disk with these two pieces.
+fn disk_of(alloc: Global, front: &[u8], behind: &[u8]) -> Result<MemDisk, AllocError> {
+    Ok(MemDisk::with_bytes(alloc, joined(alloc, front, behind)?))
 }
 
 // Whether the payloads have these lengths.
@@ -42,21 +46,11 @@ fn opens_as<D: Disk>(alloc: Global, disk: D, found: &Found) -> bool {
 /// The two pieces of a disk's bytes, and what an opening of it finds.
 type Opening = (&'static [u8], &'static [u8], Found);
 
-fn is_opened(alloc: Global, opening: &Opening) -> bool {
-    match disk_of(alloc, opening.0, opening.1) {
-        Ok(disk) => opens_as(alloc, disk, &opening.2),
-        Err(AllocError) => false,
-    }
-}
-
-fn are_opened(rt: &impl Abort, alloc: Global, openings: &[Opening]) {
-    for opening in openings {
-        assert!(rt;
-            is_opened(alloc, opening),
-            "at {:?} {:?}",
-            opening.0,
-            opening.1
-        );
+impl Row for Opening {
+    fn holds(&self, alloc: Global) -> Result<bool, AllocError> {
+        let &(front, behind, found) = self;
+        let disk = disk_of(alloc, front, behind)?;
+        Ok(opens_as(alloc, disk, &found))
     }
 }
 
@@ -65,7 +59,7 @@ const ANY_BYTES: &[u8] = b"\0and any bytes";
 const NOT_A_STORE: Found = Err(MountError::NotAStore);
 
 /// No header, half of one, one of the other kind, one of another version, one with a byte that is reserved, and a whole one.
-const HEADERS: [Opening; 6] = [
+const HEADERS: &[Opening] = &[
     (b"", ANY_BYTES, NOT_A_STORE),
     (b"QZ23\x01", ANY_BYTES, NOT_A_STORE),
     (b"QZ23\x01S\0\0\0\0\0\0\0\0\0\0", ANY_BYTES, NOT_A_STORE),
@@ -75,15 +69,15 @@ const HEADERS: [Opening; 6] = [
 ];
 
 #[test]
-fn the_header_decides_whether_it_is_a_store(rt: HostRuntime) {
-    are_opened(&rt, rt.alloc(), &HEADERS);
+fn the_header_decides_whether_it_is_a_store(rt: HostRuntime) -> Result<(), AllocError> {
+    check(&rt, rt.alloc(), HEADERS)
 }
 
 const DAMAGED_AT_16: Found = Err(MountError::Damaged { at: 16 });
 
 const DAMAGED_AT_22: Found = Err(MountError::Damaged { at: 22 });
 
-const PAYLOADS: [Opening; 12] = [
+const PAYLOADS: &[Opening] = &[
     (HEADER, b"", DAMAGED_AT_16),
     (HEADER, b"\xa5\0\0\0\x10\x01\x02\x03", DAMAGED_AT_16),
     (HEADER, b"\0any bytes", Ok(&[])),
@@ -103,8 +97,8 @@ const PAYLOADS: [Opening; 12] = [
 ];
 
 #[test]
-fn the_least_bad_place_is_answered(rt: HostRuntime) {
-    are_opened(&rt, rt.alloc(), &PAYLOADS);
+fn the_least_bad_place_is_answered(rt: HostRuntime) -> Result<(), AllocError> {
+    check(&rt, rt.alloc(), PAYLOADS)
 }
 
 #[test]
@@ -118,37 +112,31 @@ fn the_room_ends_at_the_limits(rt: HostRuntime) {
 }
 
 // Whether a store is created in place of what else stands on the disk, and none in its place.
-fn is_created_once<D: Disk>(disk: &mut D) -> bool {
-    create(disk, STATES) == Ok(())
-        && create(disk, STATES) == Err(CreateError::Exists)
-        && create(disk, TRIGGERS) == Err(CreateError::OtherKind)
+fn is_created_once<D: Disk>(mut disk: D) -> bool {
+    create(&mut disk, STATES) == Ok(())
+        && create(&mut disk, STATES) == Err(CreateError::Exists)
+        && create(&mut disk, TRIGGERS) == Err(CreateError::OtherKind)
         && disk.len() == Ok(32)
 }
 
-fn is_created_on_another_file(alloc: Global) -> Option<bool> {
-    let mut disk = disk_of(alloc, b"some other file, which is longer", b"").ok()?;
-    let is_right = is_created_once(&mut disk);
-    let_go(disk);
-    Some(is_right)
+#[test]
+fn a_store_is_created_once(rt: HostRuntime) -> Result<(), AllocError> {
+    let disk = disk_of(rt.alloc(), b"some other file, which is longer", b"")?;
+    assert!(rt; is_created_once(disk));
+    Ok(())
+}
+
+// Whether a store is created the second time, where a fault comes first.
+fn is_created_after_a_fault<D: Disk>(mut disk: D) -> bool {
+    create(&mut disk, STATES) == Err(CreateError::Fault) && create(&mut disk, STATES) == Ok(())
 }
 
 #[test]
-fn a_store_is_created_once(rt: HostRuntime) {
-    assert!(rt; is_created_on_another_file(rt.alloc()) == Some(true));
-}
-
-// Whether a store is created on a disk whose first call fails, the second time.
-fn is_created_after_a_fault(alloc: Global) -> Option<bool> {
-    let failing = Vec::from_slice(alloc, &[1]).ok()?;
-    let mut disk = FaultDisk::new(MemDisk::new(alloc), List::from_vec(failing));
-    let (first, second) = (create(&mut disk, STATES), create(&mut disk, STATES));
-    let_go(disk);
-    Some(first == Err(CreateError::Fault) && second == Ok(()))
-}
-
-#[test]
-fn a_store_is_created_after_a_fault(rt: HostRuntime) {
-    assert!(rt; is_created_after_a_fault(rt.alloc()) == Some(true));
+fn a_store_is_created_after_a_fault(rt: HostRuntime) -> Result<(), AllocError> {
+    let failing = List::from_vec(Vec::from_slice(rt.alloc(), &[1])?);
+    let disk = FaultDisk::new(MemDisk::new(rt.alloc()), failing);
+    assert!(rt; is_created_after_a_fault(disk));
+    Ok(())
 }
 
 // The disk behind an opening and a commit of `\x07`.
@@ -203,13 +191,17 @@ fn a_commit_makes_four_device_calls(rt: HostRuntime) {
 /// crash; what a commit of `\x07` answers then; and the lengths of the payloads that a restart finds.
 type Cut = (u8, &'static [u8], Result<(), AppendError>, &'static [usize]);
 
+// A list of the image alone that has a header and these bytes.
+fn only_image(alloc: Global, image: &[u8]) -> Result<List<List<u8>>, AllocError> {
+    let image = joined(alloc, HEADER, image)?;
+    let mut images = List::new(alloc);
+    images.push(image)?;
+    Ok(images)
+}
+
 // A new store's disk that is cut so.
 fn cut_disk(alloc: Global, passes: u8, image: &[u8]) -> Result<CutDisk<MemDisk>, AllocError> {
-    let mut chosen = Vec::from_slice(alloc, HEADER)?;
-    chosen.extend_from_slice(image)?;
-    let mut images = List::new(alloc);
-    images.push(List::from_vec(chosen))?;
-    let mut disk = disk_of(alloc, HEADER, b"\0")?;
+    let (images, mut disk) = beside(only_image(alloc, image)?, disk_of(alloc, HEADER, b"\0"))?;
     disk.choose(images);
     Ok(CutDisk::new(disk, 3 + u64::from(passes)))
 }
@@ -238,10 +230,10 @@ fn is_cut_on<D: Disk>(alloc: Global, disk: D, cut: &Cut) -> bool {
     is_right
 }
 
-fn is_cut(alloc: Global, cut: &Cut) -> bool {
-    match cut_disk(alloc, cut.0, cut.1) {
-        Ok(disk) => is_cut_on(alloc, disk, cut),
-        Err(AllocError) => false,
+impl Row for Cut {
+    fn holds(&self, alloc: Global) -> Result<bool, AllocError> {
+        let disk = cut_disk(alloc, self.0, self.1)?;
+        Ok(is_cut_on(alloc, disk, self))
     }
 }
 
@@ -250,7 +242,7 @@ const FAULT: Result<(), AppendError> = Err(AppendError::Fault);
 /// What is no image is passed over, and the bytes come up as they were written.
 const NO_IMAGE: &[u8] = b"";
 
-const CUTS: [Cut; 10] = [
+const CUTS: &[Cut] = &[
     (0, NO_IMAGE, FAULT, &[]),
     (1, NO_IMAGE, FAULT, &[]),
     (1, b"\0\xa5\xa5\xa5", FAULT, &[]),
@@ -264,8 +256,6 @@ const CUTS: [Cut; 10] = [
 ];
 
 #[test]
-fn a_commit_that_is_cut_is_there_or_not(rt: HostRuntime) {
-    for cut in &CUTS {
-        assert!(rt; is_cut(rt.alloc(), cut), "at {} {:?}", cut.0, cut.1);
-    }
+fn a_commit_that_is_cut_is_there_or_not(rt: HostRuntime) -> Result<(), AllocError> {
+    check(&rt, rt.alloc(), CUTS)
 }

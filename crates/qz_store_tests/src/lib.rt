@@ -12,4 +12,6 @@ mod journal;
 #[cfg(test)]
 mod model;
 #[cfg(test)]
+mod rows;
+#[cfg(test)]
 mod trigger_store;
