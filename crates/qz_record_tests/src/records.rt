@@ -109,7 +109,7 @@ const FIRE: &[u8; 34] = b"\x01\
     \x00\x00\x00\x00\x00\x00\x00\x01";
 
 /// The places that are wrong in `FIRE` where only so many bytes of it are there.
-const FIELDS: [u32; 34] = [
+const FIELDS: &[u32] = &[
     0, 1, 1, 1, 1, 1, 1, 1, 1, 9, 10, 10, 12, 13, 13, 13, 13, 13, 13, 13, 13, 21, 21, 21, 21, 25,
     26, 26, 26, 26, 26, 26, 26, 26,
 ];
@@ -221,7 +221,7 @@ fn worked_example(rt: HostRuntime) {
 }
 
 /// Records of the six commands that are built.
-const SIX: [(Of, &[u8]); 6] = [
+const SIX: &[(Of, &[u8])] = &[
     (Of::Entry, FIRE),
     (Of::Entry, ADD_JOB),
     (Of::Entry, ADD_TRIGGER),
@@ -246,11 +246,11 @@ fn go_both_ways(rt: &impl Abort, alloc: Global, samples: &[(Of, &[u8])]) {
 
 #[test]
 fn both_ways(rt: HostRuntime) {
-    go_both_ways(&rt, rt.alloc(), &SIX);
-    go_both_ways(&rt, rt.alloc(), &kinds::SAMPLES);
-    go_both_ways(&rt, rt.alloc(), &states::SAMPLES);
-    go_both_ways(&rt, rt.alloc(), &rows::SAMPLES);
-    go_both_ways(&rt, rt.alloc(), &calendars::SAMPLES);
+    go_both_ways(&rt, rt.alloc(), SIX);
+    go_both_ways(&rt, rt.alloc(), kinds::SAMPLES);
+    go_both_ways(&rt, rt.alloc(), states::SAMPLES);
+    go_both_ways(&rt, rt.alloc(), rows::SAMPLES);
+    go_both_ways(&rt, rt.alloc(), calendars::SAMPLES);
 }
 
 // A record that is cut is wrong at the place of the field that is missing.
@@ -264,13 +264,13 @@ fn are_cut_at(rt: &impl Abort, alloc: Global, of: Of, record: &[u8], places: &[u
 
 #[test]
 fn cut_records(rt: HostRuntime) {
-    are_cut_at(&rt, rt.alloc(), Of::Entry, FIRE, &FIELDS);
+    are_cut_at(&rt, rt.alloc(), Of::Entry, FIRE, FIELDS);
     are_cut_at(
         &rt,
         rt.alloc(),
         Of::StateEntry,
         states::CHECK_IN,
-        &states::FIELDS,
+        states::FIELDS,
     );
 }
 
@@ -295,7 +295,7 @@ fn spoil(alloc: Global, spoiled: &Spoiled) -> Result<Vec<u8>, AllocError> {
     Ok(bytes)
 }
 
-const SPOILED: [Spoiled; 18] = [
+const SPOILED: &[Spoiled] = &[
     // Another version, a flag that is none, a name without bytes, one of 121 bytes, one that isn't UTF-8.
     Spoiled {
         of: Of::Entry,
@@ -452,15 +452,15 @@ fn are_wrong_there(rt: &impl Abort, alloc: Global, rows: &[Spoiled]) {
 #[test]
 fn spoiled_records(rt: HostRuntime) {
     let alloc = rt.alloc();
-    are_wrong_there(&rt, alloc, &SPOILED);
-    are_wrong_there(&rt, alloc, &kinds::SPOILED_KINDS);
-    are_wrong_there(&rt, alloc, &states::SPOILED);
-    are_wrong_there(&rt, alloc, &rows::SPOILED_JOBS);
-    are_wrong_there(&rt, alloc, &rows::SPOILED_TRIGGERS);
-    are_wrong_there(&rt, alloc, &rows::SPOILED_FIRED);
-    are_wrong_there(&rt, alloc, &rows::SPOILED_MEMBERS);
-    are_wrong_there(&rt, alloc, &rows::SPOILED_STATES);
-    are_wrong_there(&rt, alloc, &rows::SPOILED_GROUPS);
-    are_wrong_there(&rt, alloc, &calendars::SPOILED_CALENDARS);
-    are_wrong_there(&rt, alloc, &calendars::SPOILED_ZONES);
+    are_wrong_there(&rt, alloc, SPOILED);
+    are_wrong_there(&rt, alloc, kinds::SPOILED_KINDS);
+    are_wrong_there(&rt, alloc, states::SPOILED);
+    are_wrong_there(&rt, alloc, rows::SPOILED_JOBS);
+    are_wrong_there(&rt, alloc, rows::SPOILED_TRIGGERS);
+    are_wrong_there(&rt, alloc, rows::SPOILED_FIRED);
+    are_wrong_there(&rt, alloc, rows::SPOILED_MEMBERS);
+    are_wrong_there(&rt, alloc, rows::SPOILED_STATES);
+    are_wrong_there(&rt, alloc, rows::SPOILED_GROUPS);
+    are_wrong_there(&rt, alloc, calendars::SPOILED_CALENDARS);
+    are_wrong_there(&rt, alloc, calendars::SPOILED_ZONES);
 }

@@ -79,7 +79,7 @@ const ZONE: &[u8; 30] = b"\x01\
     \xff\xff\x02\xe0";
 
 /// Calendars of each kind, and a zone.
-pub(super) const SAMPLES: [(Of, &[u8]); 7] = [
+pub(super) const SAMPLES: &[(Of, &[u8])] = &[
     (Of::CalendarRow, ANNUAL),
     (Of::CalendarRow, HOLIDAY),
     (Of::CalendarRow, WEEKLY),
@@ -147,7 +147,7 @@ fn values(rt: HostRuntime) {
     assert!(rt; reads_zone(rt.alloc()) == Some(true));
 }
 
-pub(super) const SPOILED_CALENDARS: [Spoiled; 22] = [
+pub(super) const SPOILED_CALENDARS: &[Spoiled] = &[
     // A name without bytes, a flag that is none, a base of 201 bytes, a zone of none, a kind that isn't there.
     Spoiled {
         of: Of::CalendarRow,
@@ -310,7 +310,7 @@ pub(super) const SPOILED_CALENDARS: [Spoiled; 22] = [
     },
 ];
 
-pub(super) const SPOILED_ZONES: [Spoiled; 9] = [
+pub(super) const SPOILED_ZONES: &[Spoiled] = &[
     // No name, no stretch, 513 stretches, three of which there are two.
     Spoiled {
         of: Of::ZoneRow,

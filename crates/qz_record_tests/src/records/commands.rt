@@ -29,7 +29,7 @@ struct Sample {
     printed: &'static str,
 }
 
-const SAMPLES: [Sample; 16] = [
+const SAMPLES: &[Sample] = &[
     Sample {
         before: BY_CLIENT,
         bytes: b"\x01\x00\x01g\x00\x01n",
@@ -145,7 +145,7 @@ fn goes_both_ways(alloc: Global, sample: &Sample) -> bool {
 
 #[test]
 fn each_sample_both_ways(rt: HostRuntime) {
-    for sample in &SAMPLES {
+    for sample in SAMPLES {
         assert!(rt; goes_both_ways(rt.alloc(), sample), "{}", sample.printed);
     }
 }
@@ -178,7 +178,7 @@ fn places_of_clients_and_nodes(rt: HostRuntime) {
 }
 
 /// Commands that are wrong, what stands before each, and the place of its fault.
-const WRONG: [(&[u8], &[u8], u32); 15] = [
+const WRONG: &[(&[u8], &[u8], u32)] = &[
     // A group without bytes, one of 201, no name behind it, a name that is cut, one that isn't UTF-8.
     (BY_CLIENT, b"\x01\x00\x00", 15),
     (BY_CLIENT, b"\x03\x00\xc9", 15),
@@ -203,7 +203,7 @@ const WRONG: [(&[u8], &[u8], u32); 15] = [
 
 #[test]
 fn wrong_commands(rt: HostRuntime) {
-    for (before, bytes, at) in &WRONG {
+    for (before, bytes, at) in WRONG {
         assert!(rt;
             is_wrong_at(rt.alloc(), before, bytes, Some(*at)),
             "{bytes:?}"

@@ -68,7 +68,7 @@ fn is_seen(alloc: Global, row: &Row) -> bool {
 
 #[test]
 fn each_byte_of_a_record(rt: HostRuntime) {
-    for row in &ROWS {
+    for row in ROWS {
         assert!(rt;
             is_seen(rt.alloc(), row),
             "a record of {} bytes",
@@ -77,7 +77,7 @@ fn each_byte_of_a_record(rt: HostRuntime) {
     }
 }
 
-const ROWS: [Row; 15] = [
+const ROWS: &[Row] = &[
     // Fire
     Row {
         of: Of::Entry,

@@ -99,7 +99,7 @@ const ADD_DAILY: &[u8; 66] = b"\x01\
     \x01";
 
 /// Other days of the month and of the week in `ADD_CRON`.
-const DAYS: [(&[u8], &[u8]); 6] = [
+const DAYS: &[(&[u8], &[u8])] = &[
     (&[1, 0x7f, 0xff, 0xff, 0xff], &[0]),
     (&[2, 30], &[0]),
     (&[3], &[0]),
@@ -121,7 +121,7 @@ fn with_days(alloc: Global, month: &[u8], week: &[u8]) -> Result<Vec<u8>, AllocE
     Ok(bytes)
 }
 
-pub(super) const SAMPLES: [(Of, &[u8]); 3] = [
+pub(super) const SAMPLES: &[(Of, &[u8])] = &[
     (Of::Entry, ADD_CRON),
     (Of::Entry, ADD_INTERVAL),
     (Of::Entry, ADD_DAILY),
@@ -136,7 +136,7 @@ fn days_are_again(alloc: Global, month: &[u8], week: &[u8]) -> bool {
 
 #[test]
 fn days_both_ways(rt: HostRuntime) {
-    for (month, week) in &DAYS {
+    for (month, week) in DAYS {
         assert!(rt;
             days_are_again(rt.alloc(), month, week),
             "{month:?} {week:?}"
@@ -157,7 +157,7 @@ fn units_both_ways(rt: HostRuntime) {
     }
 }
 
-pub(super) const SPOILED_KINDS: [Spoiled; 25] = [
+pub(super) const SPOILED_KINDS: &[Spoiled] = &[
     // No second, one beyond 59, an hour beyond 23, a form of days that isn't there, a month beyond 12.
     Spoiled {
         of: Of::Entry,

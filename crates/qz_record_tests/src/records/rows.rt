@@ -85,7 +85,7 @@ const ZONE: &[u8; 18] = b"\x01\
     \x00\x00\x0e\x10";
 
 /// A row of each type; that of a group is written apart.
-pub(super) const SAMPLES: [(Of, &[u8]); 7] = [
+pub(super) const SAMPLES: &[(Of, &[u8])] = &[
     (Of::JobRow, JOB),
     (Of::TriggerRow, TRIGGER),
     (Of::FiredRow, FIRED),
@@ -192,7 +192,7 @@ fn states_of_triggers(rt: HostRuntime) {
 }
 
 /// Jobs that are wrong in one place.
-pub(super) const SPOILED_JOBS: [Spoiled; 6] = [
+pub(super) const SPOILED_JOBS: &[Spoiled] = &[
     // Another version, a group without bytes, a flag that is none, a payload of 4097 bytes, one that is cut.
     Spoiled {
         of: Of::JobRow,
@@ -240,7 +240,7 @@ pub(super) const SPOILED_JOBS: [Spoiled; 6] = [
 ];
 
 /// Triggers that are wrong in one place.
-pub(super) const SPOILED_TRIGGERS: [Spoiled; 7] = [
+pub(super) const SPOILED_TRIGGERS: &[Spoiled] = &[
     // A misfire instruction that the kind doesn't have, and flags that are none.
     Spoiled {
         of: Of::TriggerRow,
@@ -295,7 +295,7 @@ pub(super) const SPOILED_TRIGGERS: [Spoiled; 7] = [
 ];
 
 /// Fired rows that are wrong in one place.
-pub(super) const SPOILED_FIRED: [Spoiled; 7] = [
+pub(super) const SPOILED_FIRED: &[Spoiled] = &[
     // A node of 121 bytes, a group without bytes, a state that isn't there.
     Spoiled {
         of: Of::FiredRow,
@@ -350,7 +350,7 @@ pub(super) const SPOILED_FIRED: [Spoiled; 7] = [
 ];
 
 /// Members that are wrong in one place.
-pub(super) const SPOILED_MEMBERS: [Spoiled; 2] = [
+pub(super) const SPOILED_MEMBERS: &[Spoiled] = &[
     // A node that isn't UTF-8, and a byte behind the record.
     Spoiled {
         of: Of::MemberRow,
@@ -369,7 +369,7 @@ pub(super) const SPOILED_MEMBERS: [Spoiled; 2] = [
 ];
 
 /// Check-ins that are wrong in one place.
-pub(super) const SPOILED_STATES: [Spoiled; 3] = [
+pub(super) const SPOILED_STATES: &[Spoiled] = &[
     // Intervals of 0 and of a day and 1 ms, and a byte behind the record.
     Spoiled {
         of: Of::StateRow,
@@ -395,7 +395,7 @@ pub(super) const SPOILED_STATES: [Spoiled; 3] = [
 ];
 
 /// Groups that are wrong in one place.
-pub(super) const SPOILED_GROUPS: [Spoiled; 4] = [
+pub(super) const SPOILED_GROUPS: &[Spoiled] = &[
     // No bytes, 201 bytes, bytes that are cut, a byte behind the record.
     Spoiled {
         of: Of::Group,

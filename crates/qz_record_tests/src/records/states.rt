@@ -25,7 +25,7 @@ const FORGET: &[u8; 25] = b"\x01\
     \xff\xff\xff\xff\xff\xff\xff\xff";
 
 /// The places that are wrong in `CHECK_IN` where only so many bytes of it are there.
-pub(super) const FIELDS: [u32; 25] = [
+pub(super) const FIELDS: &[u32] = &[
     0, 1, 1, 1, 1, 1, 1, 1, 1, 9, 9, 9, 9, 13, 14, 14, 16, 17, 17, 17, 17, 17, 17, 17, 17,
 ];
 
@@ -38,7 +38,7 @@ const LONGEST: &[u8; 25] = b"\x01\
     \x41\
     \x00\x00\x00\x00\x05\x26\x5c\x00";
 
-pub(super) const SAMPLES: [(Of, &[u8]); 3] = [
+pub(super) const SAMPLES: &[(Of, &[u8])] = &[
     (Of::StateEntry, CHECK_IN),
     (Of::StateEntry, FORGET),
     (Of::StateEntry, LONGEST),
@@ -75,7 +75,7 @@ fn values(rt: HostRuntime) {
 }
 
 /// Records that are wrong in one place.
-pub(super) const SPOILED: [Spoiled; 11] = [
+pub(super) const SPOILED: &[Spoiled] = &[
     // Another version, a command that isn't there, a node without bytes.
     Spoiled {
         of: Of::StateEntry,
