@@ -274,4 +274,4 @@ for of, name, record in RECORDS:
     total = 2166136261
     for place in places:
         total = (total ^ place) * 16777619 % (1 << 32)
-    print(f"    // {name}\n    Row {{\n        of: Of::{OF[of]},\n        record: {literal(record)},\n        right: {places.count(255)},\n        places: {total},\n    }},")
+    print(f"    Row {{\n        name: \"{name}\",\n        of: Of::{OF[of]},\n        record: {literal(record)},\n        right: {places.count(255)},\n        places: {total},\n    }},")

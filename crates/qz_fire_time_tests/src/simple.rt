@@ -58,9 +58,9 @@ fn is_next(&(start, end, interval, count, after, wanted): &Row) -> bool {
 }
 
 #[test]
-fn repeats(rt: HostRuntime) {
+fn times_of_repeats(rt: HostRuntime) {
     for row in REPEATS.iter() {
-        assert!(rt; is_next(row), "at {}", row.4);
+        assert!(rt; is_next(row), "at {row:?}");
     }
     assert!(rt; SimpleTimes::new(5000, None, 1000, 2).next(5000) == Some(6000));
 }

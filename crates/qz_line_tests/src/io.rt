@@ -125,7 +125,7 @@ const LONG_LINES: &[LongRow] = &[
 ];
 
 #[test]
-fn long_lines(rt: HostRuntime) -> Result<(), AllocError> {
+fn lines_beyond_the_limit_are_too_long(rt: HostRuntime) -> Result<(), AllocError> {
     check(&rt, rt.alloc(), LONG_LINES)
 }
 
@@ -152,7 +152,7 @@ fn slow_source(alloc: Global, bytes: &[u8]) -> Result<Slow, AllocError> {
 }
 
 #[test]
-fn small_pieces(rt: HostRuntime) -> Result<(), AllocError> {
+fn lines_come_whole_from_small_pieces(rt: HostRuntime) -> Result<(), AllocError> {
     let mut source = slow_source(rt.alloc(), b"abcdefg\nhi\n\njklm")?;
     assert!(rt; tells(rt.alloc(), &mut source, b"[abcdefg][hi][]<jklm>.")?);
     Ok(())
@@ -181,7 +181,7 @@ fn count_blocks<S: Source>(reader: &mut LineReader, source: &mut S) -> u8 {
 }
 
 #[test]
-fn many_blocks(rt: HostRuntime) -> Result<(), AllocError> {
+fn lines_come_whole_across_blocks(rt: HostRuntime) -> Result<(), AllocError> {
     let source = block_source(rt.alloc(), 200)?;
     let reader = LineReader::new(rt.alloc()).map_err(|_| AllocError);
     let (mut source, mut reader) = beside(source, reader)?;
@@ -224,7 +224,7 @@ fn takes_both(sink: &mut MemSink) -> bool {
 }
 
 #[test]
-fn whole_writes(rt: HostRuntime) {
+fn pieces_are_written_whole(rt: HostRuntime) {
     assert!(rt; takes_both(&mut MemSink::new(rt.alloc())));
 }
 
@@ -277,13 +277,13 @@ fn can_read<S: Source>(source: &mut S) -> bool {
 }
 
 #[test]
-fn real_clock(rt: HostRuntime) {
+fn the_real_clock_shows_a_time_behind_2020(rt: HostRuntime) {
     let mut clock = RealClock::new(&rt);
     assert!(rt; clock.now() > 1_600_000_000_000 && clock.faults() == 0);
 }
 
 #[test]
-fn real_streams(rt: HostRuntime) {
+fn real_streams_take_and_give_bytes(rt: HostRuntime) {
     assert!(rt; takes_line(&mut StdSink::new(rt.stdout()), b"out\n"));
     assert!(rt; takes_line(&mut StdSink::new(rt.stderr()), b"err\n"));
     assert!(rt; can_read(&mut StdSource::new(rt.reader())));

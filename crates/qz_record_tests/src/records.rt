@@ -216,7 +216,7 @@ fn reads_worked_example(alloc: Global) -> bool {
 }
 
 #[test]
-fn worked_example(rt: HostRuntime) {
+fn the_example_of_the_page_is_read(rt: HostRuntime) {
     assert!(rt; reads_worked_example(rt.alloc()));
 }
 
@@ -240,12 +240,12 @@ fn is_again(alloc: Global, of: Of, record: &[u8]) -> bool {
 
 fn go_both_ways(rt: &impl Abort, alloc: Global, samples: &[(Of, &[u8])]) {
     for (of, record) in samples {
-        assert!(rt; is_again(alloc, *of, record), "{of:?}");
+        assert!(rt; is_again(alloc, *of, record), "{of:?} {record:?}");
     }
 }
 
 #[test]
-fn both_ways(rt: HostRuntime) {
+fn records_are_written_as_they_were_read(rt: HostRuntime) {
     go_both_ways(&rt, rt.alloc(), SIX);
     go_both_ways(&rt, rt.alloc(), kinds::SAMPLES);
     go_both_ways(&rt, rt.alloc(), states::SAMPLES);
@@ -258,12 +258,15 @@ fn are_cut_at(rt: &impl Abort, alloc: Global, of: Of, record: &[u8], places: &[u
     assert!(rt; record.len() == places.len());
     for (size, place) in places.iter().enumerate() {
         let cut = record.get(..size).unwrap_or(record);
-        assert!(rt; place_in(alloc, of, cut) == Some(*place), "{size} bytes");
+        assert!(rt;
+            place_in(alloc, of, cut) == Some(*place),
+            "{of:?} cut to {size} bytes"
+        );
     }
 }
 
 #[test]
-fn cut_records(rt: HostRuntime) {
+fn a_cut_record_is_wrong_at_the_missing_field(rt: HostRuntime) {
     are_cut_at(&rt, rt.alloc(), Of::Entry, FIRE, FIELDS);
     are_cut_at(
         &rt,
@@ -275,7 +278,7 @@ fn cut_records(rt: HostRuntime) {
 }
 
 /// A record whose bytes from `from` on are these, and the place at which it is wrong then.
-#[derive(Drop)]
+#[derive(Debug, Drop)]
 struct Spoiled {
     of: Of,
     record: &'static [u8],
@@ -440,17 +443,12 @@ fn is_wrong_there(alloc: Global, spoiled: &Spoiled) -> bool {
 // Each is wrong at its place.
 fn are_wrong_there(rt: &impl Abort, alloc: Global, rows: &[Spoiled]) {
     for spoiled in rows {
-        assert!(rt;
-            is_wrong_there(alloc, spoiled),
-            "{:?} from {}",
-            spoiled.of,
-            spoiled.from
-        );
+        assert!(rt; is_wrong_there(alloc, spoiled), "{spoiled:?}");
     }
 }
 
 #[test]
-fn spoiled_records(rt: HostRuntime) {
+fn a_spoiled_record_is_wrong_at_its_place(rt: HostRuntime) {
     let alloc = rt.alloc();
     are_wrong_there(&rt, alloc, SPOILED);
     are_wrong_there(&rt, alloc, kinds::SPOILED_KINDS);

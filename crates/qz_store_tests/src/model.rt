@@ -120,7 +120,7 @@ fn is_left_with_a_member(store: &PlainStore) -> bool {
 }
 
 #[test]
-fn six_commands(rt: HostRuntime) {
+fn six_commands_leave_the_member_alone(rt: HostRuntime) {
     let alloc = rt.alloc();
     let mut store = PlainStore::new(alloc);
     let is_right = acquires_the_first(alloc, &mut store, T0)
@@ -145,7 +145,7 @@ fn fires_no_earlier_than_planned(rt: HostRuntime) {
 }
 
 #[test]
-fn refusals(rt: HostRuntime) {
+fn refusals_have_their_numbers(rt: HostRuntime) {
     let alloc = rt.alloc();
     let mut store = PlainStore::new(alloc);
     let is_right = refusal(&mut store, fire(alloc, T0, 1)) == Some(1)

@@ -29,16 +29,28 @@ const YEARS: &[([u64; 4], bool)] = &[
 ];
 
 #[test]
-fn sets_and_values(rt: HostRuntime) {
+fn sets_of_fields(rt: HostRuntime) {
     for &(field, set, wanted) in SETS.iter() {
-        assert!(rt; field.is_set(set) == wanted);
+        assert!(rt; field.is_set(set) == wanted, "{field:?} {set:x}");
     }
+}
+
+#[test]
+fn values_of_fields(rt: HostRuntime) {
     for &(field, value, wanted) in VALUES.iter() {
-        assert!(rt; field.is_value(value) == wanted);
+        assert!(rt; field.is_value(value) == wanted, "{field:?} {value}");
     }
+}
+
+#[test]
+fn sets_of_years(rt: HostRuntime) {
     for &(words, wanted) in YEARS.iter() {
-        assert!(rt; is_year_set(words) == wanted);
+        assert!(rt; is_year_set(words) == wanted, "{words:?}");
     }
+}
+
+#[test]
+fn any_day_alone_is_any(rt: HostRuntime) {
     assert!(rt; DayField::Any.is_any() && !DayField::LastWeekday.is_any());
 }
 

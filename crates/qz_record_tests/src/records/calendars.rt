@@ -141,7 +141,7 @@ fn reads_zone(alloc: Global) -> Option<bool> {
 }
 
 #[test]
-fn values(rt: HostRuntime) {
+fn calendars_and_zones_are_read_with_their_values(rt: HostRuntime) {
     assert!(rt; reads_daily(rt.alloc()) == Some(true));
     assert!(rt; reads_annual(rt.alloc()) == Some(true));
     assert!(rt; reads_zone(rt.alloc()) == Some(true));

@@ -5,6 +5,7 @@ use std::alloc::{AllocError, Global};
 use std::test::*;
 
 struct Row {
+    name: &'static str,
     of: Of,
     record: &'static [u8],
     /// How many of the spoiled records are right.
@@ -69,17 +70,13 @@ fn is_seen(alloc: Global, row: &Row) -> bool {
 #[test]
 fn each_byte_of_a_record(rt: HostRuntime) {
     for row in ROWS {
-        assert!(rt;
-            is_seen(rt.alloc(), row),
-            "a record of {} bytes",
-            row.record.len()
-        );
+        assert!(rt; is_seen(rt.alloc(), row), "{}", row.name);
     }
 }
 
 const ROWS: &[Row] = &[
-    // Fire
     Row {
+        name: "Fire",
         of: Of::Entry,
         record: b"\x01\x00\x00\x01\x8c\xc2\x51\xf4\x00\x01\x00\x01\x41\x00\x00\x00\
             \x00\x00\x00\x00\x01\x00\x00\x00\x00\x12\x00\x00\x00\x00\x00\x00\
@@ -87,8 +84,8 @@ const ROWS: &[Row] = &[
         right: 147,
         places: 3917716747,
     },
-    // Acquire
     Row {
+        name: "Acquire",
         of: Of::Entry,
         record: b"\x01\x00\x00\x01\x8c\xc2\x51\xf4\x00\x01\x00\x01\x41\x00\x00\x00\
             \x00\x00\x00\x00\x01\x00\x00\x00\x00\x10\x00\x20\x00\x00\x00\x00\
@@ -96,8 +93,8 @@ const ROWS: &[Row] = &[
         right: 153,
         places: 2414678593,
     },
-    // Complete
     Row {
+        name: "Complete",
         of: Of::Entry,
         record: b"\x01\x00\x00\x01\x8c\xc2\x51\xf4\x00\x01\x00\x01\x41\x00\x00\x00\
             \x00\x00\x00\x00\x01\x00\x00\x00\x00\x13\x00\x00\x00\x00\x00\x00\
@@ -105,16 +102,16 @@ const ROWS: &[Row] = &[
         right: 149,
         places: 2701463961,
     },
-    // AddJob
     Row {
+        name: "AddJob",
         of: Of::Entry,
         record: b"\x01\x00\x00\x01\x8c\xc2\x51\xf4\x00\x00\x00\x00\x00\x00\x00\x00\
             \x01\x67\x00\x01\x6e\x00\x01\x63\x01\x00\x01\x00\x02\xc3\xa9\x00",
         right: 88,
         places: 1377011914,
     },
-    // AddTrigger, simple
     Row {
+        name: "AddTrigger, simple",
         of: Of::Entry,
         record: b"\x01\x00\x00\x01\x8c\xc2\x51\xf4\x00\x00\x00\x00\x00\x00\x02\x00\
             \x01\x67\x00\x01\x74\x00\x01\x67\x00\x01\x6e\xff\xff\xff\xff\x01\
@@ -124,8 +121,8 @@ const ROWS: &[Row] = &[
         right: 198,
         places: 36589235,
     },
-    // AddTrigger, cron
     Row {
+        name: "AddTrigger, cron",
         of: Of::Entry,
         record: b"\x01\x00\x00\x01\x8c\xc2\x51\xf4\x00\x00\x00\x00\x00\x00\x02\x00\
             \x01\x67\x00\x01\x74\x00\x01\x67\x00\x01\x6e\x00\x00\x00\x00\x00\
@@ -137,8 +134,8 @@ const ROWS: &[Row] = &[
         right: 346,
         places: 1384710133,
     },
-    // AddTrigger, daily
     Row {
+        name: "AddTrigger, daily",
         of: Of::Entry,
         record: b"\x01\x00\x00\x01\x8c\xc2\x51\xf4\x00\x00\x00\x00\x00\x00\x02\x00\
             \x01\x67\x00\x01\x74\x00\x01\x67\x00\x01\x6e\x00\x00\x00\x00\x00\
@@ -147,8 +144,8 @@ const ROWS: &[Row] = &[
         right: 175,
         places: 3960119565,
     },
-    // AddCalendar, annual
     Row {
+        name: "AddCalendar, annual",
         of: Of::Entry,
         record: b"\x01\x00\x00\x01\x8c\xc2\x51\xf4\x00\x00\x00\x00\x00\x00\x08\x00\
             \x01\x63\x01\x00\x01\x62\x00\x03\x55\x54\x43\x00\x00\x02\x00\xe5\
@@ -156,8 +153,8 @@ const ROWS: &[Row] = &[
         right: 92,
         places: 2514357652,
     },
-    // AddZone
     Row {
+        name: "AddZone",
         of: Of::Entry,
         record: b"\x01\x00\x00\x01\x8c\xc2\x51\xf4\x00\x00\x00\x00\x00\x00\x0a\x00\
             \x01\x7a\x00\x02\x00\x00\x00\x00\x00\x00\x00\x00\x00\x00\x0e\x10\
@@ -165,24 +162,24 @@ const ROWS: &[Row] = &[
         right: 114,
         places: 4236752190,
     },
-    // Threshold
     Row {
+        name: "Threshold",
         of: Of::Entry,
         record: b"\x01\x00\x00\x01\x8c\xc2\x51\xf4\x00\x00\x00\x00\x00\x00\x0d\x00\
             \x00\x00\x00\x05\x26\x5c\x00",
         right: 73,
         places: 1203391119,
     },
-    // CheckIn
     Row {
+        name: "CheckIn",
         of: Of::StateEntry,
         record: b"\x01\x00\x00\x01\x8c\xc2\x51\xf4\x00\x00\x00\x00\x00\x00\x00\x01\
             \x41\x00\x00\x00\x00\x00\x00\x3a\x98",
         right: 89,
         places: 3897785971,
     },
-    // a trigger
     Row {
+        name: "a trigger",
         of: Of::TriggerRow,
         record: b"\x01\x00\x01\x67\x00\x01\x74\x00\x01\x67\x00\x01\x6e\xff\xff\xff\
             \xff\x01\x00\x01\x68\x00\x00\x00\x00\x00\x00\x00\x03\xe8\xff\xff\
@@ -192,8 +189,8 @@ const ROWS: &[Row] = &[
         right: 190,
         places: 3335567743,
     },
-    // a fired row
     Row {
+        name: "a fired row",
         of: Of::FiredRow,
         record: b"\x01\x00\x00\x00\x00\x00\x00\x00\x07\x00\x01\x41\x00\x00\x00\x00\
             \x00\x00\x00\x01\x00\x01\x67\x00\x01\x74\x00\x01\x67\x00\x01\x6e\
@@ -202,16 +199,16 @@ const ROWS: &[Row] = &[
         right: 213,
         places: 2990829557,
     },
-    // a holiday calendar
     Row {
+        name: "a holiday calendar",
         of: Of::CalendarRow,
         record: b"\x01\x00\x01\x63\x00\x00\x03\x55\x54\x43\x01\x00\x02\x01\x34\xd7\
             \x65\x01\x40\x4c\xff",
         right: 26,
         places: 1577705372,
     },
-    // a zone
     Row {
+        name: "a zone",
         of: Of::ZoneRow,
         record: b"\x01\x00\x01\x7a\x00\x02\x00\x00\x00\x00\x00\x00\x00\x00\x00\x00\
             \x0e\x10\x00\x00\x00\x00\x0a\x4c\xb8\x00\xff\xff\x02\xe0",

@@ -84,7 +84,7 @@ fn place_of(alloc: Global, of: Of, record: Result<Vec<u8>, AllocError>) -> Optio
 }
 
 #[test]
-fn too_many(rt: HostRuntime) {
+fn lists_beyond_their_limits_are_refused(rt: HostRuntime) {
     let alloc = rt.alloc();
     assert!(rt; place_of(alloc, Of::CalendarRow, annual_of(alloc, 367)) == Some(11));
     assert!(rt; place_of(alloc, Of::CalendarRow, holiday_of(alloc, 4097)) == Some(11));

@@ -152,7 +152,7 @@ fn writes_group(alloc: Global) -> Option<bool> {
 }
 
 #[test]
-fn values(rt: HostRuntime) {
+fn rows_are_read_with_their_values(rt: HostRuntime) {
     assert!(rt; reads_group(rt.alloc()) == Some(true));
     assert!(rt; writes_group(rt.alloc()) == Some(true));
     assert!(rt; reads_trigger(rt.alloc()) == Some(true));

@@ -69,7 +69,7 @@ fn reads_forget(alloc: Global) -> Option<bool> {
 }
 
 #[test]
-fn values(rt: HostRuntime) {
+fn state_entries_are_read_with_their_values(rt: HostRuntime) {
     assert!(rt; reads_check_in(rt.alloc()) == Some(true));
     assert!(rt; reads_forget(rt.alloc()) == Some(true));
 }
