@@ -1,4 +1,5 @@
--- Which calendars are valid. Lists are ascending, so that none has an item twice.
+-- Which calendars are valid. Lists are ascending, so that none has an item twice. The kinds are those of Quartz's AnnualCalendar,
+-- HolidayCalendar, WeeklyCalendar, MonthlyCalendar, DailyCalendar and CronCalendar.
 use Rattle.std.specs.Prelude.{ℕ, ◌/◌, ◌%◌, ◌^◌, Bool, true, ◌&&◌, nat_lt, nat_le, List, [], ◌∷◌, length, Option, Some, None}
 use Rattle.qz_civil.specs.declared.calendars.CalendarKind.{CalendarKind}
 use Rattle.qz_civil.specs.declared.calendars.CalendarKind.TheVariants.{Annual, Holiday, Weekly, Monthly, Daily, Cron}

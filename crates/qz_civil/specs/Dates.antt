@@ -46,7 +46,8 @@ IsDate d = IsInRange 1 12 d.month × IsInRange 1 (month_length d) d.day
 abbrev pub date_part : Civil → Date
 date_part c = record { year = unsigned_abs c.year; month = c.month; day = c.day }
 
--- the calendar has this date, and the parts of a week and of a day are within their ranges
+-- The calendar has this date (of a negative year, the one without the sign), the weekday is 1 to 7, and the second is one of a
+-- day. The millisecond may be any.
 abbrev pub IsCivil : Civil → Type 0
 IsCivil c = IsDate (date_part c) × IsInRange 1 7 c.weekday × (c.second < 86400)
 

@@ -1,4 +1,4 @@
--- The seven fields of a cron text, and when a civil time meets them.
+-- The seven fields of a cron text, and when a civil time meets them, by the rules of Quartz's CronExpression.
 use Rattle.std.specs.Prelude.{ℕ, ◌+◌, ◌-◌, ◌/◌, ◌%◌, ◌^◌, min, pos, Bool, true, false, not, nat_lt, nat_le, int_le, ◌&&◌, ◌||◌, ◌==◌, if◌then◌else◌, slice_index, List, [], ◌∷◌}
 use Rattle.std.specs.Int.{bit_at}
 use Rattle.qz_civil.specs.declared.dates.Civil.{Civil}
@@ -23,6 +23,7 @@ number Month = 5
 number DayOfWeek = 6
 number Year = 7
 
+-- the least value of the field, and the greatest
 unfoldable pub least : Field → ℕ
 least Seconds = 0
 least Minutes = 0
@@ -60,13 +61,15 @@ has_word words i = has (slice_index words (i / 64)) (i % 64)
 abbrev pub weekday_at : ℕ → ℕ → ℕ → ℕ
 weekday_at d w other = (w + 34 + other - d) % 7 + 1
 
--- the day from Monday to Friday that is nearest to day a, whose weekday is w, within a month of that length
+-- the day from Monday to Friday that is nearest to day a, whose weekday is w, within a month of that length: of a Saturday the
+-- Friday before, but on the 1st the Monday after; of a Sunday the Monday after, but on the last day the Friday before
 abbrev pub nearest : ℕ → ℕ → ℕ → ℕ
 nearest length a w =
     if w == 7 then (if a == 1 then 3 else a - 1)
     else (if w == 1 then (if a == length then a - 2 else a + 1) else a)
 
--- day d, whose weekday is w, of a month of that length meets the field
+-- Day d, whose weekday is w, of a month of that length meets the field. `L-n` is n days before the last one, `LW` the last
+-- from Monday to Friday, and `aW` the one from Monday to Friday that is nearest to day a: a month without that day has none.
 unfoldable pub in_days : DayField → ℕ → ℕ → ℕ → Bool
 in_days days.Any length d w = true
 in_days (days.Set set) length d w = has set (d - 1)
@@ -74,7 +77,7 @@ in_days (days.Last back) length d w = d + back == length
 in_days days.LastWeekday length d w = d == nearest length length (weekday_at d w length)
 in_days (days.Nearest a) length d w = (nat_le 1 a && nat_le a length) && (d == nearest length a (weekday_at d w a))
 
--- the same of the week's field
+-- the same of the week's field: `aL` is weekday a in the month's last seven days, and `a#k` the k-th weekday a of the month
 unfoldable pub in_week : WeekField → ℕ → ℕ → ℕ → Bool
 in_week weeks.Any length d w = true
 in_week (weeks.Set set) length d w = has set (w - 1)
@@ -84,6 +87,7 @@ in_week (weeks.Nth day nth) length d w = (w == day) && ((d + 6) / 7 == nth)
 unfoldable pub in_months : CronFields → ℕ → Bool
 in_months f m = has f.months (m - 1)
 
+-- a local year outside 1970 to LAST_YEAR meets no field, `*` neither
 unfoldable pub in_years : CronFields → ℕ → Bool
 in_years f y = is_value Year y && has_word f.years (y - 1970)
 

@@ -54,22 +54,25 @@ is_daily_time unit every from to =
 abbrev pub is_day_set : ℕ → Bool
 is_day_set days = nat_lt 0 days && nat_lt days (2 ^ 7)
 
+-- what the kind has is within its limits
 abbrev pub is_kind : Kind → Bool
 is_kind (Simple interval count) = is_simple interval count
 is_kind (Cron fields zone) = is_cron_fields fields && is_name zone
 is_kind (Interval unit every zone) = is_every every && is_name zone
 is_kind (Daily unit every from to days zone) = is_daily_time unit every from to && (is_day_set days && is_name zone)
 
--- the misfire instructions of a kind
+-- the misfire instructions of a kind, numbered as in Quartz: -1 ignores misfires, 0 leaves it to the kind
 abbrev pub is_misfire : Kind → ℤ → Bool
 is_misfire (Simple interval count) code = is_within (negsuc 0) (pos 5) code
 is_misfire (Cron fields zone) code = is_within (negsuc 0) (pos 2) code
 is_misfire (Interval unit every zone) code = is_within (negsuc 0) (pos 2) code
 is_misfire (Daily unit every from to days zone) code = is_within (negsuc 0) (pos 2) code
 
+-- none, or a time
 abbrev pub is_end : Option ℤ → Bool
 is_end None = true
 is_end (Some t) = is_span t
 
+-- the kind is valid, and the misfire instruction, the start and the end are
 abbrev pub is_timing : Timing → Bool
 is_timing t = is_kind t.kind && is_misfire t.kind t.misfire && is_span t.start && is_end t.end

@@ -11,6 +11,7 @@ use Rattle.qz_civil.specs.Timings.{is_within, is_timestamp}
 
 -- The stretches of a zone.
 
+-- at most 18 hours on either side, in seconds
 abbrev pub is_offset : ℤ → Bool
 is_offset z = is_within (neg_ℤ OFFSET_LIMIT) OFFSET_LIMIT z
 
@@ -61,7 +62,7 @@ offset_of (Some s) = s.offset
 abbrev pub offset_at : List Stretch → ℤ → ℤ
 offset_at zs t = offset_of (slice_get zs (stretch_at zs t))
 
--- the local clock at t, in ms since 1969-12-31T00:00:00
+-- the local clock at t, in ms since 1969-12-31T00:00:00; where t is 0 or later, no clock shows less
 abbrev pub local : List Stretch → ℤ → ℕ
 local zs t = unsigned_abs (t +ℤ pos 86400000 +ℤ offset_at zs t *ℤ pos 1000)
 

@@ -1,4 +1,4 @@
--- The timestamps of a daily trigger.
+-- The timestamps of a daily trigger, as of Quartz's DailyTimeIntervalTrigger: the last time of the day is included, the end isn't.
 use Rattle.std.specs.Prelude.{◌≡◌, ℕ, ◌-◌, ◌*◌, ◌%◌, Bool, true, ◌&&◌, ◌==◌, nat_le, ℤ, pos, ◌≤ℤ◌, List, Option}
 use Rattle.qz_civil.specs.declared.stretches.Stretch.{Stretch}
 use Rattle.qz_civil.specs.declared.timings.Unit.{Unit}

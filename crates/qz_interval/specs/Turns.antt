@@ -41,7 +41,7 @@ pub record HasTimestamp (zone : List Stretch) (turns : Turns) (k : ℕ) (t : ℤ
 abbrev pub ArePassed : List Stretch → Turns → ℤ → ℕ → Type 0
 ArePassed zone turns after k = (j : ℕ) (s : ℤ) → 1 ≤ j → j < k → HasTimestamp zone turns j s → s ≤ℤ after
 
--- at least a day or a month, and no more than 2147483647 weeks
+-- 1 to 2 to the power of 40 days or months: 2147483647 weeks or years are fewer
 abbrev pub IsStep : Step → Type 0
 IsStep (ByDays step) = IsInRange 1 (2 ^ 40) step
 IsStep (ByMonths step) = IsInRange 1 (2 ^ 40) step

@@ -8,7 +8,7 @@ use Rattle.qz_types.specs.declared.triggers.TriggerState.{TriggerState}
 use Rattle.qz_types.specs.declared.triggers.TriggerState.TheVariants.{Waiting, Acquired, Complete, Blocked, Paused, PausedBlocked, Error}
 use Rattle.qz_model.specs.Tables.{SchedulerTables}
 use Rattle.qz_model.specs.Words.{key_cmp, trigger_of}
-use Rattle.qz_model.specs.Due.{is_waiting, is_upto, is_misfired, is_due, due_cmp, in_due_order, due_triggers}
+use Rattle.qz_model.specs.Due.{is_waiting, is_up_to, is_misfired, is_due, due_cmp, in_due_order, due_triggers}
 use Rattle.qz_model.proofs.RowPoints.{All-weaker, All-filter, All-put}
 use Rattle.qz_model.proofs.RowLaws.{each_trigger}
 
@@ -32,7 +32,7 @@ pub record IsStoredWaiting (T : SchedulerTables) (t : TriggerData) : Type 0 wher
 
 due_waits : (T : SchedulerTables) (m limit : ℤ) (t : TriggerData) → is_due T m limit t ≡ true → t.state ≡ Waiting
 unfolding is_due
-due_waits T m limit t due = waiting_from t.state (and_parts _ (is_upto limit t.next) (and_parts (is_waiting t.state && is_upto limit t.next) (not (is_misfired T m t)) due).0).0
+due_waits T m limit t due = waiting_from t.state (and_parts _ (is_up_to limit t.next) (and_parts (is_waiting t.state && is_up_to limit t.next) (not (is_misfired T m t)) due).0).0
 
 pub each_due : (T : SchedulerTables) (m limit : ℤ) → IsAscending key_cmp (λ r. r.spec.key) T.triggers → AllByRecursion (IsStoredWaiting T) (due_triggers T m limit)
 unfolding due_triggers

@@ -6,36 +6,32 @@ use Rattle.std.specs.declared.cmp.Ordering.TheVariants.{Less, Equal, Greater}
 use Rattle.qz_types.specs.Sorted.{put}
 use Rattle.qz_types.specs.Rows.{TriggerData}
 use Rattle.qz_types.specs.declared.triggers.TriggerState.{TriggerState}
-use Rattle.qz_types.specs.declared.triggers.TriggerState.TheVariants.{Waiting, Acquired, Complete, Blocked, Paused, PausedBlocked, Error}
+use Rattle.qz_types.specs.declared.triggers.TriggerState.TheVariants.{Waiting}
 use Rattle.qz_model.specs.Tables.{SchedulerTables}
 use Rattle.qz_model.specs.Words.{key_cmp}
 
 abbrev pub is_waiting : TriggerState → Bool
 is_waiting Waiting = true
-is_waiting Acquired = false
-is_waiting Complete = false
-is_waiting Blocked = false
-is_waiting Paused = false
-is_waiting PausedBlocked = false
-is_waiting Error = false
+is_waiting state = false
 
 -- there is a next time, and it isn't past the limit
-abbrev pub is_upto : ℤ → Option ℤ → Bool
-is_upto limit None = false
-is_upto limit (Some next) = int_le next limit
+abbrev pub is_up_to : ℤ → Option ℤ → Bool
+is_up_to limit None = false
+is_up_to limit (Some next) = int_le next limit
 
 -- there is a next time, and it lies before this one
 abbrev pub is_before : ℤ → Option ℤ → Bool
 is_before time None = false
 is_before time (Some next) = int_lt next time
 
--- its next time lies further back than the threshold, and it doesn't ignore that (Quartz's misfire threshold)
+-- its next time lies further back than the threshold, and its instruction isn't -1, Quartz's
+-- MISFIRE_INSTRUCTION_IGNORE_MISFIRE_POLICY
 unfoldable pub is_misfired : SchedulerTables → ℤ → TriggerData → Bool
 is_misfired T m t = not (int_eq t.spec.timing.misfire (negsuc 0)) && is_before (m -ℤ T.threshold) t.next
 
 -- it waits, its next time isn't past the limit, and it isn't misfired
 unfoldable pub is_due : SchedulerTables → ℤ → ℤ → TriggerData → Bool
-is_due T m limit t = is_waiting t.state && is_upto limit t.next && not (is_misfired T m t)
+is_due T m limit t = is_waiting t.state && is_up_to limit t.next && not (is_misfired T m t)
 
 -- none comes before each time
 abbrev pub next_cmp : Option ℤ → Option ℤ → Ordering
@@ -46,7 +42,9 @@ next_cmp (Some a) (Some b) = int_cmp a b
 
 -- by next time, then the greater priority, then the key
 unfoldable pub due_cmp : TriggerData → TriggerData → Ordering
-due_cmp a b = ordering_then (next_cmp a.next b.next) (ordering_then (int_cmp b.spec.priority a.spec.priority) (key_cmp a.spec.key b.spec.key))
+due_cmp a b =
+    ordering_then (next_cmp a.next b.next)
+    (ordering_then (int_cmp b.spec.priority a.spec.priority) (key_cmp a.spec.key b.spec.key))
 
 -- these triggers in due order, each put in its place
 abbrev pub in_due_order : List TriggerData → List TriggerData

@@ -1,5 +1,5 @@
--- The transactions of nodes: a trigger is acquired, fired and completed. No job has a flag yet, so none excludes
--- another execution, and each trigger fires once.
+-- The transactions of nodes: a trigger is acquired, fired and completed, as Quartz's JobStoreTX does it in a cluster. No job has
+-- a flag yet, so none excludes another execution, and each trigger fires once.
 use Rattle.std.specs.Prelude.{ℕ, min, ◌+◌, ℤ, pos, ◌+ℤ◌, List, [], ◌∷◌, Bool, true, false, not, ◌&&◌, ◌||◌, ◌==◌, length, nat_lt, if◌then◌else◌, Option, Some, None, is_none}
 use Rattle.std.specs.List.{list_any}
 use Rattle.std.specs.Ordering.{int_eq}
@@ -11,7 +11,7 @@ use Rattle.qz_types.specs.declared.triggers.TriggerState.TheVariants as state
 use Rattle.qz_types.specs.declared.fired.FiredState.{FiredState}
 use Rattle.qz_types.specs.declared.fired.FiredState.TheVariants as row
 use Rattle.qz_types.specs.declared.commands.Code.{Code}
-use Rattle.qz_types.specs.declared.commands.Code.TheVariants.{Noop, ReExecuteJob, SetTriggerComplete, DeleteTrigger, SetAllJobTriggersComplete, SetTriggerError, SetAllJobTriggersError}
+use Rattle.qz_types.specs.declared.commands.Code.TheVariants.{Noop}
 use Rattle.qz_types.specs.declared.replies.Reply.{Reply}
 use Rattle.qz_types.specs.declared.replies.Reply.TheVariants as reply
 use Rattle.qz_types.specs.declared.replies.Refusal.{Refusal}
@@ -22,7 +22,7 @@ use Rattle.qz_model.specs.Words.{same_text, same_key, job_of, without_job, trigg
 use Rattle.qz_model.specs.Due.{due_triggers, is_before}
 use Rattle.qz_model.specs.Membership.{node_refusal}
 
--- Acquire.
+-- Acquire. Not built are a window, more than one trigger, and fired rows or entry numbers beyond their limits.
 unfoldable pub acquire_refusal : SchedulerTables → ℤ → ℕ → Option Refusal
 acquire_refusal T window max =
     if not (int_eq window (pos 0)) || not (max == 1) then Some Unbuilt
@@ -30,6 +30,7 @@ acquire_refusal T window max =
     else if nat_lt NUMBER_LIMIT (T.next_entry + max) then Some Unbuilt
     else None
 
+-- the trigger waits no more
 unfoldable pub acquired : TriggerData → TriggerData
 acquired t = record t { state = state.Acquired }
 
@@ -61,6 +62,7 @@ acquire_for T m me t (Some next) (Some job) =
       last_moment = m;
     }) (reply.Acquired (record { entry = T.next_entry; trigger = t.spec.key; next = next } ∷ []))
 
+-- the same, for the trigger's own next time and job
 unfoldable pub acquire_one : SchedulerTables → ℤ → MemberData → TriggerData → Outcome
 acquire_one T m me t = acquire_for T m me t t.next (job_of t.spec.job T.jobs)
 
@@ -69,10 +71,12 @@ abbrev pub acquire_first : SchedulerTables → ℤ → MemberData → List Trigg
 acquire_first T m me [] = accepted (record T { last_moment = m }) (reply.Acquired [])
 acquire_first T m me (t ∷ ts) = acquire_one T m me t
 
+-- a member acquires the first trigger that is due up to the limit; where none is, the moment alone is recorded
 abbrev pub acquire : SchedulerTables → ℤ → MemberData → ℤ → ℤ → ℕ → Outcome
 acquire T m me no_later window max =
     unless (node_refusal T me) (unless (acquire_refusal T window max) (acquire_first T m me (due_triggers T m (no_later +ℤ window))))
 
+-- its execution hasn't begun
 abbrev pub is_acquired : FiredState → Bool
 is_acquired row.Acquired = true
 is_acquired row.Executing = false
@@ -85,14 +89,21 @@ is_of me f = same_text me.node f.node && (me.epoch == f.epoch)
 unfoldable pub spent : TriggerData → TriggerData
 spent t = record t { prev = t.next; next = None; times = min (t.times + 1) TIMES_LIMIT; state = state.Complete }
 
+-- the execution of the row begins at m, with the job's flags as they are then
 unfoldable pub executing : ℤ → JobData → FiredData → FiredData
-executing m job f = record f { state = row.Executing; fired = Some m; no_concurrent = job.no_concurrent; requests_recovery = job.requests_recovery }
+executing m job f = record f {
+  state = row.Executing;
+  fired = Some m;
+  no_concurrent = job.no_concurrent;
+  requests_recovery = job.requests_recovery;
+}
 
 -- the moment lies before the trigger's next time
 abbrev pub early : ℤ → Option ℤ → Option Refusal
 early m None = None
 early m (Some next) = if is_before next (Some m) then Some (Early next) else None
 
+-- what the node has to run, and that the trigger doesn't fire again
 unfoldable pub fired_reply : ℤ → FiredData → TriggerData → JobData → Reply
 fired_reply m f t job = reply.Fired f.entry f.scheduled m None t.spec.key job
 
@@ -107,34 +118,28 @@ fire_for T m f (Some t) (Some job) = unless (early m t.next)
       last_moment = m;
     }) (fired_reply m f t job))
 
+-- the same, for the row's own trigger and job
 unfoldable pub fire_one : SchedulerTables → ℤ → FiredData → Outcome
 fire_one T m f = fire_for T m f (trigger_of f.trigger T.triggers) (job_of f.job T.jobs)
 
+-- the row has to be the member's own, and acquired
 abbrev pub fire_row : SchedulerTables → ℤ → MemberData → Option FiredData → Outcome
 fire_row T m me None = refused UnknownEntry
 fire_row T m me (Some f) = if is_of me f && is_acquired f.state then fire_one T m f else refused Unbuilt
 
+-- a member fires what it acquired under this entry number
 abbrev pub fire : SchedulerTables → ℤ → MemberData → ℕ → Outcome
 fire T m me entry = unless (node_refusal T me) (fire_row T m me (fired_of entry T.fired))
 
--- Complete.
+-- Complete. NOOP is the only code that is built.
 abbrev pub is_noop : Code → Bool
 is_noop Noop = true
-is_noop ReExecuteJob = false
-is_noop SetTriggerComplete = false
-is_noop DeleteTrigger = false
-is_noop SetAllJobTriggersComplete = false
-is_noop SetTriggerError = false
-is_noop SetAllJobTriggersError = false
+is_noop code = false
 
+-- it has fired for the last time
 abbrev pub is_complete : TriggerState → Bool
-is_complete state.Waiting = false
-is_complete state.Acquired = false
 is_complete state.Complete = true
-is_complete state.Blocked = false
-is_complete state.Paused = false
-is_complete state.PausedBlocked = false
-is_complete state.Error = false
+is_complete s = false
 
 -- it is complete, has no next time, and no fired row names it
 unfoldable pub is_finished : List FiredData → TriggerData → Bool
@@ -149,6 +154,7 @@ abbrev pub without_orphan : List TriggerData → Option JobData → List JobData
 without_orphan triggers None jobs = jobs
 without_orphan triggers (Some job) jobs = if is_orphan triggers job then without_job job.key jobs else jobs
 
+-- the same, for the job of this key
 unfoldable pub without_orphan_of : Key → List TriggerData → List JobData → List JobData
 without_orphan_of key triggers jobs = without_orphan triggers (job_of key jobs) jobs
 
@@ -168,6 +174,7 @@ unfoldable pub completed : SchedulerTables → ℤ → FiredData → SchedulerTa
 completed T m f =
     without_finished (record T { fired = without_fired f.entry T.fired; last_moment = m }) (trigger_of f.trigger T.triggers)
 
+-- the row has to be the member's own, and executing
 abbrev pub complete_row : SchedulerTables → ℤ → MemberData → Option FiredData → Code → Outcome
 complete_row T m me None code = refused UnknownEntry
 complete_row T m me (Some f) code =
@@ -175,5 +182,6 @@ complete_row T m me (Some f) code =
     then accepted (completed T m f) (reply.Completed f.entry)
     else refused Unbuilt
 
+-- a member ends what it began under this entry number
 abbrev pub complete : SchedulerTables → ℤ → MemberData → ℕ → Code → Outcome
 complete T m me entry code = unless (node_refusal T me) (complete_row T m me (fired_of entry T.fired) code)

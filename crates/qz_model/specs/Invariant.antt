@@ -47,8 +47,10 @@ pub record IsRowOf (f : FiredData) (t : TriggerData) : Type 0 where
 
 -- Each acquired trigger has exactly one acquired row, and each acquired row is for such a trigger.
 pub record AcquiredMatch (T : SchedulerTables) : Type 0 where
-  pub one_row : AllByRecursion (λ t. t.state ≡ state.Acquired → count_by (is_acquired_for t.spec.key) T.fired ≡ 1) T.triggers
-  pub a_trigger : AllByRecursion (λ f. is_acquired f.state ≡ true → IsSomeAnd (trigger_of f.trigger T.triggers) (IsRowOf f)) T.fired
+  pub one_row : AllByRecursion
+      (λ t. t.state ≡ state.Acquired → count_by (is_acquired_for t.spec.key) T.fired ≡ 1) T.triggers
+  pub a_trigger : AllByRecursion
+      (λ f. is_acquired f.state ≡ true → IsSomeAnd (trigger_of f.trigger T.triggers) (IsRowOf f)) T.fired
 
 -- it may fire again
 abbrev pub is_live_state : TriggerState → Bool
@@ -60,12 +62,12 @@ is_live_state state.Paused = true
 is_live_state state.PausedBlocked = true
 is_live_state state.Error = false
 
--- Each trigger that may fire again has a next time.
+-- Each trigger that may fire again has a next time from 0 to the horizon, and the last moment is one from 0 to the horizon.
 pub record HaveNextTimes (T : SchedulerTables) : Type 0 where
   pub next : AllByRecursion (λ t. is_live_state t.state ≡ true → IsSomeAnd t.next (IsMoment T.horizon)) T.triggers
   pub last_moment : IsMoment T.horizon T.last_moment
 
--- the name ends in a line below and this number, without leading zeros
+-- the name ends in an underscore and this number in decimal, without leading zeros
 abbrev pub EndsIn : List ℕ → ℕ → Type 0
 EndsIn name number = (front : List ℕ) × (name ≡ front ++ 95 ∷ decimal number)
 
@@ -74,7 +76,8 @@ pub record IsNumbered (T : SchedulerTables) (t : TriggerData) (number : ℕ) : T
   pub named : EndsIn t.spec.key.name number
   pub below : number < T.next_entry
   pub no_row : fired_of number T.fired ≡ None
-  pub alone : AllByRecursion (λ u. is_reserved u.spec.key.group ≡ true → EndsIn u.spec.key.name number → u.spec.key ≡ t.spec.key) T.triggers
+  pub alone : AllByRecursion
+      (λ u. is_reserved u.spec.key.group ≡ true → EndsIn u.spec.key.name number → u.spec.key ≡ t.spec.key) T.triggers
 
 -- The next entry number was never given.
 pub record AreFresh (T : SchedulerTables) : Type 0 where

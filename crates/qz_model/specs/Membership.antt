@@ -30,6 +30,7 @@ join_refusal T node =
     else if nat_lt NUMBER_LIMIT (T.next_epoch + 1) then Some Unbuilt
     else None
 
+-- with nothing of a former self to clear away
 abbrev pub join : SchedulerTables → ℤ → List ℕ → Outcome
 join T m node = unless (join_refusal T node)
     (accepted (record T {

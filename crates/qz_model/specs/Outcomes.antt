@@ -12,8 +12,3 @@ pub data Outcome : Type 0 where
 abbrev pub unless : Option Refusal → Outcome → Outcome
 unless None outcome = outcome
 unless (Some refusal) outcome = refused refusal
-
--- the first refusal of the two
-abbrev pub or_else : Option Refusal → Option Refusal → Option Refusal
-or_else None second = second
-or_else (Some refusal) second = Some refusal

@@ -26,6 +26,7 @@ add_job_refusal T job replace =
     else if nat_le JOB_LIMIT (length T.jobs) then Some Unbuilt
     else None
 
+-- the job is stored
 abbrev pub add_job : SchedulerTables → ℤ → JobData → Bool → Outcome
 add_job T m job replace = unless (add_job_refusal T job replace)
     (accepted (record T { jobs = put_job job T.jobs; last_moment = m }) Done)
@@ -33,13 +34,13 @@ add_job T m job replace = unless (add_job_refusal T job replace)
 -- it fires once, at its start
 abbrev pub is_one_shot : Kind → Bool
 is_one_shot (Simple interval count) = int_eq interval (pos 0) && int_eq count (pos 0)
-is_one_shot (Cron fields zone) = false
-is_one_shot (Interval unit every zone) = false
-is_one_shot (Daily unit every from to days zone) = false
+is_one_shot kind = false
 
 -- a trigger that fires once and is else at its defaults, the only one that is built
 unfoldable pub is_plain_trigger : TriggerSpec → Bool
-is_plain_trigger s = is_one_shot s.timing.kind && int_eq s.timing.misfire (pos 0) && is_none s.timing.end && is_none s.calendar && int_eq s.priority (pos 5)
+is_plain_trigger s =
+    is_one_shot s.timing.kind && int_eq s.timing.misfire (pos 0) && is_none s.timing.end
+    && is_none s.calendar && int_eq s.priority (pos 5)
 
 -- the groups in which the scheduler itself adds triggers
 unfoldable pub is_reserved : List ℕ → Bool
@@ -60,6 +61,7 @@ add_trigger_refusal T s replace =
     else if nat_le TRIGGER_LIMIT (length T.triggers) then Some Unbuilt
     else None
 
+-- the trigger is stored, and its next time is its start
 abbrev pub add_trigger : SchedulerTables → ℤ → TriggerSpec → Bool → Outcome
 add_trigger T m s replace = unless (add_trigger_refusal T s replace)
     (accepted (record T { triggers = put_trigger (new_trigger s) T.triggers; last_moment = m }) (Added s.timing.start))

@@ -18,6 +18,7 @@ abbrev pub as_node : Actor → (MemberData → Outcome) → Outcome
 as_node Client does = refused Unbuilt
 as_node (Node me) does = does me
 
+-- The transaction at the recorded moment m. Whatever isn't built is refused before anything else is looked at.
 abbrev pub by_command : SchedulerTables → ℤ → Actor → Command → Outcome
 by_command T m actor (AddJob job replace) = add_job T m job replace
 by_command T m actor (AddTrigger spec replace) = add_trigger T m spec replace
@@ -42,5 +43,6 @@ by_command T m actor (Release entry) = refused Unbuilt
 by_command T m actor Misfires = refused Unbuilt
 by_command T m actor (Recover node) = refused Unbuilt
 
+-- what the entry comes to at these tables
 abbrev pub transaction : SchedulerTables → EntryData → Outcome
 transaction T e = by_command T (recorded_moment T e.at) e.actor e.command

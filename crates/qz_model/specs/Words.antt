@@ -8,6 +8,7 @@ use Rattle.qz_types.specs.Sorted.{row_of, put}
 use Rattle.qz_types.specs.Rows.{JobData, TriggerData, MemberData, FiredData}
 use Rattle.qz_types.specs.declared.keys.Key.{Key}
 
+-- by bytes, as POSIX orders texts in the C locale
 abbrev pub text_cmp : List ℕ → List ℕ → Ordering
 text_cmp = slice_cmp nat_cmp
 
@@ -15,6 +16,7 @@ text_cmp = slice_cmp nat_cmp
 abbrev pub key_cmp : Key → Key → Ordering
 key_cmp a b = ordering_then (text_cmp a.group b.group) (text_cmp a.name b.name)
 
+-- texts and keys that the order doesn't tell apart
 unfoldable pub same_text : List ℕ → List ℕ → Bool
 same_text a b = is_eq (text_cmp a b)
 

@@ -1,4 +1,4 @@
--- The fire times of a simple trigger. Times are in ms.
+-- The fire times of a simple trigger, as of Quartz's SimpleTrigger; the end is not included. Times are in ms.
 use Rattle.std.specs.Prelude.{◌≡◌, ℕ, ℤ, pos, negsuc, ◌≤ℤ◌, ◌+ℤ◌, ◌*ℤ◌, Option, ◌⊎◌}
 use Rattle.qz_civil.specs.Turns.{IsBefore}
 

@@ -43,21 +43,6 @@ is_command (Recover node) = is_node node
 
 -- what a node does under its epoch; the others are a client's
 abbrev pub is_of_node : Command → Bool
-is_of_node (AddJob job replace) = false
-is_of_node (DeleteJob key) = false
-is_of_node (AddTrigger spec replace) = false
-is_of_node (DeleteTrigger key) = false
-is_of_node (PauseTrigger key) = false
-is_of_node (ResumeTrigger key) = false
-is_of_node (PauseGroup group) = false
-is_of_node (ResumeGroup group) = false
-is_of_node (AddCalendar calendar replace) = false
-is_of_node (DeleteCalendar name) = false
-is_of_node (AddZone zone) = false
-is_of_node (DeleteZone name) = false
-is_of_node (TriggerNow job) = false
-is_of_node (Threshold ms) = false
-is_of_node (Join node) = false
 is_of_node Leave = true
 is_of_node (Acquire no_later window max) = true
 is_of_node (Release entry) = true
@@ -65,6 +50,7 @@ is_of_node (Fire entry) = true
 is_of_node (Complete entry code) = true
 is_of_node Misfires = true
 is_of_node (Recover node) = true
+is_of_node c = false
 
 -- the actor is of the kind that the command has
 abbrev pub has_actor : Bool → Actor → Bool
@@ -73,6 +59,7 @@ has_actor true Client = false
 has_actor false (Node member) = false
 has_actor false Client = true
 
+-- the command is within its limits, and its actor is of its kind
 unfoldable pub is_entry : EntryData → Bool
 is_entry e = is_command e.command && has_actor (is_of_node e.command) e.actor
 
@@ -83,6 +70,7 @@ pub record StateEntryData : Type 0 where
   pub seat : ℕ
   pub command : StateCommand
 
+-- the node and the interval are within their limits
 abbrev pub is_state_command : StateCommand → Bool
 is_state_command (CheckIn node interval) = is_node node && is_interval interval
 is_state_command (Forget node last) = is_node node

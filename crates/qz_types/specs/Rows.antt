@@ -11,6 +11,7 @@ use Rattle.qz_types.specs.declared.triggers.TriggerSpec.{TriggerSpec}
 use Rattle.qz_types.specs.declared.triggers.TriggerState.{TriggerState}
 use Rattle.qz_types.specs.declared.fired.FiredState.{FiredState}
 
+-- A job: its key, the class that runs it, its flags and its payload.
 pub record JobData : Type 0 where
   pub key : Key
   pub class : List ℕ
@@ -19,6 +20,7 @@ pub record JobData : Type 0 where
   pub requests_recovery : Bool
   pub payload : List ℕ
 
+-- A trigger: what it was stored with, its next and last fire times, how often it fired, and its state.
 pub record TriggerData : Type 0 where
   pub spec : TriggerSpec
   pub next : Option ℤ
@@ -26,6 +28,8 @@ pub record TriggerData : Type 0 where
   pub times : ℕ
   pub state : TriggerState
 
+-- A fired row: the entry number, the member that has it, its trigger and job, the time for which it was acquired, and the
+-- moment at which its execution began.
 pub record FiredData : Type 0 where
   pub entry : ℕ
   pub node : List ℕ
@@ -39,28 +43,34 @@ pub record FiredData : Type 0 where
   pub no_concurrent : Bool
   pub requests_recovery : Bool
 
+-- A member: a node and the epoch that its join gave it.
 pub record MemberData : Type 0 where
   pub node : List ℕ
   pub epoch : ℕ
 
+-- A calendar: its name, that of the calendar below it, the zone of its local times, and what it excludes.
 pub record CalendarData : Type 0 where
   pub name : List ℕ
   pub base : Option (List ℕ)
   pub zone : List ℕ
   pub kind : CalendarKind
 
+-- A zone: its name and its stretches.
 pub record ZoneData : Type 0 where
   pub name : List ℕ
   pub stretches : List Stretch
 
+-- A row of the state store: a node, its last check-in, and how often it means to check in.
 pub record StateData : Type 0 where
   pub node : List ℕ
   pub last : ℤ
   pub interval : ℤ
 
+-- a node's name
 abbrev pub is_node : List ℕ → Bool
 is_node s = nat_lt 0 (length s) && nat_le (length s) NODE_LIMIT
 
+-- Each row is valid where its names and numbers are within their limits.
 abbrev pub is_key : Key → Bool
 is_key k = is_name k.group && is_name k.name
 

@@ -2,7 +2,7 @@
 ghost use Rattle.std.specs.Prelude.{◌≡◌, ◌-ℤ◌, negsuc, option_copied, slice_get};
 ghost use Rattle.std.specs.Ordering.{int_eq};
 ghost use Rattle.qz_model.specs.Tables.{IsMoment};
-ghost use Rattle.qz_model.specs.Due.{is_waiting, is_upto, is_before, is_misfired, is_due, due_cmp, due_triggers, earlier};
+ghost use Rattle.qz_model.specs.Due.{is_waiting, is_up_to, is_before, is_misfired, is_due, due_cmp, due_triggers, earlier};
 
 use super::PlainStore;
 use qz_types::{TriggerRow, TriggerSpec, TriggerState};
@@ -33,7 +33,7 @@ impl PlainStore {
         ensures { result ≡ is_due self.now moment limit trigger.now }
     {
         is_waiting(trigger.state)
-            && is_upto(limit, trigger.next)
+            && is_up_to(limit, trigger.next)
             && !self.is_misfired(moment, trigger)
     }
 
@@ -66,8 +66,8 @@ fn is_waiting(state: TriggerState) -> bool
     matches!(state, TriggerState::Waiting)
 }
 
-fn is_upto(limit: i64, next: Option<i64>) -> bool
-    ensures { result ≡ is_upto limit next }
+fn is_up_to(limit: i64, next: Option<i64>) -> bool
+    ensures { result ≡ is_up_to limit next }
 {
     match next {
         None => false,
