@@ -5,7 +5,7 @@ ghost use Rattle.qz_civil.specs.Timings.{is_timestamp};
 ghost use Rattle.qz_civil.specs.Zones as spec;
 
 use crate::dates::{Civil, civil_of, local_of};
-use crate::limits::{LAST, LAST_DAY, OFFSET_LIMIT, STRETCH_LIMIT};
+use crate::limits::{GREATEST_SHIFT_MS, LAST, LAST_DAY, OFFSET_LIMIT, STRETCH_LIMIT};
 use crate::lists::List;
 use crate::stretches::{BadZone, Stretch, count_begun, fault_of, offset_of, start_of};
 use std::marker::Model;
@@ -26,6 +26,7 @@ impl Model for Zone {
 
     ghost view = { λ a. stretches_of a.offset a.table };
 
+    // Functions that rest on it read a field first, `let _known = self.offset;`, which shows the check that it holds.
     ghost invariant = { λ a. bad_zone (stretches_of a.offset a.table) ≡ None };
 }
 
@@ -51,7 +52,8 @@ impl Zone {
     }
 
     /// The zone of a table of stretches. It has 1 to 512 of them, each begins at a timestamp from 0 to `LAST` and at least
-    /// 48 hours after the one before, and no offset is more than 18 hours. No memory.
+    /// 48 hours after the one before, and no offset is more than 18 hours. Of several faults `BadZone` says which one is
+    /// answered. No memory.
     pub fn table(stretches: List<Stretch>) -> Result<Zone, BadZone>
         ensures ok { IfOk result (λ zone. (zone ≡ stretches) × (spec.bad_zone stretches ≡ None)) }
         ensures err { IfErr result (λ fault. spec.bad_zone stretches ≡ Some fault) }
@@ -120,7 +122,7 @@ impl Zone {
         ensures high { IfSome result.1 (λ start. start ≤ℤ LAST) }
         // Until then the offset stays.
         ensures stays { (t : ℤ) → ms ≤ℤ t → IfSome result.1 (λ start. t <ℤ start) → spec.offset_at self.now t ≡ spec.offset_at self.now ms }
-        // All offsets are within their limit.
+        // The zone's stretches have no fault.
         ensures valid { spec.bad_zone self.now ≡ None }
     {
         let _known = self.offset;
@@ -141,7 +143,7 @@ impl Zone {
         shifted(ms, self.offset_at(ms))
     }
 
-    /// The local time at the timestamp, in ms since 1970-01-01T00:00:00Z. No memory.
+    /// The local date and time of day at a timestamp, in ms since 1970-01-01T00:00:00Z and 0 to `LAST`. No memory.
     pub fn civil(&self, ms: i64) -> Civil
         requires low { pos 0 ≤ℤ ms }
         requires high { ms ≤ℤ LAST }
@@ -170,7 +172,7 @@ impl Zone {
     {
         let _known = self.offset;
         // The earliest timestamp is a day and 18 hours before, and two stretches don't begin within twice 18 hours.
-        let place = self.stretch_at(local.saturating_sub(151_200_000) as i64);
+        let place = self.stretch_at(local.saturating_sub(GREATEST_SHIFT_MS) as i64);
         let first = self.timestamp_in(place, local);
         let second = self.timestamp_in(place + 1, local);
         match first {
@@ -243,7 +245,7 @@ fn shifted(ms: i64, offset: i32) -> u64
 
 // The timestamp at which the local clock at an offset shows that.
 #[tactic(auto, using(jiff_core::proofs::SignedLemmas::signed_arith))]
-fn unshifted(local: u64, offset: i32) -> i64
+pub(crate) fn unshifted(local: u64, offset: i32) -> i64
     requires local { local < 86400000 * (LAST_DAY + 1) }
     requires offset_low { neg_ℤ OFFSET_LIMIT ≤ℤ offset }
     requires offset_high { offset ≤ℤ OFFSET_LIMIT }
