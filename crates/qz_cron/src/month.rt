@@ -123,10 +123,10 @@ impl Month {
     {
         match field {
             DayField::Any => self.any_from(low),
-            DayField::Set(set) => match next_bit(u64::from(set), low - 1, self.length) {
-                Some(bit) => Some(bit + 1),
-                None => None,
-            },
+            DayField::Set(set) => {
+                let bit = next_bit(u64::from(set), low - 1, self.length)?;
+                Some(bit + 1)
+            }
             DayField::Last { back } => self.only_from(
                 self.length.saturating_sub(u64::from(back)),
                 low,
