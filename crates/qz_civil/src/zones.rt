@@ -13,21 +13,27 @@ use std::marker::Model;
 /// A fixed offset from UTC, or a table of stretches. Contracts see it as the list of its stretches.
 #[derive(Drop)]
 pub struct Zone {
-    offset: i32,
-    table: Option<List<Stretch>>,
+    offsets: Offsets,
+}
+
+// Local time less UTC: always so many seconds, or by a table.
+#[derive(Drop)]
+enum Offsets {
+    Fixed(i32),
+    Table(List<Stretch>),
 }
 
 impl Model for Zone {
-    ghost use Rattle.std.specs.Prelude.{◌≡◌, None, List as Stretches};
+    ghost use Rattle.std.specs.Prelude.{◌≡◌, None, List as Items};
     ghost use Rattle.qz_civil.specs.declared.stretches.Stretch.{Stretch};
     ghost use Rattle.qz_civil.specs.Zones.{bad_zone, stretches_of};
 
-    ghost Value = { Stretches Stretch };
+    ghost Value = { Items Stretch };
 
-    ghost view = { λ a. stretches_of a.offset a.table };
+    ghost view = { λ a. stretches_of a.offsets };
 
-    // Functions that rest on it read a field first, `let _known = self.offset;`, which shows the check that it holds.
-    ghost invariant = { λ a. bad_zone (stretches_of a.offset a.table) ≡ None };
+    // Functions that rest on it look at a field first, `let _ = &self.offsets;`, which shows the check that it holds.
+    ghost invariant = { λ a. bad_zone (stretches_of a.offsets) ≡ None };
 }
 
 impl Zone {
@@ -46,8 +52,7 @@ impl Zone {
         ensures { result ≡ spec.fixed_offset (minutes *ℤ pos 60) }
     {
         Zone {
-            offset: minutes * 60,
-            table: None,
+            offsets: Offsets::Fixed(minutes * 60),
         }
     }
 
@@ -60,8 +65,7 @@ impl Zone {
     {
         match fault_of(stretches.as_slice()) {
             None => Ok(Zone {
-                offset: 0,
-                table: Some(stretches),
+                offsets: Offsets::Table(stretches),
             }),
             Some(fault) => Err(fault),
         }
@@ -72,10 +76,9 @@ impl Zone {
     pub fn begun(&self, ms: i64) -> usize
         ensures { result ≡ spec.begun self.now ms }
     {
-        let _known = self.offset;
-        match &self.table {
-            Some(stretches) => count_begun(stretches.as_slice(), ms),
-            None => if 0 <= ms { 1 } else { 0 },
+        match &self.offsets {
+            Offsets::Fixed(_) => if 0 <= ms { 1 } else { 0 },
+            Offsets::Table(stretches) => count_begun(stretches.as_slice(), ms),
         }
     }
 
@@ -86,7 +89,7 @@ impl Zone {
         ensures last { spec.IsLastBegun self.now ms result }
         ensures bound { result < STRETCH_LIMIT }
     {
-        let _known = self.offset;
+        let _ = &self.offsets;
         self.begun(ms).saturating_sub(1) as u32
     }
 
@@ -107,7 +110,7 @@ impl Zone {
         // Until then the offset stays.
         ensures stays { (t : ℤ) → ms ≤ℤ t → IfSome result (λ start. t <ℤ start) → spec.offset_at self.now t ≡ spec.offset_at self.now ms }
     {
-        let _known = self.offset;
+        let _ = &self.offsets;
         let place = self.begun(ms);
         self.start_of(place)
     }
@@ -125,7 +128,7 @@ impl Zone {
         // The zone's stretches have no fault.
         ensures valid { spec.bad_zone self.now ≡ None }
     {
-        let _known = self.offset;
+        let _ = &self.offsets;
         let place = self.begun(ms);
         (
             self.offset_in(place.saturating_sub(1)),
@@ -157,7 +160,7 @@ impl Zone {
     pub fn instants_of(&self, civil: Civil) -> (Option<i64>, Option<i64>)
         ensures { AreMembers (IsInstant self.now civil) result.0 result.1 }
     {
-        let _known = self.offset;
+        let _ = &self.offsets;
         match local_of(civil) {
             Some(local) => self.timestamps_at(local),
             None => (None, None),
@@ -170,7 +173,7 @@ impl Zone {
         requires { local < 86400000 * (LAST_DAY + 1) }
         ensures { AreMembers (IsShownAt self.now local) result.0 result.1 }
     {
-        let _known = self.offset;
+        let _ = &self.offsets;
         // The earliest timestamp is a day and 18 hours before, and two stretches don't begin within twice 18 hours.
         let place = self.stretch_at(local.saturating_sub(GREATEST_SHIFT_MS) as i64);
         let first = self.timestamp_in(place, local);
@@ -186,7 +189,7 @@ impl Zone {
         requires { local < 86400000 * (LAST_DAY + 1) }
         ensures { IsOnly (IsShownIn self.now local place) result }
     {
-        let _known = self.offset;
+        let _ = &self.offsets;
         let ms = unshifted(local, self.offset_in(place as usize));
         if self.is_in_stretch(place, ms) {
             Some(ms)
@@ -207,25 +210,25 @@ impl Zone {
         ensures low { neg_ℤ OFFSET_LIMIT ≤ℤ result }
         ensures high { result ≤ℤ OFFSET_LIMIT }
     {
-        let _known = self.offset;
+        let _ = &self.offsets;
         self.offset_of(place)
     }
 
     fn offset_of(&self, place: usize) -> i32
         ensures { result ≡ spec.offset_of (slice_get self.now place) }
     {
-        match &self.table {
-            Some(stretches) => offset_of(stretches.as_slice(), place),
-            None => if place == 0 { self.offset } else { 0 },
+        match &self.offsets {
+            Offsets::Fixed(offset) => if place == 0 { *offset } else { 0 },
+            Offsets::Table(stretches) => offset_of(stretches.as_slice(), place),
         }
     }
 
     fn start_of(&self, place: usize) -> Option<i64>
         ensures { result ≡ option_map (λ s. s.from) (slice_get self.now place) }
     {
-        match &self.table {
-            Some(stretches) => start_of(stretches.as_slice(), place),
-            None => if place == 0 { Some(0) } else { None },
+        match &self.offsets {
+            Offsets::Fixed(_) => if place == 0 { Some(0) } else { None },
+            Offsets::Table(stretches) => start_of(stretches.as_slice(), place),
         }
     }
 }
