@@ -59,10 +59,10 @@ horizon-number : number horizon +ℤ pos 1 ≡ pos 47484
 unfolding horizon days_from_civil day_count days_of_years days_of_months
 horizon-number = refl
 
+pub month_of-horizon : month_of 47484 ≡ 25200
+unfolding horizon
+month_of-horizon = ap month_number (date_of-number 47484 horizon (omega arith) horizon-valid (omega arith) horizon-number)
+
 -- before the third day of 2100 no month is later than its January
 pub month_of-last : (n : ℕ) → n ≤ 47484 → month_of n ≤ 25200
-unfolding horizon
-month_of-last n le =
-    let at : date_of 47484 ≡ horizon = date_of-number 47484 horizon (omega arith) horizon-valid (omega arith) horizon-number in
-    let e = ap month_number at in
-    omega (arith, month_of-rises n 47484 le, e)
+month_of-last n le = omega (arith, month_of-rises n 47484 le, month_of-horizon)

@@ -6,6 +6,8 @@ use Rattle.qz_civil.specs.declared.limits.TheConstants.{OFFSET_LIMIT, STRETCH_LE
 use Rattle.qz_civil.specs.declared.stretches.BadZone.{BadZone}
 use Rattle.qz_civil.specs.declared.stretches.BadZone.TheVariants.{Empty, NotAscending, OffsetOutOfRange, FromOutOfRange, TooManyStretches}
 use Rattle.qz_civil.specs.declared.stretches.Stretch.{Stretch}
+use Rattle.qz_civil.specs.declared.zones.Offsets.{Offsets}
+use Rattle.qz_civil.specs.declared.zones.Offsets.TheVariants.{Fixed, Table}
 use Rattle.qz_civil.specs.Dates.{civil_of}
 use Rattle.qz_civil.specs.Timings.{is_within, is_timestamp}
 
@@ -40,10 +42,10 @@ bad_zone (s ∷ rest) =
 abbrev pub fixed_offset : ℤ → List Stretch
 fixed_offset offset = record { from = pos 0; offset = offset } ∷ []
 
--- the stretches of a zone, which has a table or a fixed offset
-abbrev pub stretches_of : ℤ → Option (List Stretch) → List Stretch
-stretches_of offset None = fixed_offset offset
-stretches_of offset (Some zs) = zs
+-- the stretches of a zone
+abbrev pub stretches_of : Offsets → List Stretch
+stretches_of (Fixed offset) = fixed_offset offset
+stretches_of (Table zs) = zs
 
 -- Local time.
 

@@ -11,16 +11,16 @@ use std::alloc::AllocError;
 /// What a calendar excludes, as Quartz's calendars do. Local times are those of the calendar's zone.
 #[derive(Debug, Drop)]
 pub enum CalendarKind {
-    /// Days of each year, as `month * 100 + day`, ascending: Quartz's AnnualCalendar.
+    /// Days of each year, at most `ANNUAL_LIMIT`, as `month * 100 + day`, ascending: Quartz's AnnualCalendar.
     Annual { days: List<u16> },
-    /// Dates, as `year * 10000 + month * 100 + day`, ascending: Quartz's HolidayCalendar.
+    /// Dates, at most `HOLIDAY_LIMIT`, as `year * 10000 + month * 100 + day`, ascending: Quartz's HolidayCalendar.
     Holiday { dates: List<u32> },
     /// Days of the week; bit 0 is Sunday: Quartz's WeeklyCalendar.
     Weekly { days: u8 },
     /// Days of the month; bit 0 is the 1st: Quartz's MonthlyCalendar.
     Monthly { days: u32 },
     /// The part of each day from `from` to `to`, both included and in ms of the day, or where it is inverted all but
-    /// this part: Quartz's DailyCalendar.
+    /// this part: Quartz's DailyCalendar. Both are 0 to 86399999, `from` at most `to`.
     Daily { from: u32, to: u32, inverted: bool },
     /// The seconds that meet a cron text: Quartz's CronCalendar.
     Cron { fields: CronFields },

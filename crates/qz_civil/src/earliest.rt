@@ -5,13 +5,11 @@ ghost use Rattle.qz_civil.specs.Earliest.{HasEarliest};
 ghost use Rattle.qz_civil.specs.Instants.{IsShownAt};
 ghost use Rattle.qz_civil.specs.Timings.{is_timestamp};
 
-use crate::limits::{LAST, LAST_DAY, OFFSET_LIMIT};
-use crate::zones::Zone;
+use crate::limits::{GREATEST_SHIFT_MS, LAST, LAST_DAY};
+use crate::zones::{Zone, unshifted};
 
-// A local clock, counted from 1969-12-31T00:00:00 on, is 6 to 42 hours ahead of the timestamp, in ms.
-const LEAST_SHIFT: u64 = 21_600_000;
-
-const GREATEST_SHIFT: u64 = 151_200_000;
+// How far a local clock is ahead of the timestamp at least, in ms: 6 hours.
+const LEAST_SHIFT_MS: u64 = 21_600_000;
 
 impl Zone {
     /// The first timestamp at which the local clock, in ms since 1969-12-31T00:00:00, shows that: the earlier one in a
@@ -20,28 +18,17 @@ impl Zone {
         requires { local < 86400000 * (LAST_DAY + 1) }
         ensures { HasEarliest (IsShownAt self.now local) result }
     {
-        let mut from = local.saturating_sub(GREATEST_SHIFT);
+        let mut from = local.saturating_sub(GREATEST_SHIFT_MS);
         // stretch by stretch, mostly the first one alone
         loop {
             let (offset, next_start) = self.offset_until(from as i64);
-            let ms = timestamp_at(local, offset);
+            let ms = unshifted(local, offset);
             if is_within(ms, from, next_start) {
                 return known(ms);
             }
             from = next_from(next_start, local)?;
         }
     }
-}
-
-// When the local clock at an offset shows that.
-#[tactic(auto, using(jiff_core::proofs::SignedLemmas::signed_arith))]
-fn timestamp_at(local: u64, offset: i32) -> i64
-    requires local { local < 86400000 * (LAST_DAY + 1) }
-    requires offset_low { neg_ℤ OFFSET_LIMIT ≤ℤ offset }
-    requires offset_high { offset ≤ℤ OFFSET_LIMIT }
-    ensures { result ≡ pos local -ℤ pos 86400000 -ℤ offset *ℤ pos 1000 }
-{
-    local as i64 - 86_400_000 - offset as i64 * 1000
 }
 
 fn is_within(ms: i64, from: u64, until: Option<i64>) -> bool
@@ -60,12 +47,9 @@ fn next_from(next_start: Option<i64>, local: u64) -> Option<u64>
     requires high { ForSome next_start (λ start. start ≤ℤ LAST) }
     ensures some { IfSome result (λ from. next_start ≡ Some (pos from)) }
     ensures bound { IfSome result (λ from. from < 2 ^ 62) }
-    ensures none { result ≡ None → IfSome next_start (λ start. pos local <ℤ (start +ℤ pos LEAST_SHIFT)) }
+    ensures none { result ≡ None → IfSome next_start (λ start. pos local <ℤ (start +ℤ pos LEAST_SHIFT_MS)) }
 {
-    match next_start {
-        Some(start) => near_start(start, local),
-        None => None,
-    }
+    near_start(next_start?, local)
 }
 
 fn near_start(start: i64, local: u64) -> Option<u64>
@@ -73,10 +57,10 @@ fn near_start(start: i64, local: u64) -> Option<u64>
     requires high { start ≤ℤ LAST }
     ensures some { IfSome result (λ from. pos from ≡ start) }
     ensures bound { IfSome result (λ from. from < 2 ^ 62) }
-    ensures none { result ≡ None → pos local <ℤ (start +ℤ pos LEAST_SHIFT) }
+    ensures none { result ≡ None → pos local <ℤ (start +ℤ pos LEAST_SHIFT_MS) }
 {
     let from = start as u64;
-    if from + LEAST_SHIFT <= local {
+    if from + LEAST_SHIFT_MS <= local {
         Some(from)
     } else {
         None

@@ -131,7 +131,9 @@ fn weekday_at(day: u32, weekday: u32, other: u32) -> u32
     (weekday + 34 + other - day) % 7 + 1
 }
 
-fn nearest(length: u32, day: u32, weekday: u32) -> u32
+/// The day from Monday to Friday that is nearest to the day, within its month. `length` is how many days the month has,
+/// and `weekday` is the day's, from 1 for Sunday. No memory.
+pub fn nearest_weekday(length: u32, day: u32, weekday: u32) -> u32
     requires day { IsInRange 1 31 day }
     requires length { 28 ≤ length }
     ensures { result ≡ spec.nearest length day weekday }
@@ -160,10 +162,12 @@ impl DayField {
             DayField::Set(set) => has(u64::from(set), day - 1),
             DayField::Last { back } => day + u32::from(back) == length,
             DayField::LastWeekday => day
-                == nearest(length, length, weekday_at(day, weekday, length)),
+                == nearest_weekday(length, length, weekday_at(day, weekday, length)),
             DayField::Nearest { day: a } => {
                 let a = u32::from(a);
-                1 <= a && a <= length && day == nearest(length, a, weekday_at(day, weekday, a))
+                1 <= a
+                    && a <= length
+                    && day == nearest_weekday(length, a, weekday_at(day, weekday, a))
             }
         }
     }

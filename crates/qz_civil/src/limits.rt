@@ -16,8 +16,18 @@ pub const LAST_YEAR: u32 = 2099;
 /// The last day that dates are counted to, 9999-12-31, in days since 1969-12-31.
 pub const LAST_DAY: u32 = 2932897;
 
+/// A day behind all that a local clock shows at a timestamp, 2100-01-02, in days since 1969-12-31.
+pub const END_DAY: u64 = 47484;
+
 /// How far local time may be from UTC, in seconds: 18 hours, as in `java.time.ZoneOffset`.
 pub const OFFSET_LIMIT: i32 = 64800;
+
+/// How far a local clock is ahead of UTC at most, in seconds: 42 hours. It is counted from 1969-12-31T00:00:00 on, and UTC
+/// from 1970-01-01T00:00:00 on, so that its number is the greater one.
+pub const GREATEST_SHIFT_SECONDS: u64 = 151_200;
+
+// The same in ms.
+pub(crate) const GREATEST_SHIFT_MS: u64 = 151_200_000;
 
 /// How long a stretch of a zone lasts at least, in ms: 48 hours. With it and `OFFSET_LIMIT` no local time comes more
 /// than twice.

@@ -3,15 +3,11 @@ ghost use Rattle.std.specs.Prelude.{◌≡◌, ℕ, ◌+◌, ◌*◌, ◌<◌, �
 ghost use Rattle.std.specs.Option.{ForSome};
 ghost use Rattle.qz_civil.specs.Zones as spec;
 
-use crate::limits::{LAST, OFFSET_LIMIT};
+use crate::limits::{GREATEST_SHIFT_SECONDS, LAST, OFFSET_LIMIT};
 use crate::zones::Zone;
 
 /// How many seconds begin at a timestamp from 0 to `LAST`.
 pub const SECONDS: u64 = 4_102_444_800;
-
-/// How far a local clock is ahead of UTC at most, in seconds. It is counted from 1969-12-31T00:00:00 on, and UTC from
-/// 1970-01-01T00:00:00 on, so that its number is the greater one.
-pub const GREATEST_SHIFT: u64 = 151_200;
 
 /// Seconds in a row at which a zone keeps one offset.
 #[derive(Clone, Copy, Debug)]
@@ -44,7 +40,7 @@ fn shift_of(offset: i32) -> u64
     requires low { neg_ℤ OFFSET_LIMIT ≤ℤ offset }
     requires high { offset ≤ℤ OFFSET_LIMIT }
     ensures value { pos result ≡ offset +ℤ pos 86400 }
-    ensures bound { result ≤ GREATEST_SHIFT }
+    ensures bound { result ≤ GREATEST_SHIFT_SECONDS }
 {
     (i64::from(offset) + 86400) as u64
 }
@@ -69,7 +65,7 @@ impl Zone {
         requires { second < SECONDS }
         ensures begins { second < result.end }
         ensures ends { result.end ≤ SECONDS }
-        ensures bound { result.shift ≤ GREATEST_SHIFT }
+        ensures bound { result.shift ≤ GREATEST_SHIFT_SECONDS }
         // Up to its end the local clock runs on evenly.
         ensures clock { (s : ℕ) → second ≤ s → s < result.end → spec.local self.now (pos (s * 1000)) ≡ (s + result.shift) * 1000 }
     {

@@ -15,7 +15,9 @@ pub struct Stretch {
     pub offset: i32,
 }
 
-/// Why a list of stretches is no zone. Places count from 0.
+/// Why a list of stretches is no zone. Places count from 0. Of several faults the answer is `Empty`, or else
+/// `TooManyStretches`, or else that of the least place with one: `FromOutOfRange`, then `OffsetOutOfRange`, then
+/// `NotAscending`.
 #[derive(Clone, Copy, PartialEq, Eq, Debug, Error)]
 pub enum BadZone {
     #[error("a zone has at least one stretch")]
@@ -32,7 +34,7 @@ pub enum BadZone {
 
 // Why the stretches are no table of a zone.
 #[tactic(auto, unfolding(crate::specs::Zones::bad_zone))]
-pub fn fault_of(stretches: &[Stretch]) -> Option<BadZone>
+pub(crate) fn fault_of(stretches: &[Stretch]) -> Option<BadZone>
     ensures { result ≡ spec.bad_zone stretches.now }
 {
     if stretches.is_empty() {
@@ -96,7 +98,7 @@ fn is_apart(before: Option<i64>, from: i64) -> bool
 }
 
 // How many stretches have begun, found by halves.
-pub fn count_begun(stretches: &[Stretch], ms: i64) -> usize
+pub(crate) fn count_begun(stretches: &[Stretch], ms: i64) -> usize
     requires { spec.bad_zone stretches.now ≡ None }
     ensures { result ≡ spec.begun stretches.now ms }
 {
@@ -104,7 +106,7 @@ pub fn count_begun(stretches: &[Stretch], ms: i64) -> usize
 }
 
 // The offset of the stretch at the place.
-pub fn offset_of(stretches: &[Stretch], place: usize) -> i32
+pub(crate) fn offset_of(stretches: &[Stretch], place: usize) -> i32
     ensures { result ≡ spec.offset_of (slice_get stretches.now place) }
 {
     match stretches.get(place) {
@@ -114,11 +116,8 @@ pub fn offset_of(stretches: &[Stretch], place: usize) -> i32
 }
 
 // When the stretch at the place begins.
-pub fn start_of(stretches: &[Stretch], place: usize) -> Option<i64>
+pub(crate) fn start_of(stretches: &[Stretch], place: usize) -> Option<i64>
     ensures { result ≡ option_map (λ s. s.from) (slice_get stretches.now place) }
 {
-    match stretches.get(place) {
-        Some(stretch) => Some(stretch.from),
-        None => None,
-    }
+    stretches.get(place).map(|stretch| stretch.from)
 }

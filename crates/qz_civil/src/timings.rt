@@ -33,10 +33,12 @@ impl Unit {
     }
 }
 
-/// A trigger's kind, which gives its schedule. Zones are named: `UTC`, or a zone that is stored.
+/// A trigger's kind, which gives its schedule. Zones are named, by 1 to `NAME_LIMIT` bytes: `UTC`, or a zone that is
+/// stored.
 #[derive(Debug, Drop)]
 pub enum Kind {
-    /// Fires at the start and then every `interval` ms, `count` times more; -1 is without end.
+    /// Fires at the start and then every `interval` ms, `count` times more; -1 is without end. `interval` is 1 to
+    /// `LONGEST` and `count` is -1 to 2147483647, or both are 0.
     Simple {
         interval: i64,
         count: i64,
@@ -46,21 +48,22 @@ pub enum Kind {
         fields: CronFields,
         zone: Text,
     },
-    /// Fires at the start and then every so many units, as the zone's calendar counts them.
+    /// Fires at the start and then every so many units, 1 to 2147483647, as the zone's calendar counts them.
     Interval {
         unit: Unit,
         every: u32,
         zone: Text,
     },
-    /// Fires on the chosen days at `from` and then every so many seconds, minutes or hours up to `to`.
+    /// Fires on the chosen days at `from` and then every so many seconds, minutes or hours up to `to`. The unit is one of
+    /// these three, a step is 1 s to 24 h, and `from` is at most `to`.
     Daily {
         unit: Unit,
         every: u32,
-        /// A second of the day.
+        /// A second of the day, 0 to 86399.
         from: u32,
-        /// A second of the day, at which it still fires.
+        /// A second of the day, 0 to 86399, at which it still fires.
         to: u32,
-        /// Bit 0 is Sunday.
+        /// At least one day. Bit 0 is Sunday.
         days: u8,
         zone: Text,
     },
@@ -70,11 +73,12 @@ pub enum Kind {
 #[derive(Debug, Drop)]
 pub struct Timing {
     pub kind: Kind,
-    /// The misfire instruction: -1 ignores misfires, 0 chooses by the kind, and the others are the kind's own.
+    /// The misfire instruction: -1 ignores misfires, 0 chooses by the kind, and the others are the kind's own: up to 5 for
+    /// Simple, and up to 2 for the other kinds.
     pub misfire: i8,
-    /// In ms since 1970-01-01T00:00:00Z.
+    /// In ms since 1970-01-01T00:00:00Z, 0 to `LONGEST`.
     pub start: i64,
-    /// In ms since 1970-01-01T00:00:00Z.
+    /// In ms since 1970-01-01T00:00:00Z, 0 to `LONGEST`. A cron trigger still fires at it, the others don't.
     pub end: Option<i64>,
 }
 

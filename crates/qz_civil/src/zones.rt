@@ -5,7 +5,7 @@ ghost use Rattle.qz_civil.specs.Timings.{is_timestamp};
 ghost use Rattle.qz_civil.specs.Zones as spec;
 
 use crate::dates::{Civil, civil_of, local_of};
-use crate::limits::{LAST, LAST_DAY, OFFSET_LIMIT, STRETCH_LIMIT};
+use crate::limits::{GREATEST_SHIFT_MS, LAST, LAST_DAY, OFFSET_LIMIT, STRETCH_LIMIT};
 use crate::lists::List;
 use crate::stretches::{BadZone, Stretch, count_begun, fault_of, offset_of, start_of};
 use std::marker::Model;
@@ -13,20 +13,27 @@ use std::marker::Model;
 /// A fixed offset from UTC, or a table of stretches. Contracts see it as the list of its stretches.
 #[derive(Drop)]
 pub struct Zone {
-    offset: i32,
-    table: Option<List<Stretch>>,
+    offsets: Offsets,
+}
+
+// Local time less UTC: always so many seconds, or by a table.
+#[derive(Drop)]
+enum Offsets {
+    Fixed(i32),
+    Table(List<Stretch>),
 }
 
 impl Model for Zone {
-    ghost use Rattle.std.specs.Prelude.{◌≡◌, None, List as Stretches};
+    ghost use Rattle.std.specs.Prelude.{◌≡◌, None, List as Items};
     ghost use Rattle.qz_civil.specs.declared.stretches.Stretch.{Stretch};
     ghost use Rattle.qz_civil.specs.Zones.{bad_zone, stretches_of};
 
-    ghost Value = { Stretches Stretch };
+    ghost Value = { Items Stretch };
 
-    ghost view = { λ a. stretches_of a.offset a.table };
+    ghost view = { λ a. stretches_of a.offsets };
 
-    ghost invariant = { λ a. bad_zone (stretches_of a.offset a.table) ≡ None };
+    // Functions that rest on it look at a field first, `let _ = &self.offsets;`, which shows the check that it holds.
+    ghost invariant = { λ a. bad_zone (stretches_of a.offsets) ≡ None };
 }
 
 impl Zone {
@@ -45,21 +52,20 @@ impl Zone {
         ensures { result ≡ spec.fixed_offset (minutes *ℤ pos 60) }
     {
         Zone {
-            offset: minutes * 60,
-            table: None,
+            offsets: Offsets::Fixed(minutes * 60),
         }
     }
 
     /// The zone of a table of stretches. It has 1 to 512 of them, each begins at a timestamp from 0 to `LAST` and at least
-    /// 48 hours after the one before, and no offset is more than 18 hours. No memory.
+    /// 48 hours after the one before, and no offset is more than 18 hours. Of several faults `BadZone` says which one is
+    /// answered. No memory.
     pub fn table(stretches: List<Stretch>) -> Result<Zone, BadZone>
         ensures ok { IfOk result (λ zone. (zone ≡ stretches) × (spec.bad_zone stretches ≡ None)) }
         ensures err { IfErr result (λ fault. spec.bad_zone stretches ≡ Some fault) }
     {
         match fault_of(stretches.as_slice()) {
             None => Ok(Zone {
-                offset: 0,
-                table: Some(stretches),
+                offsets: Offsets::Table(stretches),
             }),
             Some(fault) => Err(fault),
         }
@@ -70,10 +76,9 @@ impl Zone {
     pub fn begun(&self, ms: i64) -> usize
         ensures { result ≡ spec.begun self.now ms }
     {
-        let _known = self.offset;
-        match &self.table {
-            Some(stretches) => count_begun(stretches.as_slice(), ms),
-            None => if 0 <= ms { 1 } else { 0 },
+        match &self.offsets {
+            Offsets::Fixed(_) => if 0 <= ms { 1 } else { 0 },
+            Offsets::Table(stretches) => count_begun(stretches.as_slice(), ms),
         }
     }
 
@@ -84,7 +89,7 @@ impl Zone {
         ensures last { spec.IsLastBegun self.now ms result }
         ensures bound { result < STRETCH_LIMIT }
     {
-        let _known = self.offset;
+        let _ = &self.offsets;
         self.begun(ms).saturating_sub(1) as u32
     }
 
@@ -105,7 +110,7 @@ impl Zone {
         // Until then the offset stays.
         ensures stays { (t : ℤ) → ms ≤ℤ t → IfSome result (λ start. t <ℤ start) → spec.offset_at self.now t ≡ spec.offset_at self.now ms }
     {
-        let _known = self.offset;
+        let _ = &self.offsets;
         let place = self.begun(ms);
         self.start_of(place)
     }
@@ -120,10 +125,10 @@ impl Zone {
         ensures high { IfSome result.1 (λ start. start ≤ℤ LAST) }
         // Until then the offset stays.
         ensures stays { (t : ℤ) → ms ≤ℤ t → IfSome result.1 (λ start. t <ℤ start) → spec.offset_at self.now t ≡ spec.offset_at self.now ms }
-        // All offsets are within their limit.
+        // The zone's stretches have no fault.
         ensures valid { spec.bad_zone self.now ≡ None }
     {
-        let _known = self.offset;
+        let _ = &self.offsets;
         let place = self.begun(ms);
         (
             self.offset_in(place.saturating_sub(1)),
@@ -141,7 +146,7 @@ impl Zone {
         shifted(ms, self.offset_at(ms))
     }
 
-    /// The local time at the timestamp, in ms since 1970-01-01T00:00:00Z. No memory.
+    /// The local date and time of day at a timestamp, in ms since 1970-01-01T00:00:00Z and 0 to `LAST`. No memory.
     pub fn civil(&self, ms: i64) -> Civil
         requires low { pos 0 ≤ℤ ms }
         requires high { ms ≤ℤ LAST }
@@ -155,7 +160,7 @@ impl Zone {
     pub fn instants_of(&self, civil: Civil) -> (Option<i64>, Option<i64>)
         ensures { AreMembers (IsInstant self.now civil) result.0 result.1 }
     {
-        let _known = self.offset;
+        let _ = &self.offsets;
         match local_of(civil) {
             Some(local) => self.timestamps_at(local),
             None => (None, None),
@@ -168,9 +173,9 @@ impl Zone {
         requires { local < 86400000 * (LAST_DAY + 1) }
         ensures { AreMembers (IsShownAt self.now local) result.0 result.1 }
     {
-        let _known = self.offset;
+        let _ = &self.offsets;
         // The earliest timestamp is a day and 18 hours before, and two stretches don't begin within twice 18 hours.
-        let place = self.stretch_at(local.saturating_sub(151_200_000) as i64);
+        let place = self.stretch_at(local.saturating_sub(GREATEST_SHIFT_MS) as i64);
         let first = self.timestamp_in(place, local);
         let second = self.timestamp_in(place + 1, local);
         match first {
@@ -184,7 +189,7 @@ impl Zone {
         requires { local < 86400000 * (LAST_DAY + 1) }
         ensures { IsOnly (IsShownIn self.now local place) result }
     {
-        let _known = self.offset;
+        let _ = &self.offsets;
         let ms = unshifted(local, self.offset_in(place as usize));
         if self.is_in_stretch(place, ms) {
             Some(ms)
@@ -205,25 +210,25 @@ impl Zone {
         ensures low { neg_ℤ OFFSET_LIMIT ≤ℤ result }
         ensures high { result ≤ℤ OFFSET_LIMIT }
     {
-        let _known = self.offset;
+        let _ = &self.offsets;
         self.offset_of(place)
     }
 
     fn offset_of(&self, place: usize) -> i32
         ensures { result ≡ spec.offset_of (slice_get self.now place) }
     {
-        match &self.table {
-            Some(stretches) => offset_of(stretches.as_slice(), place),
-            None => if place == 0 { self.offset } else { 0 },
+        match &self.offsets {
+            Offsets::Fixed(offset) => if place == 0 { *offset } else { 0 },
+            Offsets::Table(stretches) => offset_of(stretches.as_slice(), place),
         }
     }
 
     fn start_of(&self, place: usize) -> Option<i64>
         ensures { result ≡ option_map (λ s. s.from) (slice_get self.now place) }
     {
-        match &self.table {
-            Some(stretches) => start_of(stretches.as_slice(), place),
-            None => if place == 0 { Some(0) } else { None },
+        match &self.offsets {
+            Offsets::Fixed(_) => if place == 0 { Some(0) } else { None },
+            Offsets::Table(stretches) => start_of(stretches.as_slice(), place),
         }
     }
 }
@@ -243,7 +248,7 @@ fn shifted(ms: i64, offset: i32) -> u64
 
 // The timestamp at which the local clock at an offset shows that.
 #[tactic(auto, using(jiff_core::proofs::SignedLemmas::signed_arith))]
-fn unshifted(local: u64, offset: i32) -> i64
+pub(crate) fn unshifted(local: u64, offset: i32) -> i64
     requires local { local < 86400000 * (LAST_DAY + 1) }
     requires offset_low { neg_ℤ OFFSET_LIMIT ≤ℤ offset }
     requires offset_high { offset ≤ℤ OFFSET_LIMIT }

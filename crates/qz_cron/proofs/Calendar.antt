@@ -10,6 +10,7 @@ use Rattle.qz_civil.specs.Fields.{meets_date, in_years, in_months, in_week, is_v
 use Rattle.qz_civil.specs.Least.{NoneIn, IsLeastIn, IsFirst}
 use Rattle.qz_civil.proofs.DateLemmas.{date_of-valid, days_in_month-bound, next_date-day, next_date-last, next_month-month, next_month-year, follows, Follows, same_parts}
 use Rattle.qz_civil.proofs.DateLemmas.Follows.{in_month, in_year, in_next}
+use Rattle.qz_civil.proofs.MonthLemmas.{month_of-horizon}
 use Rattle.qz_cron.specs.Search.{first_of, IsBare, meets_day, meets_in_month, meets_month, month_days, month_number}
 use Rattle.qz_cron.proofs.Firsts.{first_same}
 
@@ -137,28 +138,31 @@ start_of (suc j) =
     (before.0 + month_days (23640 + j), rw next (next_first before.0 (23640 + j) before.1), omega (arith, before.2, long.1))
 
 -- each month from January 1970 on begins with a day
-month_begins : (number : ℕ) → IsInRange 23640 25199 number → (start : ℕ) × (date_of start ≡ first_of number) × (start ≤ 48400)
+month_begins : (number : ℕ) → IsInRange 23640 25199 number → (start : ℕ) × (date_of start ≡ first_of number) × (start ≤ LAST_DAY)
 month_begins number h =
     let start = start_of (number - 23640) in
     let is : 23640 + (number - 23640) ≡ number = omega (arith, h.0) in
     (start.0, rw is at start.1, omega (arith, start.2, h.1))
 
 pub some_start : (number : ℕ) (found : Option ℕ) → IsInRange 23640 25199 number → IfNone found ((day : ℕ) → day ≤ LAST_DAY → date_of day ≢ first_of number) → IsSome found
-some_start number None h none = let start = month_begins number h in absurd (none start.0 (omega (arith, start.2)) start.1)
+some_start number None h none = let start = month_begins number h in absurd (none start.0 start.2 start.1)
 some_start number (Some day) h none = search rules
 
-not_earlier : (n m number : ℕ) → date_of n ≡ first_of number → date_of m ≡ first_of number → n ≤ m
-not_earlier n m number is_n is_m =
-    elim (cases_lt m n) [
-      | inl lt ↦ absurd (omega (arith, month_of-before m n lt (ap (λ d. d.day) is_n), ap month_number is_n, ap month_number is_m))
+-- and up to December 2099 it ends before 2100-01-02
+pub month-ends : (number start : ℕ) → IsInRange 23640 25199 number → date_of start ≡ first_of number → start + month_days number ≤ 47484
+month-ends number start h e =
+    let long = days_in_month-bound (number / 12) (number % 12 + 1) in
+    let last : ℕ = start + month_days number - 1 in
+    elim (cases_lt 47484 (start + month_days number)) [
+      | inl lt ↦ absurd (omega (
+        arith,
+        h.1,
+        month_of-within start number last e (omega (arith, long.0)) (omega (arith, long.0)),
+        month_of-rises 47484 last (omega arith),
+        month_of-horizon,
+      ))
       | inr ge ↦ ge
     ]
-
--- and with no other one
-pub start-bound : (number start : ℕ) → IsInRange 23640 25199 number → date_of start ≡ first_of number → start ≤ 48400
-start-bound number start h e =
-    let begins = month_begins number h in
-    omega (arith, not_earlier start begins.0 number e begins.1, begins.2)
 
 -- the test of a day, by its month
 

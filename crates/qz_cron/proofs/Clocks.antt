@@ -57,9 +57,9 @@ none_resumed p q start shift end local shifts near none here =
       | inr ge ↦ let e : max end (local - 151200) ≡ end = omega arith in rw e here
     ]
 
-pub none_ended : (p q : ℕ → Bool) (start shift end : ℕ) → IsShiftOf p q → start + shift ≤ end + 21600 → NoneIn p (start + shift) 4233600000 → NoneIn q start end → NoneIn q start 4102444800
+pub none_ended : (p q : ℕ → Bool) (start shift end : ℕ) → IsShiftOf p q → start + shift ≤ end + 21600 → NoneIn p (start + shift) 4102617600 → NoneIn q start end → NoneIn q start 4102444800
 none_ended p q start shift end shifts near none here =
-    none_then q start end 4102444800 here (λ k a b. quiet p q (start + shift) 4233600000 shifts none k (omega arith) (omega arith))
+    none_then q start end 4102444800 here (λ k a b. quiet p q (start + shift) 4102617600 shifts none k (omega arith) (omega arith))
 
 -- from seconds to moments
 

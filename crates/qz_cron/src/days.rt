@@ -7,10 +7,7 @@ ghost use Rattle.qz_cron.specs.Search.{meets_day as passes, month_number};
 use crate::lengths::narrowed;
 use crate::month::Month;
 use crate::months::next_month;
-use qz_civil::{CronFields, date_of, weekday_of};
-
-/// A day behind all that a local clock shows at a timestamp, counted from 1969-12-31.
-pub const END_DAY: u64 = 49000;
+use qz_civil::{CronFields, END_DAY, date_of, weekday_of};
 
 // The number of the month in which the day lies.
 #[tactic(auto, using(qz_civil::proofs::DateLemmas::date_facts))]

@@ -179,8 +179,6 @@ pub fn next(fields: &CronFields, zone: &Zone, after: i64) -> Option<i64>
     requires high { after ≤ℤ LAST }
     ensures { IsNext LAST (IsMatch fields.now zone.now) after result }
 {
-    match next_whole(fields, zone, second_after(after)) {
-        Some(second) => Some(moment_of(second)),
-        None => None,
-    }
+    let second = next_whole(fields, zone, second_after(after))?;
+    Some(moment_of(second))
 }

@@ -4,12 +4,12 @@ ghost use Rattle.std.specs.Int.{IsInRange};
 ghost use Rattle.qz_civil.specs.Dates.{date_of};
 ghost use Rattle.qz_civil.specs.Fields.{has as has_value, in_days, in_week, nearest};
 ghost use Rattle.qz_civil.specs.Least.{IsFirst};
+ghost use Rattle.qz_civil.specs.declared.limits.TheConstants.{END_DAY};
 ghost use Rattle.qz_cron.specs.Search.{first_of, meets_in_month, month_days, weekday_in};
 
 use crate::bits::next_bit;
-use crate::days::END_DAY;
 use crate::months::{END_MONTH, FIRST_MONTH, month_start};
-use qz_civil::{CronFields, DayField, WeekField, days_in_month, has};
+use qz_civil::{CronFields, DayField, END_DAY, WeekField, days_in_month, has, nearest_weekday};
 
 /// A month of the calendar. Its days are numbered from 1.
 #[derive(Clone, Copy)]
@@ -18,7 +18,7 @@ pub struct Month {
     pub start: u64,
     /// How many days it has.
     pub length: u64,
-    ghost within: { start ≤ 48400 },
+    ghost within: { start + length ≤ END_DAY },
     ghost lasts: { IsInRange 28 31 length },
 }
 
@@ -112,11 +112,8 @@ impl Month {
         requires { IsInRange 1 self.length day }
         ensures { result ≡ nearest self.length day (weekday_in self.start day) }
     {
-        match self.weekday(day) {
-            7 => if day == 1 { 3 } else { day - 1 },
-            1 => if day == self.length { day - 2 } else { day + 1 },
-            _ => day,
-        }
+        let weekday = self.weekday(day) as u32;
+        u64::from(nearest_weekday(self.length as u32, day as u32, weekday))
     }
 
     // The first day from `low` on that meets the day of the month.
@@ -126,10 +123,10 @@ impl Month {
     {
         match field {
             DayField::Any => self.any_from(low),
-            DayField::Set(set) => match next_bit(u64::from(set), low - 1, self.length) {
-                Some(bit) => Some(bit + 1),
-                None => None,
-            },
+            DayField::Set(set) => {
+                let bit = next_bit(u64::from(set), low - 1, self.length)?;
+                Some(bit + 1)
+            }
             DayField::Last { back } => self.only_from(
                 self.length.saturating_sub(u64::from(back)),
                 low,
@@ -168,9 +165,7 @@ impl Month {
         requires { from ≤ END_DAY }
         ensures { IsFirst (λ k. meets_in_month fields.now self.length self.start (k + 1 - self.start)) (max from self.start) (self.start + self.length) result }
     {
-        match self.next_day(fields, from.max(self.start) + 1 - self.start) {
-            Some(day) => Some(self.start + day - 1),
-            None => None,
-        }
+        let day = self.next_day(fields, from.max(self.start) + 1 - self.start)?;
+        Some(self.start + day - 1)
     }
 }

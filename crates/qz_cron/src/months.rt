@@ -4,10 +4,10 @@ ghost use Rattle.std.specs.Int.{IsInRange};
 ghost use Rattle.qz_civil.specs.Dates.{date_of};
 ghost use Rattle.qz_civil.specs.Fields.{has_word, in_years};
 ghost use Rattle.qz_civil.specs.Least.{IsFirst};
-ghost use Rattle.qz_cron.specs.Search.{first_of, meets_month};
+ghost use Rattle.qz_cron.specs.Search.{first_of, meets_month, month_days};
 
 use crate::bits::{next_bit, next_bit_if};
-use qz_civil::{CronFields, Date, LAST_YEAR, day_of};
+use qz_civil::{CronFields, Date, END_DAY, LAST_YEAR, day_of};
 
 const FIRST_YEAR: u64 = 1970;
 
@@ -71,7 +71,7 @@ pub fn next_month(fields: &CronFields, from: u64) -> Option<u64>
 pub fn month_start(number: u64) -> u64
     requires { IsInRange FIRST_MONTH (END_MONTH - 1) number }
     ensures value { date_of result ≡ first_of number }
-    ensures bound { result ≤ 48400 }
+    ensures bound { result + month_days number ≤ END_DAY }
 {
     let first = Date {
         year: (number / 12) as u32,

@@ -4,9 +4,9 @@ ghost use Rattle.qz_civil.specs.Fields.{meets_time};
 ghost use Rattle.qz_civil.specs.Least.{IsFirst};
 ghost use Rattle.qz_cron.specs.Search.{meets_day as passes, meets_second};
 
-use crate::days::{END_DAY, meets_day, next_day};
+use crate::days::{meets_day, next_day};
 use crate::times::next_time;
-use qz_civil::CronFields;
+use qz_civil::{CronFields, END_DAY};
 
 /// The first second of that day.
 pub const END_SECOND: u64 = 86400 * END_DAY;

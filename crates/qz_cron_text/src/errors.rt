@@ -4,8 +4,9 @@ ghost use Rattle.qz_cron_text.specs.Errors.{error_number, told};
 
 use thiserror::Error;
 
-/// The first fault of a text, in the order in which texts are read. Fields are numbered from 1 for the seconds to 7
-/// for the years.
+/// The first fault of a text: `FieldCount` before all others; then field by field from the left, in each element
+/// `BadToken`, `OutOfRange` and `BadStep`, and behind the field's last element `NotAlone`; `BothDays` and `NoDays` come
+/// last. Fields are numbered from 1 for the seconds to 7 for the years.
 #[derive(Clone, Copy, PartialEq, Eq, Debug, Error)]
 pub enum CronError {
     /// The text has neither six fields nor seven.
@@ -15,7 +16,8 @@ pub enum CronError {
     /// element has the offset at which its first byte would stand.
     #[error("field {field} has something else than a value at {at}")]
     BadToken { field: u8, at: u32 },
-    /// A value isn't one of the field's, or a range of years begins with a later year than it ends.
+    /// A value isn't one of the field's, a range of years begins with a later year than it ends, the n of `L-n` isn't 0
+    /// to 30, or the k of `a#k` isn't 1 to 5. It is the first such number of its element.
     #[error("{value} is out of the range of field {field}")]
     OutOfRange { field: u8, value: u16 },
     /// Neither the day of the month nor the day of the week is `?`.

@@ -6,7 +6,7 @@ ghost use Rattle.qz_cron_text.specs.Forms.{is_letter, is_question, is_last_weekd
 
 use crate::cuts::cut;
 use crate::errors::{CronError, told};
-use crate::runs::{Run, is_value, run_fault, run_of};
+use crate::runs::{Run, run_fault, run_of};
 use crate::values::{number, value};
 use qz_civil::Field;
 
@@ -193,7 +193,7 @@ fn day_fault(form: DayForm) -> Option<CronError>
     match form {
         DayForm::Unnamed | DayForm::LastWeekday => None,
         DayForm::Last(back) => range_fault(field, back < 31, back),
-        DayForm::Nearest(day) => range_fault(field, is_value(field, day), day),
+        DayForm::Nearest(day) => range_fault(field, field.is_value(day), day),
     }
 }
 
@@ -204,9 +204,9 @@ fn week_fault(form: WeekForm) -> Option<CronError>
     let field = Field::DayOfWeek;
     match form {
         WeekForm::Unnamed | WeekForm::Saturday => None,
-        WeekForm::LastOf(day) => range_fault(field, is_value(field, day), day),
+        WeekForm::LastOf(day) => range_fault(field, field.is_value(day), day),
         WeekForm::Nth(day, nth) => {
-            if is_value(field, day) {
+            if field.is_value(day) {
                 range_fault(field, 0 < nth && nth < 6, nth)
             } else {
                 range_fault(field, false, day)

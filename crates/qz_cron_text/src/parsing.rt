@@ -84,7 +84,7 @@ fn years_of(piece: Option<Piece<'_>>) -> Result<[u64; 4], CronError>
 fn days_checked(fields: CronFields) -> Result<CronFields, CronError>
     ensures { result ≡ days_checked fields }
 {
-    let any_day = matches!(fields.day, DayField::Any);
+    let any_day = fields.day.is_any();
     let any_week = matches!(fields.week, WeekField::Any);
     if !any_day && !any_week {
         Err(CronError::BothDays)
@@ -129,7 +129,8 @@ fn read(text: &str) -> Result<CronFields, CronError>
 }
 
 /// Reads a cron text, as Quartz's `CronExpression` has them: six or seven fields of seconds, minutes, hours, day of month,
-/// month, day of week and, if there is a seventh, year. Letters are read in either case. No memory.
+/// month, day of week and, if there is a seventh, year. Letters are read in either case. Of several faults `CronError` says
+/// which one is answered. No memory.
 pub fn parse(text: &str) -> Result<CronFields, CronError>
     // What is read is what the text says.
     ensures found { IfOk result (λ fields. IsText text.now fields) }

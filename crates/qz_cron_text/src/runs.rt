@@ -1,6 +1,5 @@
 //! Runs of values: `*`, `a`, `a-b`, and with a step.
 ghost use Rattle.std.specs.Prelude.{◌≡◌};
-ghost use Rattle.qz_civil.specs.Fields.{is_value};
 ghost use Rattle.qz_cron_text.specs.Runs.{closed_run, open_run, run_of, run_fault, is_star, is_year};
 
 use crate::cuts::cut;
@@ -98,14 +97,6 @@ pub fn run_of(field: Field, text: &[u8]) -> Option<Run>
     }
 }
 
-/// Whether the field has the value.
-#[tactic(auto, unfolding(qz_civil::specs::Fields::is_value))]
-pub fn is_value(field: Field, value: u16) -> bool
-    ensures { result ≡ is_value field value }
-{
-    field.least() <= value && value <= field.greatest()
-}
-
 fn is_year(field: Field) -> bool
     ensures { result ≡ is_year field }
 {
@@ -118,12 +109,12 @@ pub fn run_fault(field: Field, run: Run) -> Option<CronError>
     ensures { result ≡ run_fault field run }
 {
     let number = field.number();
-    if !is_value(field, run.first) || is_year(field) && run.last < run.first {
+    if !field.is_value(run.first) || is_year(field) && run.last < run.first {
         Some(CronError::OutOfRange {
             field: number,
             value: run.first,
         })
-    } else if !is_value(field, run.last) {
+    } else if !field.is_value(run.last) {
         Some(CronError::OutOfRange {
             field: number,
             value: run.last,

@@ -7,9 +7,9 @@ ghost use Rattle.qz_civil.specs.Zones.{bad_zone, local};
 ghost use Rattle.qz_interval.specs.Interval.{IsDated, IsLaterTurn};
 ghost use Rattle.qz_interval.specs.Turns.{HasTimestamp, IsStep, IsTurnOf, turns_after};
 
-use crate::numbers::{END_DAY, month_number, place_from};
+use crate::numbers::{month_number, place_from};
 use crate::turns::{Count, Step, Turns};
-use qz_civil::{LAST, LAST_DAY, Zone, cut, date_of, natural};
+use qz_civil::{END_DAY, LAST, LAST_DAY, Zone, cut, date_of, natural};
 
 // In ms.
 const DAY: u64 = 86_400_000;
@@ -96,10 +96,8 @@ impl Turns {
         ensures bound { IfSome result (λ m. m < 86400000 * (LAST_DAY + 1)) }
         ensures none { result ≡ None → (m : ℕ) → IsTurnOf self place m → END_DAY * 86400000 ≤ m }
     {
-        match self.count.day_of(self.first + place * self.step) {
-            Some(day) => Some(day * DAY + self.time),
-            None => None,
-        }
+        let day = self.count.day_of(self.first + place * self.step)?;
+        Some(day * DAY + self.time)
     }
 
     // The earliest timestamp of the turn, where it comes later than `after`, when the clock shows `now`.

@@ -22,7 +22,7 @@ fn next_even(start: i64, end: Option<i64>, step: u64, after: i64) -> Option<i64>
 }
 
 /// The least fire time after `after`, up to `LAST`, and `None` where there is none. Moments are in ms since
-/// 1970-01-01T00:00:00Z; `start` is 0 to 2 to the power of 53, `every` is 1 to 2147483647, and `after` is a timestamp or
+/// 1970-01-01T00:00:00Z; `start` is 0 to `LONGEST`, `every` is 1 to 2147483647, and `after` is a timestamp or
 /// -1. Fire times are `start` and those that follow, before `end`. In seconds, minutes and hours each comes `every` units
 /// after the one before. In days, weeks, months and years they are counted from the local date and time of `start`, by
 /// the calendar: where a month has too few days the last one counts, a local time in a gap is left out, and of one in a

@@ -5,10 +5,7 @@ ghost use Rattle.qz_civil.specs.Months as months;
 ghost use Rattle.qz_interval.specs.Turns as spec;
 
 use crate::turns::Count;
-use qz_civil::{Date, LAST_DAY, date_of, day_of, days_in_month, first_turn};
-
-/// 2100-01-02, behind all that a local clock shows at a timestamp.
-pub const END_DAY: u64 = 47484;
+use qz_civil::{Date, END_DAY, LAST_DAY, date_of, day_of, days_in_month, first_turn};
 
 // February 2100.
 const END_MONTH: u64 = 25201;
@@ -76,10 +73,7 @@ impl Count {
     {
         match self {
             Count::Days => Some(number),
-            Count::Months { day } => match day_of(day_in_month(number, day)) {
-                Some(found) => Some(u64::from(found)),
-                None => None,
-            },
+            Count::Months { day } => Some(u64::from(day_of(day_in_month(number, day))?)),
         }
     }
 }

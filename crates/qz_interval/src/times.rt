@@ -18,7 +18,8 @@ pub struct IntervalTimes<'a> {
 }
 
 impl<'a> IntervalTimes<'a> {
-    /// The fire times from `start` on, every so many units by the zone's clock, before `end`.
+    /// The fire times from `start` on, every so many units by the zone's clock, before `end`. `start` is 0 to `LONGEST`, and
+    /// `every` is 1 to 2147483647.
     pub fn new(
         start: i64,
         end: Option<i64>,

@@ -16,8 +16,8 @@ fn is_counted(count: i64, place: u64) -> bool
 
 /// The least fire time after `after`, up to `LAST`, and `None` where there is none: `start` and `count` more, each
 /// `interval` after the one before, or without a last one where `count` is -1, and only those before `end`. All are in
-/// ms, and moments since 1970-01-01T00:00:00Z. `start` is 0 to 2 to the power of 53, and `after` is a timestamp or -1.
-/// An interval of 0 goes with a count of 0. No memory.
+/// ms, and moments since 1970-01-01T00:00:00Z. `start` is 0 to `LONGEST`, and `after` is a timestamp or -1. `interval` is
+/// 1 to `LONGEST` and `count` is -1 to 2147483647, or both are 0. No memory.
 pub fn next(start: i64, end: Option<i64>, interval: i64, count: i64, after: i64) -> Option<i64>
     requires start { IsTrue (is_span start) }
     requires repeats { IsTrue (is_simple interval count) }

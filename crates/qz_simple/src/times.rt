@@ -18,6 +18,7 @@ pub struct SimpleTimes {
 
 impl SimpleTimes {
     /// The fire times from `start` on, every `interval` ms, `count` times more or without end where it is -1, before `end`.
+    /// `start` is 0 to `LONGEST`. `interval` is 1 to `LONGEST` and `count` is -1 to 2147483647, or both are 0.
     pub fn new(start: i64, end: Option<i64>, interval: i64, count: i64) -> SimpleTimes
         requires start { IsTrue (is_span start) }
         requires repeats { IsTrue (is_simple interval count) }

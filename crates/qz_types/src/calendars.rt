@@ -5,7 +5,8 @@ use qz_civil::{CalendarKind, Text};
 use std::alloc::AllocError;
 use std::marker::Model;
 
-/// A stored calendar. A trigger that names it doesn't fire at what it excludes.
+/// A stored calendar. A trigger that names it doesn't fire at what it excludes. Its three names have 1 to `NAME_LIMIT`
+/// bytes each.
 #[derive(Debug, Drop)]
 pub struct CalendarRow {
     pub name: Text,

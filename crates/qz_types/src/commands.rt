@@ -16,7 +16,8 @@ pub enum Code {
 }
 
 /// One transaction of the trigger store, without its reading and actor. Leave, Acquire, Release, Fire, Complete, Misfires
-/// and Recover are a node's, under the epoch that it holds; the others are a client's.
+/// and Recover are a node's, under the epoch that it holds; the others are a client's. Groups and names have 1 to
+/// `NAME_LIMIT` bytes, those of nodes 1 to `NODE_LIMIT`.
 #[derive(Debug, Drop)]
 pub enum Command {
     /// Stores a job.
@@ -74,7 +75,7 @@ pub enum Command {
     TriggerNow {
         job: Key,
     },
-    /// Sets how far back a next fire time may lie, in ms, before its trigger is misfired.
+    /// Sets how far back a next fire time may lie, in ms, before its trigger is misfired: 1 to `INTERVAL_LIMIT`.
     Threshold {
         ms: i64,
     },
@@ -84,7 +85,8 @@ pub enum Command {
     },
     /// The node is a member no more.
     Leave,
-    /// The node takes up to `max` triggers whose next time is at most `no_later + window`, both in ms.
+    /// The node takes up to `max` triggers whose next time is at most `no_later + window`, both in ms. They are 0 to
+    /// `LONGEST`, and `max` is 1 to `ACQUIRE_LIMIT`.
     Acquire {
         no_later: i64,
         window: i64,

@@ -18,6 +18,7 @@ pub enum FiredState {
 pub struct FiredRow {
     /// The entry number, which no other row ever had.
     pub entry: u64,
+    /// 1 to `NODE_LIMIT` bytes.
     pub node: Text,
     pub epoch: u64,
     pub trigger: Key,

@@ -10,7 +10,7 @@ use std::marker::Model;
 #[derive(Debug, Drop)]
 pub struct JobRow {
     pub key: Key,
-    /// What executes it, by name.
+    /// What executes it, by a name of 1 to `NAME_LIMIT` bytes.
     pub class: Text,
     /// Whether it stays stored without a trigger.
     pub durable: bool,
@@ -18,7 +18,7 @@ pub struct JobRow {
     pub no_concurrent: bool,
     /// Whether an execution that is lost with its node yields a recovery trigger.
     pub requests_recovery: bool,
-    /// Data for the executing class, which the scheduler doesn't read.
+    /// Data for the executing class, which the scheduler doesn't read. At most `PAYLOAD_LIMIT` bytes.
     pub payload: Text,
 }
 

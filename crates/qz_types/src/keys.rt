@@ -4,7 +4,8 @@ ghost use Rattle.std.specs.Prelude.{◌≡◌, IfOk};
 use qz_civil::{Text, beside};
 use std::alloc::{AllocError, Global};
 
-/// A job's or trigger's key, as Quartz has it. Keys are ordered by the bytes of the group, then of the name.
+/// A job's or trigger's key, as Quartz has it. Keys are ordered by the bytes of the group, then of the name. In rows and
+/// commands both have 1 to `NAME_LIMIT` bytes.
 #[derive(Clone, PartialEq, Eq, PartialOrd, Ord, Debug, Drop)]
 pub struct Key {
     pub group: Text,

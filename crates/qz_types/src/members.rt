@@ -9,6 +9,7 @@ use std::marker::Model;
 /// is known by its epoch: it isn't that of the member.
 #[derive(Clone, Drop)]
 pub struct MemberRow {
+    /// 1 to `NODE_LIMIT` bytes.
     pub node: Text,
     pub epoch: u64,
 }

@@ -1,5 +1,5 @@
 //! Lists of rows in the order of their ids: look-ups and edits, once for every kind of row.
-ghost use Rattle.std.specs.Prelude.{◌≡◌, ◌<◌, IsOk, OnOk, OnErr, option_copied, vec_len, vec_capacity};
+ghost use Rattle.std.specs.Prelude.{◌≡◌, ◌<◌, IsOk, IfErr, OnOk, OnErr, option_copied, vec_len, vec_capacity};
 ghost use Rattle.qz_types.specs.Sorted.{place_of, row_of, put};
 
 use crate::{FiredRow, JobRow, Key, MemberRow, TriggerRow};
@@ -89,6 +89,7 @@ pub fn find<'a, R: Keyed>(rows: &'a [R], id: &R::Id) -> Option<&'a R>
 pub fn insert<R: Keyed>(rows: &mut Vec<R>, row: R) -> Result<(), AllocFailed<R>>
     ensures ok { OnOk result (rows.new.items ≡ put R.Id.cmp R.id row rows.old.items) }
     ensures err { OnErr result (rows.new.items ≡ rows.old.items) }
+    ensures value_returned { IfErr result (λ e. e.value ≡ row) }
     ensures succeeds { vec_len rows.old < vec_capacity rows.old → IsOk result }
 {
     let at = place(rows, row.id());

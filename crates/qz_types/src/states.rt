@@ -8,10 +8,11 @@ use std::marker::Model;
 /// A node's last check-in.
 #[derive(Clone, Debug, Drop)]
 pub struct StateRow {
+    /// 1 to `NODE_LIMIT` bytes.
     pub node: Text,
     /// In ms since 1970-01-01T00:00:00Z.
     pub last: i64,
-    /// How often it means to check in, in ms.
+    /// How often it means to check in, in ms: 1 to `INTERVAL_LIMIT`.
     pub interval: i64,
 }
 
@@ -37,10 +38,10 @@ impl StateRow {
     }
 }
 
-/// One transaction of the state store, without its reading.
+/// One transaction of the state store, without its reading. A node's name has 1 to `NODE_LIMIT` bytes.
 #[derive(Debug, Drop)]
 pub enum StateCommand {
-    /// The node lives, and means to check in again after `interval` ms.
+    /// The node lives, and means to check in again after `interval` ms, 1 to `INTERVAL_LIMIT`.
     CheckIn { node: Text, interval: i64 },
     /// The row of a node that is gone is removed, if it still has this last check-in, in ms since 1970-01-01T00:00:00Z.
     Forget { node: Text, last: i64 },

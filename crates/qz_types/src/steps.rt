@@ -3,11 +3,12 @@ use crate::{Command, Refusal, Reply};
 use qz_civil::Text;
 
 /// What one script line asks for. A client's command is none that a node gives and no Join; a node's command is one
-/// that has a node as actor.
+/// that has a node as actor. A node's name has 1 to `NODE_LIMIT` bytes.
 #[derive(Debug, Drop)]
 pub enum Step {
     Client(Command),
-    /// The node joins, and from then on holds the epoch that it got. It will check in each `interval` ms.
+    /// The node joins, and from then on holds the epoch that it got. It will check in each `interval` ms, 1 to
+    /// `INTERVAL_LIMIT`.
     Join { node: Text, interval: i64 },
     /// What a node does under the epoch that it holds.
     Node { node: Text, command: Command },

@@ -13,7 +13,7 @@ pub struct TriggerSpec {
     pub job: Key,
     /// Of triggers that are due at one time, the greater priority is acquired first.
     pub priority: i32,
-    /// The calendar that excludes fire times.
+    /// The calendar that excludes fire times. Its name has 1 to `NAME_LIMIT` bytes.
     pub calendar: Option<Text>,
     pub timing: Timing,
 }
@@ -79,7 +79,7 @@ pub struct TriggerRow {
     pub next: Option<i64>,
     /// The fire time before, in ms since 1970-01-01T00:00:00Z.
     pub prev: Option<i64>,
-    /// How often it fired.
+    /// How often it fired: 0 to `TIMES_LIMIT`.
     pub times: u64,
     pub state: TriggerState,
 }

@@ -8,6 +8,7 @@ use std::marker::Model;
 /// A stored zone. `UTC` is known without a row.
 #[derive(Debug, Drop)]
 pub struct ZoneRow {
+    /// 1 to `NAME_LIMIT` bytes.
     pub name: Text,
     /// A table as `qz_civil::Zone::table` takes it.
     pub stretches: List<Stretch>,

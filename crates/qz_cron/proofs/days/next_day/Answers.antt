@@ -11,7 +11,7 @@ returns-in-Some-next_from-clause-first c =
     let first = c.in-Some.ensures.first in
     let here = rw c.numbered-month.ensures.length at c.in-Some-next_from.ensures in
     let day = meets_day-in_month c.args.fields.now c.numbered-month.result.start c.in-Some.found c.args.from (Some c.in-Some-next_from.day) c.numbered-month.ensures.start (c.narrowed-listed.ensures.kept c.in-Some.found first.passes) here in
-    first_in_month c.args.fields.now (meets_month c.narrowed-listed.result) c.args.from c.loop-found.number 25200 c.in-Some.found c.numbered-month.result.start c.in-Some-next_from.day 49000 c.narrowed-listed.ensures.left c.loop-found.invariant.0 first c.numbered-month.ensures.start day
+    first_in_month c.args.fields.now (meets_month c.narrowed-listed.result) c.args.from c.loop-found.number 25200 c.in-Some.found c.numbered-month.result.start c.in-Some-next_from.day 47484 c.narrowed-listed.ensures.left c.loop-found.invariant.0 first c.numbered-month.ensures.start day
     (let high = here.high in omega (arith, c.numbered-month.result.within, c.numbered-month.result.lasts.1, c.numbered-month.ensures.length))
 
 pub loop-found-preserved : goal.loop-found-preserved
@@ -22,4 +22,4 @@ loop-found-preserved c =
     (none_behind c.args.fields.now (meets_month c.narrowed-listed.result) c.args.from c.loop-found.number 25200 c.in-Some.found c.numbered-month.result.start c.narrowed-listed.ensures.left c.loop-found.invariant.0 first c.numbered-month.ensures.start day, omega (arith, c.in-Some.ensures.bound.1))
 
 pub returns-clause-first : goal.returns-clause-first
-returns-clause-first c = none_left c.args.fields.now (meets_month c.narrowed-listed.result) c.args.from c.loop-found.number 49000 c.narrowed-listed.ensures.left c.loop-found.invariant.0 c.in_default.ensures.first
+returns-clause-first c = none_left c.args.fields.now (meets_month c.narrowed-listed.result) c.args.from c.loop-found.number 47484 c.narrowed-listed.ensures.left c.loop-found.invariant.0 c.in_default.ensures.first

@@ -3,12 +3,12 @@ use Rattle.std.proofs.lemmas.Int.{ints}
 use Rattle.qz_cron.proofs.Clocks.{next_is, none_later}
 use Rattle.qz_cron.proofs.moments.next.Goals as goal
 
-pub returns-in-Some : goal.returns-in-Some
-returns-in-Some c =
-    let moment : to_z w64 (of_z w64 c.moment_of.result) ≡ pos (c.in-Some.second * 1000) = omega (arith, ints, c.moment_of.ensures) in
-    rw moment (next_is c.args.fields.now c.args.zone.now c.args.after c.second_after.result c.in-Some.second
-    (omega (arith, ints, c.second_after.ensures.first)) (omega (arith, ints, c.second_after.ensures.later)) c.in-Some.ensures.first)
+pub returns : goal.returns
+returns c =
+    let moment : to_z w64 (of_z w64 c.moment_of.result) ≡ pos (c.in_ok-second.second * 1000) = omega (arith, ints, c.moment_of.ensures) in
+    rw moment (next_is c.args.fields.now c.args.zone.now c.args.after c.second_after.result c.in_ok-second.second
+    (omega (arith, ints, c.second_after.ensures.first)) (omega (arith, ints, c.second_after.ensures.later)) c.in_ok-second.ensures.first)
 
-pub returns-in-None : goal.returns-in-None
-returns-in-None c =
-    none_later c.args.fields.now c.args.zone.now c.args.after c.second_after.result (omega (arith, ints, c.second_after.ensures.first)) c.in-None.ensures.first
+pub returns-in_err-second : goal.returns-in_err-second
+returns-in_err-second c =
+    rw c.from_residual.ensures (none_later c.args.fields.now c.args.zone.now c.args.after c.second_after.result (omega (arith, ints, c.second_after.ensures.first)) (rw c.in_err-second.was at c.next_whole.ensures.first))

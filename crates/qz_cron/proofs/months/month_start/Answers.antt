@@ -1,4 +1,4 @@
-use Rattle.qz_cron.proofs.Calendar.{some_start, start-bound}
+use Rattle.qz_cron.proofs.Calendar.{some_start, month-ends}
 use Rattle.qz_cron.proofs.months.month_start.Goals as goal
 
 pub unwrap-requires : goal.unwrap-requires
@@ -8,4 +8,4 @@ pub returns-clause-value : goal.returns-clause-value
 returns-clause-value c = rw c.from.ensures (rw c.unwrap.ensures at c.day_of.ensures.found)
 
 pub returns-clause-bound : goal.returns-clause-bound
-returns-clause-bound c = start-bound c.args.number c.from.result c.requires (returns-clause-value c)
+returns-clause-bound c = month-ends c.args.number c.from.result c.requires (returns-clause-value c)

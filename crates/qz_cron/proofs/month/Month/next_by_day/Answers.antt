@@ -6,13 +6,13 @@ use Rattle.qz_cron.proofs.month.Month.next_by_day.Goals.{then-day-lt1-via-then-d
 pub returns-in-Any : goal.returns-in-Any
 returns-in-Any c = rw c.in-Any.is (any_day c.args.self.start c.args.self.length c.args.low c.any_from.result c.any_from.ensures)
 
-pub returns-in-Some : goal.returns-in-Some
-returns-in-Some c =
-    rw c.in-Set.is (first_is_day c.in-Set.set c.args.low c.args.self.length c.args.self.start (Some c.in-Some.bit) c.requires.0 (rw c.from.ensures at c.in-Some.ensures.first))
+pub returns-in_ok-bit-in-Set : goal.returns-in_ok-bit-in-Set
+returns-in_ok-bit-in-Set c =
+    rw c.in-Set.is (first_is_day c.in-Set.set c.args.low c.args.self.length c.args.self.start (Some c.in_ok-bit-in-Set.bit) c.requires.0 (rw c.from.ensures at c.in_ok-bit-in-Set.ensures.first))
 
-pub returns-in-None : goal.returns-in-None
-returns-in-None c =
-    rw c.in-Set.is (first_is_day c.in-Set.set c.args.low c.args.self.length c.args.self.start None c.requires.0 (rw c.from.ensures at c.in-None.ensures.first))
+pub returns-in_err-bit-in-Set : goal.returns-in_err-bit-in-Set
+returns-in_err-bit-in-Set c =
+    rw (c.in-Set.is, c.from_residual.ensures) (first_is_day c.in-Set.set c.args.low c.args.self.length c.args.self.start None c.requires.0 (rw (c.from.ensures, c.in_err-bit-in-Set.was) at c.next_bit.ensures.first))
 
 pub returns-in-Last : goal.returns-in-Last
 returns-in-Last c =
