@@ -1,6 +1,8 @@
 //! A real file.
-ghost use Rattle.std.specs.Prelude.{◌≡◌, ◌≤◌, ◌+◌, ◌<◌, ◌^◌, length, OnOk, OnErr, IfOk};
+ghost use Rattle.std.specs.Prelude.{◌≡◌, ◌≤◌, ◌+◌, ◌<◌, ◌^◌, length, max, is_err, OnOk, OnErr, IfOk, if◌then◌else◌};
 ghost use Rattle.qz_civil.specs.Causes.{HasCause};
+ghost use Rattle.qz_disk.specs.Counts.{counted};
+ghost use Rattle.qz_disk.specs.Disk.{Measured, Reads, Writes, Syncs, Restarts, untold};
 
 use crate::Disk;
 use qz_civil::{Failed, Text};
@@ -10,22 +12,23 @@ use std::os::unix::fs::FileExt;
 use std::path::Path;
 use std::rt::HostRuntime;
 
-/// How often an interrupted call is repeated before it counts as a failure.
+/// How often a call that a signal interrupts is repeated before that counts as a failure.
 const MAX_REPEATS: u32 = 1000;
 
 /// A real file, named by its path. It tells its length and its failures, and nothing of its content.
 ///
-/// The file is opened at the first call. A missing one reads as an empty disk, and is made at the first write. A read
-/// that comes short, and a write that takes nothing, is a failure. After a write that failed the length is unknown and
-/// passes for 0 until `len` is called. `restart` closes the file and opens it again.
+/// The file is opened at the first call. A missing one reads as an empty disk, and is made at the first write. The first
+/// sync of an open file also syncs its folder, whichever run made it: POSIX keeps a new name over a crash only then. A
+/// read that comes short, and a write that takes nothing, is a failure. After a write that failed the length is unknown
+/// and passes for 0 until `len` is called. `restart` closes the file and opens it again.
 #[derive(Drop)]
 pub struct FileDisk {
     rt: HostRuntime,
     path: Text,
     // None before the first call, and while there is no such file
     file: Option<File>,
-    // The folder's entry of a file that was made here isn't synced yet.
-    is_new: bool,
+    // The folder was synced since the file was opened.
+    is_named: bool,
     len: u64,
     failures: u64,
 }
@@ -40,7 +43,7 @@ impl FileDisk {
             rt,
             path,
             file: None,
-            is_new: false,
+            is_named: false,
             len: 0,
             failures: 0,
         }
@@ -51,22 +54,34 @@ fn is_interrupted(error: &io::Error) -> bool {
     error.kind() == io::ErrorKind::Interrupted
 }
 
+// Calls, and calls again where a signal interrupted the call.
+fn retried<T: Drop, F: FnMut() -> io::Result<T>>(mut call: F) -> Result<T, Failed>
+    requires { F.IsAlwaysCallable call }
+{
+    for _ in 0..=MAX_REPEATS {
+        match call() {
+            Ok(value) => return Ok(value),
+            Err(error) if is_interrupted(&error) => {}
+            Err(_) => return Err(Failed),
+        }
+    }
+    Err(Failed)
+}
+
 // Opens the file for reading and writing. None, where it is missing and isn't to be made.
 fn open_file(rt: &HostRuntime, path: &str, make: bool) -> Result<Option<File>, Failed> {
-    for _ in 0..=MAX_REPEATS {
+    retried(|| {
         match OpenOptions::new()
             .read(true)
             .write(true)
             .create(make)
             .open(rt, path)
         {
-            Ok(file) => return Ok(Some(file)),
-            Err(error) if error.kind() == io::ErrorKind::NotFound && !make => return Ok(None),
-            Err(error) if is_interrupted(&error) => {}
-            Err(_) => return Err(Failed),
+            Ok(file) => Ok(Some(file)),
+            Err(error) if error.kind() == io::ErrorKind::NotFound && !make => Ok(None),
+            Err(error) => Err(error),
         }
-    }
-    Err(Failed)
+    })
 }
 
 fn read_whole(file: &File, at: u64, into: &mut [u8]) -> Result<(), Failed>
@@ -109,47 +124,20 @@ fn write_whole(file: &File, at: u64, from: &[u8]) -> Result<(), Failed>
     Ok(())
 }
 
-fn sync_whole(file: &File) -> Result<(), Failed> {
-    for _ in 0..=MAX_REPEATS {
-        match file.sync_all() {
-            Ok(()) => return Ok(()),
-            Err(error) if is_interrupted(&error) => {}
-            Err(_) => return Err(Failed),
-        }
-    }
-    Err(Failed)
-}
-
 // Syncs the folder that holds the file, so that a crash doesn't lose the file's name.
 fn sync_folder(rt: &HostRuntime, path: &str) -> Result<(), Failed> {
     let folder = match Path::new(path).parent() {
         Some(parent) if !parent.as_str().is_empty() => parent,
         _ => Path::new("."),
     };
-    for _ in 0..=MAX_REPEATS {
-        match File::open(rt, folder) {
-            Ok(opened) => return sync_whole(&opened),
-            Err(error) if is_interrupted(&error) => {}
-            Err(_) => return Err(Failed),
-        }
-    }
-    Err(Failed)
-}
-
-fn length_of(file: &File) -> Result<u64, Failed> {
-    for _ in 0..=MAX_REPEATS {
-        match file.metadata() {
-            Ok(data) => return Ok(data.len()),
-            Err(error) if is_interrupted(&error) => {}
-            Err(_) => return Err(Failed),
-        }
-    }
-    Err(Failed)
+    let opened = retried(|| File::open(rt, folder))?;
+    retried(|| opened.sync_all())
 }
 
 // Counts a call that failed.
 fn counted<T: Drop>(failures: &mut u64, outcome: Result<T, Failed>) -> Result<T, Failed>
     ensures cause { HasCause failures.old failures.new result }
+    ensures counts { failures.new ≡ (if is_err result then counted failures.old else failures.old) }
     ensures same { result ≡ outcome }
 {
     if outcome.is_err() {
@@ -169,7 +157,6 @@ impl FileDisk {
         }
         if make && self.file.is_none() {
             self.file = open_file(&self.rt, self.path.as_str(), true)?;
-            self.is_new = true;
         }
         Ok(())
     }
@@ -180,7 +167,7 @@ impl FileDisk {
     {
         self.attach(false)?;
         match &self.file {
-            Some(file) => length_of(file),
+            Some(file) => Ok(retried(|| file.metadata())?.len()),
             None => Ok(0),
         }
     }
@@ -219,19 +206,17 @@ impl FileDisk {
     {
         self.attach(false)?;
         if let Some(file) = &self.file {
-            sync_whole(file)?;
-        }
-        if self.is_new {
-            sync_folder(&self.rt, self.path.as_str())?;
-            self.is_new = false;
+            retried(|| file.sync_all())?;
+            if !self.is_named {
+                sync_folder(&self.rt, self.path.as_str())?;
+                self.is_named = true;
+            }
         }
         Ok(())
     }
 }
 
 impl Disk for FileDisk {
-    ghost use Rattle.qz_disk.specs.Disk.{untold};
-
     ghost honest = { ⊥ };
 
     ghost len = { λ d. d.len };
@@ -244,7 +229,13 @@ impl Disk for FileDisk {
 
     ghost whole = { λ h d. absurd h };
 
-    fn len(&mut self) -> Result<u64, Failed> {
+    fn len(&mut self) -> Result<u64, Failed>
+        ensures length { IfOk result (λ n. n ≡ self.new.len) }
+        ensures length_err { OnErr result (self.new.len ≡ self.old.len) }
+        ensures cause { HasCause self.old.failures self.new.failures result }
+        ensures told { ⊥ → Measured untold untold }
+        ensures counts { self.new.failures ≡ (if is_err result then counted self.old.failures else self.old.failures) }
+    {
         let measured = self.measure();
         if let Ok(len) = measured {
             self.len = len;
@@ -252,13 +243,25 @@ impl Disk for FileDisk {
         counted(&mut self.failures, measured)
     }
 
-    fn read(&mut self, at: u64, into: &mut [u8]) -> Result<(), Failed> {
+    fn read(&mut self, at: u64, into: &mut [u8]) -> Result<(), Failed>
+        requires { at + length into.old ≤ self.old.len }
+        ensures length { self.new.len ≡ self.old.len }
+        ensures cause { HasCause self.old.failures self.new.failures result }
+        ensures told { ⊥ → Reads at result into.new untold untold }
+        ensures counts { self.new.failures ≡ (if is_err result then counted self.old.failures else self.old.failures) }
+    {
         let _len = self.len;
         let filled = self.fill(at, into);
         counted(&mut self.failures, filled)
     }
 
-    fn write_at(&mut self, at: u64, from: &[u8]) -> Result<(), Failed> {
+    fn write_at(&mut self, at: u64, from: &[u8]) -> Result<(), Failed>
+        requires { at ≤ self.old.len }
+        ensures length { OnOk result (self.new.len ≡ max self.old.len (at + length from.now)) }
+        ensures cause { HasCause self.old.failures self.new.failures result }
+        ensures told { ⊥ → Writes at from.now result untold untold }
+        ensures counts { self.new.failures ≡ (if is_err result then counted self.old.failures else self.old.failures) }
+    {
         let wrote = self.put(at, from);
         if wrote.is_ok() {
             self.len = self.len.max(at + from.len() as u64);
@@ -268,13 +271,23 @@ impl Disk for FileDisk {
         counted(&mut self.failures, wrote)
     }
 
-    fn sync(&mut self) -> Result<(), Failed> {
+    fn sync(&mut self) -> Result<(), Failed>
+        ensures length { self.new.len ≡ self.old.len }
+        ensures cause { HasCause self.old.failures self.new.failures result }
+        ensures told { ⊥ → Syncs result untold untold }
+        ensures counts { self.new.failures ≡ (if is_err result then counted self.old.failures else self.old.failures) }
+    {
         let synced = self.settle();
         counted(&mut self.failures, synced)
     }
 
-    fn restart(&mut self) -> Result<(), Failed> {
+    fn restart(&mut self) -> Result<(), Failed>
+        ensures cause { HasCause self.old.failures self.new.failures result }
+        ensures told { ⊥ → Restarts result untold untold }
+        ensures counts { self.new.failures ≡ (if is_err result then counted self.old.failures else self.old.failures) }
+    {
         self.file = None;
+        self.is_named = false;
         self.len = 0;
         let opened = self.attach(false);
         counted(&mut self.failures, opened)

@@ -1,6 +1,8 @@
 //! The real source, sinks and clock. Contracts tell nothing of what they give or take.
-ghost use Rattle.std.specs.Prelude.{◌≡◌, ◌<◌, ◌≤◌, ◌⊎◌, pos, None, IfOk, length};
+ghost use Rattle.std.specs.Prelude.{◌≡◌, ◌<◌, ◌≤◌, ◌⊎◌, pos, None, IfOk, is_err, length, if◌then◌else◌};
 ghost use Rattle.std.specs.Io.{ReadsAtMost};
+ghost use Rattle.std.specs.Io.KnownBytes.{ReadConsumes, WriteAppends, Keeps};
+ghost use Rattle.qz_civil.specs.Causes.{HasCause};
 ghost use Rattle.qz_io.specs.Memory.{counted};
 
 use crate::{Clock, Sink, Source};
@@ -9,14 +11,14 @@ use std::io::{ErrorKind, Read, Write};
 use std::marker::Model;
 use std::rt::Clock as SystemClock;
 
-/// How often a call that a signal interrupted is made again before that counts as a failure.
-const RETRIES: u32 = 1000;
+/// How often a call that a signal interrupts is repeated before that counts as a failure.
+const MAX_REPEATS: u32 = 1000;
 
 /// Reads, and reads again where a signal interrupted the call.
 fn read_retrying<R: Read>(reader: &mut R, into: &mut [u8]) -> Result<usize, Failed>
     ensures { ReadsAtMost result into.new }
 {
-    for _ in 0..RETRIES + 1 {
+    for _ in 0..=MAX_REPEATS {
         match reader.read(into) {
             Ok(count) => return Ok(count),
             Err(error) => {
@@ -34,7 +36,7 @@ fn write_retrying<W: Write>(writer: &mut W, from: &[u8]) -> Result<usize, Failed
     ensures bound { IfOk result (λ n. n ≤ length from.now) }
     ensures some { 0 < length from.now → IfOk result (λ n. 0 < n) }
 {
-    for _ in 0..RETRIES + 1 {
+    for _ in 0..=MAX_REPEATS {
         match writer.write(from) {
             Ok(count) => {
                 if count > 0 || from.is_empty() {
@@ -54,7 +56,7 @@ fn write_retrying<W: Write>(writer: &mut W, from: &[u8]) -> Result<usize, Failed
 
 /// Flushes, and flushes again where a signal interrupted the call.
 fn flush_retrying<W: Write>(writer: &mut W) -> Result<(), Failed> {
-    for _ in 0..RETRIES + 1 {
+    for _ in 0..=MAX_REPEATS {
         match writer.flush() {
             Ok(()) => return Ok(()),
             Err(error) => {
@@ -98,7 +100,13 @@ impl<R: Read + Drop> Source for StdSource<R> {
 
     ghost faults = { λ s. s };
 
-    fn read(&mut self, into: &mut [u8]) -> Result<usize, Failed> {
+    fn read(&mut self, into: &mut [u8]) -> Result<usize, Failed>
+        requires { 0 < length into.old }
+        ensures bound { ReadsAtMost result into.new }
+        ensures bytes { ReadConsumes None None result into.new }
+        ensures cause { HasCause self.old self.new result }
+        ensures counts { self.new ≡ (if is_err result then counted self.old else self.old) }
+    {
         let result = read_retrying(&mut self.reader, into);
         if result.is_err() {
             self.faults = self.faults.saturating_add(1);
@@ -138,7 +146,13 @@ impl<W: Write + Drop> Sink for StdSink<W> {
 
     ghost faults = { λ s. s };
 
-    fn write(&mut self, from: &[u8]) -> Result<usize, Failed> {
+    fn write(&mut self, from: &[u8]) -> Result<usize, Failed>
+        ensures bound { IfOk result (λ n. n ≤ length from.now) }
+        ensures some { 0 < length from.now → IfOk result (λ n. 0 < n) }
+        ensures bytes { WriteAppends None None result from.now }
+        ensures cause { HasCause self.old self.new result }
+        ensures counts { self.new ≡ (if is_err result then counted self.old else self.old) }
+    {
         let result = write_retrying(&mut self.writer, from);
         if result.is_err() {
             self.faults = self.faults.saturating_add(1);
@@ -146,7 +160,11 @@ impl<W: Write + Drop> Sink for StdSink<W> {
         result
     }
 
-    fn flush(&mut self) -> Result<(), Failed> {
+    fn flush(&mut self) -> Result<(), Failed>
+        ensures bytes { Keeps None None }
+        ensures cause { HasCause self.old self.new result }
+        ensures counts { self.new ≡ (if is_err result then counted self.old else self.old) }
+    {
         let result = flush_retrying(&mut self.writer);
         if result.is_err() {
             self.faults = self.faults.saturating_add(1);
