@@ -19,6 +19,10 @@ pub record IsHeader (kind : ℕ) (head : List ℕ) : Type 0 where
 abbrev pub other_kind : ℕ → ℕ
 other_kind kind = if kind == 84 then 83 else 84
 
+-- the bytes begin with the header of a store, of this kind or of the other
+abbrev pub HasHeader : ℕ → List ℕ → Type 0
+HasHeader kind bytes = IsHeader kind (take 16 bytes) ⊎ IsHeader (other_kind kind) (take 16 bytes)
+
 -- the byte of an open gate; any other closes the file
 abbrev pub open_gate : ℕ
 open_gate = 165

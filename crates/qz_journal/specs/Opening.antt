@@ -5,7 +5,7 @@ use Rattle.qz_journal.specs.declared.errors.CreateError.{CreateError}
 use Rattle.qz_journal.specs.declared.errors.CreateError.TheVariants as create
 use Rattle.qz_journal.specs.declared.errors.MountError.{MountError}
 use Rattle.qz_journal.specs.declared.errors.MountError.TheVariants as mount
-use Rattle.qz_journal.specs.Layout.{IsHeader, IsPayload, other_kind, open_gate, body_of, blocks, end_of}
+use Rattle.qz_journal.specs.Layout.{IsHeader, HasHeader, IsPayload, other_kind, open_gate, body_of, blocks, end_of}
 
 -- no length and payload stand here: the length is out of range, or it or the payload passes the end
 abbrev pub IsCut : List ℕ → Type 0
@@ -46,7 +46,7 @@ IsRefusedBehind bytes kind payloads mount.NoMemory = ⊤
 
 -- What a creation finds: neither header, this kind's or the other's. That the disk failed isn't seen in the bytes.
 abbrev pub IsFound : List ℕ → ℕ → Result (Unit {0}) CreateError → Type 0
-IsFound bytes kind (Ok _) = (IsHeader kind (take 16 bytes) → ⊥) × (IsHeader (other_kind kind) (take 16 bytes) → ⊥)
+IsFound bytes kind (Ok _) = HasHeader kind bytes → ⊥
 IsFound bytes kind (Err create.Exists) = IsHeader kind (take 16 bytes)
 IsFound bytes kind (Err create.OtherKind) = IsHeader (other_kind kind) (take 16 bytes)
 IsFound bytes kind (Err create.Fault) = ⊤

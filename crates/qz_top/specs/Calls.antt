@@ -5,6 +5,7 @@ use Rattle.qz_types.specs.declared.stores.Store.TheVariants as store
 use Rattle.qz_disk.specs.declared.disk.Disk.{Ghosts}
 use Rattle.qz_journal.specs.declared.errors.MountError.{MountError}
 use Rattle.qz_journal.specs.declared.errors.MountError.TheVariants as mount
+use Rattle.qz_journal.specs.Through.{OnlyReads}
 use Rattle.qz_trigger_store.specs.Bytes.{Stands, MayBe}
 use Rattle.qz_trigger_store.specs.Opening.{IsRefused}
 use Rattle.qz_cluster.specs.Steps.{ClusterState}
@@ -27,7 +28,8 @@ abbrev pub begun : Bool → ClusterState → RunState
 begun is_own S = record { cluster = S; trail = S ∷ []; is_own = is_own }
 
 -- A script on a new store in memory was run. Its replies are those of a plain scheduler that is new and empty.
-pub record RanInMemory (s : Status) (trail : List ClusterState) (left left' held held' : Option (List ℕ)) (clock clock' : Option (List ℤ)) : Type 0 where
+pub record RanInMemory (s : Status) (trail : List ClusterState)
+    (left left' held held' : Option (List ℕ)) (clock clock' : Option (List ℤ)) : Type 0 where
   pub faults : ℕ
   pub behind : RunState
   pub lines : List (List ℕ)
@@ -45,7 +47,8 @@ pub record Abstained (left left' held held' : Option (List ℕ)) (clock clock' :
   pub asked : clock' ≡ clock
 
 -- A script on a new store in memory was run, or there was no memory for the store.
-abbrev pub OwnDone : Status → List ClusterState → Option (List ℕ) → Option (List ℕ) → Option (List ℕ) → Option (List ℕ) → Option (List ℤ) → Option (List ℤ) → Type 0
+abbrev pub OwnDone : Status → List ClusterState
+    → Option (List ℕ) → Option (List ℕ) → Option (List ℕ) → Option (List ℕ) → Option (List ℤ) → Option (List ℤ) → Type 0
 OwnDone s trail left left' held held' clock clock' =
     RanInMemory s trail left left' held held' clock clock'
     ⊎ ((s ≡ status.NoMemory) × (trail ≡ []) × Abstained left left' held held' clock clock')
@@ -67,7 +70,8 @@ pub record RanOnDisk {D : Type 0} {g : Ghosts D} (triggers : D) (e : Ended D g)
   pub trail_is : trail_of e.trail ≡ behind.trail
   pub faults : g.faults e.triggers ≡ behind.cluster.triggers.faults
   -- what a crash leaves stands for the history, or for it with the undecided entry
-  pub images : g.honest → (b : List ℕ) → (g.state e.triggers).IsImage b → MayBe behind.cluster.triggers.history behind.cluster.triggers.undecided b
+  pub images : g.honest → (b : List ℕ) → (g.state e.triggers).IsImage b
+      → MayBe behind.cluster.triggers.history behind.cluster.triggers.undecided b
 
 -- how a call may end that opened no store
 abbrev pub IsOfOpening : Status → Type 0
@@ -85,13 +89,13 @@ RefusedBy status.DiskFault bytes = ⊤
 RefusedBy status.NoMemory bytes = ⊤
 RefusedBy s bytes = IsOfOpening s
 
--- No store was opened, and nothing was done.
+-- No store was opened, and nothing was done: the disk was only read, so it is as it was, and so is what a crash leaves.
 pub record NotOpened {D : Type 0} {g : Ghosts D} (triggers : D) (e : Ended D g)
     (left left' held held' : Option (List ℕ)) (clock clock' : Option (List ℤ)) : Type 0 where
   pub called : IsOfOpening e.status
   pub none : trail_of e.trail ≡ []
   pub refused : g.honest → RefusedBy e.status (g.state triggers).content
-  pub same : g.honest → (g.state e.triggers).content ≡ (g.state triggers).content
+  pub reads : g.honest → OnlyReads (g.state triggers) (g.state e.triggers)
   pub abstained : Abstained left left' held held' clock clock'
 
 -- the status of a trigger store that wasn't opened

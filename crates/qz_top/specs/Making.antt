@@ -2,7 +2,8 @@
 use Rattle.std.specs.Prelude.{⊤, ◌≡◌, ◌⊎◌, ◌≤◌, ℕ, List, [], take, drop, Bool, true, false, Option, codes, Result, Ok, Err}
 use Rattle.std.specs.Io.KnownBytes.{Appends}
 use Rattle.qz_disk.specs.Disk.{DiskState, Only, Stays}
-use Rattle.qz_journal.specs.Layout.{IsHeader, Holds, other_kind}
+use Rattle.qz_journal.specs.Layout.{IsHeader, HasHeader, Holds, other_kind}
+use Rattle.qz_journal.specs.Through.{IsKept}
 use Rattle.qz_journal.specs.declared.layout.TheConstants.{TRIGGERS, STATES}
 use Rattle.qz_types.specs.declared.stores.Store.TheVariants as store
 use Rattle.qz_top.specs.declared.making.Unmade.{Unmade}
@@ -13,8 +14,7 @@ use Rattle.qz_top.specs.declared.statuses.Status.TheVariants as status
 -- An empty store was made on a disk that began with neither header. What a crash leaves is this store, and what stood
 -- behind it stays.
 pub record IsNew (kind : ℕ) (old new : DiskState) : Type 0 where
-  pub not_this : IsHeader kind (take 16 old.content) → ⊥
-  pub not_other : IsHeader (other_kind kind) (take 16 old.content) → ⊥
+  pub none : HasHeader kind old.content → ⊥
   pub empty : Holds new.content kind []
   pub durable : Only new.content new
   pub behind : drop 17 new.content ≡ drop 17 old.content
@@ -29,11 +29,12 @@ abbrev pub IsMade : ℕ → Bool → DiskState → DiskState → Type 0
 IsMade kind true old new = IsNew kind old new
 IsMade kind false old new = IsLeft kind old new
 
--- what came of making a store on a disk: whether there is a new one, or why there is none
+-- What came of making a store on a disk: whether there is a new one, or why there is none. A store that stands there
+-- stays, also where the disk fails.
 abbrev pub Makes : ℕ → Result Bool Unmade → DiskState → DiskState → Type 0
 Makes kind (Ok made) old new = IsMade kind made old new
 Makes kind (Err unmade.OtherKind) old new = IsLeft (other_kind kind) old new
-Makes kind (Err unmade.Fault) old new = ⊤
+Makes kind (Err unmade.Fault) old new = IsKept kind old new
 
 -- at least one store is new
 pub record AreMade (t t' s s' : DiskState) : Type 0 where
@@ -56,7 +57,7 @@ IsInit status.WriteFault t t' s s' = AreMade t t' s s'
 IsInit status.Exists t t' s s' = IsLeft TRIGGERS t t' × IsLeft STATES s s'
 IsInit (status.NotAStore store.Triggers) t t' s s' = IsLeft (other_kind TRIGGERS) t t' × Stays s s'
 IsInit (status.NotAStore store.States) t t' s s' = AreSwapped t t' s s'
-IsInit status.DiskFault t t' s s' = ⊤
+IsInit status.DiskFault t t' s s' = IsKept TRIGGERS t t' × IsKept STATES s s'
 IsInit s t t' u u' = ⊥
 
 -- how an `init` may end

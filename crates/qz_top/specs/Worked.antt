@@ -20,11 +20,25 @@ pub record Made {D : Type 0} {g : Ghosts D} (triggers states : D) (e : Ended D g
   pub read : left' ≡ left
   pub asked : clock' ≡ clock
 
--- what a wish comes to: the words are refused, a script ran in memory or on the disks, stores were made, or times were told
-abbrev pub Worked : {D : Type 0} {g : Ghosts D} → Result Wish WordFault → D → D → Ended D g → Option (List ℕ) → Option (List ℕ) → Option (List ℕ) → Option (List ℕ) → Option (List ℤ) → Option (List ℤ) → Type 0
-Worked (Err fault) triggers states e left left' held held' clock clock' = (e.status ≡ status.BadWords fault) × (trail_of e.trail ≡ []) × Abstained left left' held held' clock clock'
-Worked (Ok wish.Own) triggers states e left left' held held' clock clock' = OwnDone e.status (trail_of e.trail) left left' held held' clock clock' × (e.triggers ≡ triggers) × (e.states ≡ states)
-Worked (Ok wish.Init) triggers states e left left' held held' clock clock' = Made triggers states e left left' held held' clock clock'
-Worked (Ok wish.Script) triggers states e left left' held held' clock clock' = (RanOnDisk triggers e left left' held held' clock clock' ⊎ NotOpened triggers e left left' held held' clock clock') × (e.states ≡ states)
+-- what a call did, by what its words ask for
+abbrev pub Worked : {D : Type 0} {g : Ghosts D} → Result Wish WordFault → D → D → Ended D g
+    → Option (List ℕ) → Option (List ℕ) → Option (List ℕ) → Option (List ℕ) → Option (List ℤ) → Option (List ℤ) → Type 0
+-- no call has them: they are refused, and nothing was touched
+Worked (Err fault) triggers states e left left' held held' clock clock' =
+    (e.status ≡ status.BadWords fault) × (trail_of e.trail ≡ []) × Abstained left left' held held' clock clock'
+    × (e.triggers ≡ triggers) × (e.states ≡ states)
+-- no words: a script ran in memory, and the disks weren't touched
+Worked (Ok wish.Own) triggers states e left left' held held' clock clock' =
+    OwnDone e.status (trail_of e.trail) left left' held held' clock clock'
+    × (e.triggers ≡ triggers) × (e.states ≡ states)
+-- `init`: stores were made, or it is told why not
+Worked (Ok wish.Init) triggers states e left left' held held' clock clock' =
+    Made triggers states e left left' held held' clock clock'
+-- `script`: a script ran on the trigger store, or that wasn't opened; the other disk wasn't touched
+Worked (Ok wish.Script) triggers states e left left' held held' clock clock' =
+    (RanOnDisk triggers e left left' held held' clock clock' ⊎ NotOpened triggers e left left' held held' clock clock')
+    × (e.states ≡ states)
+-- `times`: fire times were told; disks and clock weren't touched
 Worked (Ok (wish.Times after count)) triggers states e left left' held held' clock clock' =
-    TimesDone e.status (record { after = after; count = count }) left left' held held' × (trail_of e.trail ≡ []) × (clock' ≡ clock) × (e.triggers ≡ triggers) × (e.states ≡ states)
+    TimesDone e.status (record { after = after; count = count }) left left' held held'
+    × (trail_of e.trail ≡ []) × (clock' ≡ clock) × (e.triggers ≡ triggers) × (e.states ≡ states)

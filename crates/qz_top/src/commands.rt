@@ -42,11 +42,13 @@ pub fn command<S: Source, K: Sink, E: Sink, D: Disk, C: Clock>(
     states: D,
     clock: &mut C,
 ) -> Ended<D>
-    // Words that no call has are refused, and nothing else is done.
+    // Words that no call has are refused, and nothing else is done: nothing is read, written or asked, and the disks
+    // come back as they were.
     ensures bad_words { (fault : Fault) → wish_of words.now ≡ Err fault → result.status ≡ Status.BadWords fault }
     ensures bad_words_only { (fault : Fault) → result.status ≡ Status.BadWords fault → wish_of words.now ≡ Err fault }
     ensures no_wish { (fault : Fault) → wish_of words.now ≡ Err fault
         → Abstained (S.left input.old) (S.left input.new) (K.held out.old) (K.held out.new) (C.readings clock.old) (C.readings clock.new) }
+    ensures no_wish_disks { (fault : Fault) → wish_of words.now ≡ Err fault → (result.triggers ≡ triggers) × (result.states ≡ states) }
 
     // Without words out has grown by a plain scheduler's replies to the lines that the status tells were done.
     ensures own { wish_of words.now ≡ Ok wish.Own

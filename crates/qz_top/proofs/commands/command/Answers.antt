@@ -7,6 +7,9 @@ returns-clause-bad_words g c fault is = (rw is at c.work-ended.ensures.worked).0
 pub returns-clause-no_wish : goal.returns-clause-no_wish
 returns-clause-no_wish g c fault is = (rw is at c.work-ended.ensures.worked).2
 
+pub returns-clause-no_wish_disks : goal.returns-clause-no_wish_disks
+returns-clause-no_wish_disks g c fault is = let done = rw is at c.work-ended.ensures.worked in (done.3, done.4)
+
 pub returns-clause-own : goal.returns-clause-own
 returns-clause-own g c is = (rw is at c.work-ended.ensures.worked).0
 

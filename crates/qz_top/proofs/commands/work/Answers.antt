@@ -6,7 +6,8 @@ use Rattle.qz_top.proofs.commands.work.Goals as goal
 
 pub returns-in-Err-clause-worked : goal.returns-in-Err-clause-worked
 returns-in-Err-clause-worked g c =
-    worked_at _ _ _ _ _ _ _ _ _ _ _ c.in-Err.ensures.value (c.ran_no_script.ensures.status, c.ran_no_script.ensures.trail, record { read = refl; written = refl; asked = refl })
+    let none = c.ran_no_script.ensures in
+    worked_at _ _ _ _ _ _ _ _ _ _ _ c.in-Err.ensures.value (none.status, none.trail, record { read = refl; written = refl; asked = refl }, none.disks.0, none.disks.1)
 
 pub returns-in-Ok-Own-clause-worked : goal.returns-in-Ok-Own-clause-worked
 returns-in-Ok-Own-clause-worked g c =
