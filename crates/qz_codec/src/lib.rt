@@ -10,6 +10,7 @@ mod errors;
 mod fields;
 mod kinds;
 mod limits;
+mod lists;
 mod records;
 mod row_records;
 mod rows;
