@@ -1,17 +1,17 @@
 //! Records of calendars, both ways.
-ghost use Rattle.std.specs.Prelude.{◌≡◌, ◌<◌, ◌^◌, ◌++◌, IsTrue, IfOk, OnOk, None, length};
+ghost use Rattle.std.specs.Prelude.{◌≡◌, ◌++◌, IsTrue, IfOk, OnOk};
 ghost use Rattle.std.specs.Int.{w16, w32};
-ghost use Rattle.std.specs.List.{flat_map};
 ghost use Rattle.qz_civil.specs.Calendars as spec;
 ghost use Rattle.qz_civil.specs.declared.limits.TheConstants.{ANNUAL_LIMIT, HOLIDAY_LIMIT};
 ghost use Rattle.qz_codec.specs.Layout.{number, flag};
-ghost use Rattle.qz_codec.specs.Lists.{items_at, list, list_at};
+ghost use Rattle.qz_codec.specs.Lists.{list_at};
 ghost use Rattle.qz_codec.specs.Reading.{Gives, as_variant, checked, byte_at, number_at, cron_fields_at};
 ghost use Rattle.qz_codec.specs.Calendars as format;
 
 use crate::cron_fields::cron_fields_of;
 use crate::errors::Fault;
-use crate::fields::{bool_at, length_of, u8_at, u16_at, u32_at};
+use crate::fields::{bool_at, u8_at, u16_at, u32_at};
+use crate::lists::{Item, list_of, put_list};
 use crate::rows::{calendar_of, make_texts, name_of};
 use crate::writing::kinds::{put_cron_fields, put_u16};
 use crate::writing::{put_bool, put_calendar, put_name, put_u8, put_u32};
@@ -39,56 +39,44 @@ fn is_date_behind(before: Option<u32>, date: u32) -> bool
         }
 }
 
-/// A day of the year right behind this one.
-fn day_of(before: Option<u16>, bytes: &[u8]) -> Result<(u16, &[u8]), Fault>
-    ensures { Gives (λ x. (x.0, x.1.now)) result (format.next_day_at before bytes.now) }
-{
-    match u16_at(bytes) {
-        Ok((day, _)) if !is_day_behind(before, day) => Err(Fault::at(bytes)),
-        read => read,
+/// A day of an annual calendar. Its days ascend.
+impl Item for u16 {
+    ghost item = { number w16 };
+
+    ghost item_at = { format.next_day_at };
+
+    fn put_item(self, out: &mut Vec<u8>) -> Result<(), AllocError> {
+        put_u16(out, self)
+    }
+
+    fn item_of(before: Option<u16>, bytes: &[u8]) -> Result<(u16, &[u8]), Fault>
+        ensures { Gives (λ x. (x.0, x.1.now)) result (format.next_day_at before bytes.now) }
+    {
+        match u16_at(bytes) {
+            Ok((day, _)) if !is_day_behind(before, day) => Err(Fault::at(bytes)),
+            read => read,
+        }
     }
 }
 
-/// A date right behind this one.
-fn date_of(before: Option<u32>, bytes: &[u8]) -> Result<(u32, &[u8]), Fault>
-    ensures { Gives (λ x. (x.0, x.1.now)) result (format.next_date_at before bytes.now) }
-{
-    match u32_at(bytes) {
-        Ok((date, _)) if !is_date_behind(before, date) => Err(Fault::at(bytes)),
-        read => read,
-    }
-}
+/// A date of a calendar of holidays. Its dates ascend.
+impl Item for u32 {
+    ghost item = { number w32 };
 
-/// So many days.
-fn counted_days_of(alloc: Global, count: usize, bytes: &[u8]) -> Result<(List<u16>, &[u8]), Fault>
-    ensures { Gives (λ x. (x.0, x.1.now)) result (items_at format.next_day_at count None bytes.now) }
-{
-    let mut days = Vec::new(alloc);
-    let mut before = None;
-    let mut rest = bytes;
-    for _ in 0..count {
-        let (day, behind) = day_of(before, rest)?;
-        days.push(day)?;
-        before = Some(day);
-        rest = behind;
-    }
-    Ok((List::from_vec(days), rest))
-}
+    ghost item_at = { format.next_date_at };
 
-/// So many dates.
-fn counted_dates_of(alloc: Global, count: usize, bytes: &[u8]) -> Result<(List<u32>, &[u8]), Fault>
-    ensures { Gives (λ x. (x.0, x.1.now)) result (items_at format.next_date_at count None bytes.now) }
-{
-    let mut dates = Vec::new(alloc);
-    let mut before = None;
-    let mut rest = bytes;
-    for _ in 0..count {
-        let (date, behind) = date_of(before, rest)?;
-        dates.push(date)?;
-        before = Some(date);
-        rest = behind;
+    fn put_item(self, out: &mut Vec<u8>) -> Result<(), AllocError> {
+        put_u32(out, self)
     }
-    Ok((List::from_vec(dates), rest))
+
+    fn item_of(before: Option<u32>, bytes: &[u8]) -> Result<(u32, &[u8]), Fault>
+        ensures { Gives (λ x. (x.0, x.1.now)) result (format.next_date_at before bytes.now) }
+    {
+        match u32_at(bytes) {
+            Ok((date, _)) if !is_date_behind(before, date) => Err(Fault::at(bytes)),
+            read => read,
+        }
+    }
 }
 
 /// The days of an annual calendar.
@@ -96,8 +84,7 @@ fn days_of(alloc: Global, bytes: &[u8]) -> Result<(List<u16>, &[u8]), Fault>
     ensures exact { Gives (λ x. (x.0, x.1.now)) result (list_at 0 ANNUAL_LIMIT format.next_day_at bytes.now) }
     ensures valid { IfOk result (λ x. IsTrue (spec.is_list_of spec.is_annual_day ANNUAL_LIMIT x.0)) }
 {
-    let (count, rest) = length_of(bytes, 0, ANNUAL_LIMIT as u16)?;
-    counted_days_of(alloc, count, rest)
+    list_of(alloc, bytes, 0, ANNUAL_LIMIT as u16)
 }
 
 /// The dates of a calendar of holidays.
@@ -105,8 +92,7 @@ fn dates_of(alloc: Global, bytes: &[u8]) -> Result<(List<u32>, &[u8]), Fault>
     ensures exact { Gives (λ x. (x.0, x.1.now)) result (list_at 0 HOLIDAY_LIMIT format.next_date_at bytes.now) }
     ensures valid { IfOk result (λ x. IsTrue (spec.is_list_of spec.is_holiday HOLIDAY_LIMIT x.0)) }
 {
-    let (count, rest) = length_of(bytes, 0, HOLIDAY_LIMIT as u16)?;
-    counted_dates_of(alloc, count, rest)
+    list_of(alloc, bytes, 0, HOLIDAY_LIMIT as u16)
 }
 
 fn annual_of(alloc: Global, bytes: &[u8]) -> Result<(CalendarKind, &[u8]), Fault>
@@ -214,40 +200,6 @@ pub(crate) fn calendar_row_of(alloc: Global, bytes: &[u8]) -> Result<(CalendarRo
     Ok((row, rest))
 }
 
-fn put_days(out: &mut Vec<u8>, days: &[u16]) -> Result<(), AllocError>
-    ensures { OnOk result (out.new.items ≡ out.old.items ++ flat_map (number w16) days.now) }
-{
-    for day in days {
-        put_u16(out, *day)?;
-    }
-    Ok(())
-}
-
-fn put_dates(out: &mut Vec<u8>, dates: &[u32]) -> Result<(), AllocError>
-    ensures { OnOk result (out.new.items ≡ out.old.items ++ flat_map (number w32) dates.now) }
-{
-    for date in dates {
-        put_u32(out, *date)?;
-    }
-    Ok(())
-}
-
-fn put_day_list(out: &mut Vec<u8>, days: &[u16]) -> Result<(), AllocError>
-    requires { length days.now < 2 ^ 16 }
-    ensures { OnOk result (out.new.items ≡ out.old.items ++ list (number w16) days.now) }
-{
-    put_u16(out, days.len() as u16)?;
-    put_days(out, days)
-}
-
-fn put_date_list(out: &mut Vec<u8>, dates: &[u32]) -> Result<(), AllocError>
-    requires { length dates.now < 2 ^ 16 }
-    ensures { OnOk result (out.new.items ≡ out.old.items ++ list (number w32) dates.now) }
-{
-    put_u16(out, dates.len() as u16)?;
-    put_dates(out, dates)
-}
-
 fn put_day_part(out: &mut Vec<u8>, from: u32, to: u32, inverted: bool) -> Result<(), AllocError>
     ensures { OnOk result (out.new.items ≡ out.old.items ++ (number w32 from ++ (number w32 to ++ flag inverted))) }
 {
@@ -265,11 +217,11 @@ fn put_calendar_kind(out: &mut Vec<u8>, kind: &CalendarKind) -> Result<(), Alloc
     match kind {
         CalendarKind::Annual { days } => {
             put_u8(out, 0)?;
-            put_day_list(out, days.as_slice())
+            put_list(out, days.as_slice())
         }
         CalendarKind::Holiday { dates } => {
             put_u8(out, 1)?;
-            put_date_list(out, dates.as_slice())
+            put_list(out, dates.as_slice())
         }
         CalendarKind::Weekly { days } => {
             put_u8(out, 2)?;

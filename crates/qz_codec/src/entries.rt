@@ -55,7 +55,9 @@ impl Recorded for Entry {
     fn is_format() {}
 }
 
-/// Reads a record. The bytes may be of any number: what stands behind a record's end is its fault, and isn't read.
+/// Reads the record of an entry from any number of bytes. `BadRecord` comes only where they are no such record, at the
+/// first wrong field, or at the record's end where bytes follow it; those aren't looked at. `NoMemory` may come at any
+/// time.
 pub fn get_command(alloc: Global, bytes: &[u8]) -> Result<Entry, ReadError>
     // What is read has these bytes as its record.
     ensures found { IfOk result (λ e. IsEntry e × (bytes.now ≡ record_of e)) }

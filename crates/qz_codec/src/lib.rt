@@ -1,5 +1,5 @@
-//! Records: the bytes of an entry of a store's history and of a row, both ways. `docs/specification/records.md` and
-//! `docs/specification/row-records.md` have the format.
+//! Records: the bytes of an entry of a store's history and of a row, both ways. `docs/specification/records.md` has the
+//! format.
 #![tactic(auto)]
 
 mod calendars;
@@ -10,6 +10,7 @@ mod errors;
 mod fields;
 mod kinds;
 mod limits;
+mod lists;
 mod records;
 mod row_records;
 mod rows;

@@ -1,6 +1,6 @@
 //! What is the same for all records.
 
-/// Bytes of a record, which has at least one.
+/// The most bytes that a record has; it has at least one.
 pub const RECORD_LIMIT: u64 = 32768;
 
 /// The byte that a record begins with.

@@ -84,7 +84,7 @@ fn placed_of<R: Recorded>(alloc: Global, bytes: &[u8]) -> Result<R, ReadError>
     }
 }
 
-/// Reads a record. What stands behind its end isn't read.
+/// Reads a record. Where bytes follow it, its end is the fault, and they aren't looked at.
 pub(crate) fn read<R: Recorded>(alloc: Global, bytes: &[u8]) -> Result<R, ReadError>
     ensures found { IfOk result (λ x. R.has_record x × (bytes.now ≡ recorded R.fields x)) }
     ensures only { (x : R) → R.has_record x → bytes.now ≡ recorded R.fields x → Answers result (Ok x) }

@@ -44,7 +44,9 @@ pub trait Packed: Sized {
         // No other row has this record.
         ensures unique { OnOk result ((row : Self) → has_record row → record_of row ≡ record_of self.now → row ≡ self.now) };
 
-    /// Reads a record. The bytes may be of any number: what stands behind a record's end is its fault, and isn't read.
+    /// Reads the record of a row of this type from any number of bytes. `BadRecord` comes only where they are no such
+    /// record, at the first wrong field, or at the record's end where bytes follow it; those aren't looked at.
+    /// `NoMemory` may come at any time.
     fn unpack(alloc: Global, bytes: &[u8]) -> Result<Self, ReadError>
         // What is read has these bytes as its record.
         ensures found { IfOk result (λ row. has_record row × (bytes.now ≡ record_of row)) }
@@ -67,8 +69,9 @@ pub fn put_row<R: Packed>(alloc: Global, row: &R) -> Result<List<u8>, NoMemory>
     row.pack(alloc)
 }
 
-/// Reads the record of a row. The bytes may be of any number: what stands behind a record's end is its fault, and isn't
-/// read.
+/// Reads the record of a row of this type from any number of bytes. `BadRecord` comes only where they are no such
+/// record, at the first wrong field, or at the record's end where bytes follow it; those aren't looked at. `NoMemory`
+/// may come at any time.
 pub fn get_row<R: Packed>(alloc: Global, bytes: &[u8]) -> Result<R, ReadError>
     // What is read has these bytes as its record.
     ensures found { IfOk result (λ row. R.has_record row × (bytes.now ≡ R.record_of row)) }

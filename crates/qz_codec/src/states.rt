@@ -134,8 +134,9 @@ pub fn put_state(alloc: Global, entry: &StateEntry) -> Result<List<u8>, NoMemory
     write(alloc, entry)
 }
 
-/// Reads the record of a state entry. The bytes may be of any number: what stands behind a record's end is its fault,
-/// and isn't read.
+/// Reads the record of a state entry from any number of bytes. `BadRecord` comes only where they are no such record, at
+/// the first wrong field, or at the record's end where bytes follow it; those aren't looked at. `NoMemory` may come at
+/// any time.
 pub fn get_state(alloc: Global, bytes: &[u8]) -> Result<StateEntry, ReadError>
     // What is read has these bytes as its record.
     ensures found { IfOk result (λ e. IsStateEntry e × (bytes.now ≡ recorded state_entry e)) }

@@ -13,7 +13,7 @@ mod commands;
 pub(crate) mod kinds;
 
 use crate::records::write;
-use commands::put_variant;
+use commands::put_whole_command;
 use kinds::put_kind;
 use qz_types::{
     Actor, Entry, JobRow, Key, List, MemberRow, NODE_LIMIT, NoMemory, Text, Timing, TriggerSpec,
@@ -208,7 +208,7 @@ pub(crate) fn put_entry(out: &mut Vec<u8>, e: &Entry) -> Result<(), AllocError>
     put_i64(out, e.at)?;
     put_actor(out, &e.actor)?;
     put_u32(out, e.seat)?;
-    put_variant(out, &e.command)
+    put_whole_command(out, &e.command)
 }
 
 /// The record of an entry.

@@ -1,17 +1,16 @@
 //! Records of zones, both ways.
-ghost use Rattle.std.specs.Prelude.{◌≡◌, ◌<◌, ◌^◌, ◌++◌, IfOk, OnOk, length, None, option_map};
+ghost use Rattle.std.specs.Prelude.{◌≡◌, ◌++◌, IfOk, OnOk, None, option_map};
 ghost use Rattle.std.specs.Int.{w32, w64};
-ghost use Rattle.std.specs.List.{flat_map};
 ghost use Rattle.qz_civil.specs.Zones as spec;
 ghost use Rattle.qz_civil.specs.declared.limits.TheConstants.{STRETCH_LIMIT};
-ghost use Rattle.qz_codec.specs.Lists.{list, items_at, list_at};
+ghost use Rattle.qz_codec.specs.Lists.{list_at};
 ghost use Rattle.qz_codec.specs.Reading.{Gives, checked, integer_at};
 ghost use Rattle.qz_codec.specs.Zones as format;
 
 use crate::errors::Fault;
-use crate::fields::{i32_at, i64_at, length_of};
+use crate::fields::{i32_at, i64_at};
+use crate::lists::{Item, list_of, put_list};
 use crate::rows::name_of;
-use crate::writing::kinds::put_u16;
 use crate::writing::{put_i32, put_i64, put_name};
 use qz_civil::{STRETCH_LIMIT, is_offset, may_begin};
 use qz_types::{List, Stretch, Text, ZoneRow};
@@ -45,34 +44,32 @@ fn start_of(stretch: Option<Stretch>) -> Option<i64>
     }
 }
 
-/// A stretch right behind this one.
-#[tactic(auto, unfolding(crate::specs::Zones::next_stretch_at))]
-fn stretch_of(before: Option<Stretch>, bytes: &[u8]) -> Result<(Stretch, &[u8]), Fault>
-    ensures { Gives (λ x. (x.0, x.1.now)) result (format.next_stretch_at before bytes.now) }
+#[tactic(auto, unfolding(crate::specs::Zones::stretch), using(crate::proofs::Signs::signs))]
+fn put_stretch(out: &mut Vec<u8>, stretch: Stretch) -> Result<(), AllocError>
+    ensures { OnOk result (out.new.items ≡ out.old.items ++ format.stretch stretch) }
 {
-    let (from, rest) = from_of(start_of(before), bytes)?;
-    let (offset, rest) = offset_of(rest)?;
-    Ok((Stretch { from, offset }, rest))
+    put_i64(out, stretch.from)?;
+    put_i32(out, stretch.offset)
 }
 
-/// So many stretches.
-fn counted_stretches_of(
-    alloc: Global,
-    count: usize,
-    bytes: &[u8],
-) -> Result<(List<Stretch>, &[u8]), Fault>
-    ensures { Gives (λ x. (x.0, x.1.now)) result (items_at format.next_stretch_at count None bytes.now) }
-{
-    let mut stretches = Vec::new(alloc);
-    let mut before = None;
-    let mut rest = bytes;
-    for _ in 0..count {
-        let (stretch, behind) = stretch_of(before, rest)?;
-        stretches.push(stretch)?;
-        before = Some(stretch);
-        rest = behind;
+/// A stretch of a zone's table.
+impl Item for Stretch {
+    ghost item = { format.stretch };
+
+    ghost item_at = { format.next_stretch_at };
+
+    fn put_item(self, out: &mut Vec<u8>) -> Result<(), AllocError> {
+        put_stretch(out, self)
     }
-    Ok((List::from_vec(stretches), rest))
+
+    #[tactic(auto, unfolding(crate::specs::Zones::next_stretch_at))]
+    fn item_of(before: Option<Stretch>, bytes: &[u8]) -> Result<(Stretch, &[u8]), Fault>
+        ensures { Gives (λ x. (x.0, x.1.now)) result (format.next_stretch_at before bytes.now) }
+    {
+        let (from, rest) = from_of(start_of(before), bytes)?;
+        let (offset, rest) = offset_of(rest)?;
+        Ok((Stretch { from, offset }, rest))
+    }
 }
 
 /// The stretches of a zone's table.
@@ -80,8 +77,7 @@ fn stretches_of(alloc: Global, bytes: &[u8]) -> Result<(List<Stretch>, &[u8]), F
     ensures exact { Gives (λ x. (x.0, x.1.now)) result (list_at 1 STRETCH_LIMIT format.next_stretch_at bytes.now) }
     ensures valid { IfOk result (λ x. spec.bad_zone x.0 ≡ None) }
 {
-    let (count, rest) = length_of(bytes, 1, STRETCH_LIMIT as u16)?;
-    counted_stretches_of(alloc, count, rest)
+    list_of(alloc, bytes, 1, STRETCH_LIMIT as u16)
 }
 
 #[tactic(auto, unfolding(crate::specs::Zones::zone_row_at))]
@@ -97,36 +93,11 @@ pub(crate) fn zone_row_of(alloc: Global, bytes: &[u8]) -> Result<(ZoneRow, &[u8]
     Ok((zone, rest))
 }
 
-#[tactic(auto, unfolding(crate::specs::Zones::stretch), using(crate::proofs::Signs::signs))]
-fn put_stretch(out: &mut Vec<u8>, stretch: Stretch) -> Result<(), AllocError>
-    ensures { OnOk result (out.new.items ≡ out.old.items ++ format.stretch stretch) }
-{
-    put_i64(out, stretch.from)?;
-    put_i32(out, stretch.offset)
-}
-
-fn put_stretches(out: &mut Vec<u8>, stretches: &[Stretch]) -> Result<(), AllocError>
-    ensures { OnOk result (out.new.items ≡ out.old.items ++ flat_map format.stretch stretches.now) }
-{
-    for stretch in stretches {
-        put_stretch(out, *stretch)?;
-    }
-    Ok(())
-}
-
-fn put_table(out: &mut Vec<u8>, stretches: &[Stretch]) -> Result<(), AllocError>
-    requires { length stretches.now < 2 ^ 16 }
-    ensures { OnOk result (out.new.items ≡ out.old.items ++ list format.stretch stretches.now) }
-{
-    put_u16(out, stretches.len() as u16)?;
-    put_stretches(out, stretches)
-}
-
 #[tactic(auto, unfolding(crate::specs::Zones::zone_row))]
 pub(crate) fn put_zone_row(out: &mut Vec<u8>, row: &ZoneRow) -> Result<(), AllocError>
     ensures bytes { OnOk result (out.new.items ≡ out.old.items ++ format.zone_row row.now) }
     ensures valid { OnOk result (format.IsZoneRow row.now) }
 {
     put_name(out, &row.name)?;
-    put_table(out, row.stretches.as_slice())
+    put_list(out, row.stretches.as_slice())
 }

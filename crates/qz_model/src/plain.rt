@@ -25,7 +25,9 @@ use std::marker::Model;
 /// Why a transaction wasn't done.
 #[derive(Debug, Drop)]
 pub enum StepRefused {
+    /// The transaction's own refusal, the first in its order; `Unbuilt` for what isn't built.
     Refused(Refusal),
+    /// May come at any time. Nothing is known of the transaction.
     NoMemory,
 }
 
@@ -168,7 +170,8 @@ impl PlainStore {
         self.last_moment
     }
 
-    /// Does one transaction. An error changes nothing.
+    /// Does one transaction. It is refused where the transaction itself is, and memory may run out at any time. An error
+    /// changes nothing.
     pub fn step(&mut self, entry: Entry) -> Result<Reply, StepRefused>
         ensures ok { IfOk result (λ reply. transaction self.old entry ≡ accepted self.new reply) }
         ensures refused { IfErr result (IsCause (transaction self.old entry)) }
@@ -182,7 +185,8 @@ impl PlainStore {
         Ok(reply)
     }
 
-    /// What one transaction comes to here. The store stays as it is.
+    /// What one transaction comes to here: the tables behind it and its reply, or why it isn't done. The store stays as
+    /// it is.
     pub fn work(&self, entry: &Entry) -> Result<Worked, StepRefused>
         requires { IsTrue (is_entry entry.now) }
         ensures ok { IfOk result (λ worked. transaction self.now entry.now ≡ accepted worked.tables worked.reply) }

@@ -104,7 +104,7 @@ fn put_acquire(out: &mut Vec<u8>, no_later: i64, window: i64, max: u32) -> Resul
 }
 
 #[tactic(auto, using(crate::proofs::Signs::signs))]
-fn put_fields(out: &mut Vec<u8>, c: &Command) -> Result<(), AllocError>
+fn put_command_fields(out: &mut Vec<u8>, c: &Command) -> Result<(), AllocError>
     requires { IsTrue (is_command c.now) }
     ensures bytes { OnOk result (out.new.items ≡ out.old.items ++ command_fields c.now) }
     ensures valid { OnOk result (IsCommand c.now) }
@@ -136,12 +136,13 @@ fn put_fields(out: &mut Vec<u8>, c: &Command) -> Result<(), AllocError>
     }
 }
 
+/// The place of the command, and its fields.
 #[tactic(auto, unfolding(crate::specs::Layout::command))]
-pub(super) fn put_variant(out: &mut Vec<u8>, c: &Command) -> Result<(), AllocError>
+pub(super) fn put_whole_command(out: &mut Vec<u8>, c: &Command) -> Result<(), AllocError>
     requires { IsTrue (is_command c.now) }
     ensures bytes { OnOk result (out.new.items ≡ out.old.items ++ command c.now) }
     ensures valid { OnOk result (IsCommand c.now) }
 {
     put_u8(out, place_of_command(c))?;
-    put_fields(out, c)
+    put_command_fields(out, c)
 }

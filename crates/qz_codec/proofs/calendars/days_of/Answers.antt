@@ -5,5 +5,4 @@ use Rattle.qz_codec.proofs.calendars.days_of.Goals as goal
 
 pub returns-clause-valid : goal.returns-clause-valid
 returns-clause-valid c =
-    gives_valid days_format (λ x. (x.0, x.1.now)) c.args.bytes.now c.counted_days_of.result (λ i. omega (arith, c.type_inv.bytes i))
-    (rw c.in_ok-count.ensures.exact c.counted_days_of.ensures)
+    gives_valid days_format (λ x. (x.0, x.1.now)) c.args.bytes.now c.list_of.result (λ i. omega (arith, c.type_inv.bytes i)) c.list_of.ensures
