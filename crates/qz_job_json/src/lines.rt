@@ -42,7 +42,7 @@ pub enum LineFault {
     #[error("not a step")]
     Shape,
     /// The line is right but for its cron text. Script lines have none yet.
-    #[error("bad cron")]
+    #[error("bad cron {}", .0.number())]
     Cron(CronError),
     /// Memory ran out. Nothing is known of the line.
     #[error("no memory")]

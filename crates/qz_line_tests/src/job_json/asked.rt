@@ -246,6 +246,6 @@ fn is_told(alloc: Global, fault: LineFault, want: &str) -> Result<bool, AllocErr
 #[test]
 fn faults_of_cron_texts_are_told(rt: HostRuntime) -> Result<(), AllocError> {
     let fault = LineFault::Cron(CronError::BothDays);
-    assert!(rt; is_told(rt.alloc(), fault, "bad cron")?);
+    assert!(rt; is_told(rt.alloc(), fault, "bad cron 4")?);
     Ok(())
 }
