@@ -1,6 +1,5 @@
 -- What a line of `times` says, and which fault it has.
-use Rattle.std.specs.Prelude.{ℕ, List, length, Bool, ◌||◌, nat_lt, is_some, if◌then◌else◌, Option, Some, None, Result, Ok, Err, option_and_then, codes}
-use Rattle.std.specs.List.{list_all}
+use Rattle.std.specs.Prelude.{ℕ, List, Bool, ◌||◌, is_some, if◌then◌else◌, Option, None, Result, Ok, Err, option_and_then, codes}
 use Rattle.serde_json.specs.Data.{Data}
 use Rattle.serde_json.specs.Find.{get}
 use Rattle.qz_civil.specs.Timings.{is_name}
@@ -8,13 +7,13 @@ use Rattle.qz_types.specs.Rows.{is_trigger_spec}
 use Rattle.qz_job_json.specs.declared.asked.Asked.{Asked}
 use Rattle.qz_job_json.specs.declared.asked.Asked.TheVariants.{AddZone, AddTrigger}
 use Rattle.qz_job_json.specs.declared.forms.Form.TheVariants.{ZoneLine, TriggerLine}
-use Rattle.qz_job_json.specs.declared.lines.TheConstants.{LINE_LIMIT}
 use Rattle.qz_job_json.specs.declared.lines.LineFault.{LineFault}
-use Rattle.qz_job_json.specs.declared.lines.LineFault.TheVariants.{TooLong, NotJson, NotHere, Shape}
+use Rattle.qz_job_json.specs.declared.lines.LineFault.TheVariants.{NotHere, Shape}
+use Rattle.qz_job_json.specs.Faults.{◌>>=◌, or_shape}
 use Rattle.qz_job_json.specs.Forms.{built, unbuilt_words, word_of}
-use Rattle.qz_job_json.specs.Lines.{is_blank, value_of}
+use Rattle.qz_job_json.specs.Lines.{json_of, said_by}
 use Rattle.qz_job_json.specs.Members.{is_text, is_among, has_only, both, text_at, name_at, optional_integer_at, optional_bool_at}
-use Rattle.qz_job_json.specs.Schedules.{◌>>=◌, or_shape, trigger_by_kind}
+use Rattle.qz_job_json.specs.Schedules.{trigger_by_kind}
 use Rattle.qz_job_json.specs.Zones.{zone_of}
 
 -- the name and the trigger are valid
@@ -57,17 +56,10 @@ asked_by text d =
     else if is_text text (codes "add_trigger") then trigger_line d
     else Err (fault_of_word text)
 
-abbrev pub asked_by_text : Option (List ℕ) → Data → Result (Option Asked) LineFault
-asked_by_text None d = Err Shape
-asked_by_text (Some text) d = asked_by text d >>= λ asked. Ok (Some asked)
-
-abbrev pub asked_by_value : Option Data → Result (Option Asked) LineFault
-asked_by_value None = Err NotJson
-asked_by_value (Some d) = asked_by_text (text_at (codes "do") d) d
+-- the text of the member `do` names the line
+abbrev pub asked_by_value : Data → Result Asked LineFault
+asked_by_value d = or_shape (text_at (codes "do") d) >>= λ text. asked_by text d
 
 -- a line, without its line feed; Ok None is a blank line
 abbrev pub asked_meaning : List ℕ → Result (Option Asked) LineFault
-asked_meaning line =
-    if nat_lt LINE_LIMIT (length line) then Err TooLong
-    else if list_all is_blank line then Ok None
-    else asked_by_value (value_of line)
+asked_meaning line = json_of line >>= λ value. said_by asked_by_value value

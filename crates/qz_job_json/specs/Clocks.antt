@@ -1,8 +1,10 @@
 -- Times of the day and days of the week, as triggers have them.
-use Rattle.std.specs.Prelude.{ℕ, ◌+◌, ◌-◌, ◌*◌, ◌^◌, List, length, slice_index, Bool, ◌&&◌, ◌==◌, nat_le, nat_lt, if◌then◌else◌, Option, Some, None, option_and_then, codes}
+use Rattle.std.specs.Prelude.{ℕ, ◌+◌, ◌-◌, ◌*◌, List, [], ◌∷◌, length, slice_index, Bool, ◌&&◌, ◌==◌, nat_le, nat_lt, if◌then◌else◌, Option, Some, None, option_map, option_and_then, codes}
+use Rattle.std.specs.List.{list_any}
 use Rattle.serde_json.specs.Data.{Data, Items, no_items, item}
 use Rattle.serde_json.specs.Find.{get, as_str, as_array, as_number, as_u64}
 use Rattle.qz_civil.specs.Timings.{is_day_set}
+use Rattle.qz_cron_text.specs.Sets.{set_of}
 use Rattle.qz_job_json.specs.Members.{kept, both, said_or}
 
 abbrev pub is_digit : ℕ → Bool
@@ -37,21 +39,25 @@ second_of d = option_and_then second_of_day (as_str d)
 abbrev pub second_or : ℕ → List ℕ → Data → Option ℕ
 second_or default name d = said_or default second_of (get name d)
 
--- a day of the week, from 1 for Sunday, that isn't before the least one
-abbrev pub is_day_from : ℕ → ℕ → Bool
-is_day_from least day = nat_le least day && nat_le day 7
+-- 1 is Sunday
+abbrev pub is_day : ℕ → Bool
+is_day day = nat_le 1 day && nat_le day 7
 
-abbrev pub day_from : ℕ → Data → Option ℕ
-day_from least d = kept (is_day_from least) (option_and_then as_u64 (as_number d))
+abbrev pub day_of : Data → Option ℕ
+day_of d = kept is_day (option_and_then as_u64 (as_number d))
 
--- a set of days with the ascending days of a list, none of which is before the least one
-abbrev pub days_from : ℕ → ℕ → Items → Option ℕ
-days_from least set no_items = Some set
-days_from least set (item d ds) =
-    option_and_then (λ day. days_from (day + 1) (set + 2 ^ (day - 1)) ds) (day_from least d)
+-- the days of a list, in which each item is one
+abbrev pub listed_days : Items → Option (List ℕ)
+listed_days no_items = Some []
+listed_days (item d ds) = both (λ day days. day ∷ days) (day_of d) (listed_days ds)
 
+-- bit 0 is that of day 1: a bit is set exactly where its day is among these
+abbrev pub set_of_days : List ℕ → ℕ
+set_of_days days = set_of (λ i. list_any (λ day. day == i + 1) days) 7
+
+-- the set of the days of a list that isn't empty
 unfoldable pub days_of : Items → Option ℕ
-days_of days = kept is_day_set (days_from 1 0 days)
+days_of items = kept is_day_set (option_map set_of_days (listed_days items))
 
 -- the set of the days, which are all seven where there is no such member
 abbrev pub days_at : Data → Option ℕ

@@ -1,5 +1,6 @@
 pub mod Asked
 pub mod Clocks
+pub mod Faults
 pub mod Forms
 pub mod Lines
 pub mod Members

@@ -17,7 +17,8 @@ use Rattle.qz_job_json.specs.declared.forms.Form.TheVariants.{Line, Job, Trigger
 use Rattle.qz_job_json.specs.declared.lines.TheConstants.{LINE_LIMIT}
 use Rattle.qz_job_json.specs.declared.lines.Given.{Given}
 use Rattle.qz_job_json.specs.declared.lines.LineFault.{LineFault}
-use Rattle.qz_job_json.specs.declared.lines.LineFault.TheVariants.{TooLong, NotJson, NotHere, Shape}
+use Rattle.qz_job_json.specs.declared.lines.LineFault.TheVariants.{TooLong, NotJson, NotHere}
+use Rattle.qz_job_json.specs.Faults.{◌>>=◌, or_shape}
 use Rattle.qz_job_json.specs.Forms.{built, unbuilt, unbuilt_kinds, unbuilt_words, word_of}
 use Rattle.qz_job_json.specs.Members.{is_among, has_any, has_only, both, text_at, number_at, node_at, span_at, optional_integer_at}
 use Rattle.qz_job_json.specs.Objects.{job_of, trigger_of}
@@ -78,23 +79,17 @@ given_of word d =
     then both make_given (optional_integer_at (codes "at") d) (step_of word d)
     else None
 
-abbrev pub shaped : Option Given → Result (Option Given) LineFault
-shaped None = Err Shape
-shaped (Some given) = Ok (Some given)
+abbrev pub meaning_of_word : Word → Data → Result Given LineFault
+meaning_of_word word d = if is_unbuilt word d then Err NotHere else or_shape (given_of word d)
 
-abbrev pub meaning_of_line : Option Word → Data → Result (Option Given) LineFault
-meaning_of_line None d = Err Shape
-meaning_of_line (Some word) d = if is_unbuilt word d then Err NotHere else shaped (given_of word d)
-
-abbrev pub meaning_of_text : Option (List ℕ) → Data → Result (Option Given) LineFault
-meaning_of_text None d = Err Shape
-meaning_of_text (Some text) d =
-    if is_among unbuilt_words text then Err NotHere else meaning_of_line (word_of text) d
+abbrev pub meaning_of_text : List ℕ → Data → Result Given LineFault
+meaning_of_text text d =
+    if is_among unbuilt_words text then Err NotHere
+    else or_shape (word_of text) >>= λ word. meaning_of_word word d
 
 -- what a JSON value says: the text of its member `do` names the line
-abbrev pub meaning_of_value : Option Data → Result (Option Given) LineFault
-meaning_of_value None = Err NotJson
-meaning_of_value (Some d) = meaning_of_text (text_at (codes "do") d) d
+abbrev pub meaning_of_value : Data → Result Given LineFault
+meaning_of_value d = or_shape (text_at (codes "do") d) >>= λ text. meaning_of_text text d
 
 -- the JSON value that the bytes are
 abbrev pub value_of : List ℕ → Option Data
@@ -104,9 +99,22 @@ value_of line = if is_utf8 line then read line else None
 abbrev pub is_blank : ℕ → Bool
 is_blank byte = byte == 32 || (byte == 9 || byte == 13)
 
--- a line, without its line feed; Ok None is a blank line
-abbrev pub meaning_of : List ℕ → Result (Option Given) LineFault
-meaning_of line =
+abbrev pub or_not_json : Option Data → Result (Option Data) LineFault
+or_not_json None = Err NotJson
+or_not_json (Some d) = Ok (Some d)
+
+-- the JSON value of a line, without its line feed; Ok None is a blank line
+abbrev pub json_of : List ℕ → Result (Option Data) LineFault
+json_of line =
     if nat_lt LINE_LIMIT (length line) then Err TooLong
     else if list_all is_blank line then Ok None
-    else meaning_of_value (value_of line)
+    else or_not_json (value_of line)
+
+-- what a line says by its JSON value, if it has one
+abbrev pub said_by : {A : Type 0} → (Data → Result A LineFault) → Option Data → Result (Option A) LineFault
+said_by says None = Ok None
+said_by says (Some d) = says d >>= λ x. Ok (Some x)
+
+-- a line, without its line feed; Ok None is a blank line
+abbrev pub meaning_of : List ℕ → Result (Option Given) LineFault
+meaning_of line = json_of line >>= λ value. said_by meaning_of_value value

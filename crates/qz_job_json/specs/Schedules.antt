@@ -18,19 +18,10 @@ use Rattle.qz_job_json.specs.declared.forms.Form.TheVariants.{TriggerOf}
 use Rattle.qz_job_json.specs.declared.lines.LineFault.{LineFault}
 use Rattle.qz_job_json.specs.declared.lines.LineFault.TheVariants as fault
 use Rattle.qz_job_json.specs.Clocks.{second_or, days_at}
+use Rattle.qz_job_json.specs.Faults.{◌>>=◌, or_shape}
 use Rattle.qz_job_json.specs.Forms.{built, kind_word_of}
 use Rattle.qz_job_json.specs.Members.{is_text, has_only, kept, text_at, number_at, span_at, name_or, integer_or, optional_span_at, optional_name_at}
 use Rattle.qz_job_json.specs.Objects.{trigger_key, job_key}
-
--- what is there goes on, and the first fault is the answer
-infixl 10 ◌>>=◌
-abbrev pub ◌>>=◌ : {A B : Type 0} → Result A LineFault → (A → Result B LineFault) → Result B LineFault
-(Ok x) >>= f = f x
-(Err e) >>= f = Err e
-
-abbrev pub or_shape : {A : Type 0} → Option A → Result A LineFault
-or_shape None = Err fault.Shape
-or_shape (Some x) = Ok x
 
 abbrev pub or_cron : Result CronFields CronError → Result CronFields LineFault
 or_cron (Ok fields) = Ok fields

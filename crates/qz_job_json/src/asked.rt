@@ -1,16 +1,17 @@
 //! Lines of `times`.
-ghost use Rattle.std.specs.Prelude.{◌≡◌, ◌⊎◌, Err, Bool, true, IsTrue, IfOk, IfSome, option_map};
+ghost use Rattle.std.specs.Prelude.{◌≡◌, ◌⊎◌, Err, Bool, true, IsTrue, IfOk, IfSome};
 ghost use Rattle.serde_json.specs.View.{view};
 ghost use Rattle.qz_types.specs.Rows.{is_trigger_spec};
 ghost use Rattle.qz_job_json.specs.Asked as spec;
+ghost use Rattle.qz_job_json.specs.Faults.{or_shape};
 
 use crate::forms::{Form, Word, is_unbuilt_word};
-use crate::lines::{LINE_LIMIT, LineFault, is_blank, value_of};
+use crate::lines::{LineFault, json_of};
 use crate::members::{has_only, name_at, optional_bool_at, optional_integer_at, text_at};
 use crate::schedules::trigger_by_kind;
 use crate::zones::zone_of;
 use qz_civil::Zone;
-use qz_types::{NoMemory, Text, TriggerSpec};
+use qz_types::{Text, TriggerSpec};
 use serde_json::Value;
 use std::alloc::Global;
 
@@ -28,38 +29,21 @@ pub fn read_asked(alloc: Global, line: &[u8]) -> Result<Option<Asked>, LineFault
     ensures meaning { (result ≡ Err LineFault.NoMemory) ⊎ (result ≡ spec.asked_meaning line.now) }
     ensures valid { IfOk result (λ asked. IfSome asked (λ a. IsTrue (spec.is_asked a))) }
 {
-    if line.len() as u64 > LINE_LIMIT {
-        return Err(LineFault::TooLong);
+    match json_of(alloc, line)? {
+        Some(value) => read_value(alloc, &value).map(Some),
+        None => Ok(None),
     }
-    if is_blank(line) {
-        return Ok(None);
-    }
-    let value = value_of(alloc, line)?;
-    read_value(alloc, value)
 }
 
-fn read_value(alloc: Global, value: Option<Value>) -> Result<Option<Asked>, LineFault>
-    ensures meaning { (result ≡ Err LineFault.NoMemory) ⊎ (result ≡ spec.asked_by_value (option_map view value)) }
-    ensures valid { IfOk result (λ asked. IfSome asked (λ a. IsTrue (spec.is_asked a))) }
-{
-    let Some(value) = value else {
-        return Err(LineFault::NotJson);
-    };
-    let Some(text) = text_at(&value, "do") else {
-        return Err(LineFault::Shape);
-    };
-    let asked = read_line(alloc, text, &value)?;
-    Ok(Some(asked))
-}
-
-fn read_line(alloc: Global, text: &str, value: &Value) -> Result<Asked, LineFault>
-    ensures meaning { (result ≡ Err LineFault.NoMemory) ⊎ (result ≡ spec.asked_by text.now (view value.now)) }
+/// What a line asks for whose JSON value this is.
+fn read_value(alloc: Global, value: &Value) -> Result<Asked, LineFault>
+    ensures meaning { (result ≡ Err LineFault.NoMemory) ⊎ (result ≡ spec.asked_by_value (view value.now)) }
     ensures valid { IfOk result (λ asked. IsTrue (spec.is_asked asked)) }
 {
-    match text {
-        "add_zone" => zone_line(alloc, value)?.ok_or(LineFault::Shape),
+    match text_at(value, "do").ok_or(LineFault::Shape)? {
+        "add_zone" => zone_line(alloc, value),
         "add_trigger" => trigger_line(alloc, value),
-        _ => Err(fault_of_word(text)),
+        text => Err(fault_of_word(text)),
     }
 }
 
@@ -74,26 +58,20 @@ fn fault_of_word(text: &str) -> LineFault
     }
 }
 
-/// A zone by name; None is another shape.
+/// A zone by name.
 #[tactic(auto, unfolding(crate::specs::Asked::zone_line))]
-fn zone_line(alloc: Global, value: &Value) -> Result<Option<Asked>, NoMemory>
-    ensures value { IfOk result (λ asked. asked ≡ spec.zone_line (view value.now)) }
-    ensures valid { IfOk result (λ asked. IfSome asked (λ a. IsTrue (spec.is_asked a))) }
+fn zone_line(alloc: Global, value: &Value) -> Result<Asked, LineFault>
+    ensures value { (result ≡ Err LineFault.NoMemory) ⊎ (result ≡ or_shape (spec.zone_line (view value.now))) }
+    ensures valid { IfOk result (λ asked. IsTrue (spec.is_asked asked)) }
 {
     if !has_only(value, Form::ZoneLine) || optional_integer_at(value, "at").is_none() {
-        return Ok(None);
+        return Err(LineFault::Shape);
     }
-    let Some(name) = name_at(value, "name") else {
-        return Ok(None);
-    };
-    let Some(table) = value.get("stretches") else {
-        return Ok(None);
-    };
-    let Some(zone) = zone_of(alloc, table)? else {
-        return Ok(None);
-    };
+    let name = name_at(value, "name").ok_or(LineFault::Shape)?;
+    let table = value.get("stretches").ok_or(LineFault::Shape)?;
+    let zone = zone_of(alloc, table)?;
     let name = Text::from_str(alloc, name)?;
-    Ok(Some(Asked::AddZone { name, zone }))
+    Ok(Asked::AddZone { name, zone })
 }
 
 /// A trigger.

@@ -1,5 +1,5 @@
 //! Times of the day and days of the week, as triggers have them.
-ghost use Rattle.std.specs.Prelude.{◌≡◌, ◌+◌, ◌<◌, ◌≤◌, ◌-◌, ◌^◌, length, IsTrue, IfSome};
+ghost use Rattle.std.specs.Prelude.{◌≡◌, ◌+◌, ◌<◌, ◌≤◌, length, IsTrue, IfSome};
 ghost use Rattle.serde_json.specs.View.{view, items_view};
 ghost use Rattle.qz_civil.specs.Timings.{is_day_set};
 ghost use Rattle.qz_job_json.specs.Clocks as spec;
@@ -47,54 +47,31 @@ pub(crate) fn second_or(value: &Value, name: &str, default: u32) -> Option<u32>
     }
 }
 
-/// The day of the week that the value is, if it isn't before the least one.
-fn day_from(value: &Value, least: u32) -> Option<u32>
-    ensures value { result ≡ spec.day_from least (view value.now) }
-    ensures low { IfSome result (λ day. least ≤ day) }
+/// The day of the week that the value is: 1 is Sunday.
+fn day_of(value: &Value) -> Option<u32>
+    ensures value { result ≡ spec.day_of (view value.now) }
+    ensures low { IfSome result (λ day. 1 ≤ day) }
     ensures high { IfSome result (λ day. day ≤ 7) }
 {
     let day = value.as_u64()?;
-    if u64::from(least) <= day && day <= 7 {
+    if 1 <= day && day <= 7 {
         Some(day as u32)
     } else {
         None
     }
 }
 
-/// The bit of a day of the week.
-#[tactic(auto, using(crate::proofs::Days::bit_small))]
-fn bit_of(day: u32) -> u32
-    requires low { 1 ≤ day }
-    requires high { day ≤ 7 }
-    ensures { result ≡ 2 ^ (day - 1) }
-{
-    1 << (day - 1)
-}
-
-fn is_day_set(days: u32) -> bool
-    ensures { result ≡ is_day_set days }
-{
-    0 < days && days < 128
-}
-
-/// The set of the days, which ascend.
-#[tactic(auto, using(crate::proofs::Days::set_small, crate::proofs::Days::bit_small), unfolding(crate::specs::Clocks::days_of))]
-fn days_of(days: &[Value]) -> Option<u8>
-    ensures value { result ≡ spec.days_of (items_view days.now) }
+/// The set of the days of a list, in any order and however often each. An empty list is none.
+fn days_of(items: &[Value]) -> Option<u8>
+    ensures value { result ≡ spec.days_of (items_view items.now) }
     ensures valid { IfSome result (λ set. IsTrue (is_day_set set)) }
 {
     let mut set = 0;
-    let mut least = 1;
-    for item in days {
-        let day = day_from(item, least)?;
-        set += bit_of(day);
-        least = day + 1;
+    for item in items {
+        let day = day_of(item)?;
+        set |= 1 << (day - 1);
     }
-    if is_day_set(set) {
-        Some(set as u8)
-    } else {
-        None
-    }
+    if set != 0 { Some(set) } else { None }
 }
 
 /// The set of the days of the member `days`, and all days where there is none.

@@ -1,9 +1,10 @@
 //! Lines of a script.
-ghost use Rattle.std.specs.Prelude.{◌≡◌, ◌⊎◌, Err, IsTrue, IfOk, IfSome, option_map};
+ghost use Rattle.std.specs.Prelude.{◌≡◌, ◌⊎◌, Ok, Err, Some, None, IsTrue, IfOk, IfErr, IfSome, option_map};
 ghost use Rattle.std.specs.List.{list_all};
 ghost use Rattle.serde_json.specs.View.{view};
 ghost use Rattle.qz_types.specs.Steps.{is_step};
-ghost use Rattle.qz_job_json.specs.Lines.{is_blank, value_of, is_unbuilt, is_unbuilt_trigger, given_of, meaning_of, meaning_of_line, meaning_of_value};
+ghost use Rattle.qz_job_json.specs.Faults.{or_shape};
+ghost use Rattle.qz_job_json.specs.Lines.{is_blank, value_of, json_of, is_unbuilt, is_unbuilt_trigger, given_of, meaning_of, meaning_of_value};
 
 use crate::forms::{Form, Word, is_unbuilt_kind, is_unbuilt_word};
 use crate::members::{has_only, has_unbuilt, optional_integer_at, text_at};
@@ -41,7 +42,7 @@ pub enum LineFault {
     #[error("not a step")]
     Shape,
     /// The line is right but for its cron text. Script lines have none yet.
-    #[error("bad cron")]
+    #[error("bad cron {}", .0.number())]
     Cron(CronError),
     /// Memory ran out. Nothing is known of the line.
     #[error("no memory")]
@@ -73,19 +74,13 @@ pub fn read_step(alloc: Global, line: &[u8]) -> Result<Option<Given>, LineFault>
     ensures meaning { (result ≡ Err LineFault.NoMemory) ⊎ (result ≡ meaning_of line.now) }
     ensures valid { IfOk result (λ given. IfSome given (λ g. IsTrue (is_step g.step))) }
 {
-    if line.len() as u64 > LINE_LIMIT {
-        return Err(LineFault::TooLong);
-    }
-    if is_blank(line) {
-        return Ok(None);
-    }
-    match value_of(alloc, line) {
-        Ok(value) => read_value(alloc, value),
-        Err(NoMemory) => Err(LineFault::NoMemory),
+    match json_of(alloc, line)? {
+        Some(value) => read_value(alloc, &value).map(Some),
+        None => Ok(None),
     }
 }
 
-pub(crate) fn is_blank(line: &[u8]) -> bool
+fn is_blank(line: &[u8]) -> bool
     ensures { result ≡ list_all is_blank line.now }
 {
     line.iter()
@@ -93,52 +88,50 @@ pub(crate) fn is_blank(line: &[u8]) -> bool
 }
 
 /// The JSON value that the bytes are.
-pub(crate) fn value_of(alloc: Global, line: &[u8]) -> Result<Option<Value>, NoMemory>
-    ensures { IfOk result (λ value. option_map view value ≡ value_of line.now) }
+fn value_of(alloc: Global, bytes: &[u8]) -> Result<Value, LineFault>
+    ensures ok { IfOk result (λ value. value_of bytes.now ≡ Some (view value)) }
+    ensures err { IfErr result (λ fault. (fault ≡ LineFault.NoMemory) ⊎ ((fault ≡ LineFault.NotJson) × (value_of bytes.now ≡ None))) }
 {
-    match Value::from_slice(alloc, line) {
-        Ok(value) => Ok(Some(value)),
+    match Value::from_slice(alloc, bytes) {
+        Ok(value) => Ok(value),
         Err(error) => {
             if error.is_memory() {
-                Err(NoMemory)
+                Err(LineFault::NoMemory)
             } else {
-                Ok(None)
+                Err(LineFault::NotJson)
             }
         }
     }
 }
 
-fn read_value(alloc: Global, value: Option<Value>) -> Result<Option<Given>, LineFault>
-    ensures meaning { (result ≡ Err LineFault.NoMemory) ⊎ (result ≡ meaning_of_value (option_map view value)) }
-    ensures valid { IfOk result (λ given. IfSome given (λ g. IsTrue (is_step g.step))) }
+/// The JSON value of a line; None is a blank line.
+pub(crate) fn json_of(alloc: Global, line: &[u8]) -> Result<Option<Value>, LineFault>
+    ensures ok { IfOk result (λ value. json_of line.now ≡ Ok (option_map view value)) }
+    ensures err { IfErr result (λ fault. (fault ≡ LineFault.NoMemory) ⊎ (json_of line.now ≡ Err fault)) }
 {
-    let Some(value) = value else {
-        return Err(LineFault::NotJson);
-    };
-    let Some(text) = text_at(&value, "do") else {
-        return Err(LineFault::Shape);
-    };
+    if line.len() as u64 > LINE_LIMIT {
+        return Err(LineFault::TooLong);
+    }
+    if is_blank(line) {
+        return Ok(None);
+    }
+    value_of(alloc, line).map(Some)
+}
+
+/// What a line says whose JSON value this is.
+fn read_value(alloc: Global, value: &Value) -> Result<Given, LineFault>
+    ensures meaning { (result ≡ Err LineFault.NoMemory) ⊎ (result ≡ meaning_of_value (view value.now)) }
+    ensures valid { IfOk result (λ given. IsTrue (is_step given.step)) }
+{
+    let text = text_at(value, "do").ok_or(LineFault::Shape)?;
     if is_unbuilt_word(text) {
         return Err(LineFault::NotHere);
     }
-    read_line(alloc, Word::of(text), &value)
-}
-
-fn read_line(alloc: Global, word: Option<Word>, value: &Value) -> Result<Option<Given>, LineFault>
-    ensures meaning { (result ≡ Err LineFault.NoMemory) ⊎ (result ≡ meaning_of_line word (view value.now)) }
-    ensures valid { IfOk result (λ given. IfSome given (λ g. IsTrue (is_step g.step))) }
-{
-    let Some(word) = word else {
-        return Err(LineFault::Shape);
-    };
+    let word = Word::of(text).ok_or(LineFault::Shape)?;
     if is_unbuilt(word, value) {
         return Err(LineFault::NotHere);
     }
-    match given_of(alloc, word, value) {
-        Ok(Some(given)) => Ok(Some(given)),
-        Ok(None) => Err(LineFault::Shape),
-        Err(NoMemory) => Err(LineFault::NoMemory),
-    }
+    given_of(alloc, word, value)
 }
 
 /// Whether the line has a member that isn't built yet, or its job or trigger has, or the trigger's kind isn't built.
@@ -174,20 +167,16 @@ fn is_unbuilt_trigger(value: &Value) -> bool
     }
 }
 
-/// The step with its reading; None is a line that isn't a step.
+/// The step with its reading.
 #[tactic(auto, unfolding(crate::specs::Lines::given_of))]
-fn given_of(alloc: Global, word: Word, value: &Value) -> Result<Option<Given>, NoMemory>
-    ensures value { IfOk result (λ given. given ≡ given_of word (view value.now)) }
-    ensures valid { IfOk result (λ given. IfSome given (λ g. IsTrue (is_step g.step))) }
+fn given_of(alloc: Global, word: Word, value: &Value) -> Result<Given, LineFault>
+    ensures value { (result ≡ Err LineFault.NoMemory) ⊎ (result ≡ or_shape (given_of word (view value.now))) }
+    ensures valid { IfOk result (λ given. IsTrue (is_step given.step)) }
 {
     if !has_only(value, Form::Line(word)) {
-        return Ok(None);
+        return Err(LineFault::Shape);
     }
-    let Some(at) = optional_integer_at(value, "at") else {
-        return Ok(None);
-    };
-    let Some(step) = step_of(alloc, word, value)? else {
-        return Ok(None);
-    };
-    Ok(Some(Given { at, step }))
+    let at = optional_integer_at(value, "at").ok_or(LineFault::Shape)?;
+    let step = step_of(alloc, word, value)?;
+    Ok(Given { at, step })
 }

@@ -1,14 +1,16 @@
 //! The jobs and triggers in lines.
-ghost use Rattle.std.specs.Prelude.{◌≡◌, IsTrue, IfOk, IfSome, option_map, codes};
+ghost use Rattle.std.specs.Prelude.{◌≡◌, ◌⊎◌, Err, IsTrue, IfOk, IfSome, option_map, codes};
 ghost use Rattle.serde_json.specs.View.{view};
 ghost use Rattle.qz_types.specs.Rows.{is_key, is_trigger_spec};
+ghost use Rattle.qz_job_json.specs.Faults.{or_shape};
 ghost use Rattle.qz_job_json.specs.Members.{text_at};
 ghost use Rattle.qz_job_json.specs.Objects.{make_key, key_at, job_of, trigger_of, plain_job, one_shot, is_simple};
 
 use crate::forms::Form;
+use crate::lines::LineFault;
 use crate::members::{group_at, has_only, name_at, span_at, text_at};
 use qz_civil::beside;
-use qz_types::{JobRow, Key, Kind, NoMemory, Text, Timing, TriggerSpec};
+use qz_types::{JobRow, Key, Kind, Text, Timing, TriggerSpec};
 use serde_json::Value;
 use std::alloc::{AllocError, Global};
 
@@ -36,30 +38,26 @@ pub(crate) fn make_keys(
     beside(key, Key::new(alloc, job.0, job.1))
 }
 
-/// The job that the object is; None is another shape.
+/// The job that the object is.
 #[tactic(auto, unfolding(crate::specs::Objects::job_of))]
-pub(crate) fn job_of(alloc: Global, value: &Value) -> Result<Option<JobRow>, NoMemory>
-    ensures { IfOk result (λ job. job ≡ job_of (view value.now)) }
+pub(crate) fn job_of(alloc: Global, value: &Value) -> Result<JobRow, LineFault>
+    ensures { (result ≡ Err LineFault.NoMemory) ⊎ (result ≡ or_shape (job_of (view value.now))) }
 {
     if !has_only(value, Form::Job) {
-        return Ok(None);
+        return Err(LineFault::Shape);
     }
-    let Some(class) = name_at(value, "class") else {
-        return Ok(None);
-    };
-    let Some(names) = names_at(value, "group", "name") else {
-        return Ok(None);
-    };
-    let key = Key::new(alloc, names.0, names.1)?;
+    let class = name_at(value, "class").ok_or(LineFault::Shape)?;
+    let (group, name) = names_at(value, "group", "name").ok_or(LineFault::Shape)?;
+    let key = Key::new(alloc, group, name)?;
     let (key, class) = beside(key, Text::from_str(alloc, class))?;
-    Ok(Some(JobRow {
+    Ok(JobRow {
         key,
         class,
         durable: false,
         no_concurrent: false,
         requests_recovery: false,
         payload: Text::new(alloc),
-    }))
+    })
 }
 
 fn is_simple(value: &Value) -> bool
@@ -92,24 +90,18 @@ fn one_shot(start: i64, key: Key, job: Key) -> TriggerSpec
     }
 }
 
-/// The trigger that the object is; None is another shape.
+/// The trigger that the object is.
 #[tactic(auto, unfolding(crate::specs::Objects::trigger_of))]
-pub(crate) fn trigger_of(alloc: Global, value: &Value) -> Result<Option<TriggerSpec>, NoMemory>
-    ensures value { IfOk result (λ spec. spec ≡ trigger_of (view value.now)) }
-    ensures valid { IfOk result (λ spec. IfSome spec (λ s. IsTrue (is_trigger_spec s))) }
+pub(crate) fn trigger_of(alloc: Global, value: &Value) -> Result<TriggerSpec, LineFault>
+    ensures value { (result ≡ Err LineFault.NoMemory) ⊎ (result ≡ or_shape (trigger_of (view value.now))) }
+    ensures valid { IfOk result (λ spec. IsTrue (is_trigger_spec spec)) }
 {
     if !has_only(value, Form::Trigger) || !is_simple(value) {
-        return Ok(None);
+        return Err(LineFault::Shape);
     }
-    let Some(start) = span_at(value, "start") else {
-        return Ok(None);
-    };
-    let Some(key) = names_at(value, "group", "name") else {
-        return Ok(None);
-    };
-    let Some(job) = names_at(value, "job_group", "job") else {
-        return Ok(None);
-    };
+    let start = span_at(value, "start").ok_or(LineFault::Shape)?;
+    let key = names_at(value, "group", "name").ok_or(LineFault::Shape)?;
+    let job = names_at(value, "job_group", "job").ok_or(LineFault::Shape)?;
     let (key, job) = make_keys(alloc, key, job)?;
-    Ok(Some(one_shot(start, key, job)))
+    Ok(one_shot(start, key, job))
 }

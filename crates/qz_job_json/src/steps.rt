@@ -1,141 +1,118 @@
 //! The step of a line by its own members.
-ghost use Rattle.std.specs.Prelude.{◌≡◌, ◌&&◌, IsTrue, IfOk, IfSome, codes};
-ghost use Rattle.std.specs.Option.{ForSome};
+ghost use Rattle.std.specs.Prelude.{◌≡◌, ◌⊎◌, Err, IsTrue, IfOk, codes};
 ghost use Rattle.serde_json.specs.View.{view};
 ghost use Rattle.qz_types.specs.Rows.{is_node};
 ghost use Rattle.qz_types.specs.Steps.{is_step};
-ghost use Rattle.qz_job_json.specs.Lines.{acquire_of, fire_of, complete_of, step_of};
-ghost use Rattle.qz_job_json.specs.Members.{both, node_at};
-ghost use Rattle.qz_types.specs.Entries.{is_command, is_of_node};
-ghost use Rattle.qz_types.specs.declared.steps.Step.TheVariants.{Node};
-ghost use Rattle.qz_job_json.specs.declared.forms.Word.TheVariants.{AddJob, AddTrigger, Join};
+ghost use Rattle.qz_job_json.specs.Faults.{or_shape};
+ghost use Rattle.qz_job_json.specs.Lines.{step_of};
+ghost use Rattle.qz_job_json.specs.Members.{node_at};
+ghost use Rattle.qz_job_json.specs.declared.forms.Word.TheVariants.{AddJob, AddTrigger, Join, Acquire, Fire, Complete};
 
 use crate::forms::Word;
+use crate::lines::LineFault;
 use crate::members::{node_at, number_at, span_at};
 use crate::objects::{job_of, trigger_of};
-use qz_civil::let_go;
-use qz_types::{Code, Command, NoMemory, Step, Text};
+use qz_types::{Code, Command, Step, Text};
 use serde_json::Value;
 use std::alloc::Global;
 
 #[tactic(auto, unfolding(crate::specs::Lines::step_of))]
-fn add_job(alloc: Global, value: &Value) -> Result<Option<Step>, NoMemory>
-    ensures value { IfOk result (λ step. step ≡ step_of AddJob (view value.now)) }
-    ensures valid { IfOk result (λ step. IfSome step (λ s. IsTrue (is_step s))) }
+fn add_job(alloc: Global, value: &Value) -> Result<Step, LineFault>
+    ensures value { (result ≡ Err LineFault.NoMemory) ⊎ (result ≡ or_shape (step_of AddJob (view value.now))) }
+    ensures valid { IfOk result (λ step. IsTrue (is_step step)) }
 {
-    let Some(object) = value.get("job") else {
-        return Ok(None);
-    };
-    let Some(job) = job_of(alloc, object)? else {
-        return Ok(None);
-    };
-    Ok(Some(Step::Client(Command::AddJob {
+    let object = value.get("job").ok_or(LineFault::Shape)?;
+    let job = job_of(alloc, object)?;
+    Ok(Step::Client(Command::AddJob {
         job,
         replace: false,
-    })))
-}
-
-#[tactic(auto, unfolding(crate::specs::Lines::step_of))]
-fn add_trigger(alloc: Global, value: &Value) -> Result<Option<Step>, NoMemory>
-    ensures value { IfOk result (λ step. step ≡ step_of AddTrigger (view value.now)) }
-    ensures valid { IfOk result (λ step. IfSome step (λ s. IsTrue (is_step s))) }
-{
-    let Some(object) = value.get("trigger") else {
-        return Ok(None);
-    };
-    let Some(spec) = trigger_of(alloc, object)? else {
-        return Ok(None);
-    };
-    Ok(Some(Step::Client(Command::AddTrigger {
-        spec,
-        replace: false,
-    })))
-}
-
-#[tactic(auto, unfolding(crate::specs::Lines::step_of))]
-fn join(alloc: Global, value: &Value) -> Result<Option<Step>, NoMemory>
-    ensures value { IfOk result (λ step. step ≡ step_of Join (view value.now)) }
-    ensures valid { IfOk result (λ step. IfSome step (λ s. IsTrue (is_step s))) }
-{
-    let Some(node) = node_of(alloc, value)? else {
-        return Ok(None);
-    };
-    Ok(Some(Step::Join {
-        node,
-        interval: 15000,
     }))
 }
 
-fn node_of(alloc: Global, value: &Value) -> Result<Option<Text>, NoMemory>
-    ensures value { IfOk result (λ node. node ≡ node_at (codes "node") (view value.now)) }
-    ensures valid { IfOk result (λ node. IfSome node (λ name. IsTrue (is_node name))) }
+#[tactic(auto, unfolding(crate::specs::Lines::step_of))]
+fn add_trigger(alloc: Global, value: &Value) -> Result<Step, LineFault>
+    ensures value { (result ≡ Err LineFault.NoMemory) ⊎ (result ≡ or_shape (step_of AddTrigger (view value.now))) }
+    ensures valid { IfOk result (λ step. IsTrue (is_step step)) }
 {
-    match node_at(value, "node") {
-        Some(node) => Ok(Some(Text::from_str(alloc, node)?)),
-        None => Ok(None),
-    }
+    let object = value.get("trigger").ok_or(LineFault::Shape)?;
+    let spec = trigger_of(alloc, object)?;
+    Ok(Step::Client(Command::AddTrigger {
+        spec,
+        replace: false,
+    }))
 }
 
-/// What a node does under the epoch that it holds.
-fn by_node(node: Option<Text>, command: Option<Command>) -> Option<Step>
-    requires node { ForSome node (λ name. IsTrue (is_node name)) }
-    requires command { ForSome command (λ c. IsTrue (is_command c && is_of_node c)) }
-    ensures value { result ≡ both Node node command }
-    ensures valid { IfSome result (λ s. IsTrue (is_step s)) }
+fn node_of(alloc: Global, value: &Value) -> Result<Text, LineFault>
+    ensures value { (result ≡ Err LineFault.NoMemory) ⊎ (result ≡ or_shape (node_at (codes "node") (view value.now))) }
+    ensures valid { IfOk result (λ node. IsTrue (is_node node)) }
 {
-    let command = command?;
-    match node {
-        Some(node) => Some(Step::Node { node, command }),
-        None => {
-            let_go(command);
-            None
-        }
-    }
+    let node = node_at(value, "node").ok_or(LineFault::Shape)?;
+    Ok(Text::from_str(alloc, node)?)
 }
 
-fn acquire(value: &Value) -> Option<Command>
-    ensures value { result ≡ acquire_of (view value.now) }
-    ensures valid { IfSome result (λ c. IsTrue (is_command c && is_of_node c)) }
+#[tactic(auto, unfolding(crate::specs::Lines::step_of))]
+fn join(alloc: Global, value: &Value) -> Result<Step, LineFault>
+    ensures value { (result ≡ Err LineFault.NoMemory) ⊎ (result ≡ or_shape (step_of Join (view value.now))) }
+    ensures valid { IfOk result (λ step. IsTrue (is_step step)) }
 {
-    let no_later = span_at(value, "no_later")?;
-    Some(Command::Acquire {
+    let node = node_of(alloc, value)?;
+    Ok(Step::Join {
+        node,
+        interval: 15000,
+    })
+}
+
+#[tactic(auto, unfolding(crate::specs::Lines::step_of))]
+fn acquire(alloc: Global, value: &Value) -> Result<Step, LineFault>
+    ensures value { (result ≡ Err LineFault.NoMemory) ⊎ (result ≡ or_shape (step_of Acquire (view value.now))) }
+    ensures valid { IfOk result (λ step. IsTrue (is_step step)) }
+{
+    let no_later = span_at(value, "no_later").ok_or(LineFault::Shape)?;
+    let node = node_of(alloc, value)?;
+    let command = Command::Acquire {
         no_later,
         window: 0,
         max: 1,
-    })
+    };
+    Ok(Step::Node { node, command })
 }
 
-fn fire(value: &Value) -> Option<Command>
-    ensures value { result ≡ fire_of (view value.now) }
-    ensures valid { IfSome result (λ c. IsTrue (is_command c && is_of_node c)) }
+#[tactic(auto, unfolding(crate::specs::Lines::step_of))]
+fn fire(alloc: Global, value: &Value) -> Result<Step, LineFault>
+    ensures value { (result ≡ Err LineFault.NoMemory) ⊎ (result ≡ or_shape (step_of Fire (view value.now))) }
+    ensures valid { IfOk result (λ step. IsTrue (is_step step)) }
 {
-    let entry = number_at(value, "entry")?;
-    Some(Command::Fire { entry })
+    let entry = number_at(value, "entry").ok_or(LineFault::Shape)?;
+    let node = node_of(alloc, value)?;
+    let command = Command::Fire { entry };
+    Ok(Step::Node { node, command })
 }
 
-fn complete(value: &Value) -> Option<Command>
-    ensures value { result ≡ complete_of (view value.now) }
-    ensures valid { IfSome result (λ c. IsTrue (is_command c && is_of_node c)) }
+#[tactic(auto, unfolding(crate::specs::Lines::step_of))]
+fn complete(alloc: Global, value: &Value) -> Result<Step, LineFault>
+    ensures value { (result ≡ Err LineFault.NoMemory) ⊎ (result ≡ or_shape (step_of Complete (view value.now))) }
+    ensures valid { IfOk result (λ step. IsTrue (is_step step)) }
 {
-    let entry = number_at(value, "entry")?;
-    Some(Command::Complete {
+    let entry = number_at(value, "entry").ok_or(LineFault::Shape)?;
+    let node = node_of(alloc, value)?;
+    let command = Command::Complete {
         entry,
         code: Code::Noop,
-    })
+    };
+    Ok(Step::Node { node, command })
 }
 
-/// The step of a line; None is another shape.
-#[tactic(auto, unfolding(crate::specs::Lines::step_of))]
-pub(crate) fn step_of(alloc: Global, word: Word, value: &Value) -> Result<Option<Step>, NoMemory>
-    ensures value { IfOk result (λ step. step ≡ step_of word (view value.now)) }
-    ensures valid { IfOk result (λ step. IfSome step (λ s. IsTrue (is_step s))) }
+/// The step of a line.
+pub(crate) fn step_of(alloc: Global, word: Word, value: &Value) -> Result<Step, LineFault>
+    ensures value { (result ≡ Err LineFault.NoMemory) ⊎ (result ≡ or_shape (step_of word (view value.now))) }
+    ensures valid { IfOk result (λ step. IsTrue (is_step step)) }
 {
     match word {
         Word::AddJob => add_job(alloc, value),
         Word::AddTrigger => add_trigger(alloc, value),
         Word::Join => join(alloc, value),
-        Word::Acquire => Ok(by_node(node_of(alloc, value)?, acquire(value))),
-        Word::Fire => Ok(by_node(node_of(alloc, value)?, fire(value))),
-        Word::Complete => Ok(by_node(node_of(alloc, value)?, complete(value))),
+        Word::Acquire => acquire(alloc, value),
+        Word::Fire => fire(alloc, value),
+        Word::Complete => complete(alloc, value),
     }
 }

@@ -1,11 +1,12 @@
 //! The tables of zones.
-ghost use Rattle.std.specs.Prelude.{◌≡◌, IfOk};
+ghost use Rattle.std.specs.Prelude.{◌≡◌, ◌⊎◌, Err};
 ghost use Rattle.serde_json.specs.View.{view, items_view};
+ghost use Rattle.qz_job_json.specs.Faults.{or_shape};
 ghost use Rattle.qz_job_json.specs.Zones as spec;
 
+use crate::lines::LineFault;
 use crate::members::integer_in;
 use qz_civil::{List, Stretch, Zone};
-use qz_types::NoMemory;
 use serde_json::Value;
 use std::alloc::Global;
 
@@ -25,31 +26,22 @@ fn stretch_of(value: &Value) -> Option<Stretch>
     })
 }
 
-fn stretches_of(alloc: Global, items: &[Value]) -> Result<Option<List<Stretch>>, NoMemory>
-    ensures { IfOk result (λ stretches. stretches ≡ spec.stretches_of (items_view items.now)) }
+fn stretches_of(alloc: Global, items: &[Value]) -> Result<List<Stretch>, LineFault>
+    ensures { (result ≡ Err LineFault.NoMemory) ⊎ (result ≡ or_shape (spec.stretches_of (items_view items.now))) }
 {
     let mut stretches = List::new(alloc);
     for item in items {
-        let Some(stretch) = stretch_of(item) else {
-            return Ok(None);
-        };
-        stretches.push(stretch)?;
+        let stretch = stretch_of(item).ok_or(LineFault::Shape)?;
+        stretches.push(stretch).map_err(|_| LineFault::NoMemory)?;
     }
-    Ok(Some(stretches))
+    Ok(stretches)
 }
 
-/// The zone whose table the value is; None is another shape, or a table of no zone.
-pub(crate) fn zone_of(alloc: Global, value: &Value) -> Result<Option<Zone>, NoMemory>
-    ensures { IfOk result (λ zone. zone ≡ spec.zone_of (view value.now)) }
+/// The zone whose table the value is.
+pub(crate) fn zone_of(alloc: Global, value: &Value) -> Result<Zone, LineFault>
+    ensures { (result ≡ Err LineFault.NoMemory) ⊎ (result ≡ or_shape (spec.zone_of (view value.now))) }
 {
-    let Some(items) = value.as_array() else {
-        return Ok(None);
-    };
-    let Some(stretches) = stretches_of(alloc, items.as_slice())? else {
-        return Ok(None);
-    };
-    match Zone::table(stretches) {
-        Ok(zone) => Ok(Some(zone)),
-        Err(_) => Ok(None),
-    }
+    let items = value.as_array().ok_or(LineFault::Shape)?;
+    let stretches = stretches_of(alloc, items.as_slice())?;
+    Zone::table(stretches).map_err(|_| LineFault::Shape)
 }

@@ -1,19 +1,16 @@
 -- How groups, names and keys are printed, so that each is one word and two keys are never printed alike.
-use Rattle.std.specs.Prelude.{ℕ, ◌+◌, ◌/◌, ◌%◌, List, [], ◌∷◌, ◌++◌, Bool, not, ◌&&◌, nat_le, nat_lt, ◌==◌, if◌then◌else◌}
+use Rattle.std.specs.Prelude.{ℕ, List, [], ◌∷◌, ◌++◌, Bool, not, ◌&&◌, nat_le, ◌==◌, if◌then◌else◌}
 use Rattle.std.specs.List.{flat_map}
+use Rattle.percent_encoding.specs.Percent.{percent_encode_byte}
 use Rattle.qz_types.specs.declared.keys.Key.{Key}
 
 -- a byte from 21 to 7E hexadecimal other than `/` and `%`
 abbrev pub is_plain : ℕ → Bool
 is_plain b = nat_le 33 b && nat_le b 126 && not (b == 47) && not (b == 37)
 
--- the upper-case hexadecimal digit of a number below 16
-abbrev pub hex_digit : ℕ → ℕ
-hex_digit n = if nat_lt n 10 then n + 48 else n + 55
-
--- a plain byte stands for itself, any other is `%` and two digits
+-- a plain byte stands for itself, any other is `%` and its two upper-case hexadecimal digits
 abbrev pub escaped_byte : ℕ → List ℕ
-escaped_byte b = if is_plain b then b ∷ [] else 37 ∷ hex_digit (b / 16) ∷ hex_digit (b % 16) ∷ []
+escaped_byte b = if is_plain b then b ∷ [] else percent_encode_byte b
 
 abbrev pub escaped : List ℕ → List ℕ
 escaped name = flat_map escaped_byte name

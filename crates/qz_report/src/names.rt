@@ -1,43 +1,23 @@
 //! Groups, names and keys, as they are printed.
-ghost use Rattle.std.specs.Prelude.{◌≡◌, ◌++◌, ◌<◌, OnOk, string_bytes};
-ghost use Rattle.qz_report.specs.Names.{is_plain, hex_digit, escaped_byte, escaped, key_text};
+ghost use Rattle.std.specs.Prelude.{◌≡◌, ◌++◌, ◌<◌, ℕ, not, OnOk, string_bytes};
+ghost use Rattle.percent_encoding.specs.AsciiSet.{should_percent_encode};
+ghost use Rattle.qz_report.specs.Names.{is_plain, escaped, key_text};
 
+use percent_encoding::{AsciiSet, CONTROLS, utf8_percent_encode};
 use qz_types::Key;
 use std::alloc::AllocError;
 
-fn is_plain(b: u8) -> bool
-    ensures { result ≡ is_plain b }
+/// The bytes of ASCII that are escaped. All others that aren't plain are beyond it.
+fn escaped_bytes() -> AsciiSet
+    ensures { (b : ℕ) → b < 256 → should_percent_encode result b ≡ not (is_plain b) }
 {
-    0x21 <= b && b <= 0x7e && b != b'/' && b != b'%'
-}
-
-fn hex_digit(n: u8) -> u8
-    requires { n < 16 }
-    ensures { result ≡ hex_digit n }
-{
-    if n < 10 { n + b'0' } else { n + b'A' - 10 }
-}
-
-fn push_byte(text: &mut String, b: u8) -> Result<(), AllocError>
-    requires { b < 256 }
-    ensures { OnOk result (string_bytes text.new ≡ string_bytes text.old ++ escaped_byte b) }
-{
-    if is_plain(b) {
-        text.push(b as char)
-    } else {
-        text.push('%')?;
-        text.push(hex_digit(b / 16) as char)?;
-        text.push(hex_digit(b % 16) as char)
-    }
+    CONTROLS.add(b' ').add(b'/').add(b'%')
 }
 
 fn push_name(text: &mut String, name: &str) -> Result<(), AllocError>
     ensures { OnOk result (string_bytes text.new ≡ string_bytes text.old ++ escaped name.now) }
 {
-    for b in name.as_bytes() {
-        push_byte(text, *b)?;
-    }
-    Ok(())
+    utf8_percent_encode(name, escaped_bytes()).append_to(text)
 }
 
 /// Adds a key as GROUP/NAME.

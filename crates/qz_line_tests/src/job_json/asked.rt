@@ -91,6 +91,15 @@ const TIMINGS: &[(&str, &str)] = &[
         r#""kind":"daily","unit":"HOUR","every":24"#,
         "Timing { kind: Daily { unit: Hour, every: 24, from: 0, to: 86399, days: 127, zone: \"UTC\" }, misfire: 0, start: 0, end: None }",
     ),
+    // The order of the days and doubles among them don't matter.
+    (
+        r#""kind":"daily","unit":"HOUR","every":1,"days":[7,2,1]"#,
+        "Timing { kind: Daily { unit: Hour, every: 1, from: 0, to: 86399, days: 67, zone: \"UTC\" }, misfire: 0, start: 0, end: None }",
+    ),
+    (
+        r#""kind":"daily","unit":"HOUR","every":1,"days":[1,1]"#,
+        "Timing { kind: Daily { unit: Hour, every: 1, from: 0, to: 86399, days: 1, zone: \"UTC\" }, misfire: 0, start: 0, end: None }",
+    ),
 ];
 
 #[test]
@@ -146,14 +155,6 @@ const OTHER_TRIGGERS: &[(&str, &str)] = &[
     ),
     (
         r#""kind":"daily","unit":"HOUR","every":1,"days":[]"#,
-        "Shape",
-    ),
-    (
-        r#""kind":"daily","unit":"HOUR","every":1,"days":[2,1]"#,
-        "Shape",
-    ),
-    (
-        r#""kind":"daily","unit":"HOUR","every":1,"days":[1,1]"#,
         "Shape",
     ),
     (
@@ -245,6 +246,6 @@ fn is_told(alloc: Global, fault: LineFault, want: &str) -> Result<bool, AllocErr
 #[test]
 fn faults_of_cron_texts_are_told(rt: HostRuntime) -> Result<(), AllocError> {
     let fault = LineFault::Cron(CronError::BothDays);
-    assert!(rt; is_told(rt.alloc(), fault, "bad cron")?);
+    assert!(rt; is_told(rt.alloc(), fault, "bad cron 4")?);
     Ok(())
 }

@@ -1,4 +1,4 @@
-use Rattle.std.proofs.Common.{rules, ◌≡◌, ℕ, List, Bool, true, false, Some, None, cond, refl, sym}
+use Rattle.std.proofs.Common.{rules, ◌≡◌, ℕ, List, Bool, true, false, Some, None, cond, refl, inr}
 use Rattle.std.specs.Str.{IsUtf8, is_utf8}
 use Rattle.std.proofs.lemmas.Str.{IsUtf8-from_is_utf8, is_utf8-from_IsUtf8}
 use Rattle.serde_json.specs.Data.{Data}
@@ -9,12 +9,12 @@ use Rattle.qz_job_json.proofs.lines.value_of.Goals as goal
 is_json : (line : List ℕ) (d : Data) → IsUtf8 line → read line ≡ Some d → value_of line ≡ Some d
 is_json line d text e = rw (is_utf8-from_IsUtf8 line text) e
 
-is_none : (line : List ℕ) (b : Bool) → is_utf8 line ≡ b → (IsUtf8 line → read line ≡ None) → cond b (read line) None ≡ None
-is_none line true is h = h (IsUtf8-from_is_utf8 line is)
-is_none line false is h = refl
+no_json : (line : List ℕ) (b : Bool) → is_utf8 line ≡ b → (IsUtf8 line → read line ≡ None) → cond b (read line) None ≡ None
+no_json line true is h = h (IsUtf8-from_is_utf8 line is)
+no_json line false is h = refl
 
-pub returns-in-Ok : goal.returns-in-Ok
-returns-in-Ok c = sym (is_json c.args.line.now _ c.in-Ok.ensures.ok.0 c.in-Ok.ensures.ok.1)
+pub returns-in-Ok-clause-ok : goal.returns-in-Ok-clause-ok
+returns-in-Ok-clause-ok c = is_json c.args.bytes.now _ c.in-Ok.ensures.ok.0 c.in-Ok.ensures.ok.1
 
-pub returns-else-is_memory : goal.returns-else-is_memory
-returns-else-is_memory c = sym (is_none c.args.line.now _ refl (c.in-Err.ensures.err (search rules)))
+pub returns-else-is_memory-clause-err : goal.returns-else-is_memory-clause-err
+returns-else-is_memory-clause-err c = inr (refl, no_json c.args.bytes.now _ refl (c.in-Err.ensures.err (search rules)))

@@ -1,0 +1,14 @@
+-- What is read of a line, up to the first fault.
+use Rattle.std.specs.Prelude.{Option, Some, None, Result, Ok, Err}
+use Rattle.qz_job_json.specs.declared.lines.LineFault.{LineFault}
+use Rattle.qz_job_json.specs.declared.lines.LineFault.TheVariants.{Shape}
+
+-- what is there goes on, and the first fault is the answer
+infixl 10 ◌>>=◌
+abbrev pub ◌>>=◌ : {A B : Type 0} → Result A LineFault → (A → Result B LineFault) → Result B LineFault
+(Ok x) >>= f = f x
+(Err e) >>= f = Err e
+
+abbrev pub or_shape : {A : Type 0} → Option A → Result A LineFault
+or_shape None = Err Shape
+or_shape (Some x) = Ok x
