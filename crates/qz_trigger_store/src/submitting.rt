@@ -168,7 +168,7 @@ impl<D: Disk> TriggerStore<D> {
             // A fault: the journal is open, and the record fits.
             Err(_) => {
                 let_go(p);
-                self.accepted = room.shut();
+                self.accepted = room.into_accepted();
                 Err(close(&mut self.is_open, &mut self.undecided, entry))
             }
         }
