@@ -5,12 +5,11 @@ use qz_types::MemberRow;
 use std::alloc::Global;
 
 /// An open trigger store, and under which epoch each node that joined works. Epochs are held in memory alone: where a
-/// cluster is opened, no node holds one. The fields are public so that contracts may name them; change them through
-/// the calls alone.
+/// cluster is opened, no node holds one.
 #[derive(Drop)]
 pub struct Cluster<D: Disk> {
     pub(crate) alloc: Global,
-    pub triggers: TriggerStore<D>,
+    pub(crate) triggers: TriggerStore<D>,
     /// In the order of the nodes' names.
-    pub held: Vec<MemberRow>,
+    pub(crate) held: Vec<MemberRow>,
 }

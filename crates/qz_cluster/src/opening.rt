@@ -15,7 +15,9 @@ use std::alloc::Global;
 
 impl<D: Disk> Cluster<D> {
     /// Opens the trigger store that stands on a disk. No node holds an epoch yet. It syncs first, and writes nothing.
-    /// An `Err` hands the disk back.
+    /// An `Err` hands the disk back. `NotAStore` comes where the header isn't a trigger store's, `Damaged` also at the gate
+    /// of the first payload that is no record or whose command is refused, and `Fault` only where the disk's count of
+    /// faults rose.
     pub fn mount(alloc: Global, triggers: D) -> Result<Cluster<D>, (MountError, D)>
         ensures opened { IfOk result (λ c. ((state_of c).triggers.is_open ≡ true) × ((state_of c).triggers.undecided ≡ None) × ((state_of c).held ≡ [])) }
         ensures stands { D.honest → IfOk result (λ c. Stands (D.state triggers).content (state_of c).triggers.history) }

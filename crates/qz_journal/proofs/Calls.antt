@@ -17,13 +17,13 @@ sync_leaves (Ok x) s t lawful told = goes_on s s t s.IsImage (started s s.IsImag
 sync_leaves (Err e) s t lawful told = goes_on s s t s.IsImage (started s s.IsImage lawful (λ b is. is)) told.time (λ b is. (told.failed.images b).0 is)
 
 -- a sync, and the length
-pub settle_leaves : {T E : Type 0} (r : Result T E) (s m t : DiskState) → IsLawful s → IsLawful m → Syncs r s m → Measured m t → LeavesOnly s t s.IsImage
-settle_leaves r s m t before between synced told =
+pub synced_length_leaves : {T E : Type 0} (r : Result T E) (s m t : DiskState) → IsLawful s → IsLawful m → Syncs r s m → Measured m t → LeavesOnly s t s.IsImage
+synced_length_leaves r s m t before between synced told =
     let leaves = sync_leaves r s m before synced in
     goes_on s m t s.IsImage leaves told.time (λ b is. was_image s m between leaves b ((told.same.images b).0 is))
 
-pub settle_durable : {T E U F : Type 0} (q : Result T E) (r : Result U F) (s m t : DiskState) → is_err q ≡ false → Syncs q s m → Measured m t → OnOk r (Only t.content t)
-settle_durable q r s m t ok synced told =
+pub synced_length_durable : {T E U F : Type 0} (q : Result T E) (r : Result U F) (s m t : DiskState) → is_err q ≡ false → Syncs q s m → Measured m t → OnOk r (Only t.content t)
+synced_length_durable q r s m t ok synced told =
     always r (Only t.content t) (λ b is. on_ok q _ ok synced.durable b ((told.same.images b).0 is) ∙ sym synced.content ∙ sym told.same.content)
 
 -- and then a read from the first byte on

@@ -88,7 +88,9 @@ fn fill(commit: &mut Vec<u8>, payload: &[u8])
 
 impl<D: Disk> Journal<D> {
     /// Adds a payload, in four device calls: the body behind the gate and a sync, the open gate and a sync. Nothing is
-    /// read. After `Fault` the journal is closed, and it isn't known whether the payload is there. No memory.
+    /// read. `Closed` comes exactly while the journal is closed, else `JournalFull` exactly where `fits` refuses, else
+    /// `Fault` only where the disk's count of faults rose. After `Fault` the journal is closed, and it isn't known
+    /// whether the payload is there. No memory.
     pub fn append(&mut self, payload: &[u8]) -> Result<(), AppendError>
         requires { IsPayload payload.now }
 

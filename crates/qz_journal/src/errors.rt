@@ -26,7 +26,8 @@ pub enum MountError {
     /// The first 16 bytes aren't all there, or aren't the header of a store of this kind.
     #[error("no store of this kind")]
     NotAStore,
-    /// At this offset, the least such, a gate is missing, or it is open and its payload isn't whole.
+    /// At this offset, in bytes, the least such, a gate is missing, or it is open and the length behind it isn't 1 to
+    /// 32768, or the length or the payload passes the end.
     #[error("the store is damaged at {at}")]
     Damaged { at: u64 },
     #[error("no memory")]
@@ -44,8 +45,8 @@ pub struct JournalFull {
 /// Why a payload wasn't added. `Fault` comes only where the disk's count of faults rose in the call.
 #[derive(Clone, Copy, PartialEq, Eq, Debug, Error)]
 pub enum AppendError {
-    /// The journal is closed, since a fault of an earlier call or since a crash. The offset is that of the gate of
-    /// the payload that failed.
+    /// The journal is closed, since a fault of an earlier call or since a crash. The offset, in bytes, is that of the
+    /// gate behind the last payload that was added: at a fault, the gate of the payload that failed.
     #[error("the journal is closed at {at}")]
     Closed { at: u64 },
     #[error("the journal is full: {need} bytes are needed and {room} are left")]

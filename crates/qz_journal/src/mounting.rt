@@ -16,7 +16,7 @@ use std::alloc::Global;
 const MAX_COMMIT: usize = crate::MAX_PAYLOAD + 5;
 
 // Syncs, and asks for the length.
-fn settle<D: Disk>(disk: &mut D) -> Result<u64, Failed>
+fn synced_length<D: Disk>(disk: &mut D) -> Result<u64, Failed>
     ensures length { IfOk result (λ n. n ≡ D.len disk.new) }
     ensures durable { D.honest → OnOk result (Only (D.state disk.new).content (D.state disk.new)) }
     ensures content { D.honest → (D.state disk.new).content ≡ (D.state disk.old).content }
@@ -39,7 +39,7 @@ fn read_all<D: Disk>(alloc: Global, disk: &mut D) -> Result<Vec<u8>, MountError>
     ensures later { D.faults disk.old ≤ D.faults disk.new }
     ensures fault { IfErr result (λ e. (e ≡ MountError.NoMemory) ⊎ ((e ≡ MountError.Fault) × Rose (D.faults disk.old) (D.faults disk.new))) }
 {
-    let Ok(len) = settle(disk) else {
+    let Ok(len) = synced_length(disk) else {
         return Err(MountError::Fault);
     };
     let Ok(mut bytes) = vec![in alloc; 0; len as usize] else {

@@ -16,7 +16,7 @@ pub(crate) struct Accepted {
 
 /// The same, with room for one more.
 #[derive(Drop)]
-pub(crate) struct Roomy {
+pub(crate) struct AcceptedWithRoom {
     pub(crate) entries: Vec<Entry>,
     pub(crate) moments: Vec<i64>,
     pub(crate) replies: Vec<Reply>,
@@ -51,7 +51,7 @@ impl Accepted {
     }
 
     /// Takes all out, with room for one more. An error leaves all as it was.
-    pub(crate) fn with_room(&mut self, alloc: Global) -> Result<Roomy, NoMemory>
+    pub(crate) fn with_room(&mut self, alloc: Global) -> Result<AcceptedWithRoom, NoMemory>
         ensures ok { IfOk result (λ room. (room.entries.items ≡ self.old.entries) × (room.moments.items ≡ self.old.moments) × (room.replies.items ≡ self.old.replies)) }
         ensures err { OnErr result (self.new ≡ self.old) }
     {
@@ -64,7 +64,7 @@ impl Accepted {
             }
         };
         match with_room(alloc, &mut self.replies) {
-            Ok(replies) => Ok(Roomy {
+            Ok(replies) => Ok(AcceptedWithRoom {
                 entries,
                 moments,
                 replies,
@@ -78,14 +78,14 @@ impl Accepted {
     }
 }
 
-impl Roomy {
+impl AcceptedWithRoom {
     /// Puts one more last. No memory.
     pub(crate) fn push(self, entry: Entry, moment: i64, reply: Reply) -> Accepted
         ensures entries { result.entries ≡ self.entries.items ++ entry ∷ [] }
         ensures moments { result.moments ≡ self.moments.items ++ moment ∷ [] }
         ensures replies { result.replies ≡ self.replies.items ++ reply ∷ [] }
     {
-        let Roomy {
+        let AcceptedWithRoom {
             mut entries,
             mut moments,
             mut replies,
@@ -100,13 +100,13 @@ impl Roomy {
         }
     }
 
-    /// As it was. No memory.
-    pub(crate) fn shut(self) -> Accepted
+    /// All that was taken out, with nothing put behind it. No memory.
+    pub(crate) fn into_accepted(self) -> Accepted
         ensures entries { result.entries ≡ self.entries.items }
         ensures moments { result.moments ≡ self.moments.items }
         ensures replies { result.replies ≡ self.replies.items }
     {
-        let Roomy {
+        let AcceptedWithRoom {
             entries,
             moments,
             replies,

@@ -19,7 +19,9 @@ use std::alloc::Global;
 
 impl<D: Disk> TriggerStore<D> {
     /// Opens the store that stands on a disk, and replays its history. It syncs first, so that what it reads is what a
-    /// crash leaves, and writes nothing. An `Err` hands the disk back.
+    /// crash leaves, and writes nothing. An `Err` hands the disk back. `NotAStore` comes where the header isn't a trigger
+    /// store's, `Damaged` also at the gate of the first payload that is no record or whose command is refused, and
+    /// `Fault` only where the disk's count of faults rose.
     pub fn mount(alloc: Global, disk: D) -> Result<TriggerStore<D>, (MountError, D)>
         ensures opened { IfOk result (λ store. (store.is_open ≡ true) × (store.undecided ≡ None) × (store.accepted.entries ≡ [])) }
         ensures stands { D.honest → IfOk result (λ store. Stands (D.state disk).content (seen store).history) }

@@ -13,7 +13,7 @@ impl<D: Disk> TriggerStore<D> {
     pub fn history_len(&self) -> u64
         ensures { result ≡ length (self.now.found ++ self.now.accepted.entries) }
     {
-        self.journal.count
+        self.journal.count()
     }
 
     /// Whether a call of this store was answered `Fault`. No memory.

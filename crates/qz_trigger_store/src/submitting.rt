@@ -106,7 +106,7 @@ impl<D: Disk> TriggerStore<D> {
     {
         if !self.is_open {
             let_go(entry);
-            let at = self.journal.gate;
+            let at = self.journal.gate();
             return Err(SubmitError::Closed { at });
         }
         let prepared = match prepare(self.alloc, &self.tables, &entry) {
@@ -117,7 +117,7 @@ impl<D: Disk> TriggerStore<D> {
             }
         };
         let length = prepared.written.len() as u32;
-        match fits(self.journal.gate, self.journal.count, length) {
+        match fits(self.journal.gate(), self.journal.count(), length) {
             Ok(()) => self.commit(entry, prepared),
             Err(JournalFull { need, room }) => {
                 let_go(entry);
@@ -168,7 +168,7 @@ impl<D: Disk> TriggerStore<D> {
             // A fault: the journal is open, and the record fits.
             Err(_) => {
                 let_go(p);
-                self.accepted = room.shut();
+                self.accepted = room.into_accepted();
                 Err(close(&mut self.is_open, &mut self.undecided, entry))
             }
         }

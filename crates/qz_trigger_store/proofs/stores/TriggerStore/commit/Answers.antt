@@ -104,37 +104,37 @@ returns-in-Ok-append-clause-any_moment g c honest =
 pub invariant_of-self-in-Err-append-clause-counted : goal.invariant_of-self-in-Err-append-clause-counted
 invariant_of-self-in-Err-append-clause-counted g c =
     let s = c.args.self.now in
-    c.in-Err-append.ensures.same_place.1 ∙ s.counted ∙ ap (λ (l : List EntryData). length (s.found ++ l)) (sym (c.shut.ensures.entries ∙ c.in-Ok.ensures.ok.0))
+    c.in-Err-append.ensures.same_place.1 ∙ s.counted ∙ ap (λ (l : List EntryData). length (s.found ++ l)) (sym (c.into_accepted.ensures.entries ∙ c.in-Ok.ensures.ok.0))
 
 pub invariant_of-self-in-Err-append-clause-placed : goal.invariant_of-self-in-Err-append-clause-placed
 invariant_of-self-in-Err-append-clause-placed g c =
     let s = c.args.self.now in
-    c.in-Err-append.ensures.same_place.0 ∙ s.placed ∙ ap (λ (l : List EntryData). end_of (records (s.found ++ l))) (sym (c.shut.ensures.entries ∙ c.in-Ok.ensures.ok.0))
+    c.in-Err-append.ensures.same_place.0 ∙ s.placed ∙ ap (λ (l : List EntryData). end_of (records (s.found ++ l))) (sym (c.into_accepted.ensures.entries ∙ c.in-Ok.ensures.ok.0))
 
 pub invariant_of-self-in-Err-append-clause-legal : goal.invariant_of-self-in-Err-append-clause-legal
 invariant_of-self-in-Err-append-clause-legal g c =
     let s = c.args.self.now in
-    subst (λ (l : List EntryData). IsLegalFrom (empty 1) (s.found ++ l)) (sym (c.shut.ensures.entries ∙ c.in-Ok.ensures.ok.0)) s.legal
+    subst (λ (l : List EntryData). IsLegalFrom (empty 1) (s.found ++ l)) (sym (c.into_accepted.ensures.entries ∙ c.in-Ok.ensures.ok.0)) s.legal
 
 pub invariant_of-self-in-Err-append-clause-replayed : goal.invariant_of-self-in-Err-append-clause-replayed
 invariant_of-self-in-Err-append-clause-replayed g c =
     let s = c.args.self.now in
-    s.replayed ∙ ap (λ (l : List EntryData). replay_from (empty 1) (s.found ++ l)) (sym (c.shut.ensures.entries ∙ c.in-Ok.ensures.ok.0))
+    s.replayed ∙ ap (λ (l : List EntryData). replay_from (empty 1) (s.found ++ l)) (sym (c.into_accepted.ensures.entries ∙ c.in-Ok.ensures.ok.0))
 
 pub invariant_of-self-in-Err-append-clause-recorded : goal.invariant_of-self-in-Err-append-clause-recorded
 invariant_of-self-in-Err-append-clause-recorded g c =
     let s = c.args.self.now in
-    subst (λ (l : List EntryData). ∥ AllByRecursion IsEntry (s.found ++ l) ∥₁) (sym (c.shut.ensures.entries ∙ c.in-Ok.ensures.ok.0)) s.recorded
+    subst (λ (l : List EntryData). ∥ AllByRecursion IsEntry (s.found ++ l) ∥₁) (sym (c.into_accepted.ensures.entries ∙ c.in-Ok.ensures.ok.0)) s.recorded
 
 pub invariant_of-self-in-Err-append-clause-moments : goal.invariant_of-self-in-Err-append-clause-moments
 invariant_of-self-in-Err-append-clause-moments g c =
     let s = c.args.self.now in
-    c.shut.ensures.moments ∙ c.in-Ok.ensures.ok.1 ∙ s.moments ∙ ap (moments_from (replay_from (empty 1) s.found)) (sym (c.shut.ensures.entries ∙ c.in-Ok.ensures.ok.0))
+    c.into_accepted.ensures.moments ∙ c.in-Ok.ensures.ok.1 ∙ s.moments ∙ ap (moments_from (replay_from (empty 1) s.found)) (sym (c.into_accepted.ensures.entries ∙ c.in-Ok.ensures.ok.0))
 
 pub invariant_of-self-in-Err-append-clause-replies : goal.invariant_of-self-in-Err-append-clause-replies
 invariant_of-self-in-Err-append-clause-replies g c =
     let s = c.args.self.now in
-    c.shut.ensures.replies ∙ c.in-Ok.ensures.ok.2 ∙ s.replies ∙ ap (replies_from (replay_from (empty 1) s.found)) (sym (c.shut.ensures.entries ∙ c.in-Ok.ensures.ok.0))
+    c.into_accepted.ensures.replies ∙ c.in-Ok.ensures.ok.2 ∙ s.replies ∙ ap (replies_from (replay_from (empty 1) s.found)) (sym (c.into_accepted.ensures.entries ∙ c.in-Ok.ensures.ok.0))
 
 pub invariant_of-self-in-Err-append-clause-images : goal.invariant_of-self-in-Err-append-clause-images
 invariant_of-self-in-Err-append-clause-images g c honest b is =
@@ -142,9 +142,9 @@ invariant_of-self-in-Err-append-clause-images g c honest b is =
     let es = s.found ++ s.accepted.entries in
     let holds = subst (λ (n : ℕ). Holds (g.D.Disk.state s.journal.disk).content n (records es)) (sym s.kind) (s.stands honest c.requires.open) in
     let leaves = Appending.at_kind _ es _ c.args.p.written _ _ s.kind c.as_slice.ensures (c.append.ensures.any_moment honest (s.ready c.requires.open) (records es) holds) in
-    let same = ap (λ (l : List EntryData). s.found ++ l) (c.shut.ensures.entries ∙ c.in-Ok.ensures.ok.0) in
-    subst (λ u. MayBe (history_of (s.found ++ c.shut.result.entries)) u b) (sym c.close.ensures.undecided)
-    (Appending.images_undecided es (s.found ++ c.shut.result.entries) c.args.entry c.args.p.written _ _ same c.requires.written.0 (g.met.D.Disk.lawful honest c.append.new.self.disk) leaves b is)
+    let same = ap (λ (l : List EntryData). s.found ++ l) (c.into_accepted.ensures.entries ∙ c.in-Ok.ensures.ok.0) in
+    subst (λ u. MayBe (history_of (s.found ++ c.into_accepted.result.entries)) u b) (sym c.close.ensures.undecided)
+    (Appending.images_undecided es (s.found ++ c.into_accepted.result.entries) c.args.entry c.args.p.written _ _ same c.requires.written.0 (g.met.D.Disk.lawful honest c.append.new.self.disk) leaves b is)
 
 pub returns-in-Err-append-clause-any_moment : goal.returns-in-Err-append-clause-any_moment
 returns-in-Err-append-clause-any_moment g c honest =
@@ -152,8 +152,8 @@ returns-in-Err-append-clause-any_moment g c honest =
     let es = s.found ++ s.accepted.entries in
     let holds = subst (λ (n : ℕ). Holds (g.D.Disk.state s.journal.disk).content n (records es)) (sym s.kind) (s.stands honest c.requires.open) in
     let leaves = Appending.at_kind _ es _ c.args.p.written _ _ s.kind c.as_slice.ensures (c.append.ensures.any_moment honest (s.ready c.requires.open) (records es) holds) in
-    let same = ap (λ (l : List EntryData). s.found ++ l) (c.shut.ensures.entries ∙ c.in-Ok.ensures.ok.0) in
-    Appending.leaves_undecided es (s.found ++ c.shut.result.entries) es c.args.entry c.args.p.written _ _ s.undecided _ same c.requires.written.0 c.close.ensures.undecided leaves
+    let same = ap (λ (l : List EntryData). s.found ++ l) (c.into_accepted.ensures.entries ∙ c.in-Ok.ensures.ok.0) in
+    Appending.leaves_undecided es (s.found ++ c.into_accepted.result.entries) es c.args.entry c.args.p.written _ _ s.undecided _ same c.requires.written.0 c.close.ensures.undecided leaves
 
 -- where there was no memory
 
