@@ -18,7 +18,8 @@ pub record BeginsBad (kind : BadKind) (bytes : List ℕ) : Type 0 where
   pub bad : IsBad line kind
 
 -- A line was taken with its line feed, done and answered.
-pub record WentOn (left left' : Option (List ℕ)) (pending pending' : List ℕ) (R R' : RunState) (held held' : Option (List ℕ)) (clock clock' : Option (List ℤ)) : Type 0 where
+pub record WentOn (left left' : Option (List ℕ)) (pending pending' : List ℕ)
+    (R R' : RunState) (held held' : Option (List ℕ)) (clock clock' : Option (List ℤ)) : Type 0 where
   pub line : List ℕ
   pub one_line : IsOneLine line
   pub hands : Hands left left' pending pending' (with_feed line)
@@ -26,7 +27,8 @@ pub record WentOn (left left' : Option (List ℕ)) (pending pending' : List ℕ)
   pub ran : Ran (line ∷ []) readings R R' held held' clock clock'
 
 -- The last line, if there was one, was done and answered, and nothing is ahead.
-pub record WentToEnd (left left' : Option (List ℕ)) (pending : List ℕ) (R R' : RunState) (held held' : Option (List ℕ)) (clock clock' : Option (List ℤ)) : Type 0 where
+pub record WentToEnd (left left' : Option (List ℕ)) (pending : List ℕ)
+    (R R' : RunState) (held held' : Option (List ℕ)) (clock clock' : Option (List ℤ)) : Type 0 where
   pub got : List ℕ
   pub taken : Consumes left left' got
   pub ended : IsAtEnd left'
@@ -37,48 +39,68 @@ pub record WentToEnd (left left' : Option (List ℕ)) (pending : List ℕ) (R R'
   pub ran : Ran lines readings R R' held held' clock clock'
 
 -- Nothing was done, and what is ahead begins with a bad line.
-pub record MetBad (left left' : Option (List ℕ)) (pending : List ℕ) (R R' : RunState) (held held' : Option (List ℕ)) (clock clock' : Option (List ℤ)) (kind : BadKind) : Type 0 where
+pub record MetBad (left left' : Option (List ℕ)) (pending : List ℕ)
+    (R R' : RunState) (held held' : Option (List ℕ)) (clock clock' : Option (List ℤ)) (kind : BadKind) : Type 0 where
   pub ahead : Ahead left left' pending (BeginsBad kind)
   pub untouched : Untouched R R' held held' clock clock'
 
 -- Nothing was done, and no whole line was taken.
-pub record MetFault (left left' : Option (List ℕ)) (pending pending' : List ℕ) (R R' : RunState) (held held' : Option (List ℕ)) (clock clock' : Option (List ℤ)) : Type 0 where
+pub record MetFault (left left' : Option (List ℕ)) (pending pending' : List ℕ)
+    (R R' : RunState) (held held' : Option (List ℕ)) (clock clock' : Option (List ℤ)) : Type 0 where
   pub hands : Hands left left' pending pending' []
   pub one_line : IsOneLine pending'
   pub untouched : Untouched R R' held held' clock clock'
 
 -- The next line was done, and a part of its reply was written.
-pub record WrotePartOf (left left' : Option (List ℕ)) (pending : List ℕ) (R R' : RunState) (held held' : Option (List ℕ)) (clock clock' : Option (List ℤ)) : Type 0 where
+pub record WrotePartOf (left left' : Option (List ℕ)) (pending : List ℕ)
+    (R R' : RunState) (held held' : Option (List ℕ)) (clock clock' : Option (List ℤ)) : Type 0 where
   pub line : List ℕ
   pub ahead : Ahead left left' pending (BeginsWith line)
   pub part : RanPart line R R' held held' clock clock'
 
 -- Memory ran out before anything was written.
-pub record MetNoMemory (left left' : Option (List ℕ)) (R R' : RunState) (held held' : Option (List ℕ)) (clock clock' : Option (List ℤ)) : Type 0 where
+pub record MetNoMemory (left left' : Option (List ℕ))
+    (R R' : RunState) (held held' : Option (List ℕ)) (clock clock' : Option (List ℤ)) : Type 0 where
   pub got : List ℕ
   pub taken : Consumes left left' got
   pub gave_up : GaveUp R R' held held' clock clock'
 
 -- The next line asks for a step that finds no room.
-pub record MetFull (left left' : Option (List ℕ)) (pending : List ℕ) (R R' : RunState) (held held' : Option (List ℕ)) (clock clock' : Option (List ℤ)) (need room : ℕ) : Type 0 where
+pub record MetFull (left left' : Option (List ℕ)) (pending : List ℕ)
+    (R R' : RunState) (held held' : Option (List ℕ)) (clock clock' : Option (List ℤ)) (need room : ℕ) : Type 0 where
   pub line : List ℕ
   pub ahead : Ahead left left' pending (BeginsWith line)
   pub full : LineFull line need room R R' held held' clock clock'
 
 -- what a turn did
-abbrev pub TurnDone : Result Bool LineEnd → Option (List ℕ) → Option (List ℕ) → List ℕ → List ℕ → RunState → RunState → Option (List ℕ) → Option (List ℕ) → Option (List ℤ) → Option (List ℤ) → Type 0
-TurnDone (Ok true) left left' pending pending' R R' held held' clock clock' = WentOn left left' pending pending' R R' held held' clock clock'
-TurnDone (Ok false) left left' pending pending' R R' held held' clock clock' = WentToEnd left left' pending R R' held held' clock clock'
-TurnDone (Err (ends.Bad kind)) left left' pending pending' R R' held held' clock clock' = MetBad left left' pending R R' held held' clock clock' kind
-TurnDone (Err ends.ReadFault) left left' pending pending' R R' held held' clock clock' = MetFault left left' pending pending' R R' held held' clock clock'
-TurnDone (Err ends.WriteFault) left left' pending pending' R R' held held' clock clock' = WrotePartOf left left' pending R R' held held' clock clock'
-TurnDone (Err ends.Unanswered) left left' pending pending' R R' held held' clock clock' = WrotePartOf left left' pending R R' held held' clock clock'
-TurnDone (Err ends.NoMemory) left left' pending pending' R R' held held' clock clock' = MetNoMemory left left' R R' held held' clock clock'
-TurnDone (Err (ends.JournalFull need room)) left left' pending pending' R R' held held' clock clock' = MetFull left left' pending R R' held held' clock clock' need room
+abbrev pub TurnDone : Result Bool LineEnd → Option (List ℕ) → Option (List ℕ) → List ℕ → List ℕ → RunState → RunState
+    → Option (List ℕ) → Option (List ℕ) → Option (List ℤ) → Option (List ℤ) → Type 0
+-- a line was done and answered, and one more may come
+TurnDone (Ok true) left left' pending pending' R R' held held' clock clock' =
+    WentOn left left' pending pending' R R' held held' clock clock'
+-- the input has ended, and its last line was done and answered
+TurnDone (Ok false) left left' pending pending' R R' held held' clock clock' =
+    WentToEnd left left' pending R R' held held' clock clock'
+-- nothing was done
+TurnDone (Err (ends.Bad kind)) left left' pending pending' R R' held held' clock clock' =
+    MetBad left left' pending R R' held held' clock clock' kind
+TurnDone (Err ends.ReadFault) left left' pending pending' R R' held held' clock clock' =
+    MetFault left left' pending pending' R R' held held' clock clock'
+-- the line was done, and a part of its reply was written, maybe none of it
+TurnDone (Err ends.WriteFault) left left' pending pending' R R' held held' clock clock' =
+    WrotePartOf left left' pending R R' held held' clock clock'
+TurnDone (Err ends.Unanswered) left left' pending pending' R R' held held' clock clock' =
+    WrotePartOf left left' pending R R' held held' clock clock'
+-- the next line wasn't done
+TurnDone (Err ends.NoMemory) left left' pending pending' R R' held held' clock clock' =
+    MetNoMemory left left' R R' held held' clock clock'
+TurnDone (Err (ends.JournalFull need room)) left left' pending pending' R R' held held' clock clock' =
+    MetFull left left' pending R R' held held' clock clock' need room
 
 -- From the first state on these lines were done, whose bytes with their line feeds came first, and these bytes were
 -- taken behind them.
-pub record Upto (lines : List (List ℕ)) (readings : List ℤ) (left left' : Option (List ℕ)) (pending : List ℕ) (R R' : RunState) (held held' : Option (List ℕ)) (clock clock' : Option (List ℤ)) : Type 0 where
+pub record Upto (lines : List (List ℕ)) (readings : List ℤ) (left left' : Option (List ℕ)) (pending : List ℕ)
+    (R R' : RunState) (held held' : Option (List ℕ)) (clock clock' : Option (List ℤ)) : Type 0 where
   pub taken : Consumes left left' (with_feeds lines ++ pending)
   pub one_line : AllByRecursion IsOneLine lines
   pub ran : Ran lines readings R R' held held' clock clock'

@@ -26,7 +26,8 @@ pub record Did (lines : List (List ℕ)) (readings : List ℤ) (R R' : RunState)
   pub went : Went (steps_of lines readings) replies R R'
 
 -- Good lines were done and answered.
-pub record Ran (lines : List (List ℕ)) (readings : List ℤ) (R R' : RunState) (held held' : Option (List ℕ)) (clock clock' : Option (List ℤ)) : Type 0 where
+pub record Ran (lines : List (List ℕ)) (readings : List ℤ)
+    (R R' : RunState) (held held' : Option (List ℕ)) (clock clock' : Option (List ℤ)) : Type 0 where
   pub did : Did lines readings R R' clock clock'
   pub written : Appends held held' (texts did.replies)
 
@@ -65,7 +66,8 @@ pub record GaveUp (R R' : RunState) (held held' : Option (List ℕ)) (clock cloc
   pub kept : Appends held held' []
 
 -- the step wasn't done, since its record finds no room
-pub record StepFull (given : Given) (need room : ℕ) (R R' : RunState) (held held' : Option (List ℕ)) (clock clock' : Option (List ℤ)) : Type 0 where
+pub record StepFull (given : Given) (need room : ℕ)
+    (R R' : RunState) (held held' : Option (List ℕ)) (clock clock' : Option (List ℤ)) : Type 0 where
   pub at : ℤ
   pub own : IsOwn given.at at
   pub told : Tells clock clock' (taken_reading given.at at)
@@ -76,7 +78,8 @@ pub record StepFull (given : Given) (need room : ℕ) (R R' : RunState) (held he
 
 -- what is left where a step has no answer
 abbrev pub NotDone : LineEnd → TimedStep → RunState → RunState → Type 0
-NotDone (ends.JournalFull need room) t R R' = FindsNoRoom t need room R.cluster R'.cluster × (R'.trail ≡ R.trail) × (R'.is_own ≡ R.is_own)
+NotDone (ends.JournalFull need room) t R R' =
+    FindsNoRoom t need room R.cluster R'.cluster × (R'.trail ≡ R.trail) × (R'.is_own ≡ R.is_own)
 NotDone ends.NoMemory t R R' = Idles R R'
 NotDone (ends.Bad kind) t R R' = ⊥
 NotDone ends.ReadFault t R R' = ⊥
@@ -93,7 +96,8 @@ NotAnswered ends.ReadFault t R R' = ⊥
 NotAnswered ends.WriteFault t R R' = ⊥
 
 -- the step was done, and a part of its reply was written, none of it or all of it
-pub record StepPart (given : Given) (R R' : RunState) (held held' : Option (List ℕ)) (clock clock' : Option (List ℤ)) : Type 0 where
+pub record StepPart (given : Given)
+    (R R' : RunState) (held held' : Option (List ℕ)) (clock clock' : Option (List ℤ)) : Type 0 where
   pub at : ℤ
   pub did : DidStep given at R R' clock clock'
   pub count : ℕ
@@ -101,24 +105,25 @@ pub record StepPart (given : Given) (R R' : RunState) (held held' : Option (List
   pub written : Appends held held' (take count (reply_text did.reply))
 
 -- what became of a step
-abbrev pub StepDone : Result (Unit {0}) LineEnd → Given → RunState → RunState → Option (List ℕ) → Option (List ℕ) → Option (List ℤ) → Option (List ℤ) → Type 0
+abbrev pub StepDone : Result (Unit {0}) LineEnd → Given → RunState → RunState
+    → Option (List ℕ) → Option (List ℕ) → Option (List ℤ) → Option (List ℤ) → Type 0
 StepDone (Ok x) given R R' held held' clock clock' =
     (at : ℤ) × (did : DidStep given at R R' clock clock') × Appends held held' (reply_text did.reply)
+-- no step ends so
 StepDone (Err (ends.Bad kind)) given R R' held held' clock clock' = ⊥
 StepDone (Err ends.ReadFault) given R R' held held' clock clock' = ⊥
+-- it was done, and a part of its reply was written, maybe none of it
 StepDone (Err ends.WriteFault) given R R' held held' clock clock' = StepPart given R R' held held' clock clock'
 StepDone (Err ends.Unanswered) given R R' held held' clock clock' = StepPart given R R' held held' clock clock'
+-- it wasn't done
 StepDone (Err ends.NoMemory) given R R' held held' clock clock' = GaveUp R R' held held' clock clock'
-StepDone (Err (ends.JournalFull need room)) given R R' held held' clock clock' = StepFull given need room R R' held held' clock clock'
+StepDone (Err (ends.JournalFull need room)) given R R' held held' clock clock' =
+    StepFull given need room R R' held held' clock clock'
 
 -- how a line with this fault ends a script
 abbrev pub line_end : LineFault → LineEnd
 line_end line_fault.NoMemory = ends.NoMemory
-line_end line_fault.TooLong = ends.Bad (kind_of line_fault.TooLong)
-line_end line_fault.NotJson = ends.Bad (kind_of line_fault.NotJson)
-line_end line_fault.NotHere = ends.Bad (kind_of line_fault.NotHere)
-line_end (line_fault.Cron error) = ends.Bad (kind_of (line_fault.Cron error))
-line_end line_fault.Shape = ends.Bad (kind_of line_fault.Shape)
+line_end fault = ends.Bad (kind_of fault)
 
 -- a line is bad, of this kind
 pub record IsBad (line : List ℕ) (kind : BadKind) : Type 0 where
@@ -133,7 +138,8 @@ pub record Untouched (R R' : RunState) (held held' : Option (List ℕ)) (clock c
   pub told : Tells clock clock' []
 
 -- a good line was done, and a part of its reply was written, none of it or all of it
-pub record RanPart (line : List ℕ) (R R' : RunState) (held held' : Option (List ℕ)) (clock clock' : Option (List ℤ)) : Type 0 where
+pub record RanPart (line : List ℕ)
+    (R R' : RunState) (held held' : Option (List ℕ)) (clock clock' : Option (List ℤ)) : Type 0 where
   pub readings : List ℤ
   pub did : Did (line ∷ []) readings R R' clock clock'
   pub one : length did.replies ≤ 1
@@ -142,17 +148,24 @@ pub record RanPart (line : List ℕ) (R R' : RunState) (held held' : Option (Lis
   pub written : Appends held held' (take count (texts did.replies))
 
 -- a line asks for a step that finds no room
-pub record LineFull (line : List ℕ) (need room : ℕ) (R R' : RunState) (held held' : Option (List ℕ)) (clock clock' : Option (List ℤ)) : Type 0 where
+pub record LineFull (line : List ℕ) (need room : ℕ)
+    (R R' : RunState) (held held' : Option (List ℕ)) (clock clock' : Option (List ℤ)) : Type 0 where
   pub given : Given
   pub meaning : line_meaning line ≡ Ok (Some given)
   pub full : StepFull given need room R R' held held' clock clock'
 
 -- what became of a line
-abbrev pub LineDone : Result (Unit {0}) LineEnd → List ℕ → RunState → RunState → Option (List ℕ) → Option (List ℕ) → Option (List ℤ) → Option (List ℤ) → Type 0
-LineDone (Ok x) line R R' held held' clock clock' = (readings : List ℤ) × Ran (line ∷ []) readings R R' held held' clock clock'
+abbrev pub LineDone : Result (Unit {0}) LineEnd → List ℕ → RunState → RunState
+    → Option (List ℕ) → Option (List ℕ) → Option (List ℤ) → Option (List ℤ) → Type 0
+LineDone (Ok x) line R R' held held' clock clock' =
+    (readings : List ℤ) × Ran (line ∷ []) readings R R' held held' clock clock'
 LineDone (Err (ends.Bad kind)) line R R' held held' clock clock' = IsBad line kind × Untouched R R' held held' clock clock'
+-- no line ends so
 LineDone (Err ends.ReadFault) line R R' held held' clock clock' = ⊥
+-- it was done, and a part of its reply was written, maybe none of it
 LineDone (Err ends.WriteFault) line R R' held held' clock clock' = RanPart line R R' held held' clock clock'
 LineDone (Err ends.Unanswered) line R R' held held' clock clock' = RanPart line R R' held held' clock clock'
+-- it wasn't done
 LineDone (Err ends.NoMemory) line R R' held held' clock clock' = GaveUp R R' held held' clock clock'
-LineDone (Err (ends.JournalFull need room)) line R R' held held' clock clock' = LineFull line need room R R' held held' clock clock'
+LineDone (Err (ends.JournalFull need room)) line R R' held held' clock clock' =
+    LineFull line need room R R' held held' clock clock'

@@ -93,6 +93,7 @@ fn new_run(alloc: Global) -> Option<Run<MemDisk>>
 fn new_stores(alloc: Global) -> Option<Cluster<MemDisk>>
     ensures { IfSome result (λ c. state_of c ≡ new_cluster (state_of c).triggers.faults) }
 {
+    // A script has both stores, as `init` makes them; nothing works on the states yet.
     let_go(new_store(alloc, STATES)?);
     let triggers = new_store(alloc, TRIGGERS)?;
     match Cluster::mount(alloc, triggers) {

@@ -1,8 +1,10 @@
 //! How a call ends.
 ghost use Rattle.std.specs.Prelude.{◌≡◌};
+ghost use Rattle.qz_top.specs.Lines.{kind_of};
 ghost use Rattle.qz_top.specs.Statuses.{exit_number};
 
 use qz_cron_text::CronError;
+use qz_job_json::LineFault;
 use qz_types::Store;
 use qz_words::WordFault;
 
@@ -23,6 +25,20 @@ pub enum BadKind {
     NotHere,
 }
 
+/// What is wrong with a line that has this fault.
+pub(crate) fn kind_of(fault: LineFault) -> BadKind
+    ensures { result ≡ kind_of fault }
+{
+    match fault {
+        LineFault::TooLong => BadKind::TooLong,
+        LineFault::NotJson => BadKind::NotJson,
+        LineFault::NotHere => BadKind::NotHere,
+        LineFault::Cron(error) => BadKind::Cron(error),
+        // No line is found to be without memory.
+        LineFault::Shape | LineFault::NoMemory => BadKind::Shape,
+    }
+}
+
 /// How a call ends. The first cause that was met is answered, and want of memory may be at any time.
 #[derive(Clone, Copy, PartialEq, Eq, Debug)]
 pub enum Status {
@@ -39,7 +55,8 @@ pub enum Status {
     /// A disk failed while the stores were made or opened; or, behind a whole script, a store is closed since its disk
     /// failed.
     DiskFault,
-    /// The disk doesn't begin with the header of this store. Nothing was read from the input or written.
+    /// `script`: the disk doesn't begin with the trigger store's header. `init`: this disk begins with the other
+    /// store's header; a trigger store that was made before it stays. No input was read and no output written.
     NotAStore { store: Store },
     /// The first bad place of the store's bytes, as an offset. Nothing was read from the input or written.
     Damaged { store: Store, at: u64 },

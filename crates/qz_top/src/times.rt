@@ -2,14 +2,13 @@
 ghost use Rattle.std.specs.Prelude.{◌≡◌, [], negsuc, ◌≤ℤ◌};
 ghost use Rattle.qz_civil.specs.Causes.{Rose};
 ghost use Rattle.qz_top.specs.Calls.{trail_of};
-ghost use Rattle.qz_top.specs.Lines.{kind_of};
 ghost use Rattle.qz_top.specs.Times.{IsOfTimes, TimesDone, status_of};
 
 use crate::ended::{Ended, ran_no_script};
+use crate::statuses::kind_of;
 use crate::{BadKind, Status};
 use qz_disk::Disk;
 use qz_io::{LINE_COUNT_LIMIT, Sink, Source};
-use qz_job_json::LineFault;
 use qz_times::{Query, TimesEnd, run_times};
 use qz_types::LAST;
 use std::alloc::Global;
@@ -67,19 +66,5 @@ fn status_of(end: TimesEnd) -> Status
         TimesEnd::ReadFault => Status::ReadFault,
         TimesEnd::WriteFault => Status::WriteFault,
         TimesEnd::NoMemory => Status::NoMemory,
-    }
-}
-
-/// What is wrong with a line that has this fault.
-fn kind_of(fault: LineFault) -> BadKind
-    ensures { result ≡ kind_of fault }
-{
-    match fault {
-        LineFault::TooLong => BadKind::TooLong,
-        LineFault::NotJson => BadKind::NotJson,
-        LineFault::NotHere => BadKind::NotHere,
-        LineFault::Cron(error) => BadKind::Cron(error),
-        // No line is found to be without memory.
-        LineFault::Shape | LineFault::NoMemory => BadKind::Shape,
     }
 }

@@ -14,6 +14,7 @@ ghost use Rattle.qz_top.specs.Turns.{IsOwn, taken_reading, line_end, StepDone, L
 
 use crate::BadKind;
 use crate::runs::Run;
+use crate::statuses::kind_of;
 use qz_civil::let_go;
 use qz_cluster::StepEnd;
 use qz_disk::Disk;
@@ -72,12 +73,8 @@ fn fault_of(fault: LineFault) -> LineEnd
     ensures { result ≡ line_end fault }
 {
     match fault {
-        LineFault::TooLong => LineEnd::Bad(BadKind::TooLong),
-        LineFault::NotJson => LineEnd::Bad(BadKind::NotJson),
-        LineFault::NotHere => LineEnd::Bad(BadKind::NotHere),
-        LineFault::Shape => LineEnd::Bad(BadKind::Shape),
-        LineFault::Cron(error) => LineEnd::Bad(BadKind::Cron(error)),
         LineFault::NoMemory => LineEnd::NoMemory,
+        _ => LineEnd::Bad(kind_of(fault)),
     }
 }
 
