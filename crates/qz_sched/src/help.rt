@@ -11,15 +11,15 @@ pub const HELP: &str = "usage: qz_sched < LINES           a script on new stores
 Each line of standard input is one JSON object, and each step is answered by one line
 on standard output.
 
-  {\"do\":\"add_job\",\"job\":{\"name\":\"report\",\"class\":\"ok\"}}
-  {\"do\":\"add_trigger\",\"trigger\":{\"name\":\"t1\",\"job\":\"report\",\"kind\":\"simple\",\"start\":1704067200000}}
-  {\"do\":\"join\",\"node\":\"A\"}
-  {\"do\":\"acquire\",\"node\":\"A\",\"no_later\":1704067200000}
-  {\"do\":\"fire\",\"node\":\"A\",\"entry\":1}
-  {\"do\":\"complete\",\"node\":\"A\",\"entry\":1}
+  {\"do\":\"add_job\",\"at\":1704067200000,\"job\":{\"name\":\"report\",\"class\":\"ok\"}}
+  {\"do\":\"add_trigger\",\"at\":1704067200000,\"trigger\":{\"name\":\"t1\",\"job\":\"report\",\"kind\":\"simple\",\"start\":1704067200000}}
+  {\"do\":\"join\",\"at\":1704067200000,\"node\":\"A\"}
+  {\"do\":\"acquire\",\"at\":1704067200000,\"node\":\"A\",\"no_later\":1704067200000}
+  {\"do\":\"fire\",\"at\":1704067200000,\"node\":\"A\",\"entry\":1}
+  {\"do\":\"complete\",\"at\":1704067200000,\"node\":\"A\",\"entry\":1}
 
 Times are in milliseconds since 1970-01-01T00:00:00Z. A line may have its own clock
-reading as \"at\". A line of times is one of
+reading as \"at\", as these have. A line of times is one of
 
   {\"do\":\"add_zone\",\"name\":\"CET\",\"stretches\":[[0,3600],[1711846800000,7200]]}
   {\"do\":\"add_trigger\",\"trigger\":{\"name\":\"c\",\"job\":\"j\",\"start\":0,\"kind\":\"cron\",\"cron\":\"0 0 2 * * ?\",\"zone\":\"CET\"}}
