@@ -1,7 +1,7 @@
 use Rattle.std.proofs.Common.{None}
 use Rattle.std.proofs.lemmas.Result.{err_from_is_err_and}
 use Rattle.qz_codec.specs.Lists.{items_at}
-use Rattle.qz_codec.proofs.ListLoops.{goes_on, ends}
+use Rattle.qz_codec.proofs.ListLoops.{goes_on, ends, is_done}
 use Rattle.qz_codec.proofs.lists.counted_of.Goals as goal
 
 pub returns-in_err-item : goal.returns-in_err-item
@@ -12,3 +12,7 @@ returns-in_err-item g c =
 pub loop-preserved : goal.loop-preserved
 loop-preserved g c =
     rw c.in_ok-push.ensures.items (goes_on g.I.Item.item_at c.loop.items.items c.args.count c.loop.counter c.loop.before c.loop.rest.now c.in_ok-item.item c.in_ok-item.behind.now (items_at g.I.Item.item_at c.args.count None c.args.bytes.now) c.loop-test.true c.in_ok-item.ensures c.loop.invariant)
+
+pub returns : goal.returns
+returns g c =
+    rw c.from_vec.ensures (is_done g.I.Item.item_at c.loop.items.items c.args.count c.loop.counter c.loop.before c.loop.rest.now (items_at g.I.Item.item_at c.args.count None c.args.bytes.now) c.loop-test.false c.loop.invariant)
