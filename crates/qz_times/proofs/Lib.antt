@@ -1,4 +1,4 @@
+pub mod AnswerLaws
 pub mod ChainLaws
 pub mod SaidLaws
-pub mod TurnLaws
 pub mod RunLaws

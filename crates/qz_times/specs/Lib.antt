@@ -1,3 +1,3 @@
+pub mod Answers
 pub mod Runs
 pub mod Said
-pub mod Turns

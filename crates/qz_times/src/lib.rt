@@ -1,14 +1,13 @@
 //! `times`: for each trigger that a line gives, its first fire times. Nothing is stored.
 #![tactic(auto)]
 
+mod answers;
 mod ends;
 mod queries;
 mod runs;
 mod telling;
-mod turns;
 mod zones;
 
 pub use ends::TimesEnd;
 pub use queries::Query;
 pub use runs::run_times;
-pub use zones::Named;

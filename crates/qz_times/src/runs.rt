@@ -2,12 +2,12 @@
 ghost use Rattle.std.specs.Prelude.{◌≡◌, ◌≤◌, negsuc, ◌≤ℤ◌, Err, OnErr};
 ghost use Rattle.qz_civil.specs.Causes.{Rose};
 ghost use Rattle.qz_times.specs.Runs.{IsRun};
-ghost use Rattle.qz_times.specs.Turns.{TurnDone, BeyondDone, Finishes, end_at};
+ghost use Rattle.qz_times.specs.Answers.{NextDone, BeyondDone, Finishes, end_at};
 
+use crate::answers::{LineEnd, answer_line};
 use crate::ends::TimesEnd;
 use crate::queries::Query;
-use crate::turns::{LineEnd, do_line};
-use crate::zones::Named;
+use crate::zones::NamedZone;
 use qz_civil::LAST;
 use qz_io::{LINE_COUNT_LIMIT, LineReader, Seen, Sink, Source};
 use qz_job_json::LineFault;
@@ -33,7 +33,7 @@ pub fn run_times<S: Source, K: Sink>(
     };
     let mut zones = Vec::new(alloc);
     for number in 0..LINE_COUNT_LIMIT {
-        match turn(alloc, &mut reader, &mut zones, query, input, out) {
+        match answer_next(alloc, &mut reader, &mut zones, query, input, out) {
             Ok(true) => {}
             Ok(false) => return finish(out),
             Err(end) => return end_at(end, number + 1),
@@ -47,31 +47,31 @@ pub fn run_times<S: Source, K: Sink>(
 }
 
 /// Reads and answers the next line. False where no further one can come.
-fn turn<S: Source, K: Sink>(
+fn answer_next<S: Source, K: Sink>(
     alloc: Global,
     reader: &mut LineReader,
-    zones: &mut Vec<Named>,
+    zones: &mut Vec<NamedZone>,
     query: Query,
     input: &mut S,
     out: &mut K,
 ) -> Result<bool, LineEnd>
     requires low { negsuc 0 ≤ℤ query.after }
     requires high { query.after ≤ℤ LAST }
-    ensures done { TurnDone result query zones.old.items zones.new.items (S.left input.old) (S.left input.new) reader.old.pending reader.new.pending (K.held out.old) (K.held out.new) }
+    ensures done { NextDone result query zones.old.items zones.new.items (S.left input.old) (S.left input.new) reader.old.pending reader.new.pending (K.held out.old) (K.held out.new) }
     ensures reads { S.faults input.old ≤ S.faults input.new }
     ensures writes { K.faults out.old ≤ K.faults out.new }
     ensures read { result ≡ Err LineEnd.ReadFault → Rose (S.faults input.old) (S.faults input.new) }
     ensures write { result ≡ Err LineEnd.WriteFault → Rose (K.faults out.old) (K.faults out.new) }
 {
     match reader.next(input) {
-        Ok(Seen::Line) => match do_line(alloc, reader.line(), zones, query, out) {
-            Ok(()) => Ok(true),
-            Err(end) => Err(end),
-        },
-        Ok(Seen::Rest) => match do_line(alloc, reader.line(), zones, query, out) {
-            Ok(()) => Ok(false),
-            Err(end) => Err(end),
-        },
+        Ok(Seen::Line) => {
+            answer_line(alloc, reader.line(), zones, query, out)?;
+            Ok(true)
+        }
+        Ok(Seen::Rest) => {
+            answer_line(alloc, reader.line(), zones, query, out)?;
+            Ok(false)
+        }
         Ok(Seen::TooLong) => Err(LineEnd::Bad(LineFault::TooLong)),
         Ok(Seen::End) => Ok(false),
         Err(_) => Err(LineEnd::ReadFault),

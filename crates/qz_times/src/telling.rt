@@ -9,7 +9,7 @@ ghost use Rattle.qz_plan.specs.Schedule.{IsScheduled};
 ghost use Rattle.qz_times.specs.Said.{AreFirst, IsTold, IsToldIn, Said, zone_name};
 
 use crate::queries::Query;
-use crate::zones::{Named, add_zone, find};
+use crate::zones::{NamedZone, add_zone, find};
 use qz_civil::{Kind, LAST, NoMemory, Text, Timing, Zone};
 use qz_job_json::Asked;
 use qz_report::{reply_line, times_line};
@@ -20,7 +20,7 @@ use std::alloc::Global;
 pub(crate) fn say(
     alloc: Global,
     asked: Asked,
-    zones: &mut Vec<Named>,
+    zones: &mut Vec<NamedZone>,
     query: Query,
 ) -> Result<Text, NoMemory>
     requires asked { IsTrue (is_asked asked) }
@@ -35,7 +35,12 @@ pub(crate) fn say(
 }
 
 // The line of a trigger.
-fn tell(alloc: Global, zones: &[Named], spec: &TriggerSpec, query: Query) -> Result<Text, NoMemory>
+fn tell(
+    alloc: Global,
+    zones: &[NamedZone],
+    spec: &TriggerSpec,
+    query: Query,
+) -> Result<Text, NoMemory>
     requires spec { IsTrue (is_trigger_spec spec.now) }
     requires low { negsuc 0 ≤ℤ query.after }
     requires high { query.after ≤ℤ LAST }

@@ -9,13 +9,13 @@ use std::alloc::Global;
 
 /// A zone that a line has stored.
 #[derive(Drop)]
-pub struct Named {
+pub(crate) struct NamedZone {
     pub name: Text,
     pub zone: Zone,
 }
 
 /// The zone of this name among the stored ones.
-pub(crate) fn find<'z>(zones: &'z [Named], name: &str) -> Option<&'z Zone>
+pub(crate) fn find<'z>(zones: &'z [NamedZone], name: &str) -> Option<&'z Zone>
     ensures { option_map (λ zone. zone.now) result ≡ zone_named zones.now name.now }
 {
     for named in zones {
@@ -27,7 +27,7 @@ pub(crate) fn find<'z>(zones: &'z [Named], name: &str) -> Option<&'z Zone>
 }
 
 /// Why a zone isn't stored.
-pub(crate) fn zone_refusal(zones: &[Named], name: &Text) -> Option<Refusal>
+pub(crate) fn zone_refusal(zones: &[NamedZone], name: &Text) -> Option<Refusal>
     ensures { result ≡ zone_refusal zones.now name.now }
 {
     if name.as_str() == "UTC" || find(zones, name.as_str()).is_some() {
@@ -51,7 +51,7 @@ fn refusal_line(alloc: Global, refusal: Option<Refusal>) -> Result<Text, NoMemor
 /// Stores a zone, unless it is refused, and says so. Where there is no memory, the zones are not to be used further.
 pub(crate) fn add_zone(
     alloc: Global,
-    zones: &mut Vec<Named>,
+    zones: &mut Vec<NamedZone>,
     name: Text,
     zone: Zone,
 ) -> Result<Text, NoMemory>
@@ -62,7 +62,7 @@ pub(crate) fn add_zone(
         Some(refusal) => refusal_line(alloc, Some(refusal)),
         None => {
             let text = refusal_line(alloc, None)?;
-            zones.push(Named { name, zone })?;
+            zones.push(NamedZone { name, zone })?;
             Ok(text)
         }
     }

@@ -20,18 +20,18 @@ returns-in-Ok-false-clause-run g c =
     let low : length ran.0 + length went.lines ≤ LINE_COUNT_LIMIT = omega (arith, ran.1, went.one) in
     IsRun-finished _ _ _ _ _ _ _ _ _ _ _ _ _ _ _ ran.2 went low c.finish.ensures
 
-pub returns-in-Err-turn-clause-run : goal.returns-in-Err-turn-clause-run
-returns-in-Err-turn-clause-run g c =
+pub returns-in-Err-answer_next-clause-run : goal.returns-in-Err-answer_next-clause-run
+returns-in-Err-answer_next-clause-run g c =
     let ran = c.loop-number.invariant.ran in
-    rw c.end_at.ensures (IsRun-at _ _ _ _ _ _ _ _ _ _ _ _ _ _ ran.2 c.in-Err-turn.ensures.done (omega (arith, ran.1)) (omega (arith, ran.1)))
+    rw c.end_at.ensures (IsRun-at _ _ _ _ _ _ _ _ _ _ _ _ _ _ ran.2 c.in-Err-answer_next.ensures.done (omega (arith, ran.1)) (omega (arith, ran.1)))
 
 pub loop-number-preserved : goal.loop-number-preserved
 loop-number-preserved g c =
     let ran = c.loop-number.invariant.ran in
     let went = rw c.in-Ok-true.field-0-test at c.in-Ok-true.ensures.done in
     record {
-      reads = omega (arith, c.turn.ensures.reads);
-      writes = omega (arith, c.turn.ensures.writes);
+      reads = omega (arith, c.answer_next.ensures.reads);
+      writes = omega (arith, c.answer_next.ensures.writes);
       ran = (ran.0 ++ went.line ∷ [], simp length-append (omega (arith, ran.1)), Upto-more _ _ _ _ _ _ _ _ _ _ _ _ ran.2 went);
     }
 

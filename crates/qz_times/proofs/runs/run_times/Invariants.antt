@@ -1,5 +1,5 @@
 use Rattle.std.proofs.Common.{◌≡◌, ◌≤◌, ℕ, List, length}
-use Rattle.qz_times.specs.Turns.{Upto}
+use Rattle.qz_times.specs.Answers.{Upto}
 use Rattle.qz_times.proofs.runs.run_times.Given as goal
 
 abbrev pub invariant-loop-number : goal.invariant-loop-number

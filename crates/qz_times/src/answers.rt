@@ -3,11 +3,11 @@ ghost use Rattle.std.specs.Prelude.{◌≡◌, ◌⊎◌, ◌≤◌, negsuc, ◌
 ghost use Rattle.qz_civil.specs.Causes.{Rose};
 ghost use Rattle.qz_job_json.specs.Asked.{is_asked};
 ghost use Rattle.qz_times.specs.Said.{line_meaning, LineSaid};
-ghost use Rattle.qz_times.specs.Turns.{LineDone, NotSaid};
+ghost use Rattle.qz_times.specs.Answers.{LineDone, NotSaid};
 
 use crate::queries::Query;
 use crate::telling::say;
-use crate::zones::Named;
+use crate::zones::NamedZone;
 use qz_civil::{LAST, Text};
 use qz_io::{Sink, write_all};
 use qz_job_json::{Asked, LineFault, read_asked};
@@ -27,10 +27,10 @@ pub(crate) enum LineEnd {
 }
 
 /// Answers a line. Nothing is said to a blank one.
-pub(crate) fn do_line<K: Sink>(
+pub(crate) fn answer_line<K: Sink>(
     alloc: Global,
     line: &[u8],
-    zones: &mut Vec<Named>,
+    zones: &mut Vec<NamedZone>,
     query: Query,
     out: &mut K,
 ) -> Result<(), LineEnd>
@@ -40,10 +40,7 @@ pub(crate) fn do_line<K: Sink>(
     ensures later { K.faults out.old ≤ K.faults out.new }
     ensures write { result ≡ Err LineEnd.WriteFault → Rose (K.faults out.old) (K.faults out.new) }
 {
-    let text = match answer(alloc, line, zones, query) {
-        Ok(text) => text,
-        Err(end) => return Err(end),
-    };
+    let text = answer_to(alloc, line, zones, query)?;
     match write_all(out, text.as_str().as_bytes()) {
         Ok(()) => Ok(()),
         Err(_) => Err(LineEnd::WriteFault),
@@ -51,7 +48,12 @@ pub(crate) fn do_line<K: Sink>(
 }
 
 // What is said to a line.
-fn answer(alloc: Global, line: &[u8], zones: &mut Vec<Named>, query: Query) -> Result<Text, LineEnd>
+fn answer_to(
+    alloc: Global,
+    line: &[u8],
+    zones: &mut Vec<NamedZone>,
+    query: Query,
+) -> Result<Text, LineEnd>
     requires low { negsuc 0 ≤ℤ query.after }
     requires high { query.after ≤ℤ LAST }
     ensures ok { IfOk result (λ text. LineSaid query zones.old.items line.now text zones.new.items) }
