@@ -2,7 +2,7 @@
 ghost use Rattle.std.specs.Prelude.{◌≡◌, ◌≤◌, ◌+◌, ◌<◌, ◌^◌, length, max, is_err, OnOk, OnErr, IfOk, if◌then◌else◌};
 ghost use Rattle.qz_civil.specs.Causes.{HasCause};
 ghost use Rattle.qz_disk.specs.Counts.{counted};
-ghost use Rattle.qz_disk.specs.Disk.{Measured, Reads, Writes, Syncs, Restarts, untold};
+ghost use Rattle.qz_disk.specs.Disk.{untold};
 
 use crate::Disk;
 use qz_civil::{Failed, Text};
@@ -233,7 +233,6 @@ impl Disk for FileDisk {
         ensures length { IfOk result (λ n. n ≡ self.new.len) }
         ensures length_err { OnErr result (self.new.len ≡ self.old.len) }
         ensures cause { HasCause self.old.failures self.new.failures result }
-        ensures told { ⊥ → Measured untold untold }
         ensures counts { self.new.failures ≡ (if is_err result then counted self.old.failures else self.old.failures) }
     {
         let measured = self.measure();
@@ -247,7 +246,6 @@ impl Disk for FileDisk {
         requires { at + length into.old ≤ self.old.len }
         ensures length { self.new.len ≡ self.old.len }
         ensures cause { HasCause self.old.failures self.new.failures result }
-        ensures told { ⊥ → Reads at result into.new untold untold }
         ensures counts { self.new.failures ≡ (if is_err result then counted self.old.failures else self.old.failures) }
     {
         let _len = self.len;
@@ -259,7 +257,6 @@ impl Disk for FileDisk {
         requires { at ≤ self.old.len }
         ensures length { OnOk result (self.new.len ≡ max self.old.len (at + length from.now)) }
         ensures cause { HasCause self.old.failures self.new.failures result }
-        ensures told { ⊥ → Writes at from.now result untold untold }
         ensures counts { self.new.failures ≡ (if is_err result then counted self.old.failures else self.old.failures) }
     {
         let wrote = self.put(at, from);
@@ -274,7 +271,6 @@ impl Disk for FileDisk {
     fn sync(&mut self) -> Result<(), Failed>
         ensures length { self.new.len ≡ self.old.len }
         ensures cause { HasCause self.old.failures self.new.failures result }
-        ensures told { ⊥ → Syncs result untold untold }
         ensures counts { self.new.failures ≡ (if is_err result then counted self.old.failures else self.old.failures) }
     {
         let synced = self.settle();
@@ -283,7 +279,6 @@ impl Disk for FileDisk {
 
     fn restart(&mut self) -> Result<(), Failed>
         ensures cause { HasCause self.old.failures self.new.failures result }
-        ensures told { ⊥ → Restarts result untold untold }
         ensures counts { self.new.failures ≡ (if is_err result then counted self.old.failures else self.old.failures) }
     {
         self.file = None;

@@ -1,7 +1,6 @@
 //! The real source, sinks and clock. Contracts tell nothing of what they give or take.
 ghost use Rattle.std.specs.Prelude.{◌≡◌, ◌<◌, ◌≤◌, ◌⊎◌, pos, None, IfOk, is_err, length, if◌then◌else◌};
 ghost use Rattle.std.specs.Io.{ReadsAtMost};
-ghost use Rattle.std.specs.Io.KnownBytes.{ReadConsumes, WriteAppends, Keeps};
 ghost use Rattle.qz_civil.specs.Causes.{HasCause};
 ghost use Rattle.qz_io.specs.Memory.{counted};
 
@@ -103,7 +102,6 @@ impl<R: Read + Drop> Source for StdSource<R> {
     fn read(&mut self, into: &mut [u8]) -> Result<usize, Failed>
         requires { 0 < length into.old }
         ensures bound { ReadsAtMost result into.new }
-        ensures bytes { ReadConsumes None None result into.new }
         ensures cause { HasCause self.old self.new result }
         ensures counts { self.new ≡ (if is_err result then counted self.old else self.old) }
     {
@@ -149,7 +147,6 @@ impl<W: Write + Drop> Sink for StdSink<W> {
     fn write(&mut self, from: &[u8]) -> Result<usize, Failed>
         ensures bound { IfOk result (λ n. n ≤ length from.now) }
         ensures some { 0 < length from.now → IfOk result (λ n. 0 < n) }
-        ensures bytes { WriteAppends None None result from.now }
         ensures cause { HasCause self.old self.new result }
         ensures counts { self.new ≡ (if is_err result then counted self.old else self.old) }
     {
@@ -161,7 +158,6 @@ impl<W: Write + Drop> Sink for StdSink<W> {
     }
 
     fn flush(&mut self) -> Result<(), Failed>
-        ensures bytes { Keeps None None }
         ensures cause { HasCause self.old self.new result }
         ensures counts { self.new ≡ (if is_err result then counted self.old else self.old) }
     {
