@@ -13,8 +13,7 @@ use Rattle.qz_job_json.specs.declared.lines.LineFault.TheVariants as fault
 use Rattle.qz_times.specs.declared.queries.Query.{Query}
 use Rattle.qz_times.specs.declared.answers.LineEnd.{LineEnd}
 use Rattle.qz_times.specs.declared.answers.LineEnd.TheVariants as ends
-use Rattle.qz_times.specs.declared.zones.NamedZone.{NamedZone}
-use Rattle.qz_times.specs.Said.{line_meaning}
+use Rattle.qz_times.specs.Said.{line_meaning, Zones}
 use Rattle.qz_times.specs.Answers.{BeginsBad, LineDone, NextDone, WentToEnd}
 use Rattle.qz_times.proofs.SaidLaws.{AllSaid-none, AllSaid-one}
 
@@ -33,14 +32,14 @@ bad_ahead left left' pending line f ahead bad =
     ahead-map left left' pending (BeginsWith line) (BeginsBad f) (λ bytes begins. record { line = line; begins = begins; bad = bad }) ahead
 
 -- what ended the loop at a line
-pub NextDone-line : (e : LineEnd) (q : Query) (zs zs' : List NamedZone) (left left' : Option (List ℕ)) (pending line pending' : List ℕ) (held held' : Option (List ℕ))
+pub NextDone-line : (e : LineEnd) (q : Query) (zs zs' : Zones) (left left' : Option (List ℕ)) (pending line pending' : List ℕ) (held held' : Option (List ℕ))
     → Ahead left left' pending (BeginsWith line) → LineDone (Err e) q zs zs' line held held' → NextDone (Err e) q zs zs' left left' pending pending' held held'
 NextDone-line (ends.Bad f) q zs zs' left left' pending line pending' held held' ahead done = (bad_ahead left left' pending line f ahead done.0, done.1)
 NextDone-line ends.ReadFault q zs zs' left left' pending line pending' held held' ahead done = absurd done
 NextDone-line ends.WriteFault q zs zs' left left' pending line pending' held held' ahead done = record { line = line; ahead = ahead; part = done }
 NextDone-line ends.NoMemory q zs zs' left left' pending line pending' held held' ahead done = (ahead.got, ahead.taken, done)
 
-pub WentToEnd-rest : (q : Query) (zs zs' : List NamedZone) (left left' : Option (List ℕ)) (pending : List ℕ) (now : ReaderData) (held held' : Option (List ℕ))
+pub WentToEnd-rest : (q : Query) (zs zs' : Zones) (left left' : Option (List ℕ)) (pending : List ℕ) (now : ReaderData) (held held' : Option (List ℕ))
     → SeesRest left left' pending now → LineDone (Ok tt) q zs zs' now.line held held' → WentToEnd q zs zs' left left' pending held held'
 WentToEnd-rest q zs zs' left left' pending now held held' sees done = record {
   got = sees.hands.got;
@@ -54,7 +53,7 @@ WentToEnd-rest q zs zs' left left' pending now held held' sees done = record {
   written = done.2;
 }
 
-pub WentToEnd-end : (q : Query) (zs : List NamedZone) (left left' : Option (List ℕ)) (pending : List ℕ) (now : ReaderData) (held : Option (List ℕ))
+pub WentToEnd-end : (q : Query) (zs : Zones) (left left' : Option (List ℕ)) (pending : List ℕ) (now : ReaderData) (held : Option (List ℕ))
     → SeesEnd left left' pending now → WentToEnd q zs zs left left' pending held held
 WentToEnd-end q zs left left' pending now held sees = record {
   got = sees.waits.hands.got;

@@ -13,8 +13,8 @@ use Rattle.qz_times.specs.declared.ends.TimesEnd.TheVariants as times
 use Rattle.qz_times.specs.declared.queries.Query.{Query}
 use Rattle.qz_times.specs.declared.answers.LineEnd.{LineEnd}
 use Rattle.qz_times.specs.declared.answers.LineEnd.TheVariants as ends
-use Rattle.qz_times.specs.declared.zones.NamedZone.{NamedZone}
 use Rattle.qz_times.specs.Runs.{IsRun}
+use Rattle.qz_times.specs.Said.{Zones}
 use Rattle.qz_times.specs.Answers.{BeginsBad, WentOn, WentToEnd, NextDone, Upto, BeyondDone, Finishes, end_at}
 use Rattle.qz_times.proofs.SaidLaws.{AllSaid-none, AllSaid-one, AllSaid-append}
 
@@ -22,7 +22,7 @@ pub Upto-none : (q : Query) (left held : Option (List ℕ)) → Upto q [] [] lef
 Upto-none q left held = record { taken = Consumes-nil left; one_line = tt; text = []; said = AllSaid-none q []; written = Appends-nil held }
 
 -- one line more
-pub Upto-more : (q : Query) (zs zs' : List NamedZone) (lines : List (List ℕ)) (i j k : Option (List ℕ)) (pending pending' : List ℕ) (x y z : Option (List ℕ))
+pub Upto-more : (q : Query) (zs zs' : Zones) (lines : List (List ℕ)) (i j k : Option (List ℕ)) (pending pending' : List ℕ) (x y z : Option (List ℕ))
     → Upto q zs lines i j pending x y → (went : WentOn q zs zs' j k pending pending' y z) → Upto q zs' (lines ++ went.line ∷ []) i k pending' x z
 Upto-more q zs zs' lines i j k pending pending' x y z upto went = record {
   taken = subst (Consumes i k) (feeds_more lines went.line pending') (taken_more i j k lines pending went.hands.got (with_feed went.line) pending' upto.taken went.hands.taken went.hands.kept);
@@ -51,7 +51,7 @@ IsRun-nothing q left held = record {
 }
 
 -- nothing is ahead, and the output was flushed, or that failed
-pub IsRun-finished : (e : TimesEnd) (q : Query) (zs zs' : List NamedZone) (lines : List (List ℕ)) (i j k : Option (List ℕ)) (pending : List ℕ) (x y z w : Option (List ℕ)) (m n : ℕ)
+pub IsRun-finished : (e : TimesEnd) (q : Query) (zs zs' : Zones) (lines : List (List ℕ)) (i j k : Option (List ℕ)) (pending : List ℕ) (x y z w : Option (List ℕ)) (m n : ℕ)
     → Upto q zs lines i j pending x y → (went : WentToEnd q zs zs' j k pending y z) → length lines + length went.lines ≤ LINE_COUNT_LIMIT → Finishes e z w m n → IsRun e q i k x w
 IsRun-finished times.Done q zs zs' lines i j k pending x y z w m n upto went low flushed = record {
   lines = lines ++ went.lines;
@@ -91,7 +91,7 @@ IsRun-finished times.ReadFault q zs zs' lines i j k pending x y z w m n upto wen
 IsRun-finished times.NoMemory q zs zs' lines i j k pending x y z w m n upto went low flushed = absurd flushed
 
 -- the loop ended at a line
-pub IsRun-at : (e : LineEnd) (q : Query) (zs zs' : List NamedZone) (lines : List (List ℕ)) (i j k : Option (List ℕ)) (pending pending' : List ℕ) (x y z : Option (List ℕ)) (number : ℕ)
+pub IsRun-at : (e : LineEnd) (q : Query) (zs zs' : Zones) (lines : List (List ℕ)) (i j k : Option (List ℕ)) (pending pending' : List ℕ) (x y z : Option (List ℕ)) (number : ℕ)
     → Upto q zs lines i j pending x y → NextDone (Err e) q zs zs' j k pending pending' y z → number ≡ length lines + 1 → number ≤ LINE_COUNT_LIMIT → IsRun (end_at e number) q i k x z
 IsRun-at (ends.Bad fault) q zs zs' lines i j k pending pending' x y z number upto (ahead, wrote) is low = record {
   lines = lines;
@@ -151,7 +151,7 @@ IsRun-at ends.NoMemory q zs zs' lines i j k pending pending' x y z number upto (
 }
 
 -- as many lines as an input may have were answered, and a further one begins
-pub IsRun-many : (q : Query) (zs : List NamedZone) (lines : List (List ℕ)) (i j k : Option (List ℕ)) (pending : List ℕ) (x y : Option (List ℕ))
+pub IsRun-many : (q : Query) (zs : Zones) (lines : List (List ℕ)) (i j k : Option (List ℕ)) (pending : List ℕ) (x y : Option (List ℕ))
     → Upto q zs lines i j pending x y → Ahead j k pending BeginsSome → length lines ≡ LINE_COUNT_LIMIT → IsRun times.TooManyLines q i k x y
 IsRun-many q zs lines i j k pending x y upto ahead full = record {
   lines = lines;
@@ -170,7 +170,7 @@ IsRun-many q zs lines i j k pending x y upto ahead full = record {
   };
 }
 
-nothing_ahead : (q : Query) (zs : List NamedZone) (j k : Option (List ℕ)) (pending : List ℕ) (x : Option (List ℕ)) → Consumes j k [] → pending ≡ [] → IsAtEnd k
+nothing_ahead : (q : Query) (zs : Zones) (j k : Option (List ℕ)) (pending : List ℕ) (x : Option (List ℕ)) → Consumes j k [] → pending ≡ [] → IsAtEnd k
     → record { went : WentToEnd q zs zs j k pending x x; none : went.lines ≡ [] }
 nothing_ahead q zs j k pending x taken none ended = record {
   went = record {
@@ -188,14 +188,14 @@ nothing_ahead q zs j k pending x taken none ended = record {
 }
 
 -- as many lines as an input may have were answered, and nothing is ahead
-pub IsRun-full : (e : TimesEnd) (q : Query) (zs : List NamedZone) (lines : List (List ℕ)) (i j k : Option (List ℕ)) (pending : List ℕ) (x y z : Option (List ℕ)) (m n : ℕ)
+pub IsRun-full : (e : TimesEnd) (q : Query) (zs : Zones) (lines : List (List ℕ)) (i j k : Option (List ℕ)) (pending : List ℕ) (x y z : Option (List ℕ)) (m n : ℕ)
     → Upto q zs lines i j pending x y → Consumes j k [] × (pending ≡ []) × IsAtEnd k → length lines ≡ LINE_COUNT_LIMIT → Finishes e y z m n → IsRun e q i k x z
 IsRun-full e q zs lines i j k pending x y z m n upto (taken, none, ended) full flushed =
     let end = nothing_ahead q zs j k pending y taken none ended in
     IsRun-finished e q zs zs lines i j k pending x y y z m n upto end.went (rw end.none (omega (arith, full))) flushed
 
 -- as many lines as an input may have were answered, and then the source failed
-pub IsRun-beyond : (e : LineEnd) (q : Query) (zs : List NamedZone) (lines : List (List ℕ)) (i j k : Option (List ℕ)) (pending pending' : List ℕ) (x y : Option (List ℕ)) (number : ℕ)
+pub IsRun-beyond : (e : LineEnd) (q : Query) (zs : Zones) (lines : List (List ℕ)) (i j k : Option (List ℕ)) (pending pending' : List ℕ) (x y : Option (List ℕ)) (number : ℕ)
     → Upto q zs lines i j pending x y → BeyondDone (Err e) j k pending pending' → IsRun (end_at e number) q i k x y
 IsRun-beyond ends.ReadFault q zs lines i j k pending pending' x y number upto (hands, one) = record {
   lines = lines;

@@ -12,8 +12,7 @@ use Rattle.qz_times.specs.declared.ends.TimesEnd.TheVariants as times
 use Rattle.qz_times.specs.declared.queries.Query.{Query}
 use Rattle.qz_times.specs.declared.answers.LineEnd.{LineEnd}
 use Rattle.qz_times.specs.declared.answers.LineEnd.TheVariants as ends
-use Rattle.qz_times.specs.declared.zones.NamedZone.{NamedZone}
-use Rattle.qz_times.specs.Said.{line_meaning, LineSaid, AllSaid}
+use Rattle.qz_times.specs.Said.{line_meaning, LineSaid, AllSaid, Zones}
 
 -- why nothing is said to a line
 abbrev pub NotSaid : LineEnd → List ℕ → Type 0
@@ -23,15 +22,15 @@ NotSaid ends.ReadFault line = ⊥
 NotSaid ends.WriteFault line = ⊥
 
 -- a part of what is said to a line was written
-pub record PartSaid (q : Query) (zs : List NamedZone) (line : List ℕ) (held held' : Option (List ℕ)) : Type 0 where
+pub record PartSaid (q : Query) (zs : Zones) (line : List ℕ) (held held' : Option (List ℕ)) : Type 0 where
   pub text : List ℕ
-  pub behind : List NamedZone
+  pub behind : Zones
   pub said : LineSaid q zs line text behind
   pub count : ℕ
   pub written : Appends held held' (take count text)
 
 -- what was made of a line
-abbrev pub LineDone : Result (Unit {0}) LineEnd → Query → List NamedZone → List NamedZone → List ℕ → Option (List ℕ) → Option (List ℕ) → Type 0
+abbrev pub LineDone : Result (Unit {0}) LineEnd → Query → Zones → Zones → List ℕ → Option (List ℕ) → Option (List ℕ) → Type 0
 LineDone (Ok x) q zs zs' line held held' = (text : List ℕ) × LineSaid q zs line text zs' × Appends held held' text
 LineDone (Err (ends.Bad fault)) q zs zs' line held held' = (line_meaning line ≡ Err fault) × Appends held held' []
 LineDone (Err ends.ReadFault) q zs zs' line held held' = ⊥
@@ -45,7 +44,7 @@ pub record BeginsBad (fault : LineFault) (bytes : List ℕ) : Type 0 where
   pub bad : line_meaning line ≡ Err fault
 
 -- A line was taken with its line feed and answered.
-pub record WentOn (q : Query) (zs zs' : List NamedZone) (left left' : Option (List ℕ)) (pending pending' : List ℕ) (held held' : Option (List ℕ)) : Type 0 where
+pub record WentOn (q : Query) (zs zs' : Zones) (left left' : Option (List ℕ)) (pending pending' : List ℕ) (held held' : Option (List ℕ)) : Type 0 where
   pub line : List ℕ
   pub one_line : IsOneLine line
   pub hands : Hands left left' pending pending' (with_feed line)
@@ -54,7 +53,7 @@ pub record WentOn (q : Query) (zs zs' : List NamedZone) (left left' : Option (Li
   pub written : Appends held held' text
 
 -- The last line, if there was one, was answered, and nothing is ahead.
-pub record WentToEnd (q : Query) (zs zs' : List NamedZone) (left left' : Option (List ℕ)) (pending : List ℕ) (held held' : Option (List ℕ)) : Type 0 where
+pub record WentToEnd (q : Query) (zs zs' : Zones) (left left' : Option (List ℕ)) (pending : List ℕ) (held held' : Option (List ℕ)) : Type 0 where
   pub got : List ℕ
   pub taken : Consumes left left' got
   pub ended : IsAtEnd left'
@@ -66,13 +65,13 @@ pub record WentToEnd (q : Query) (zs zs' : List NamedZone) (left left' : Option 
   pub written : Appends held held' text
 
 -- A part of the answer to the next line was written.
-pub record WrotePart (q : Query) (zs : List NamedZone) (left left' : Option (List ℕ)) (pending : List ℕ) (held held' : Option (List ℕ)) : Type 0 where
+pub record WrotePart (q : Query) (zs : Zones) (left left' : Option (List ℕ)) (pending : List ℕ) (held held' : Option (List ℕ)) : Type 0 where
   pub line : List ℕ
   pub ahead : Ahead left left' pending (BeginsWith line)
   pub part : PartSaid q zs line held held'
 
 -- what was made of the next line
-abbrev pub NextDone : Result Bool LineEnd → Query → List NamedZone → List NamedZone → Option (List ℕ) → Option (List ℕ) → List ℕ → List ℕ → Option (List ℕ) → Option (List ℕ) → Type 0
+abbrev pub NextDone : Result Bool LineEnd → Query → Zones → Zones → Option (List ℕ) → Option (List ℕ) → List ℕ → List ℕ → Option (List ℕ) → Option (List ℕ) → Type 0
 NextDone (Ok true) q zs zs' left left' pending pending' held held' = WentOn q zs zs' left left' pending pending' held held'
 NextDone (Ok false) q zs zs' left left' pending pending' held held' = WentToEnd q zs zs' left left' pending held held'
 NextDone (Err (ends.Bad fault)) q zs zs' left left' pending pending' held held' = Ahead left left' pending (BeginsBad fault) × Appends held held' []
@@ -81,7 +80,7 @@ NextDone (Err ends.WriteFault) q zs zs' left left' pending pending' held held' =
 NextDone (Err ends.NoMemory) q zs zs' left left' pending pending' held held' = (got : List ℕ) × Consumes left left' got × Appends held held' []
 
 -- These lines were answered, their bytes with their line feeds came first, and these bytes were taken behind them.
-pub record Upto (q : Query) (zs : List NamedZone) (lines : List (List ℕ)) (left left' : Option (List ℕ)) (pending : List ℕ) (held held' : Option (List ℕ)) : Type 0 where
+pub record Upto (q : Query) (zs : Zones) (lines : List (List ℕ)) (left left' : Option (List ℕ)) (pending : List ℕ) (held held' : Option (List ℕ)) : Type 0 where
   pub taken : Consumes left left' (with_feeds lines ++ pending)
   pub one_line : AllByRecursion IsOneLine lines
   pub text : List ℕ

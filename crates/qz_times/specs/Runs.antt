@@ -8,8 +8,7 @@ use Rattle.qz_io.specs.declared.readers.TheConstants.{LINE_COUNT_LIMIT}
 use Rattle.qz_times.specs.declared.queries.Query.{Query}
 use Rattle.qz_times.specs.declared.ends.TimesEnd.{TimesEnd}
 use Rattle.qz_times.specs.declared.ends.TimesEnd.TheVariants as ends
-use Rattle.qz_times.specs.declared.zones.NamedZone.{NamedZone}
-use Rattle.qz_times.specs.Said.{line_meaning, AllSaid}
+use Rattle.qz_times.specs.Said.{line_meaning, AllSaid, Zones}
 
 -- what holds of the bytes of the source, where it tells them
 abbrev pub IfTold : Option (List ℕ) → (List ℕ → Type 0) → Type 0
@@ -52,11 +51,11 @@ pub record EndsUnread (left left' held held' : Option (List ℕ)) (lines : List 
   pub written : Appends held held' text
 
 -- a part of the answer to the last of these lines, if there is one, was written behind the others
-pub record EndsUnwritten (q : Query) (zs : List NamedZone) (left held held' : Option (List ℕ)) (lines : List (List ℕ)) (text : List ℕ) : Type 0 where
+pub record EndsUnwritten (q : Query) (zs : Zones) (left held held' : Option (List ℕ)) (lines : List (List ℕ)) (text : List ℕ) : Type 0 where
   pub last : List (List ℕ)
   pub one : length last ≤ 1
   pub its : List ℕ
-  pub behind : List NamedZone
+  pub behind : Zones
   pub said : AllSaid q zs last its behind
   pub begins : IfTold left (λ bytes. BeginWith (lines ++ last) (lines_of bytes))
   pub count : ℕ
@@ -67,7 +66,7 @@ pub record EndsStarved (left held held' : Option (List ℕ)) (lines : List (List
   pub begins : IfTold left (λ bytes. BeginWith lines (lines_of bytes))
   pub written : Appends held held' text
 
-abbrev pub Ends : TimesEnd → Query → List NamedZone → Option (List ℕ) → Option (List ℕ) → Option (List ℕ) → Option (List ℕ) → List (List ℕ) → List ℕ → Type 0
+abbrev pub Ends : TimesEnd → Query → Zones → Option (List ℕ) → Option (List ℕ) → Option (List ℕ) → Option (List ℕ) → List (List ℕ) → List ℕ → Type 0
 Ends ends.Done q zs left left' held held' lines text = EndsDone left left' held held' lines text
 Ends (ends.Bad number fault) q zs left left' held held' lines text = EndsBad left held held' lines text number fault
 Ends ends.TooManyLines q zs left left' held held' lines text = EndsMany left held held' lines text
@@ -79,6 +78,6 @@ Ends ends.NoMemory q zs left left' held held' lines text = EndsStarved left held
 pub record IsRun (e : TimesEnd) (q : Query) (left left' held held' : Option (List ℕ)) : Type 0 where
   pub lines : List (List ℕ)
   pub text : List ℕ
-  pub zones : List NamedZone
+  pub zones : Zones
   pub said : AllSaid q [] lines text zones
   pub ends : Ends e q zones left left' held held' lines text

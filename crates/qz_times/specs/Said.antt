@@ -1,5 +1,9 @@
 -- What is said to the lines of an input. Times are in ms.
 use Rattle.std.specs.Prelude.{◌≡◌, ◌⊎◌, ◌≤◌, ℕ, ℤ, pos, List, [], ◌∷◌, ◌++◌, length, nat_le, is_some, codes, if◌then◌else◌, Option, Some, None, Result, Ok}
+use Rattle.std.specs.BTreeMap.{is_at, insert_entry}
+use Rattle.std.specs.Cmp.Lexicographic.{slice_cmp}
+use Rattle.std.specs.Map.{lookup}
+use Rattle.std.specs.Ordering.{nat_cmp}
 use Rattle.std.specs.Str.{bytes_eq}
 use Rattle.qz_civil.specs.declared.limits.TheConstants.{LAST}
 use Rattle.qz_civil.specs.declared.stretches.Stretch.{Stretch}
@@ -21,31 +25,32 @@ use Rattle.qz_report.specs.Replies.{reply_text}
 use Rattle.qz_report.specs.Times.{times_text}
 use Rattle.qz_plan.specs.Schedule.{IsScheduled}
 use Rattle.qz_times.specs.declared.queries.Query.{Query}
-use Rattle.qz_times.specs.declared.zones.NamedZone.{NamedZone}
 
 -- what a line means; proofs see this word closed
 unfoldable pub line_meaning : List ℕ → Result (Option Asked) LineFault
 line_meaning line = asked_meaning line
 
--- The zones that the lines before have stored, in the order in which they came.
+-- The zones that the lines before have stored, each with its name, in the order of the names.
 
-abbrev pub zone_named : List NamedZone → List ℕ → Option (List Stretch)
-zone_named [] name = None
-zone_named (z ∷ zs) name = if bytes_eq z.name name then Some z.zone else zone_named zs name
+abbrev pub Zones : Type 0
+Zones = List (List ℕ × List Stretch)
+
+abbrev pub zone_named : Zones → List ℕ → Option (List Stretch)
+zone_named zs name = lookup (is_at (slice_cmp nat_cmp name)) zs
 
 -- `UTC` is always known
-abbrev pub known_zone : List NamedZone → List ℕ → Option (List Stretch)
+abbrev pub known_zone : Zones → List ℕ → Option (List Stretch)
 known_zone zs name = if bytes_eq name (codes "UTC") then Some (fixed_offset (pos 0)) else zone_named zs name
 
 -- why a zone isn't stored
-abbrev pub zone_refusal : List NamedZone → List ℕ → Option Refusal
+abbrev pub zone_refusal : Zones → List ℕ → Option Refusal
 zone_refusal zs name =
     if is_some (known_zone zs name) then Some ZoneExists
     else (if nat_le ZONE_LIMIT (length zs) then Some (TooMany ZONE_LIMIT) else None)
 
-abbrev pub zones_behind : Option Refusal → List NamedZone → NamedZone → List NamedZone
-zones_behind None zs z = zs ++ z ∷ []
-zones_behind (Some refusal) zs z = zs
+abbrev pub zones_behind : Option Refusal → Zones → List ℕ → List Stretch → Zones
+zones_behind None zs name zone = insert_entry (slice_cmp nat_cmp) zs name zone
+zones_behind (Some refusal) zs name zone = zs
 
 abbrev pub zone_text : Option Refusal → List ℕ
 zone_text None = reply_text (reply.Ok Done)
@@ -77,29 +82,29 @@ IsToldIn None q spec text = text ≡ reply_text (reply.Refused UnknownZone)
 IsToldIn (Some zone) q spec text = (times : List ℤ) × AreFirst (IsScheduled spec.timing zone) q.after q.count times × (text ≡ times_text spec.key times)
 
 -- no calendar is stored
-abbrev pub IsToldBy : Option (List ℕ) → List NamedZone → Query → TriggerSpec → List ℕ → Type 0
+abbrev pub IsToldBy : Option (List ℕ) → Zones → Query → TriggerSpec → List ℕ → Type 0
 IsToldBy (Some calendar) zs q spec text = text ≡ reply_text (reply.Refused UnknownCalendar)
 IsToldBy None zs q spec text = IsToldIn (known_zone zs (zone_name spec.timing.kind)) q spec text
 
-abbrev pub IsTold : List NamedZone → Query → TriggerSpec → List ℕ → Type 0
+abbrev pub IsTold : Zones → Query → TriggerSpec → List ℕ → Type 0
 IsTold zs q spec text = IsToldBy spec.calendar zs q spec text
 
 -- What is said to what a line asks for, and the zones behind it. A trigger isn't kept.
-abbrev pub Said : Query → List NamedZone → Option Asked → List ℕ → List NamedZone → Type 0
+abbrev pub Said : Query → Zones → Option Asked → List ℕ → Zones → Type 0
 Said q zs None text zs' = (text ≡ []) × (zs' ≡ zs)
 Said q zs (Some (AddZone name zone)) text zs' =
-    (text ≡ zone_text (zone_refusal zs name)) × (zs' ≡ zones_behind (zone_refusal zs name) zs (record { name = name; zone = zone }))
+    (text ≡ zone_text (zone_refusal zs name)) × (zs' ≡ zones_behind (zone_refusal zs name) zs name zone)
 Said q zs (Some (AddTrigger spec)) text zs' = IsTold zs q spec text × (zs' ≡ zs)
 
 -- what is said to a line that is right
-pub record LineSaid (q : Query) (zs : List NamedZone) (line text : List ℕ) (zs' : List NamedZone) : Type 0 where
+pub record LineSaid (q : Query) (zs : Zones) (line text : List ℕ) (zs' : Zones) : Type 0 where
   pub asked : Option Asked
   pub meaning : line_meaning line ≡ Ok asked
   pub said : Said q zs asked text zs'
 
 -- what is said to lines of which each is right, one behind the other
-abbrev pub AllSaid : Query → List NamedZone → List (List ℕ) → List ℕ → List NamedZone → Type 0
+abbrev pub AllSaid : Query → Zones → List (List ℕ) → List ℕ → Zones → Type 0
 AllSaid q zs [] text zs' = (text ≡ []) × (zs' ≡ zs)
 AllSaid q zs (line ∷ lines) text zs' =
-    (first : List ℕ) × (rest : List ℕ) × (between : List NamedZone)
+    (first : List ℕ) × (rest : List ℕ) × (between : Zones)
     × LineSaid q zs line first between × AllSaid q between lines rest zs' × (text ≡ first ++ rest)

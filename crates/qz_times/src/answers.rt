@@ -7,7 +7,7 @@ ghost use Rattle.qz_times.specs.Answers.{LineDone, NotSaid};
 
 use crate::queries::Query;
 use crate::telling::say;
-use crate::zones::NamedZone;
+use crate::zones::Zones;
 use qz_civil::{LAST, Text};
 use qz_io::{Sink, write_all};
 use qz_job_json::{Asked, LineFault, read_asked};
@@ -30,13 +30,13 @@ pub(crate) enum LineEnd {
 pub(crate) fn answer_line<K: Sink>(
     alloc: Global,
     line: &[u8],
-    zones: &mut Vec<NamedZone>,
+    zones: &mut Zones,
     query: Query,
     out: &mut K,
 ) -> Result<(), LineEnd>
     requires low { negsuc 0 ≤ℤ query.after }
     requires high { query.after ≤ℤ LAST }
-    ensures done { LineDone result query zones.old.items zones.new.items line.now (K.held out.old) (K.held out.new) }
+    ensures done { LineDone result query zones.old.entries zones.new.entries line.now (K.held out.old) (K.held out.new) }
     ensures later { K.faults out.old ≤ K.faults out.new }
     ensures write { result ≡ Err LineEnd.WriteFault → Rose (K.faults out.old) (K.faults out.new) }
 {
@@ -48,15 +48,10 @@ pub(crate) fn answer_line<K: Sink>(
 }
 
 // What is said to a line.
-fn answer_to(
-    alloc: Global,
-    line: &[u8],
-    zones: &mut Vec<NamedZone>,
-    query: Query,
-) -> Result<Text, LineEnd>
+fn answer_to(alloc: Global, line: &[u8], zones: &mut Zones, query: Query) -> Result<Text, LineEnd>
     requires low { negsuc 0 ≤ℤ query.after }
     requires high { query.after ≤ℤ LAST }
-    ensures ok { IfOk result (λ text. LineSaid query zones.old.items line.now text zones.new.items) }
+    ensures ok { IfOk result (λ text. LineSaid query zones.old.entries line.now text zones.new.entries) }
     ensures err { IfErr result (λ end. NotSaid end line.now) }
 {
     match read_line(alloc, line) {

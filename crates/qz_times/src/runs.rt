@@ -7,7 +7,7 @@ ghost use Rattle.qz_times.specs.Answers.{NextDone, BeyondDone, Finishes, end_at}
 use crate::answers::{LineEnd, answer_line};
 use crate::ends::TimesEnd;
 use crate::queries::Query;
-use crate::zones::NamedZone;
+use crate::zones::Zones;
 use qz_civil::LAST;
 use qz_io::{LINE_COUNT_LIMIT, LineReader, Seen, Sink, Source};
 use qz_job_json::LineFault;
@@ -31,7 +31,7 @@ pub fn run_times<S: Source, K: Sink>(
         Ok(reader) => reader,
         Err(_) => return TimesEnd::NoMemory,
     };
-    let mut zones = Vec::new(alloc);
+    let mut zones = Zones::new(alloc);
     for number in 0..LINE_COUNT_LIMIT {
         match answer_next(alloc, &mut reader, &mut zones, query, input, out) {
             Ok(true) => {}
@@ -50,14 +50,14 @@ pub fn run_times<S: Source, K: Sink>(
 fn answer_next<S: Source, K: Sink>(
     alloc: Global,
     reader: &mut LineReader,
-    zones: &mut Vec<NamedZone>,
+    zones: &mut Zones,
     query: Query,
     input: &mut S,
     out: &mut K,
 ) -> Result<bool, LineEnd>
     requires low { negsuc 0 ≤ℤ query.after }
     requires high { query.after ≤ℤ LAST }
-    ensures done { NextDone result query zones.old.items zones.new.items (S.left input.old) (S.left input.new) reader.old.pending reader.new.pending (K.held out.old) (K.held out.new) }
+    ensures done { NextDone result query zones.old.entries zones.new.entries (S.left input.old) (S.left input.new) reader.old.pending reader.new.pending (K.held out.old) (K.held out.new) }
     ensures reads { S.faults input.old ≤ S.faults input.new }
     ensures writes { K.faults out.old ≤ K.faults out.new }
     ensures read { result ≡ Err LineEnd.ReadFault → Rose (S.faults input.old) (S.faults input.new) }

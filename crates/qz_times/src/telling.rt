@@ -1,5 +1,5 @@
 //! What is said to a line.
-ghost use Rattle.std.specs.Prelude.{◌≡◌, negsuc, ◌≤ℤ◌, Some, IsTrue, IfOk};
+ghost use Rattle.std.specs.Prelude.{◌≡◌, negsuc, ◌≤ℤ◌, Some, IsTrue, IfOk, option_map, unwrap_or, codes};
 ghost use Rattle.qz_civil.specs.Timings.{is_timing};
 ghost use Rattle.qz_types.specs.Rows.{is_trigger_spec};
 ghost use Rattle.qz_job_json.specs.Asked.{is_asked};
@@ -9,7 +9,7 @@ ghost use Rattle.qz_plan.specs.Schedule.{IsScheduled};
 ghost use Rattle.qz_times.specs.Said.{AreFirst, IsTold, IsToldIn, Said, zone_name};
 
 use crate::queries::Query;
-use crate::zones::{NamedZone, add_zone, find};
+use crate::zones::{Zones, add_zone};
 use qz_civil::{Kind, LAST, NoMemory, Text, Timing, Zone};
 use qz_job_json::Asked;
 use qz_report::{reply_line, times_line};
@@ -20,13 +20,13 @@ use std::alloc::Global;
 pub(crate) fn say(
     alloc: Global,
     asked: Asked,
-    zones: &mut Vec<NamedZone>,
+    zones: &mut Zones,
     query: Query,
 ) -> Result<Text, NoMemory>
     requires asked { IsTrue (is_asked asked) }
     requires low { negsuc 0 ≤ℤ query.after }
     requires high { query.after ≤ℤ LAST }
-    ensures { IfOk result (λ text. Said query zones.old.items (Some asked) text zones.new.items) }
+    ensures { IfOk result (λ text. Said query zones.old.entries (Some asked) text zones.new.entries) }
 {
     match asked {
         Asked::AddZone { name, zone } => add_zone(alloc, zones, name, zone),
@@ -35,27 +35,21 @@ pub(crate) fn say(
 }
 
 // The line of a trigger.
-fn tell(
-    alloc: Global,
-    zones: &[NamedZone],
-    spec: &TriggerSpec,
-    query: Query,
-) -> Result<Text, NoMemory>
+fn tell(alloc: Global, zones: &Zones, spec: &TriggerSpec, query: Query) -> Result<Text, NoMemory>
     requires spec { IsTrue (is_trigger_spec spec.now) }
     requires low { negsuc 0 ≤ℤ query.after }
     requires high { query.after ≤ℤ LAST }
-    ensures { IfOk result (IsTold zones.now query spec.now) }
+    ensures { IfOk result (IsTold zones.now.entries query spec.now) }
 {
     if spec.calendar.is_some() {
         return refused(alloc, Refusal::UnknownCalendar);
     }
-    let name = zone_name(&spec.timing.kind);
-    if name == "UTC" {
-        return tell_in(alloc, &Zone::utc(), spec, query);
-    }
-    match find(zones, name) {
-        Some(zone) => tell_in(alloc, zone, spec, query),
-        None => refused(alloc, Refusal::UnknownZone),
+    match zone_name(&spec.timing.kind) {
+        Some(name) if name.as_str() != "UTC" => match zones.get(name) {
+            Some(zone) => tell_in(alloc, zone, spec, query),
+            None => refused(alloc, Refusal::UnknownZone),
+        },
+        _ => tell_in(alloc, &Zone::utc(), spec, query),
     }
 }
 
@@ -65,15 +59,15 @@ fn refused(alloc: Global, refusal: Refusal) -> Result<Text, NoMemory>
     reply_line(alloc, &StepReply::Refused(refusal))
 }
 
-// The zone that a kind names.
-fn zone_name(kind: &Kind) -> &str
-    ensures { result.now ≡ zone_name kind.now }
+// The zone that a kind names; one without a zone is timed in UTC.
+fn zone_name(kind: &Kind) -> Option<&Text>
+    ensures { unwrap_or (option_map (λ name. name.now) result) (codes "UTC") ≡ zone_name kind.now }
 {
     match kind {
-        Kind::Simple { .. } => "UTC",
-        Kind::Cron { zone, .. } => zone.as_str(),
-        Kind::Interval { zone, .. } => zone.as_str(),
-        Kind::Daily { zone, .. } => zone.as_str(),
+        Kind::Simple { .. } => None,
+        Kind::Cron { zone, .. } => Some(zone),
+        Kind::Interval { zone, .. } => Some(zone),
+        Kind::Daily { zone, .. } => Some(zone),
     }
 }
 

@@ -10,7 +10,7 @@ pub loop-number-init : goal.loop-number-init
 loop-number-init g c = record {
   reads = omega arith;
   writes = omega arith;
-  ran = ([], refl, rw c.in-Ok.ensures (rw c.new-zones.ensures.items (Upto-none _ _ _)));
+  ran = ([], refl, rw c.in-Ok.ensures (rw c.new-zones.ensures.empty (Upto-none _ _ _)));
 }
 
 pub returns-in-Ok-false-clause-run : goal.returns-in-Ok-false-clause-run

@@ -7,5 +7,5 @@ invariant-loop-number g l = record {
   reads : g.S.Source.faults l.fn.input ≤ g.S.Source.faults l.input;
   writes : g.K.Sink.faults l.fn.out ≤ g.K.Sink.faults l.out;
   ran : (lines : List (List ℕ)) × (length lines ≡ l.number)
-      × Upto l.query l.zones.items lines (g.S.Source.left l.fn.input) (g.S.Source.left l.input) l.reader.pending (g.K.Sink.held l.fn.out) (g.K.Sink.held l.out);
+      × Upto l.query l.zones.entries lines (g.S.Source.left l.fn.input) (g.S.Source.left l.input) l.reader.pending (g.K.Sink.held l.fn.out) (g.K.Sink.held l.out);
 }
