@@ -23,6 +23,7 @@ pub record ClusterState : Type 0 where
   pub triggers : StoreState
   pub held : List MemberData
 
+-- what a member submits
 abbrev pub entry_of_member : Option MemberData → Command → ℤ → Option EntryData
 entry_of_member None c at = None
 entry_of_member (Some me) c at = Some (entry_of (actor.Node me) c at)

@@ -21,12 +21,17 @@ use Rattle.qz_codec.specs.Calendars.{calendar_row}
 unfoldable pub use Rattle.qz_codec.specs.Fields.{number, integer, small, flag, text, optional}
 unfoldable pub use Rattle.qz_codec.specs.CronFields.{day_field, week_field, words, cron_fields}
 
+-- a key: the group, then the name
 unfoldable pub key : Key → List ℕ
 key k = text k.group ++ text k.name
 
+-- a job: its key and class, its three flags, its payload
 unfoldable pub job : JobData → List ℕ
-job j = key j.key ++ (text j.class ++ (flag j.durable ++ (flag j.no_concurrent ++ (flag j.requests_recovery ++ text j.payload))))
+job j =
+    key j.key
+    ++ (text j.class ++ (flag j.durable ++ (flag j.no_concurrent ++ (flag j.requests_recovery ++ text j.payload))))
 
+-- the place of a unit among all units
 abbrev pub unit_place : Units → ℕ
 unit_place units.Second = 0
 unit_place units.Minute = 1
@@ -36,21 +41,27 @@ unit_place units.Week = 4
 unit_place units.Month = 5
 unit_place units.Year = 6
 
+-- a kind: its place among the four, and what it has
 unfoldable pub kind : Kind → List ℕ
 kind (Simple interval count) = 0 ∷ (integer w64 interval ++ integer w64 count)
 kind (Cron fields zone) = 1 ∷ (cron_fields fields ++ text zone)
 kind (Interval unit every zone) = 2 ∷ unit_place unit ∷ (number w32 every ++ text zone)
-kind (Daily unit every from to days zone) = 3 ∷ unit_place unit ∷ (number w32 every ++ (number w32 from ++ (number w32 to ++ (days ∷ text zone))))
+kind (Daily unit every from to days zone) =
+    3 ∷ unit_place unit ∷ (number w32 every ++ (number w32 from ++ (number w32 to ++ (days ∷ text zone))))
 
+-- a timing: its kind, its misfire instruction in one byte, its start, and its end if it has one
 unfoldable pub timing : Timing → List ℕ
 timing t = kind t.kind ++ (small t.misfire ++ (integer w64 t.start ++ optional (integer w64) t.end))
 
+-- a trigger as it is stored: its key, its job's, its priority, its calendar if it has one, its timing
 unfoldable pub spec : TriggerSpec → List ℕ
 spec s = key s.key ++ (key s.job ++ (integer w32 s.priority ++ (optional text s.calendar ++ timing s.timing)))
 
+-- a member: the node and its epoch
 unfoldable pub member : MemberData → List ℕ
 member m = text m.node ++ number w64 m.epoch
 
+-- who acts: a client, or a node under its epoch
 unfoldable pub actor : Actor → List ℕ
 actor Client = 0 ∷ []
 actor (Node m) = 1 ∷ member m
@@ -115,9 +126,11 @@ command_fields (Complete entry c) = number w64 entry ++ code_place c ∷ []
 command_fields Misfires = []
 command_fields (Recover node) = text node
 
+-- a command: its place, and its fields
 unfoldable pub command : Command → List ℕ
 command c = command_place c ∷ command_fields c
 
+-- an entry: the reading of the clock, who acts, the seat, the command
 unfoldable pub entry : EntryData → List ℕ
 entry e = integer w64 e.at ++ (actor e.actor ++ (number w32 e.seat ++ command e.command))
 
@@ -125,5 +138,6 @@ entry e = integer w64 e.at ++ (actor e.actor ++ (number w32 e.seat ++ command e.
 abbrev pub recorded : {A : Type 0} → (A → List ℕ) → A → List ℕ
 recorded write x = 1 ∷ write x
 
+-- the record of an entry
 abbrev pub record_of : EntryData → List ℕ
 record_of e = recorded entry e

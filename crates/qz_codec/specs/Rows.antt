@@ -14,6 +14,7 @@ use Rattle.qz_codec.specs.Reading.{◌>>=◌, Read, checked, byte_at, number_at,
 
 -- ---- bytes
 
+-- the place of a state of a trigger, and of a fired row, among all of them
 abbrev pub trigger_state_place : TriggerState → ℕ
 trigger_state_place trigger_states.Waiting = 0
 trigger_state_place trigger_states.Acquired = 1
@@ -27,16 +28,32 @@ abbrev pub fired_state_place : FiredState → ℕ
 fired_state_place fired_states.Acquired = 0
 fired_state_place fired_states.Executing = 1
 
+-- a trigger: as it was stored, its next and last fire times if it has them, how often it fired, its state
 unfoldable pub trigger : TriggerData → List ℕ
-trigger t = spec t.spec ++ (optional (integer w64) t.next ++ (optional (integer w64) t.prev ++ (number w64 t.times ++ trigger_state_place t.state ∷ [])))
+trigger t =
+    spec t.spec
+    ++ (optional (integer w64) t.next
+    ++ (optional (integer w64) t.prev ++ (number w64 t.times ++ trigger_state_place t.state ∷ [])))
 
+-- a fired row: its entry number, the node and its epoch, the keys of trigger and job, the priority, its state, the time for which
+-- it was acquired, the moment at which its execution began if it did, its two flags
 unfoldable pub fired : FiredData → List ℕ
-fired f = number w64 f.entry ++ (text f.node ++ (number w64 f.epoch ++ (key f.trigger ++ (key f.job ++ (integer w32 f.priority ++ (fired_state_place f.state ∷ (integer w64 f.scheduled ++ (optional (integer w64) f.fired ++ (flag f.no_concurrent ++ flag f.requests_recovery)))))))))
+fired f =
+    number w64 f.entry
+    ++ (text f.node
+    ++ (number w64 f.epoch
+    ++ (key f.trigger
+    ++ (key f.job
+    ++ (integer w32 f.priority
+    ++ (fired_state_place f.state
+    ∷ (integer w64 f.scheduled
+    ++ (optional (integer w64) f.fired ++ (flag f.no_concurrent ++ flag f.requests_recovery)))))))))
 
+-- a row of the state store: the node, its last check-in, and how often it checks in
 unfoldable pub state : StateData → List ℕ
 state s = text s.node ++ (integer w64 s.last ++ integer w64 s.interval)
 
--- ---- which have a record
+-- ---- which have a record: their texts are UTF-8, their numbers fit, and each is within its limits
 
 pub record IsTrigger (t : TriggerData) : Type 0 where
   pub spec : IsSpec t.spec
@@ -59,7 +76,7 @@ pub record IsState (s : StateData) : Type 0 where
   pub last : FitsSigned w64 s.last
   pub interval : IsNumber w64 is_interval s.interval
 
--- ---- reading
+-- ---- reading, field by field: the value and the bytes behind it, or how many bytes are left at the first wrong field
 
 unfoldable pub trigger_state_at : List ℕ → Read TriggerState
 trigger_state_at bytes = do

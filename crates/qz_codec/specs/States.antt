@@ -12,14 +12,16 @@ use Rattle.qz_codec.specs.Reading.{◌>>=◌, Read, checked, byte_at, number_at,
 
 -- ---- bytes
 
+-- a command of the state store: its place, the node, and the interval of its check-ins or its last check-in
 unfoldable pub state_command : StateCommand → List ℕ
 state_command (CheckIn node interval) = 0 ∷ (text node ++ integer w64 interval)
 state_command (Forget node last) = 1 ∷ (text node ++ integer w64 last)
 
+-- an entry: the reading of the clock, the seat, the command
 unfoldable pub state_entry : StateEntryData → List ℕ
 state_entry e = integer w64 e.at ++ (number w32 e.seat ++ state_command e.command)
 
--- ---- which have a record
+-- ---- which have a record: the node is UTF-8, the numbers fit, and each is within its limits
 
 abbrev pub IsStateCommand : StateCommand → Type 0
 IsStateCommand (CheckIn node interval) = IsText 1 NODE_LIMIT node × IsNumber w64 is_interval interval
@@ -30,7 +32,7 @@ pub record IsStateEntry (e : StateEntryData) : Type 0 where
   pub seat : e.seat < 2 ^ 32
   pub command : IsStateCommand e.command
 
--- ---- reading
+-- ---- reading, field by field: the value and the bytes behind it, or how many bytes are left at the first wrong field
 
 unfoldable pub check_in_at : List ℕ → Read StateCommand
 check_in_at bytes = do

@@ -25,6 +25,7 @@ pub use Rattle.qz_codec.specs.Fields.{is_long, IsText, IsName, IsNumber}
 abbrev pub IsSpan : ℤ → Type 0
 IsSpan z = IsNumber w64 is_span z
 
+-- A row has a record where each of its texts and numbers has.
 pub record IsKey (k : Key) : Type 0 where
   pub group : IsName k.group
   pub name : IsName k.name
@@ -34,6 +35,7 @@ pub record IsJob (j : JobData) : Type 0 where
   pub class : IsName j.class
   pub payload : IsText 0 PAYLOAD_LIMIT j.payload
 
+-- what each kind of trigger has
 pub record IsCron (f : CronFields) (z : List ℕ) : Type 0 where
   pub fields : is_cron_fields f ≡ true
   pub words : length f.years ≡ 4
@@ -48,12 +50,14 @@ pub record IsDaily (unit : Units) (every from to set : ℕ) (z : List ℕ) : Typ
   pub days : is_day_set set ≡ true
   pub zone : IsName z
 
+-- a kind; a simple trigger's count goes with its interval
 abbrev pub IsKind : Kind → Type 0
 IsKind (Simple interval count) = IsSpan interval × IsNumber w64 (λ n. is_kind (Simple interval n)) count
 IsKind (Cron fields zone) = IsCron fields zone
 IsKind (Interval unit every zone) = IsInterval every zone
 IsKind (Daily unit every from to days zone) = IsDaily unit every from to days zone
 
+-- the misfire instruction is one of the kind's
 pub record IsTiming (t : Timing) : Type 0 where
   pub kind : IsKind t.kind
   pub misfire : IsNumber w8 (is_misfire t.kind) t.misfire
@@ -71,10 +75,12 @@ pub record IsMember (m : MemberData) : Type 0 where
   pub node : IsText 1 NODE_LIMIT m.node
   pub epoch : m.epoch < 2 ^ 64
 
+-- a client, or a node under its epoch
 abbrev pub IsActor : Actor → Type 0
 IsActor Client = Unit {0}
 IsActor (Node m) = IsMember m
 
+-- what is in the command has a record
 abbrev pub IsCommand : Command → Type 0
 IsCommand (AddJob job replace) = IsJob job
 IsCommand (DeleteJob key) = IsKey key
@@ -92,7 +98,8 @@ IsCommand (TriggerNow job) = IsKey job
 IsCommand (Threshold ms) = IsNumber w64 is_interval ms
 IsCommand (Join node) = IsText 1 NODE_LIMIT node
 IsCommand Leave = Unit {0}
-IsCommand (Acquire no_later window max) = IsSpan no_later × IsSpan window × (max < 2 ^ 32) × (is_long 1 ACQUIRE_LIMIT max ≡ true)
+IsCommand (Acquire no_later window max) =
+    IsSpan no_later × IsSpan window × (max < 2 ^ 32) × (is_long 1 ACQUIRE_LIMIT max ≡ true)
 IsCommand (Release entry) = entry < 2 ^ 64
 IsCommand (Fire entry) = entry < 2 ^ 64
 IsCommand (Complete entry code) = entry < 2 ^ 64

@@ -23,10 +23,12 @@ use Rattle.qz_job_json.specs.Forms.{built, kind_word_of}
 use Rattle.qz_job_json.specs.Members.{is_text, has_only, kept, text_at, number_at, span_at, name_or, integer_or, optional_span_at, optional_name_at}
 use Rattle.qz_job_json.specs.Objects.{trigger_key, job_key}
 
+-- a cron text with a fault has that fault
 abbrev pub or_cron : Result CronFields CronError → Result CronFields LineFault
 or_cron (Ok fields) = Ok fields
 or_cron (Err e) = Err (fault.Cron e)
 
+-- the unit of this name
 unfoldable pub unit_of : List ℕ → Option Unit
 unit_of text =
     if is_text text (codes "SECOND") then Some Second
@@ -38,6 +40,7 @@ unit_of text =
     else if is_text text (codes "YEAR") then Some Year
     else None
 
+-- each member, within its limits; what may be absent has its default
 abbrev pub unit_at : Data → Option Unit
 unit_at d = option_and_then unit_of (text_at (codes "unit") d)
 
@@ -58,6 +61,7 @@ count_at d = integer_or (negsuc 0) (pos 2147483647) (pos 0) (codes "count") d
 abbrev pub valid : Kind → Result Kind LineFault
 valid k = if is_kind k then Ok k else Err fault.Shape
 
+-- The kinds, each by its members.
 unfoldable pub simple_of : Data → Result Kind LineFault
 simple_of d =
     or_shape (interval_at d) >>= λ interval.
@@ -88,6 +92,7 @@ daily_of d =
     or_shape (zone_at d) >>= λ zone.
     valid (kind.Daily unit every from to days zone)
 
+-- the kind that the word names
 abbrev pub kind_of : KindWord → Data → Result Kind LineFault
 kind_of Simple d = simple_of d
 kind_of Cron d = cron_of d
@@ -101,6 +106,7 @@ last_misfire Cron = pos 2
 last_misfire Interval = pos 2
 last_misfire Daily = pos 2
 
+-- the same by the kind itself
 abbrev pub last_of : Kind → ℤ
 last_of (kind.Simple interval count) = pos 5
 last_of (kind.Cron fields zone) = pos 2
@@ -110,6 +116,7 @@ last_of (kind.Daily unit every from to days zone) = pos 2
 abbrev pub misfire_at : KindWord → Data → Option ℤ
 misfire_at word d = integer_or (negsuc 0) (last_misfire word) (pos 0) (codes "misfire") d
 
+-- when a trigger of that kind fires
 unfoldable pub timing_of : KindWord → Data → Result Timing LineFault
 timing_of word d =
     or_shape (misfire_at word d) >>= λ misfire.
@@ -134,6 +141,7 @@ timed_trigger_of word d =
     timing_of word d >>= λ timing.
     Ok (record { key = key; job = job; priority = priority; calendar = calendar; timing = timing })
 
+-- the word under `kind`
 abbrev pub kind_word_at : Data → Option KindWord
 kind_word_at d = option_and_then kind_word_of (text_at (codes "kind") d)
 
@@ -142,5 +150,6 @@ abbrev pub only_timed_trigger_of : KindWord → Data → Result TriggerSpec Line
 only_timed_trigger_of word d =
     if has_only (built (TriggerOf word)) d then timed_trigger_of word d else Err fault.Shape
 
+-- a trigger of the kind that it says
 abbrev pub trigger_by_kind : Data → Result TriggerSpec LineFault
 trigger_by_kind d = or_shape (kind_word_at d) >>= λ word. only_timed_trigger_of word d

@@ -44,7 +44,8 @@ pub record BeginsBad (fault : LineFault) (bytes : List ℕ) : Type 0 where
   pub bad : line_meaning line ≡ Err fault
 
 -- A line was taken with its line feed and answered.
-pub record WentOn (q : Query) (zs zs' : Zones) (left left' : Option (List ℕ)) (pending pending' : List ℕ) (held held' : Option (List ℕ)) : Type 0 where
+pub record WentOn (q : Query) (zs zs' : Zones)
+    (left left' : Option (List ℕ)) (pending pending' : List ℕ) (held held' : Option (List ℕ)) : Type 0 where
   pub line : List ℕ
   pub one_line : IsOneLine line
   pub hands : Hands left left' pending pending' (with_feed line)
@@ -53,7 +54,8 @@ pub record WentOn (q : Query) (zs zs' : Zones) (left left' : Option (List ℕ)) 
   pub written : Appends held held' text
 
 -- The last line, if there was one, was answered, and nothing is ahead.
-pub record WentToEnd (q : Query) (zs zs' : Zones) (left left' : Option (List ℕ)) (pending : List ℕ) (held held' : Option (List ℕ)) : Type 0 where
+pub record WentToEnd (q : Query) (zs zs' : Zones)
+    (left left' : Option (List ℕ)) (pending : List ℕ) (held held' : Option (List ℕ)) : Type 0 where
   pub got : List ℕ
   pub taken : Consumes left left' got
   pub ended : IsAtEnd left'
@@ -65,22 +67,34 @@ pub record WentToEnd (q : Query) (zs zs' : Zones) (left left' : Option (List ℕ
   pub written : Appends held held' text
 
 -- A part of the answer to the next line was written.
-pub record WrotePart (q : Query) (zs : Zones) (left left' : Option (List ℕ)) (pending : List ℕ) (held held' : Option (List ℕ)) : Type 0 where
+pub record WrotePart (q : Query) (zs : Zones)
+    (left left' : Option (List ℕ)) (pending : List ℕ) (held held' : Option (List ℕ)) : Type 0 where
   pub line : List ℕ
   pub ahead : Ahead left left' pending (BeginsWith line)
   pub part : PartSaid q zs line held held'
 
 -- what was made of the next line
-abbrev pub NextDone : Result Bool LineEnd → Query → Zones → Zones → Option (List ℕ) → Option (List ℕ) → List ℕ → List ℕ → Option (List ℕ) → Option (List ℕ) → Type 0
-NextDone (Ok true) q zs zs' left left' pending pending' held held' = WentOn q zs zs' left left' pending pending' held held'
-NextDone (Ok false) q zs zs' left left' pending pending' held held' = WentToEnd q zs zs' left left' pending held held'
-NextDone (Err (ends.Bad fault)) q zs zs' left left' pending pending' held held' = Ahead left left' pending (BeginsBad fault) × Appends held held' []
-NextDone (Err ends.ReadFault) q zs zs' left left' pending pending' held held' = Hands left left' pending pending' [] × IsOneLine pending' × Appends held held' []
-NextDone (Err ends.WriteFault) q zs zs' left left' pending pending' held held' = WrotePart q zs left left' pending held held'
-NextDone (Err ends.NoMemory) q zs zs' left left' pending pending' held held' = (got : List ℕ) × Consumes left left' got × Appends held held' []
+abbrev pub NextDone : Result Bool LineEnd → Query → Zones → Zones
+    → Option (List ℕ) → Option (List ℕ) → List ℕ → List ℕ → Option (List ℕ) → Option (List ℕ) → Type 0
+-- there was a next line, and it was answered
+NextDone (Ok true) q zs zs' left left' pending pending' held held' =
+    WentOn q zs zs' left left' pending pending' held held'
+-- the input ended
+NextDone (Ok false) q zs zs' left left' pending pending' held held' =
+    WentToEnd q zs zs' left left' pending held held'
+-- nothing was said to it
+NextDone (Err (ends.Bad fault)) q zs zs' left left' pending pending' held held' =
+    Ahead left left' pending (BeginsBad fault) × Appends held held' []
+NextDone (Err ends.ReadFault) q zs zs' left left' pending pending' held held' =
+    Hands left left' pending pending' [] × IsOneLine pending' × Appends held held' []
+NextDone (Err ends.WriteFault) q zs zs' left left' pending pending' held held' =
+    WrotePart q zs left left' pending held held'
+NextDone (Err ends.NoMemory) q zs zs' left left' pending pending' held held' =
+    (got : List ℕ) × Consumes left left' got × Appends held held' []
 
 -- These lines were answered, their bytes with their line feeds came first, and these bytes were taken behind them.
-pub record Upto (q : Query) (zs : Zones) (lines : List (List ℕ)) (left left' : Option (List ℕ)) (pending : List ℕ) (held held' : Option (List ℕ)) : Type 0 where
+pub record Upto (q : Query) (zs : Zones) (lines : List (List ℕ))
+    (left left' : Option (List ℕ)) (pending : List ℕ) (held held' : Option (List ℕ)) : Type 0 where
   pub taken : Consumes left left' (with_feeds lines ++ pending)
   pub one_line : AllByRecursion IsOneLine lines
   pub text : List ℕ
@@ -96,7 +110,7 @@ BeyondDone (Err (ends.Bad fault)) left left' pending pending' = ⊥
 BeyondDone (Err ends.WriteFault) left left' pending pending' = ⊥
 BeyondDone (Err ends.NoMemory) left left' pending pending' = ⊥
 
--- how it ends that ended so at the line of this number
+-- the end of a run whose line of this number ended so
 abbrev pub end_at : LineEnd → ℕ → TimesEnd
 end_at (ends.Bad fault) number = times.Bad number fault
 end_at ends.ReadFault number = times.ReadFault

@@ -27,17 +27,20 @@ pub record IsBadBehind (lines : List (List ℕ)) (fault : LineFault) (bytes : Li
   pub next : BeginWith (lines ++ line ∷ []) (lines_of bytes)
   pub bad : line_meaning line ≡ Err fault
 
-pub record EndsBad (left held held' : Option (List ℕ)) (lines : List (List ℕ)) (text : List ℕ) (number : ℕ) (fault : LineFault) : Type 0 where
+-- these lines were answered, and the next one is bad
+pub record EndsBad (left held held' : Option (List ℕ)) (lines : List (List ℕ)) (text : List ℕ)
+    (number : ℕ) (fault : LineFault) : Type 0 where
   pub number_is : number ≡ length lines + 1
   pub within : number ≤ LINE_COUNT_LIMIT
   pub bad : IfTold left (IsBadBehind lines fault)
   pub written : Appends held held' text
 
--- as many lines as an input may have were answered, and a further one begins
+-- a line stands behind them
 pub record IsMore (lines : List (List ℕ)) (bytes : List ℕ) : Type 0 where
   pub line : List ℕ
   pub next : BeginWith (lines ++ line ∷ []) (lines_of bytes)
 
+-- as many lines as an input may have were answered, and a further one begins
 pub record EndsMany (left held held' : Option (List ℕ)) (lines : List (List ℕ)) (text : List ℕ) : Type 0 where
   pub full : length lines ≡ LINE_COUNT_LIMIT
   pub more : IfTold left (IsMore lines)
@@ -51,7 +54,8 @@ pub record EndsUnread (left left' held held' : Option (List ℕ)) (lines : List 
   pub written : Appends held held' text
 
 -- a part of the answer to the last of these lines, if there is one, was written behind the others
-pub record EndsUnwritten (q : Query) (zs : Zones) (left held held' : Option (List ℕ)) (lines : List (List ℕ)) (text : List ℕ) : Type 0 where
+pub record EndsUnwritten (q : Query) (zs : Zones) (left held held' : Option (List ℕ))
+    (lines : List (List ℕ)) (text : List ℕ) : Type 0 where
   pub last : List (List ℕ)
   pub one : length last ≤ 1
   pub its : List ℕ
@@ -66,7 +70,9 @@ pub record EndsStarved (left held held' : Option (List ℕ)) (lines : List (List
   pub begins : IfTold left (λ bytes. BeginWith lines (lines_of bytes))
   pub written : Appends held held' text
 
-abbrev pub Ends : TimesEnd → Query → Zones → Option (List ℕ) → Option (List ℕ) → Option (List ℕ) → Option (List ℕ) → List (List ℕ) → List ℕ → Type 0
+-- what was made of an input that ended so
+abbrev pub Ends : TimesEnd → Query → Zones
+    → Option (List ℕ) → Option (List ℕ) → Option (List ℕ) → Option (List ℕ) → List (List ℕ) → List ℕ → Type 0
 Ends ends.Done q zs left left' held held' lines text = EndsDone left left' held held' lines text
 Ends (ends.Bad number fault) q zs left left' held held' lines text = EndsBad left held held' lines text number fault
 Ends ends.TooManyLines q zs left left' held held' lines text = EndsMany left held held' lines text

@@ -35,6 +35,7 @@ line_meaning line = asked_meaning line
 abbrev pub Zones : Type 0
 Zones = List (List ℕ × List Stretch)
 
+-- the stretches of the zone of this name
 abbrev pub zone_named : Zones → List ℕ → Option (List Stretch)
 zone_named zs name = lookup (is_at (slice_cmp nat_cmp name)) zs
 
@@ -48,10 +49,12 @@ zone_refusal zs name =
     if is_some (known_zone zs name) then Some ZoneExists
     else (if nat_le ZONE_LIMIT (length zs) then Some (TooMany ZONE_LIMIT) else None)
 
+-- the zones behind a line that adds one
 abbrev pub zones_behind : Option Refusal → Zones → List ℕ → List Stretch → Zones
 zones_behind None zs name zone = insert_entry (slice_cmp nat_cmp) zs name zone
 zones_behind (Some refusal) zs name zone = zs
 
+-- what is said to such a line
 abbrev pub zone_text : Option Refusal → List ℕ
 zone_text None = reply_text (reply.Ok Done)
 zone_text (Some refusal) = reply_text (reply.Refused refusal)
@@ -77,15 +80,19 @@ pub record AreFirst (P : ℤ → Type 0) (after : ℤ) (count : ℕ) (times : Li
   pub most : length times ≤ count
   pub all : (length times ≡ count) ⊎ IsNext LAST P last None
 
+-- a trigger is told its first times in the zone, if that is known
 abbrev pub IsToldIn : Option (List Stretch) → Query → TriggerSpec → List ℕ → Type 0
 IsToldIn None q spec text = text ≡ reply_text (reply.Refused UnknownZone)
-IsToldIn (Some zone) q spec text = (times : List ℤ) × AreFirst (IsScheduled spec.timing zone) q.after q.count times × (text ≡ times_text spec.key times)
+IsToldIn (Some zone) q spec text =
+    (times : List ℤ) × AreFirst (IsScheduled spec.timing zone) q.after q.count times
+    × (text ≡ times_text spec.key times)
 
 -- no calendar is stored
 abbrev pub IsToldBy : Option (List ℕ) → Zones → Query → TriggerSpec → List ℕ → Type 0
 IsToldBy (Some calendar) zs q spec text = text ≡ reply_text (reply.Refused UnknownCalendar)
 IsToldBy None zs q spec text = IsToldIn (known_zone zs (zone_name spec.timing.kind)) q spec text
 
+-- what a trigger is told
 abbrev pub IsTold : Zones → Query → TriggerSpec → List ℕ → Type 0
 IsTold zs q spec text = IsToldBy spec.calendar zs q spec text
 
