@@ -6,6 +6,6 @@ pub mod HalvingLemmas
 pub mod InstantLemmas
 pub mod MonthLemmas
 pub mod StepLemmas
-pub mod TurnLemmas
+pub mod OccurrenceLemmas
 pub mod ZoneLaws
 pub mod ZoneLemmas

@@ -50,12 +50,12 @@ unfoldable pub is_value : Field → ℕ → Bool
 is_value f v = nat_le (least f) v && nat_le v (greatest f)
 
 -- the set has the i-th value of its field, from 0
-unfoldable pub has : ℕ → ℕ → Bool
-has set i = bit_at set i == 1
+unfoldable pub has_bit : ℕ → ℕ → Bool
+has_bit set i = bit_at set i == 1
 
 -- the same of a set in words of 64 values
 unfoldable pub has_word : List ℕ → ℕ → Bool
-has_word words i = has (slice_index words (i / 64)) (i % 64)
+has_word words i = has_bit (slice_index words (i / 64)) (i % 64)
 
 -- the weekday of day `other` of the month in which day d has weekday w
 abbrev pub weekday_at : ℕ → ℕ → ℕ → ℕ
@@ -72,7 +72,7 @@ nearest length a w =
 -- from Monday to Friday, and `aW` the one from Monday to Friday that is nearest to day a: a month without that day has none.
 unfoldable pub in_days : DayField → ℕ → ℕ → ℕ → Bool
 in_days days.Any length d w = true
-in_days (days.Set set) length d w = has set (d - 1)
+in_days (days.Set set) length d w = has_bit set (d - 1)
 in_days (days.Last back) length d w = d + back == length
 in_days days.LastWeekday length d w = d == nearest length length (weekday_at d w length)
 in_days (days.Nearest a) length d w = (nat_le 1 a && nat_le a length) && (d == nearest length a (weekday_at d w a))
@@ -80,12 +80,12 @@ in_days (days.Nearest a) length d w = (nat_le 1 a && nat_le a length) && (d == n
 -- the same of the week's field: `aL` is weekday a in the month's last seven days, and `a#k` the k-th weekday a of the month
 unfoldable pub in_week : WeekField → ℕ → ℕ → ℕ → Bool
 in_week weeks.Any length d w = true
-in_week (weeks.Set set) length d w = has set (w - 1)
+in_week (weeks.Set set) length d w = has_bit set (w - 1)
 in_week (weeks.Last day) length d w = (w == day) && nat_lt length (d + 7)
 in_week (weeks.Nth day nth) length d w = (w == day) && ((d + 6) / 7 == nth)
 
 unfoldable pub in_months : CronFields → ℕ → Bool
-in_months f m = has f.months (m - 1)
+in_months f m = has_bit f.months (m - 1)
 
 -- a local year outside 1970 to LAST_YEAR meets no field, `*` neither
 unfoldable pub in_years : CronFields → ℕ → Bool
@@ -99,7 +99,7 @@ meets_date f d w =
 
 -- the second of the day meets the three fields on it
 unfoldable pub meets_time : CronFields → ℕ → Bool
-meets_time f s = has f.hours (s / 3600) && (has f.minutes (s % 3600 / 60) && has f.seconds (s % 3600 % 60))
+meets_time f s = has_bit f.hours (s / 3600) && (has_bit f.minutes (s % 3600 / 60) && has_bit f.seconds (s % 3600 % 60))
 
 -- the civil time meets the fields; no field has a negative year
 abbrev pub meets : CronFields → Civil → Bool

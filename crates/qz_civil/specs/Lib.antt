@@ -7,5 +7,5 @@ pub mod Instants
 pub mod Least
 pub mod Months
 pub mod Timings
-pub mod Turns
+pub mod Occurrences
 pub mod Zones

@@ -114,10 +114,10 @@ impl Field {
 }
 
 /// Whether the set has the i-th value of its field, from 0. No memory.
-#[tactic(auto, using(std::proofs::lemmas::Nat::Bits::shr_and_one), unfolding(crate::specs::Fields::has))]
-pub fn has(set: u64, i: u32) -> bool
+#[tactic(auto, using(std::proofs::lemmas::Nat::Bits::shr_and_one), unfolding(crate::specs::Fields::has_bit))]
+pub fn has_bit(set: u64, i: u32) -> bool
     requires { i < 64 }
-    ensures { result ≡ spec.has set i }
+    ensures { result ≡ spec.has_bit set i }
 {
     (set >> i) & 1 == 1
 }
@@ -159,7 +159,7 @@ impl DayField {
         let (length, day, weekday) = (u32::from(length), u32::from(day), u32::from(weekday));
         match self {
             DayField::Any => true,
-            DayField::Set(set) => has(u64::from(set), day - 1),
+            DayField::Set(set) => has_bit(u64::from(set), day - 1),
             DayField::Last { back } => day + u32::from(back) == length,
             DayField::LastWeekday => day
                 == nearest_weekday(length, length, weekday_at(day, weekday, length)),
@@ -184,7 +184,7 @@ impl WeekField {
     {
         match self {
             WeekField::Any => true,
-            WeekField::Set(set) => has(u64::from(set), u32::from(weekday - 1)),
+            WeekField::Set(set) => has_bit(u64::from(set), u32::from(weekday - 1)),
             WeekField::Last { day: last } => weekday == last && length < day + 7,
             WeekField::Nth { day: a, nth } => weekday == a && (day + 6) / 7 == nth,
         }
@@ -201,7 +201,7 @@ impl CronFields {
             && year <= LAST_YEAR
             && {
                 let index = year - 1970;
-                has(self.years[(index / 64) as usize], index % 64)
+                has_bit(self.years[(index / 64) as usize], index % 64)
             }
     }
 
@@ -211,7 +211,7 @@ impl CronFields {
         requires { IsInRange 1 12 month }
         ensures { result ≡ spec.in_months self.now month }
     {
-        has(u64::from(self.months), u32::from(month - 1))
+        has_bit(u64::from(self.months), u32::from(month - 1))
     }
 
     /// Whether the date, of this weekday, meets the day, month, weekday and year. No memory.
@@ -234,9 +234,9 @@ impl CronFields {
         requires { second < 86400 }
         ensures { result ≡ spec.meets_time self.now second }
     {
-        has(u64::from(self.hours), second / 3600)
-            && has(self.minutes, second % 3600 / 60)
-            && has(self.seconds, second % 3600 % 60)
+        has_bit(u64::from(self.hours), second / 3600)
+            && has_bit(self.minutes, second % 3600 / 60)
+            && has_bit(self.seconds, second % 3600 % 60)
     }
 
     /// Whether the local time meets all seven fields. Fractions of a second don't matter. No memory.

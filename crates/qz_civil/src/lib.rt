@@ -12,29 +12,29 @@ mod fields;
 mod kept;
 mod limits;
 mod lists;
+mod occurrences;
 mod spans;
 mod stretches;
 mod texts;
 mod times;
 mod timings;
-mod turns;
 mod zones;
 
 pub use calendars::{CalendarKind, is_annual_day, is_holiday};
 pub use dates::{Civil, Date, date_of, day_of, days_in_month, weekday_of};
 pub use failures::{Failed, NoMemory};
 pub use field_rules::is_year_set;
-pub use fields::{CronFields, DayField, Field, WeekField, has, nearest_weekday};
-pub use kept::{beside, let_go};
+pub use fields::{CronFields, DayField, Field, WeekField, has_bit, nearest_weekday};
+pub use kept::beside;
 pub use limits::{
     ANNUAL_LIMIT, END_DAY, GREATEST_SHIFT_SECONDS, HOLIDAY_LIMIT, LAST, LAST_DAY, LAST_YEAR,
     LONGEST, NAME_LIMIT, OFFSET_LIMIT, STRETCH_LENGTH, STRETCH_LIMIT,
 };
 pub use lists::List;
+pub use occurrences::{Occurrence, before_end, first_occurrence, to_unsigned};
 pub use spans::{SECONDS, Span, second_from};
 pub use stretches::{BadZone, Stretch, is_offset, may_begin};
 pub use texts::Text;
 pub use times::Times;
 pub use timings::{Kind, Timing, Unit};
-pub use turns::{Turn, cut, first_turn, natural};
 pub use zones::Zone;

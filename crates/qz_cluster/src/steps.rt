@@ -15,7 +15,6 @@ ghost use Rattle.qz_cluster.specs.Seen.{state_of, Leaves};
 use crate::entries::{client_entry, node_entry};
 use crate::held::{member_of, others, put_reserved};
 use crate::{Cluster, StepEnd};
-use qz_civil::let_go;
 use qz_disk::Disk;
 use qz_trigger_store::SubmitError;
 use qz_types::{Command, Entry, MemberRow, NoMemory, Reply, Step, StepReply, Text};
@@ -50,13 +49,13 @@ impl<D: Disk> Cluster<D> {
     {
         match member_of(&self.held, node) {
             None => {
-                let_go(command);
+                drop(command);
                 Ok(self.unheld())
             }
             Some(member) => match member.copy() {
                 Ok(me) => self.submit(node_entry(me, command, at)),
                 Err(_) => {
-                    let_go(command);
+                    drop(command);
                     Err(StepEnd::NoMemory)
                 }
             },

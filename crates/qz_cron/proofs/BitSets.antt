@@ -5,26 +5,26 @@ use Rattle.std.proofs.lemmas.Bool.{and_parts, cases_lt}
 use Rattle.std.proofs.lemmas.Nat.{shr-shr}
 use Rattle.std.proofs.lemmas.Nat.Bits.{bit_at-zero, bit_at-trailing_zeros}
 use Rattle.qz_civil.specs.declared.fields.CronFields.{CronFields}
-use Rattle.qz_civil.specs.Fields.{has, has_word, in_years, is_value, least, greatest, size}
+use Rattle.qz_civil.specs.Fields.{has_bit, has_word, in_years, is_value, least, greatest, size}
 use Rattle.qz_civil.specs.Least.{NoneIn, IsLeastIn}
 use Rattle.qz_cron.specs.Search.{meets_month}
 
-has-bit : (set i bit : ℕ) → bit_at set i ≡ bit → has set i ≡ (bit == 1)
-unfolding has
+has-bit : (set i bit : ℕ) → bit_at set i ≡ bit → has_bit set i ≡ (bit == 1)
+unfolding has_bit
 has-bit set i bit e = ap (λ b. b == 1) e
 
-has-shifted : (set from k : ℕ) → from ≤ k → has set k ≡ has (set / 2 ^ from) (k - from)
-unfolding has
+has-shifted : (set from k : ℕ) → from ≤ k → has_bit set k ≡ has_bit (set / 2 ^ from) (k - from)
+unfolding has_bit
 has-shifted set from k le =
     let e : from + (k - from) ≡ k = omega arith in
     rw (shr-shr set from (k - from), e) refl
 
 -- what is left of a set from a place on is 0
-pub none_left : (set from to : ℕ) → set / 2 ^ from ≡ 0 → NoneIn (has set) from to
+pub none_left : (set from to : ℕ) → set / 2 ^ from ≡ 0 → NoneIn (has_bit set) from to
 none_left set from to e k low high =
     has-shifted set from k low ∙ (rw e (has-bit 0 (k - from) 0 (bit_at-zero (k - from))))
 
-pub first_left : (set from : ℕ) → 0 < set / 2 ^ from → set / 2 ^ from < 2 ^ 64 → IsLeastIn (has set) from (from + 64) (from + trailing_zeros w64 (set / 2 ^ from))
+pub first_left : (set from : ℕ) → 0 < set / 2 ^ from → set / 2 ^ from < 2 ^ 64 → IsLeastIn (has_bit set) from (from + 64) (from + trailing_zeros w64 (set / 2 ^ from))
 first_left set from some fits =
     let rest : ℕ = set / 2 ^ from in
     let t : ℕ = trailing_zeros w64 rest in
@@ -39,14 +39,14 @@ first_left set from some fits =
 
 -- sets in words
 
-of_word : (words : List ℕ) (word k : ℕ) → k / 64 ≡ word → has_word words k ≡ has (slice_index words word) (k % 64)
+of_word : (words : List ℕ) (word k : ℕ) → k / 64 ≡ word → has_word words k ≡ has_bit (slice_index words word) (k % 64)
 unfolding has_word
 of_word words word k e = rw e refl
 
-pub none_in_word : (words : List ℕ) (word low : ℕ) → low / 64 ≡ word → NoneIn (has (slice_index words word)) (low % 64) 64 → NoneIn (has_word words) low (word * 64 + 64)
+pub none_in_word : (words : List ℕ) (word low : ℕ) → low / 64 ≡ word → NoneIn (has_bit (slice_index words word)) (low % 64) 64 → NoneIn (has_word words) low (word * 64 + 64)
 none_in_word words word low e none k from to = of_word words word k (omega arith) ∙ none (k % 64) (omega arith) (omega arith)
 
-pub first_in_word : (words : List ℕ) (word low bit : ℕ) → low / 64 ≡ word → word < 4 → IsLeastIn (has (slice_index words word)) (low % 64) 64 bit → IsLeastIn (has_word words) low 256 (word * 64 + bit)
+pub first_in_word : (words : List ℕ) (word low bit : ℕ) → low / 64 ≡ word → word < 4 → IsLeastIn (has_bit (slice_index words word)) (low % 64) 64 bit → IsLeastIn (has_word words) low 256 (word * 64 + bit)
 first_in_word words word low bit e small f =
     let a = f.low in
     let b = f.high in

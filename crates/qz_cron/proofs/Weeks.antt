@@ -4,7 +4,7 @@ use Rattle.std.specs.Int.{IsInRange}
 use Rattle.std.proofs.lemmas.Bool.{and_left, and_right}
 use Rattle.qz_civil.specs.declared.fields.DayField.TheVariants as days
 use Rattle.qz_civil.specs.declared.fields.WeekField.TheVariants as weeks
-use Rattle.qz_civil.specs.Fields.{has, in_days, in_week, nearest, weekday_at}
+use Rattle.qz_civil.specs.Fields.{has_bit, in_days, in_week, nearest, weekday_at}
 use Rattle.qz_civil.specs.Least.{NoneIn, IsFirst}
 use Rattle.qz_cron.specs.Search.{weekday_in}
 use Rattle.qz_cron.proofs.Firsts.{first_same, first_within}
@@ -35,7 +35,7 @@ pub any_week : (start length low : ℕ) (r : Option ℕ) → IsFirst (λ d. true
 unfolding in_week
 any_week start length low r h = h
 
-pub week_set : (set start length low : ℕ) (r : Option ℕ) → IsFirst (λ d. has set (weekday_in start d - 1)) low (length + 1) r → IsFirst (λ d. in_week (weeks.Set set) length d (weekday_in start d)) low (length + 1) r
+pub week_set : (set start length low : ℕ) (r : Option ℕ) → IsFirst (λ d. has_bit set (weekday_in start d - 1)) low (length + 1) r → IsFirst (λ d. in_week (weeks.Set set) length d (weekday_in start d)) low (length + 1) r
 unfolding in_week
 week_set set start length low r h = h
 
@@ -71,7 +71,7 @@ first_is_nth start length low a nth r some h =
 weekday_at-in : (start d a : ℕ) → IsInRange 1 31 d → IsInRange 1 31 a → weekday_at d (weekday_in start d) a ≡ weekday_in start a
 weekday_at-in start d a h k = omega (arith, h.0, h.1, k.0, k.1)
 
-pub first_is_day : (set low length : ℕ) (start : ℕ) (r : Option ℕ) → 1 ≤ low → IsFirst (has set) (low - 1) length r → IsFirst (λ d. in_days (days.Set set) length d (weekday_in start d)) low (length + 1) (option_map (λ v. v + 1) r)
+pub first_is_day : (set low length : ℕ) (start : ℕ) (r : Option ℕ) → 1 ≤ low → IsFirst (has_bit set) (low - 1) length r → IsFirst (λ d. in_days (days.Set set) length d (weekday_in start d)) low (length + 1) (option_map (λ v. v + 1) r)
 unfolding in_days
 first_is_day set low length start None some none = λ k from to. none (k - 1) (omega arith) (omega arith)
 first_is_day set low length start (Some v) some f =

@@ -6,7 +6,7 @@ use Rattle.qz_civil.specs.declared.dates.Date.{Date}
 use Rattle.qz_civil.specs.declared.fields.CronFields.{CronFields}
 use Rattle.qz_civil.specs.declared.stretches.Stretch.{Stretch}
 use Rattle.qz_civil.specs.Dates.{date_of, days_in_month, weekday_of}
-use Rattle.qz_civil.specs.Fields.{has, in_days, in_week, in_years, meets, meets_date, meets_time}
+use Rattle.qz_civil.specs.Fields.{has_bit, in_days, in_week, in_years, meets, meets_date, meets_time}
 use Rattle.qz_civil.specs.Zones.{civil, offset_at}
 
 -- a number passes where its quotient by n passes the one test and its remainder the other
@@ -15,11 +15,11 @@ both_parts n high low x = high (x / n) && low (x % n)
 
 -- the second of the hour
 abbrev pub meets_in_hour : CronFields → ℕ → Bool
-meets_in_hour f = both_parts 60 (has f.minutes) (has f.seconds)
+meets_in_hour f = both_parts 60 (has_bit f.minutes) (has_bit f.seconds)
 
 -- the month, whatever its days
 abbrev pub meets_month : CronFields → ℕ → Bool
-meets_month f = both_parts 12 (in_years f) (has f.months)
+meets_month f = both_parts 12 (in_years f) (has_bit f.months)
 
 abbrev pub meets_day : CronFields → ℕ → Bool
 meets_day f k = meets_date f (date_of k) (weekday_of k)

@@ -2,7 +2,7 @@
 ghost use Rattle.std.specs.Prelude.{◌≡◌, ℕ, ◌+◌, ◌-◌, ◌<◌, ◌≤◌, ◌%◌, ◌&&◌, true, false};
 ghost use Rattle.std.specs.Int.{IsInRange};
 ghost use Rattle.qz_civil.specs.Dates.{days_in_month};
-ghost use Rattle.qz_civil.specs.Fields.{has, has_word, in_days};
+ghost use Rattle.qz_civil.specs.Fields.{has_bit, has_word, in_days};
 ghost use Rattle.qz_cron.specs.Search.{IsBare, meets_month};
 
 use crate::bits::next_bit;
@@ -35,7 +35,7 @@ fn least_length(field: DayField) -> u64
 
 // The months that may have so many days.
 fn months_of(length: u64) -> u16
-    ensures { (y m : ℕ) → m < 12 → length ≤ days_in_month y (m + 1) → has result m ≡ true }
+    ensures { (y m : ℕ) → m < 12 → length ≤ days_in_month y (m + 1) → has_bit result m ≡ true }
 {
     if length <= 29 {
         ALL_MONTHS
@@ -62,7 +62,7 @@ fn leap_years(years: &[u64; 4]) -> [u64; 4]
 // Those of the years in which one of the months may have so many days.
 fn years_of(years: &[u64; 4], months: u16, length: u64) -> [u64; 4]
     ensures kept { (i : ℕ) → i < 256 → has_word result i ≡ true → has_word years.now i ≡ true }
-    ensures left { (y m : ℕ) → IsInRange 1970 2099 y → m < 12 → has months m ≡ true
+    ensures left { (y m : ℕ) → IsInRange 1970 2099 y → m < 12 → has_bit months m ≡ true
         → length ≤ days_in_month y (m + 1) → has_word years.now (y - 1970) ≡ true
         → has_word result (y - 1970) ≡ true }
 {

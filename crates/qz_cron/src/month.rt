@@ -9,7 +9,7 @@ ghost use Rattle.qz_cron.specs.Search.{first_of, meets_in_month, month_days, wee
 
 use crate::bits::next_bit;
 use crate::months::{END_MONTH, FIRST_MONTH, month_start};
-use qz_civil::{CronFields, DayField, END_DAY, WeekField, days_in_month, has, nearest_weekday};
+use qz_civil::{CronFields, DayField, END_DAY, WeekField, days_in_month, has_bit, nearest_weekday};
 
 /// A month of the calendar. Its days are numbered from 1.
 #[derive(Clone, Copy)]
@@ -63,7 +63,7 @@ impl Month {
         ensures { IsFirst (λ d. has_value set (weekday_in self.start d - 1)) low (self.length + 1) result }
     {
         for day in low..self.length + 1 {
-            if has(u64::from(set), (self.weekday(day) - 1) as u32) {
+            if has_bit(u64::from(set), (self.weekday(day) - 1) as u32) {
                 return Some(day);
             }
         }

@@ -5,7 +5,7 @@ ghost use Rattle.qz_civil.specs.Least.{IsFirst};
 ghost use Rattle.qz_cron.specs.Search.{meets_in_hour};
 
 use crate::bits::{next_bit, next_bit_if};
-use qz_civil::{CronFields, has};
+use qz_civil::{CronFields, has_bit};
 
 fn next_in_hour(fields: &CronFields, from: u64) -> Option<u64>
     requires { from < 3600 }
@@ -14,7 +14,7 @@ fn next_in_hour(fields: &CronFields, from: u64) -> Option<u64>
 {
     let (minute, second) = (from / 60, from % 60);
     if let Some(low) = next_bit_if(
-        has(fields.minutes, minute as u32),
+        has_bit(fields.minutes, minute as u32),
         fields.seconds,
         second,
         60,
@@ -48,7 +48,7 @@ pub fn next_time(fields: &CronFields, from: u64) -> Option<u64>
 {
     let hours = u64::from(fields.hours);
     let (hour, second) = (from / 3600, from % 3600);
-    if let Some(low) = next_in_hour_if(has(hours, hour as u32), fields, second) {
+    if let Some(low) = next_in_hour_if(has_bit(hours, hour as u32), fields, second) {
         return Some(hour * 3600 + low);
     }
     let high = next_bit(hours, hour + 1, 24)?;

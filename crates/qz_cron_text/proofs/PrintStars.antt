@@ -5,7 +5,7 @@ use Rattle.std.specs.Int.{bit_at}
 use Rattle.std.proofs.lemmas.Nat.Bits.{bit_at-zero, bit_at-lt, bit_at_above, same_from_bits}
 use Rattle.std.proofs.Math.Nat.{mod-eq_of_lt, add-mod_right}
 use Rattle.qz_civil.specs.declared.fields.Field.{Field}
-use Rattle.qz_civil.specs.Fields.{least, greatest, size, has, has_word, is_set}
+use Rattle.qz_civil.specs.Fields.{least, greatest, size, has_bit, has_word, is_set}
 use Rattle.qz_cron_text.specs.declared.runs.Run.{Run}
 use Rattle.qz_cron_text.specs.Runs.{all_by}
 use Rattle.qz_cron_text.specs.Printing.{one_word, members, has_all, values_text, set_text}
@@ -14,20 +14,20 @@ use Rattle.qz_cron_text.proofs.FieldLemmas.{size_some}
 use Rattle.qz_cron_text.proofs.PrintSets.{IsWordFrom, values_are_set}
 
 -- bit by bit in a set of four words
-word_at : (a b c d i : ℕ) → i < 64 → has_word (a ∷ b ∷ c ∷ d ∷ []) i ≡ has a i
+word_at : (a b c d i : ℕ) → i < 64 → has_word (a ∷ b ∷ c ∷ d ∷ []) i ≡ has_bit a i
 unfolding has_word
 word_at a b c d i low =
     let e : i / 64 ≡ 0 = omega arith in
     let f : i % 64 ≡ i = omega arith in
     rw (e, f) refl
 
-pub bit_has : (w i : ℕ) → bit_at w i ≡ 1 → has w i ≡ true
-unfolding has
+pub bit_has : (w i : ℕ) → bit_at w i ≡ 1 → has_bit w i ≡ true
+unfolding has_bit
 bit_has w i one = grind (arith, one)
 
-pub has_bit : (w i : ℕ) → has w i ≡ true → bit_at w i ≡ 1
-unfolding has
-has_bit w i is = grind (arith, is)
+pub bit_is_one : (w i : ℕ) → has_bit w i ≡ true → bit_at w i ≡ 1
+unfolding has_bit
+bit_is_one w i is = grind (arith, is)
 
 -- a bit of a small word is a low one
 pub low_bit : (w k i : ℕ) → w < 2 ^ k → bit_at w i ≡ 1 → i < k
@@ -56,7 +56,7 @@ one_word_from field w few small = record { there = there; back = back }
     back : (i : ℕ) → i < 64 → 0 + i < size field → has_word (one_word w) (0 + i) ≡ true → bit_at w i ≡ 1
     back i low within has =
         let e : 0 + i ≡ i = omega arith in
-        has_bit w i (sym (word_at w 0 0 0 i low) ∙ sym (ap (λ (j : ℕ). has_word (one_word w) j) e) ∙ has)
+        bit_is_one w i (sym (word_at w 0 0 0 i low) ∙ sym (ap (λ (j : ℕ). has_word (one_word w) j) e) ∙ has)
 
 -- a set without members has no number
 no_member : (set : List ℕ) (n i : ℕ) → members set n ≡ [] → i < n → has_word set i ≡ false

@@ -12,7 +12,7 @@ use Rattle.qz_civil.specs.declared.fields.DayField.TheVariants as day
 use Rattle.qz_civil.specs.declared.fields.WeekField.{WeekField}
 use Rattle.qz_civil.specs.declared.fields.WeekField.TheVariants as week
 use Rattle.qz_civil.specs.declared.fields.CronFields.{CronFields}
-use Rattle.qz_civil.specs.Fields.{least, greatest, size, is_value, has, has_word, is_set, is_within_words, has_some, is_year_set, is_day_field, is_week_field, is_any_day, is_any_week, is_time_fields, is_date_fields, is_cron_fields}
+use Rattle.qz_civil.specs.Fields.{least, greatest, size, is_value, has_bit, has_word, is_set, is_within_words, has_some, is_year_set, is_day_field, is_week_field, is_any_day, is_any_week, is_time_fields, is_date_fields, is_cron_fields}
 use Rattle.qz_cron_text.specs.declared.forms.Form.TheVariants.{Day, Week}
 use Rattle.qz_cron_text.specs.declared.forms.DayForm.TheVariants as days
 use Rattle.qz_cron_text.specs.declared.forms.WeekForm.TheVariants as weeks
@@ -22,7 +22,7 @@ use Rattle.qz_cron_text.specs.Reading.{reading}
 use Rattle.qz_cron_text.proofs.ElementLaws.{value_in_range}
 use Rattle.qz_cron_text.proofs.GrammarLaws.{reading_read}
 use Rattle.qz_cron_text.proofs.PrintSets.{printed_numeral, IsWordFrom, member_runs, members_elements, members_bits}
-use Rattle.qz_cron_text.proofs.PrintStars.{set_is, low_bit, bit_has, has_bit, word_members, all_numbers, false_true, both_true}
+use Rattle.qz_cron_text.proofs.PrintStars.{set_is, low_bit, bit_has, bit_is_one, word_members, all_numbers, false_true, both_true}
 
 -- days are printed as numerals
 month_day_small : (d : ℕ) → IsOf DayOfMonth d → d < 10000
@@ -141,21 +141,21 @@ year_words (a ∷ b ∷ c ∷ d ∷ []) four valid =
 year_words (a ∷ b ∷ c ∷ d ∷ e ∷ more) four valid = absurd (omega (arith, four))
 
 -- number `from + i` of the four words
-word_first : (a b c d i : ℕ) → i < 64 → has_word (a ∷ b ∷ c ∷ d ∷ []) (0 + i) ≡ has a i
+word_first : (a b c d i : ℕ) → i < 64 → has_word (a ∷ b ∷ c ∷ d ∷ []) (0 + i) ≡ has_bit a i
 unfolding has_word
 word_first a b c d i low =
     let e : (0 + i) / 64 ≡ 0 = omega arith in
     let f : (0 + i) % 64 ≡ i = omega arith in
     rw (e, f) refl
 
-word_second : (a b c d i : ℕ) → i < 64 → has_word (a ∷ b ∷ c ∷ d ∷ []) (64 + i) ≡ has b i
+word_second : (a b c d i : ℕ) → i < 64 → has_word (a ∷ b ∷ c ∷ d ∷ []) (64 + i) ≡ has_bit b i
 unfolding has_word
 word_second a b c d i low =
     let e : (64 + i) / 64 ≡ 1 = omega arith in
     let f : (64 + i) % 64 ≡ i = omega arith in
     rw (e, f) refl
 
-word_third : (a b c d i : ℕ) → i < 64 → has_word (a ∷ b ∷ c ∷ d ∷ []) (128 + i) ≡ has c i
+word_third : (a b c d i : ℕ) → i < 64 → has_word (a ∷ b ∷ c ∷ d ∷ []) (128 + i) ≡ has_bit c i
 unfolding has_word
 word_third a b c d i low =
     let e : (128 + i) / 64 ≡ 2 = omega arith in
@@ -164,7 +164,7 @@ word_third a b c d i low =
 
 -- a word of the years
 word_from : (set : List ℕ) (from word k : ℕ) → word < 2 ^ k → k ≤ 64 → from + k ≤ 130 → (k ≡ 64) ⊎ (from + k ≡ 130)
-    → ((i : ℕ) → i < 64 → has_word set (from + i) ≡ has word i) → IsWordFrom Year set from word
+    → ((i : ℕ) → i < 64 → has_word set (from + i) ≡ has_bit word i) → IsWordFrom Year set from word
 unfolding size
 word_from set from word k small few within end same = record { there = there; back = back }
   where
@@ -174,7 +174,7 @@ word_from set from word k small few within end same = record { there = there; ba
         (omega arith, omega arith, same i (omega arith) ∙ bit_has word i one)
 
     back : (i : ℕ) → i < 64 → from + i < 130 → has_word set (from + i) ≡ true → bit_at word i ≡ 1
-    back i low less has = has_bit word i (sym (same i low) ∙ has)
+    back i low less has = bit_is_one word i (sym (same i low) ∙ has)
 
 record WordsFrom (a b c : ℕ) : Type 0 where
   first : IsWordFrom Year (a ∷ b ∷ c ∷ 0 ∷ []) 0 a
@@ -189,8 +189,8 @@ words_from a b c a_small b_small c_small = record {
 }
 
 -- all years
-full_word : (w k : ℕ) → w < 2 ^ k → ((i : ℕ) → i < k → has w i ≡ true) → 2 ^ k - 1 < 2 ^ k → w ≡ 2 ^ k - 1
-full_word w k small all less = same_from_bits_below k w (2 ^ k - 1) small less (λ i low. has_bit w i (all i low) ∙ sym (bit_at_ones k i low))
+full_word : (w k : ℕ) → w < 2 ^ k → ((i : ℕ) → i < k → has_bit w i ≡ true) → 2 ^ k - 1 < 2 ^ k → w ≡ 2 ^ k - 1
+full_word w k small all less = same_from_bits_below k w (2 ^ k - 1) small less (λ i low. bit_is_one w i (all i low) ∙ sym (bit_at_ones k i low))
 
 all_years : (a b c : ℕ) → a < 2 ^ 64 → b < 2 ^ 64 → c < 2 ^ 2 → has_all (a ∷ b ∷ c ∷ 0 ∷ []) (size Year) ≡ true
     → a ∷ b ∷ c ∷ 0 ∷ [] ≡ (2 ^ 64 - 1) ∷ (2 ^ 64 - 1) ∷ 3 ∷ 0 ∷ []

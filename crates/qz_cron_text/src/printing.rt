@@ -4,7 +4,7 @@ ghost use Rattle.qz_civil.specs.Fields.{size, has_word, is_cron_fields};
 ghost use Rattle.qz_cron_text.specs.Printing.{has_all, member_text, values_text, set_text, one_word, day_text, week_text, years_text, times_text, dates_text, canonical_text};
 ghost use Rattle.qz_cron_text.specs.Reading.{reading};
 
-use qz_civil::{CronFields, DayField, Field, NoMemory, Text, WeekField, has};
+use qz_civil::{CronFields, DayField, Field, NoMemory, Text, WeekField, has_bit};
 use std::alloc::{AllocError, Global};
 use std::fmt::Write;
 
@@ -24,7 +24,7 @@ fn has_value(set: &Set, index: u16) -> bool
     requires { index < 256 }
     ensures { result ≡ has_word set.now index }
 {
-    has(set[index as usize / 64], index as u32 % 64)
+    has_bit(set[index as usize / 64], index as u32 % 64)
 }
 
 /// Whether a set has each of its field's values.

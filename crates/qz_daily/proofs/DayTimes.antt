@@ -4,7 +4,7 @@ use Rattle.std.proofs.Math.Nat.{mul-mod_left}
 use Rattle.std.proofs.lemmas.Bool.{false_from_ne_true}
 use Rattle.std.proofs.lemmas.Nat.{mul-le, div-add-mod'}
 use Rattle.qz_civil.specs.Least.{IsLeastIn, NoneIn}
-use Rattle.qz_civil.specs.Turns.{IsTurn}
+use Rattle.qz_civil.specs.Occurrences.{IsOccurrence}
 use Rattle.qz_daily.specs.declared.patterns.Pattern.{Pattern}
 use Rattle.qz_daily.specs.Timestamps.{is_time}
 
@@ -25,7 +25,7 @@ is_time-turn p k le =
     rw (steps, mul-mod_left k p.step) (grind arith)
 
 -- no time from the floor on comes before the first turn
-turn-least : (p : Pattern) (floor k second : ℕ) → IsTurn p.from p.step floor k → floor ≤ second → is_time p second ≡ true → p.from + k * p.step ≤ second
+turn-least : (p : Pattern) (floor k second : ℕ) → IsOccurrence p.from p.step floor k → floor ≤ second → is_time p second ≡ true → p.from + k * p.step ≤ second
 turn-least p floor k second turn reach h =
     let time = time-parts p second h in
     let steps : ℕ = (second - p.from) / p.step in
@@ -34,7 +34,7 @@ turn-least p floor k second turn reach h =
     omega (arith, at, mul-le k p.step steps p.step after (omega arith))
 
 -- the turn is the first time, where it isn't too late
-pub first-time : (p : Pattern) (floor k time end : ℕ) → IsTurn p.from p.step floor k → time ≡ p.from + k * p.step → time ≤ p.to → time < end → IsLeastIn (is_time p) floor end time
+pub first-time : (p : Pattern) (floor k time end : ℕ) → IsOccurrence p.from p.step floor k → time ≡ p.from + k * p.step → time ≤ p.to → time < end → IsLeastIn (is_time p) floor end time
 first-time p floor k time end turn at le lt = record {
   low = (let reached = turn.reached in omega arith);
   high = lt;
@@ -42,7 +42,7 @@ first-time p floor k time end turn at le lt = record {
   none = λ s from to. false_from_ne_true (is_time p s) (λ h. let late = turn-least p floor k s turn from h in omega arith);
 }
 
-pub none-late : (p : Pattern) (floor k end : ℕ) → IsTurn p.from p.step floor k → min end (p.to + 1) ≤ p.from + k * p.step → NoneIn (is_time p) floor end
+pub none-late : (p : Pattern) (floor k end : ℕ) → IsOccurrence p.from p.step floor k → min end (p.to + 1) ≤ p.from + k * p.step → NoneIn (is_time p) floor end
 none-late p floor k end turn late s from to = false_from_ne_true (is_time p s) (λ h.
     let over = turn-least p floor k s turn from h in
     let time = time-parts p s h in

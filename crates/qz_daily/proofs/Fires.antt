@@ -6,7 +6,7 @@ use Rattle.qz_civil.specs.declared.limits.TheConstants.{LAST}
 use Rattle.qz_civil.specs.declared.stretches.Stretch.{Stretch}
 use Rattle.qz_civil.specs.Dates.{civil_of}
 use Rattle.qz_civil.specs.Least.{IsLeastIn, IsNext, NoneIn}
-use Rattle.qz_civil.specs.Turns.{IsBefore, IsPast}
+use Rattle.qz_civil.specs.Occurrences.{IsBefore, IsPast}
 use Rattle.qz_civil.specs.Zones.{civil, local}
 use Rattle.qz_daily.specs.declared.patterns.Pattern.{Pattern}
 use Rattle.qz_daily.specs.Search.{is_at, is_second}

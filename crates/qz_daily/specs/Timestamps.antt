@@ -2,9 +2,9 @@
 use Rattle.std.specs.Prelude.{◌≡◌, ℕ, ◌-◌, ◌*◌, ◌%◌, Bool, true, ◌&&◌, ◌==◌, nat_le, ℤ, pos, ◌≤ℤ◌, List, Option}
 use Rattle.qz_civil.specs.declared.stretches.Stretch.{Stretch}
 use Rattle.qz_civil.specs.declared.timings.Unit.{Unit}
-use Rattle.qz_civil.specs.Fields.{has}
+use Rattle.qz_civil.specs.Fields.{has_bit}
 use Rattle.qz_civil.specs.Timings.{seconds}
-use Rattle.qz_civil.specs.Turns.{IsBefore}
+use Rattle.qz_civil.specs.Occurrences.{IsBefore}
 use Rattle.qz_civil.specs.Zones.{civil}
 use Rattle.qz_daily.specs.declared.patterns.Pattern.{Pattern}
 
@@ -14,7 +14,7 @@ pattern unit every from to days = record { step = every * seconds unit; from = f
 
 -- the weekday, from 1 for Sunday, is chosen
 abbrev pub is_weekday : Pattern → ℕ → Bool
-is_weekday p weekday = has p.days (weekday - 1)
+is_weekday p weekday = has_bit p.days (weekday - 1)
 
 -- the second of the day is `from` or a number of steps later, up to `to`
 unfoldable pub is_time : Pattern → ℕ → Bool

@@ -5,7 +5,7 @@ ghost use Rattle.qz_daily.specs.Search.{is_at};
 ghost use Rattle.qz_daily.specs.Timestamps.{IsDaily, pattern};
 
 use crate::patterns::Pattern;
-use qz_civil::{LAST, SECONDS, Unit, Zone, cut, second_from};
+use qz_civil::{LAST, SECONDS, Unit, Zone, before_end, second_from};
 
 // The first second of the pattern from `from` on, span by span.
 fn first_whole(pattern: &Pattern, zone: &Zone, floor: u64) -> Option<u64>
@@ -59,5 +59,5 @@ pub fn next(
 {
     let pattern = Pattern::new(unit, every, from, to, days);
     let second = first_whole(&pattern, zone, floor_of(start, after))?;
-    cut(second * 1000, end)
+    before_end(second * 1000, end)
 }

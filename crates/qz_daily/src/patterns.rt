@@ -4,7 +4,7 @@ ghost use Rattle.qz_civil.specs.Least.{IsFirst, IsLeastIn, NoneIn};
 ghost use Rattle.qz_daily.specs.Search.{has_day as is_chosen, is_second};
 ghost use Rattle.qz_daily.specs.Timestamps.{is_time, pattern};
 
-use qz_civil::{Span, Unit, first_turn, has, weekday_of};
+use qz_civil::{Span, Unit, first_occurrence, has_bit, weekday_of};
 
 /// Seconds of a day.
 const DAY: u64 = 86400;
@@ -47,7 +47,7 @@ impl Pattern {
         ensures bound { IfSome result (λ time. time < DAY) }
     {
         let end = DAY.min(self.to + 1);
-        match first_turn(self.from, self.step, floor) {
+        match first_occurrence(self.from, self.step, floor) {
             Some(turn) if turn.moment < end => Some(turn.moment),
             _ => None,
         }
@@ -57,7 +57,7 @@ impl Pattern {
         requires { day < 2 ^ 20 }
         ensures { result ≡ is_chosen self.now day }
     {
-        has(u64::from(self.days), u32::from(weekday_of(day as u32) - 1))
+        has_bit(u64::from(self.days), u32::from(weekday_of(day as u32) - 1))
     }
 
     // The same on that day, counted from 1969-12-31 on.

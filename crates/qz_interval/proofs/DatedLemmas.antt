@@ -4,17 +4,17 @@ use Rattle.std.proofs.lemmas.Int.{ints}
 use Rattle.qz_civil.specs.declared.limits.TheConstants.{LAST}
 use Rattle.qz_civil.specs.declared.stretches.Stretch.{Stretch}
 use Rattle.qz_civil.specs.Least.{IsLeast, IsNext}
-use Rattle.qz_civil.specs.Turns.{IsBefore, IsPast}
+use Rattle.qz_civil.specs.Occurrences.{IsBefore, IsPast}
 use Rattle.qz_interval.specs.Interval.{IsDated, IsLaterTurn}
 
 -- before the start, the start is next
-pub start_next : (zs : List Stretch) (IsTurn : ℕ → ℕ → Type 0) (start : ℤ) (end : Option ℤ) (after : ℤ) (s : ℕ) (r : Option ℤ) → pos s ≡ start → after <ℤ start → IfSome r (λ t. (t ≡ pos s) × (t ≤ℤ LAST) × IsBefore end t) → IfNone r (IsPast end s) → IsNext LAST (IsDated zs IsTurn start end) after r
-start_next zs IsTurn start end after s None e lt kept gone =
+pub start_next : (zs : List Stretch) (IsOccurrence : ℕ → ℕ → Type 0) (start : ℤ) (end : Option ℤ) (after : ℤ) (s : ℕ) (r : Option ℤ) → pos s ≡ start → after <ℤ start → IfSome r (λ t. (t ≡ pos s) × (t ≤ℤ LAST) × IsBefore end t) → IfNone r (IsPast end s) → IsNext LAST (IsDated zs IsOccurrence start end) after r
+start_next zs IsOccurrence start end after s None e lt kept gone =
     λ t h over within. elim h.turn [
       | inl same ↦ gone t (omega (arith, ints)) within h.before
       | inr turn ↦ gone t (omega (arith, ints, turn.0)) within h.before
     ]
-start_next zs IsTurn start end after s (Some t) e lt kept gone = record {
+start_next zs IsOccurrence start end after s (Some t) e lt kept gone = record {
   member = record { turn = inl (kept.0 ∙ e); before = kept.2 };
   later = omega (arith, ints, kept.0);
   within = kept.1;

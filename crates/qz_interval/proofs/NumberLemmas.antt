@@ -2,9 +2,9 @@
 use Rattle.std.proofs.Common.{◌≡◌, ℕ, ◌+◌, ◌*◌, ◌/◌, ◌<◌, ◌≤◌, inl, inr, sym, ◌∙◌, ap, arith, rules, Option, Some, None, IsSome, IfNone}
 use Rattle.std.proofs.lemmas.Bool.{cases_lt}
 use Rattle.std.proofs.lemmas.Nat.{mul-le}
-use Rattle.qz_civil.specs.declared.turns.Turn.{Turn}
+use Rattle.qz_civil.specs.declared.occurrences.Occurrence.{Occurrence}
 use Rattle.qz_civil.specs.Months.{day_in_month, month_number}
-use Rattle.qz_civil.specs.Turns.{IsTurn}
+use Rattle.qz_civil.specs.Occurrences.{IsOccurrence}
 use Rattle.qz_civil.proofs.MonthLemmas.{month_of-rises, month_of-last, date_of-same}
 use Rattle.qz_interval.specs.declared.turns.Count.{Count}
 use Rattle.qz_interval.specs.declared.turns.Count.TheVariants.{Days, Months}
@@ -37,17 +37,17 @@ late_month number of_month day le h = elim (cases_lt day 47484) [
 
 -- Turns by their places.
 
-pub has_turn : (first step from : ℕ) (o : Option Turn) → 1 ≤ step → IfNone o ((j : ℕ) → from ≤ first + j * step → ⊥) → IsSome o
+pub has_turn : (first step from : ℕ) (o : Option Occurrence) → 1 ≤ step → IfNone o ((j : ℕ) → from ≤ first + j * step → ⊥) → IsSome o
 has_turn first step from None some none = absurd (none from (omega (arith, mul-le from 1 from step (omega arith) some)))
 has_turn first step from (Some turn) some none = search rules
 
-pub before_turn : (first step from place k : ℕ) → IsTurn first step from place → k < place → first + k * step < from
+pub before_turn : (first step from place k : ℕ) → IsOccurrence first step from place → k < place → first + k * step < from
 before_turn first step from place k turn lt = elim (cases_lt (first + k * step) from) [
   | inl under ↦ under
   | inr over ↦ absurd (omega (arith, turn.first k over))
 ]
 
-pub from_turn : (first step from place k : ℕ) → IsTurn first step from place → place ≤ k → from ≤ first + k * step
+pub from_turn : (first step from place k : ℕ) → IsOccurrence first step from place → place ≤ k → from ≤ first + k * step
 from_turn first step from place k turn le = omega (arith, turn.reached, mul-le place step k step le (omega arith))
 
 pub places_rise : (first step j k : ℕ) → 1 ≤ step → j < k → first + j * step < first + k * step

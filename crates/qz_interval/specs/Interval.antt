@@ -7,7 +7,7 @@ use Rattle.qz_civil.specs.declared.timings.Unit.TheVariants.{Second, Minute, Hou
 use Rattle.qz_civil.specs.Dates.{date_of}
 use Rattle.qz_civil.specs.Instants.{IsEarliest, IsShownAt}
 use Rattle.qz_civil.specs.Months.{day_in_month, month_number}
-use Rattle.qz_civil.specs.Turns.{IsBefore}
+use Rattle.qz_civil.specs.Occurrences.{IsBefore}
 use Rattle.qz_civil.specs.Zones.{local}
 use Rattle.qz_simple.specs.Simple.{IsSimple}
 
@@ -25,16 +25,16 @@ pub record IsClockOf (Later : ℕ → ℕ → Type 0) (l m : ℕ) : Type 0 where
   pub time : m % 86400000 ≡ l % 86400000
 
 -- t is the earliest timestamp at which the clock shows a turn after the first
-pub record IsLaterTurn (zone : List Stretch) (IsTurn : ℕ → ℕ → Type 0) (t : ℤ) : Type 0 where
+pub record IsLaterTurn (zone : List Stretch) (IsOccurrence : ℕ → ℕ → Type 0) (t : ℤ) : Type 0 where
   pub place : ℕ
   pub counted : 1 ≤ place
   pub clock : ℕ
-  pub turn : IsTurn place clock
+  pub turn : IsOccurrence place clock
   pub at : IsEarliest (IsShownAt zone clock) t
 
 -- t is the start, or comes after it as a later turn; and before the end
-pub record IsDated (zone : List Stretch) (IsTurn : ℕ → ℕ → Type 0) (start : ℤ) (end : Option ℤ) (t : ℤ) : Type 0 where
-  pub turn : (t ≡ start) ⊎ ((start <ℤ t) × IsLaterTurn zone IsTurn t)
+pub record IsDated (zone : List Stretch) (IsOccurrence : ℕ → ℕ → Type 0) (start : ℤ) (end : Option ℤ) (t : ℤ) : Type 0 where
+  pub turn : (t ≡ start) ⊎ ((start <ℤ t) × IsLaterTurn zone IsOccurrence t)
   pub before : IsBefore end t
 
 -- the k-th turn is k steps after the start, by its local clock

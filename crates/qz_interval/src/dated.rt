@@ -9,7 +9,7 @@ ghost use Rattle.qz_interval.specs.Turns.{HasTimestamp, IsStep, IsTurnOf, turns_
 
 use crate::numbers::{month_number, place_from};
 use crate::turns::{Count, Step, Turns};
-use qz_civil::{END_DAY, LAST, LAST_DAY, Zone, cut, date_of, natural};
+use qz_civil::{END_DAY, LAST, LAST_DAY, Zone, before_end, date_of, to_unsigned};
 
 // In ms.
 const DAY: u64 = 86_400_000;
@@ -141,10 +141,10 @@ pub fn next_dated(start: i64, end: Option<i64>, step: Step, zone: &Zone, after: 
     ensures { IsNext LAST (IsDated zone.now (turns_after step (local zone.now start)) start end) after result }
 {
     if after < start {
-        return cut(natural(start), end);
+        return before_end(to_unsigned(start), end);
     }
     match Turns::from_clock(step, clock_of(zone, start)).next(zone, after) {
-        Some(ms) => cut(natural(ms), end),
+        Some(ms) => before_end(to_unsigned(ms), end),
         None => None,
     }
 }

@@ -5,7 +5,7 @@ ghost use Rattle.qz_civil.specs.Months as months;
 ghost use Rattle.qz_interval.specs.Turns as spec;
 
 use crate::turns::Count;
-use qz_civil::{Date, END_DAY, LAST_DAY, date_of, day_of, days_in_month, first_turn};
+use qz_civil::{Date, END_DAY, LAST_DAY, date_of, day_of, days_in_month, first_occurrence};
 
 // February 2100.
 const END_MONTH: u64 = 25201;
@@ -87,5 +87,5 @@ pub fn place_from(first: u64, step: u64, number: u64) -> u64
     ensures before { (k : ℕ) → k < result → first + k * step < number }
     ensures after { (k : ℕ) → result ≤ k → number ≤ first + k * step }
 {
-    first_turn(first, step, number).unwrap().place
+    first_occurrence(first, step, number).unwrap().place
 }

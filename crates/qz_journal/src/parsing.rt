@@ -5,7 +5,7 @@ ghost use Rattle.qz_journal.specs.Opening.{IsDamagedBehind};
 
 use crate::MountError;
 use crate::layout::{HEADER_LENGTH, is_header, is_open, split_block};
-use qz_civil::{List, let_go};
+use qz_civil::List;
 use std::alloc::Global;
 
 // What stands in the bytes of a store: payloads, and behind them a closed gate or a bad place, at the offset `gate`.
@@ -52,7 +52,7 @@ pub(crate) fn parse(alloc: Global, bytes: &[u8], kind: u8) -> Result<Parsed, Mou
         match add(alloc, &mut payloads, payload) {
             Ok(()) => {}
             Err(error) => {
-                let_go(payloads);
+                drop(payloads);
                 return Err(error);
             }
         }

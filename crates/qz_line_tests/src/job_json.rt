@@ -2,7 +2,6 @@
 mod asked;
 
 use crate::rows::{Row, check};
-use qz_civil::let_go;
 use qz_job_json::{Given, LineFault, read_step};
 use std::alloc::{AllocError, Global};
 use std::process::Abort;
@@ -28,7 +27,7 @@ impl Row for StepRow {
     fn holds(&self, alloc: Global) -> Result<bool, AllocError> {
         let read = read_step(alloc, self.0.as_bytes());
         let text = text_of(alloc, &read);
-        let_go(read);
+        drop(read);
         Ok(text?.as_str() == self.1)
     }
 }

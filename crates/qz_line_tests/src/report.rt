@@ -1,6 +1,6 @@
 //! Replies with their lines.
 use crate::rows::{Row, check};
-use qz_civil::{beside, let_go};
+use qz_civil::beside;
 use qz_report::{reply_line, times_line};
 use qz_types::{JobRow, Key, List, NoMemory, Refusal, Reply, StepReply, Taken, Text};
 use std::alloc::{AllocError, Global};
@@ -8,7 +8,7 @@ use std::alloc::{AllocError, Global};
 // Whether this is the reply's line. The reply and its line are let go here and nowhere else.
 fn has_line(alloc: Global, reply: StepReply, line: &str) -> bool {
     let told = reply_line(alloc, &reply);
-    let_go(reply);
+    drop(reply);
     match told {
         Ok(text) => text.as_str() == line,
         Err(NoMemory) => false,
@@ -153,7 +153,7 @@ fn fired_tells_the_next_time(rt: HostRuntime) -> Result<(), AllocError> {
 fn have_line(alloc: Global, times: &[i64], line: &str) -> Result<bool, NoMemory> {
     let key = Key::new(alloc, "a b", "t1")?;
     let told = times_line(alloc, &key, times);
-    let_go(key);
+    drop(key);
     Ok(told?.as_str() == line)
 }
 

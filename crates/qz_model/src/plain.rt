@@ -14,7 +14,6 @@ mod firing;
 mod membership;
 mod scheduling;
 
-use qz_civil::let_go;
 use qz_types::{
     Actor, Command, Entry, FIRST_THRESHOLD, FiredRow, JobRow, LAST, MemberRow, NoMemory, Refusal,
     Reply, TriggerRow,
@@ -179,7 +178,7 @@ impl PlainStore {
         ensures kept { TablesValid self.old → OnOk result (TablesValid self.new) }
     {
         let worked = self.work(&entry);
-        let_go(entry);
+        drop(entry);
         let Worked { tables, reply } = worked?;
         *self = tables;
         Ok(reply)

@@ -6,7 +6,6 @@ mod limits;
 mod rows;
 mod states;
 
-use qz_civil::let_go;
 use qz_codec::*;
 use qz_types::{
     Actor, CalendarRow, Command, Entry, FiredRow, JobRow, List, MemberRow, StateRow, Text,
@@ -61,14 +60,14 @@ fn place_in(alloc: Global, of: Of, bytes: &[u8]) -> Option<u32> {
 fn entry_again(alloc: Global, record: &[u8]) -> Option<List<u8>> {
     let entry = get_command(alloc, record).ok()?;
     let bytes = put_command(alloc, &entry).ok();
-    let_go(entry);
+    drop(entry);
     bytes
 }
 
 fn state_entry_again(alloc: Global, record: &[u8]) -> Option<List<u8>> {
     let entry = get_state(alloc, record).ok()?;
     let bytes = put_state(alloc, &entry).ok();
-    let_go(entry);
+    drop(entry);
     bytes
 }
 
@@ -77,7 +76,7 @@ fn row_again<R: Packed + Drop>(alloc: Global, record: &[u8]) -> Option<List<u8>>
 {
     let row = get_row::<R>(alloc, record).ok()?;
     let bytes = put_row(alloc, &row).ok();
-    let_go(row);
+    drop(row);
     bytes
 }
 
@@ -211,7 +210,7 @@ fn is_worked_example(entry: &Entry) -> bool {
 fn reads_worked_example(alloc: Global) -> bool {
     let read = get_command(alloc, FIRE);
     let is_right = matches!(&read, Ok(entry) if is_worked_example(entry));
-    let_go(read);
+    drop(read);
     is_right
 }
 

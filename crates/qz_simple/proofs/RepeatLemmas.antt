@@ -4,7 +4,7 @@ use Rattle.std.proofs.lemmas.Int.{ints}
 use Rattle.std.proofs.lemmas.Nat.{mul-le}
 use Rattle.qz_civil.specs.declared.limits.TheConstants.{LAST, LONGEST}
 use Rattle.qz_civil.specs.Least.{IsNext}
-use Rattle.qz_civil.specs.Turns.{IsTurn, IsBefore, IsPast}
+use Rattle.qz_civil.specs.Occurrences.{IsOccurrence, IsBefore, IsPast}
 use Rattle.qz_civil.specs.Timings.{is_simple, is_span}
 use Rattle.qz_simple.specs.Simple.{IsCounted, IsSimple}
 
@@ -31,17 +31,17 @@ at_place : (start interval after : ℤ) (s i f k : ℕ) → AreNatural start int
 at_place start interval after s i f k n = rw (← n.begins, ← n.steps) refl
 
 -- a fire time behind `after` is the first turn or a later one
-is_behind : (start : ℤ) (end : Option ℤ) (interval count after t : ℤ) (s i f k : ℕ) → AreNatural start interval after s i f → IsTurn s i f k → (h : IsSimple start end interval count t) → after <ℤ t → k ≤ h.place
+is_behind : (start : ℤ) (end : Option ℤ) (interval count after t : ℤ) (s i f k : ℕ) → AreNatural start interval after s i f → IsOccurrence s i f k → (h : IsSimple start end interval count t) → after <ℤ t → k ≤ h.place
 is_behind start end interval count after t s i f k n turn h lt =
     turn.first h.place (omega (arith, ints, h.at, n.from, at_place start interval after s i f h.place n))
 
-not_before : (start : ℤ) (end : Option ℤ) (interval count after t : ℤ) (s i f k : ℕ) → AreNatural start interval after s i f → IsTurn s i f k → IsSimple start end interval count t → after <ℤ t → pos (s + k * i) ≤ℤ t
+not_before : (start : ℤ) (end : Option ℤ) (interval count after t : ℤ) (s i f k : ℕ) → AreNatural start interval after s i f → IsOccurrence s i f k → IsSimple start end interval count t → after <ℤ t → pos (s + k * i) ≤ℤ t
 not_before start end interval count after t s i f k n turn h lt =
     let le = is_behind start end interval count after t s i f k n turn h lt in
     omega (arith, ints, h.at, at_place start interval after s i f h.place n, mul-le k i h.place i le (omega arith))
 
 -- where the first turn is counted, the answer is that turn before the end
-pub cut_turn : (start : ℤ) (end : Option ℤ) (interval count after : ℤ) (s i f k m : ℕ) (r : Option ℤ) → AreNatural start interval after s i f → IsTurn s i f k → m ≡ s + k * i → IsCounted count k → IfSome r (λ t. (t ≡ pos m) × (t ≤ℤ LAST) × IsBefore end t) → IfNone r (IsPast end m) → IsNext LAST (IsSimple start end interval count) after r
+pub cut_turn : (start : ℤ) (end : Option ℤ) (interval count after : ℤ) (s i f k m : ℕ) (r : Option ℤ) → AreNatural start interval after s i f → IsOccurrence s i f k → m ≡ s + k * i → IsCounted count k → IfSome r (λ t. (t ≡ pos m) × (t ≤ℤ LAST) × IsBefore end t) → IfNone r (IsPast end m) → IsNext LAST (IsSimple start end interval count) after r
 cut_turn start end interval count after s i f k m None n turn at counted kept gone =
     λ t h lt within. gone t (omega (arith, ints, not_before start end interval count after t s i f k n turn h lt)) within h.before
 cut_turn start end interval count after s i f k m (Some t) n turn at counted kept gone = record {
@@ -57,7 +57,7 @@ cut_turn start end interval count after s i f k m (Some t) n turn at counted kep
 }
 
 -- where it isn't, no later one is
-pub not_counted : (start : ℤ) (end : Option ℤ) (interval count after : ℤ) (s i f k : ℕ) → AreNatural start interval after s i f → IsTurn s i f k → (IsCounted count k → ⊥) → IsNext LAST (IsSimple start end interval count) after None
+pub not_counted : (start : ℤ) (end : Option ℤ) (interval count after : ℤ) (s i f k : ℕ) → AreNatural start interval after s i f → IsOccurrence s i f k → (IsCounted count k → ⊥) → IsNext LAST (IsSimple start end interval count) after None
 not_counted start end interval count after s i f k n turn over t h lt within =
     let le = is_behind start end interval count after t s i f k n turn h lt in
     elim h.counted [

@@ -1,6 +1,6 @@
 -- The fire times of a simple trigger, as of Quartz's SimpleTrigger; the end is not included. Times are in ms.
 use Rattle.std.specs.Prelude.{◌≡◌, ℕ, ℤ, pos, negsuc, ◌≤ℤ◌, ◌+ℤ◌, ◌*ℤ◌, Option, ◌⊎◌}
-use Rattle.qz_civil.specs.Turns.{IsBefore}
+use Rattle.qz_civil.specs.Occurrences.{IsBefore}
 
 -- a trigger of that count fires k intervals after its start: with -1 for any k
 abbrev pub IsCounted : ℤ → ℕ → Type 0

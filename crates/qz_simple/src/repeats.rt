@@ -4,7 +4,7 @@ ghost use Rattle.qz_civil.specs.Least.{IsNext};
 ghost use Rattle.qz_civil.specs.Timings.{is_simple, is_span};
 ghost use Rattle.qz_simple.specs.Simple.{IsCounted, IsSimple};
 
-use qz_civil::{LAST, cut, first_turn, natural};
+use qz_civil::{LAST, before_end, first_occurrence, to_unsigned};
 
 // Whether the trigger fires that many intervals after its start.
 fn is_counted(count: i64, place: u64) -> bool
@@ -25,8 +25,12 @@ pub fn next(start: i64, end: Option<i64>, interval: i64, count: i64, after: i64)
     requires high { after ≤ℤ LAST }
     ensures { IsNext LAST (IsSimple start end interval count) after result }
 {
-    match first_turn(natural(start), natural(interval), natural(after + 1)) {
-        Some(turn) if is_counted(count, turn.place) => cut(turn.moment, end),
+    match first_occurrence(
+        to_unsigned(start),
+        to_unsigned(interval),
+        to_unsigned(after + 1),
+    ) {
+        Some(turn) if is_counted(count, turn.place) => before_end(turn.moment, end),
         _ => None,
     }
 }

@@ -3,7 +3,6 @@ ghost use Rattle.std.specs.Prelude.{IsTrue, IfOk};
 ghost use Rattle.qz_types.specs.Rows.{is_node};
 ghost use Rattle.qz_types.specs.Steps.{is_step};
 
-use qz_civil::let_go;
 use qz_cluster::{Cluster, StepEnd};
 use qz_disk::{Disk, FaultDisk, MemDisk};
 use qz_journal::{TRIGGERS, create};
@@ -73,7 +72,7 @@ fn answered<D: Disk>(cluster: &mut Cluster<D>, step: Result<Step, AllocError>) -
     };
     let answer = cluster.step(step, 5);
     let came = reason(&answer);
-    let_go(answer);
+    drop(answer);
     came
 }
 
@@ -96,11 +95,11 @@ fn is_closed_by_a_fault<D: Disk>(alloc: Global, disk: D) -> bool {
         Ok(mut cluster) => {
             let begun = begins(alloc, &mut cluster) && !cluster.closed();
             let failed = fails(alloc, &mut cluster) && cluster.closed();
-            let_go(cluster.into_disk());
+            drop(cluster.into_disk());
             begun && failed
         }
         Err(error) => {
-            let_go(error);
+            drop(error);
             false
         }
     }

@@ -1,6 +1,6 @@
 //! Worked examples of crashes, the disks that fail by a rule, and one real file.
 use crate::rows::{Row, check};
-use qz_civil::{List, Text, beside, let_go};
+use qz_civil::{List, Text, beside};
 use qz_disk::{Call, CutDisk, Disk, FaultDisk, FileDisk, MemDisk};
 use std::alloc::{AllocError, Global};
 use std::{env, fs, process};
@@ -103,7 +103,7 @@ fn takes_two_of_four_images<D: Disk>(alloc: Global, disk: &mut D) -> bool {
 fn each_restart_takes_the_next_image(rt: HostRuntime) -> Result<(), AllocError> {
     let mut disk = disk_with_images(rt.alloc(), b"", &[b"no image", b"a", b"", b"b"])?;
     let is_right = takes_two_of_four_images(rt.alloc(), &mut disk) && disk.starved() == 0;
-    let_go(disk);
+    drop(disk);
     assert!(rt; is_right);
     Ok(())
 }
@@ -217,6 +217,6 @@ fn is_made(rt: HostRuntime, path: &str) -> Result<bool, AllocError> {
 fn a_file_is_made_at_the_first_write(rt: HostRuntime) {
     let path = file_name(rt);
     let is_made = matches!(&path, Some(path) if is_made(rt, path.as_str()) == Ok(true));
-    let_go(path);
+    drop(path);
     assert!(rt; is_made);
 }

@@ -1,6 +1,6 @@
 //! Worked examples: stores that are whole, damaged or of another kind, the room that is left, and a commit that is cut.
 use crate::rows::{Row, check};
-use qz_civil::{List, beside, let_go};
+use qz_civil::{List, beside};
 use qz_disk::{Call, CutDisk, Disk, FaultDisk, MemDisk};
 use qz_journal::{
     AppendError, CreateError, Journal, JournalFull, MountError, STATES, TRIGGERS, create, fits,
@@ -178,7 +178,7 @@ fn commit_makes_four_calls(alloc: Global) -> Option<bool> {
     let is_right = calls.len() == 7
         && are_those_of_an_opening(&calls[..3])
         && are_those_of_a_commit(&calls[3..]);
-    let_go(disk);
+    drop(disk);
     Some(is_right)
 }
 
@@ -226,7 +226,7 @@ fn is_cut_on<D: Disk>(alloc: Global, disk: D, cut: &Cut) -> bool {
         return false;
     };
     let is_right = commits(&mut journal, cut.2) && restarts_with(alloc, &mut journal, cut.3);
-    let_go(journal);
+    drop(journal);
     is_right
 }
 

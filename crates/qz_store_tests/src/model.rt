@@ -3,7 +3,6 @@ ghost use Rattle.std.specs.Prelude.{IsTrue};
 ghost use Rattle.qz_civil.specs.Timings.{is_name};
 
 use crate::entries::{T0, acquire, add_job, add_trigger, complete, fire, job, join, key};
-use qz_civil::let_go;
 use qz_model::{PlainStore, StepRefused};
 use qz_types::{Entry, JobRow, Reply, find, insert};
 use std::alloc::{AllocError, Global};
@@ -16,14 +15,14 @@ fn answer(store: &mut PlainStore, entry: Result<Entry, AllocError>) -> Option<Re
 fn adds_job(alloc: Global, store: &mut PlainStore, at: i64) -> bool {
     let answer = answer(store, add_job(alloc, at));
     let is_right = matches!(&answer, Some(Reply::Done));
-    let_go(answer);
+    drop(answer);
     is_right
 }
 
 fn adds_trigger(alloc: Global, store: &mut PlainStore, at: i64) -> bool {
     let answer = answer(store, add_trigger(alloc, at));
     let is_right = matches!(&answer, Some(Reply::Added { next: T0 }));
-    let_go(answer);
+    drop(answer);
     is_right
 }
 
@@ -37,7 +36,7 @@ fn joins(alloc: Global, store: &mut PlainStore, at: i64) -> bool {
             triggers: 0,
         },)
     );
-    let_go(answer);
+    drop(answer);
     is_right
 }
 
@@ -54,7 +53,7 @@ fn is_taken(answer: &Option<Reply>) -> bool {
 fn acquires(alloc: Global, store: &mut PlainStore, at: i64) -> bool {
     let answer = answer(store, acquire(alloc, at));
     let is_right = is_taken(&answer);
-    let_go(answer);
+    drop(answer);
     is_right
 }
 
@@ -77,14 +76,14 @@ fn is_fired(answer: &Option<Reply>) -> bool {
 fn fires(alloc: Global, store: &mut PlainStore, at: i64) -> bool {
     let answer = answer(store, fire(alloc, at, 1));
     let is_right = is_fired(&answer);
-    let_go(answer);
+    drop(answer);
     is_right
 }
 
 fn completes(alloc: Global, store: &mut PlainStore, at: i64) -> bool {
     let answer = answer(store, complete(alloc, at, 1));
     let is_right = matches!(&answer, Some(Reply::Completed { entry: 1 }));
-    let_go(answer);
+    drop(answer);
     is_right
 }
 
@@ -99,7 +98,7 @@ fn number_of(answer: &Result<Reply, StepRefused>) -> Option<u8> {
 fn refusal(store: &mut PlainStore, entry: Result<Entry, AllocError>) -> Option<u8> {
     let answer = store.step(entry.ok()?);
     let number = number_of(&answer);
-    let_go(answer);
+    drop(answer);
     number
 }
 
@@ -127,7 +126,7 @@ fn six_commands_leave_the_member_alone(rt: HostRuntime) {
         && fires(alloc, &mut store, T0)
         && completes(alloc, &mut store, T0)
         && is_left_with_a_member(&store);
-    let_go(store);
+    drop(store);
     assert!(rt; is_right);
 }
 
@@ -140,7 +139,7 @@ fn fires_no_earlier_than_planned(rt: HostRuntime) {
         && refusal(&mut store, fire(alloc, T0 - 1, 1)) == Some(19)
         && store.last_moment() == at
         && fires(alloc, &mut store, T0);
-    let_go(store);
+    drop(store);
     assert!(rt; is_right);
 }
 
@@ -154,7 +153,7 @@ fn refusals_have_their_numbers(rt: HostRuntime) {
         && refusal(&mut store, add_job(alloc, T0)) == Some(0)
         && joins(alloc, &mut store, T0)
         && refusal(&mut store, fire(alloc, T0, 1)) == Some(15);
-    let_go(store);
+    drop(store);
     assert!(rt; is_right);
 }
 
@@ -199,6 +198,6 @@ fn rows_stand_in_the_order_of_their_keys(rt: HostRuntime) {
         && are_in_order(&rows)
         && has(alloc, &rows, "b") == Some(true)
         && has(alloc, &rows, "d") == Some(false);
-    let_go(rows);
+    drop(rows);
     assert!(rt; is_right);
 }

@@ -1,6 +1,5 @@
 //! Worked examples: a store that goes on after it was opened again, stores that are damaged, and a disk that fails.
 use crate::entries::{T0, acquire, add_job, add_trigger, fire, join};
-use qz_civil::let_go;
 use qz_codec::put_command;
 use qz_disk::{Disk, FaultDisk, MemDisk};
 use qz_journal::{Journal, TRIGGERS, create};
@@ -38,7 +37,7 @@ fn reason(error: SubmitError) -> Came {
     match error {
         SubmitError::Closed { at } => Came::Closed(at),
         SubmitError::Refused(refusal) => {
-            let_go(refusal);
+            drop(refusal);
             Came::Refused
         }
         SubmitError::JournalFull { need: _, room: _ } => Came::Full,
@@ -53,7 +52,7 @@ fn submit<D: Disk>(store: &mut TriggerStore<D>, entry: Result<Entry, AllocError>
     };
     match store.submit(entry) {
         Ok(reply) => {
-            let_go(reply);
+            drop(reply);
             Came::Accepted
         }
         Err(error) => reason(error),
@@ -84,7 +83,7 @@ fn filled<D: Disk>(alloc: Global, disk: D) -> Option<D> {
             if is_right { Some(disk) } else { None }
         }
         Err(error) => {
-            let_go(error);
+            drop(error);
             None
         }
     }
@@ -98,11 +97,11 @@ fn goes_on<D: Disk>(alloc: Global, disk: D) -> bool {
             let taken = takes_two(alloc, &mut store);
             let is_right = store.history_len() == 5 && store.replies().len() == 2;
             let moments = store.moments().as_slice() == [T0, T0 + 1].as_slice();
-            let_go(store);
+            drop(store);
             found && taken && is_right && moments
         }
         Err(error) => {
-            let_go(error);
+            drop(error);
             false
         }
     }
@@ -157,7 +156,7 @@ fn damage_of(alloc: Global, payloads: [&[u8]; 2]) -> Option<MountError> {
 fn job_record(alloc: Global) -> Option<List<u8>> {
     let entry = add_job(alloc, T0).ok()?;
     let record = put_command(alloc, &entry).ok();
-    let_go(entry);
+    drop(entry);
     record
 }
 
@@ -193,7 +192,7 @@ fn failed<D: Disk>(alloc: Global, disk: D) -> Option<D> {
             if is_right { Some(disk) } else { None }
         }
         Err(error) => {
-            let_go(error);
+            drop(error);
             None
         }
     }
@@ -203,11 +202,11 @@ fn is_empty<D: Disk>(alloc: Global, disk: D) -> bool {
     match TriggerStore::mount(alloc, disk) {
         Ok(store) => {
             let length = store.history_len();
-            let_go(store);
+            drop(store);
             length == 0
         }
         Err(error) => {
-            let_go(error);
+            drop(error);
             false
         }
     }

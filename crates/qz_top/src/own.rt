@@ -11,7 +11,6 @@ use crate::Status;
 use crate::ended::{Ended, Trail};
 use crate::runs::Run;
 use crate::scripts::run_lines;
-use qz_civil::let_go;
 use qz_cluster::Cluster;
 use qz_disk::{Disk, MemDisk};
 use qz_io::{Clock, Sink, Source};
@@ -71,7 +70,7 @@ fn script_in_memory<S: Source, K: Sink, C: Clock>(
     };
     let status = run_lines(alloc, input, out, &mut run, clock);
     let trail = Snapshot::of(&run.trail);
-    let_go(run);
+    drop(run);
     OwnEnded { status, trail }
 }
 
@@ -83,7 +82,7 @@ fn new_run(alloc: Global) -> Option<Run<MemDisk>>
     match Run::begin(alloc, cluster, true) {
         Ok(run) => Some(run),
         Err(cluster) => {
-            let_go(cluster);
+            drop(cluster);
             None
         }
     }
@@ -94,12 +93,12 @@ fn new_stores(alloc: Global) -> Option<Cluster<MemDisk>>
     ensures { IfSome result (λ c. state_of c ≡ new_cluster (state_of c).triggers.faults) }
 {
     // A script has both stores, as `init` makes them; nothing works on the states yet.
-    let_go(new_store(alloc, STATES)?);
+    drop(new_store(alloc, STATES)?);
     let triggers = new_store(alloc, TRIGGERS)?;
     match Cluster::mount(alloc, triggers) {
         Ok(cluster) => Some(cluster),
         Err(refused) => {
-            let_go(refused);
+            drop(refused);
             None
         }
     }
@@ -113,7 +112,7 @@ fn new_store(alloc: Global, kind: u8) -> Option<MemDisk>
     match create(&mut disk, kind) {
         Ok(()) => Some(disk),
         Err(_) => {
-            let_go(disk);
+            drop(disk);
             None
         }
     }

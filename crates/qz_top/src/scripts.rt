@@ -10,7 +10,6 @@ ghost use Rattle.qz_top.specs.Statuses.{status_at, Finishes};
 use crate::runs::Run;
 use crate::turns::{LineEnd, do_line};
 use crate::{BadKind, Status};
-use qz_civil::let_go;
 use qz_disk::Disk;
 use qz_io::{Clock, LINE_COUNT_LIMIT, LineReader, Seen, Sink, Source};
 use std::alloc::Global;
@@ -33,7 +32,7 @@ pub(crate) fn run_lines<S: Source, K: Sink, D: Disk, C: Clock>(
     match LineReader::new(alloc) {
         Ok(mut reader) => {
             let status = run_read(alloc, &mut reader, run, input, out, clock);
-            let_go(reader);
+            drop(reader);
             status
         }
         Err(_) => Status::NoMemory,

@@ -15,7 +15,6 @@ ghost use Rattle.qz_top.specs.Turns.{IsOwn, taken_reading, line_end, StepDone, L
 use crate::BadKind;
 use crate::runs::Run;
 use crate::statuses::kind_of;
-use qz_civil::let_go;
 use qz_cluster::StepEnd;
 use qz_disk::Disk;
 use qz_io::{Clock, Sink, write_all};
@@ -128,7 +127,7 @@ fn line_of(alloc: Global, reply: StepReply) -> Result<Text, NoMemory>
     ensures { IfOk result (λ text. text ≡ reply_text reply) }
 {
     let line = reply_line(alloc, &reply);
-    let_go(reply);
+    drop(reply);
     line
 }
 
@@ -139,13 +138,13 @@ fn answer<D: Disk>(step: Step, at: i64, run: &mut Run<D>) -> Result<StepReply, L
     ensures err { IfErr result (λ e. NotDone e (record { step = step; at = at }) (run_of run.old) (run_of run.new)) }
 {
     if run.trail.reserve(1).is_err() {
-        let_go(step);
+        drop(step);
         return Err(LineEnd::NoMemory);
     }
     match run.cluster.step(step, at) {
         Ok(reply) => {
             if run.is_own && is_fault(&reply) {
-                let_go(reply);
+                drop(reply);
                 return Err(LineEnd::NoMemory);
             }
             run.trail.push_reserved(Snapshot::of(&run.cluster));

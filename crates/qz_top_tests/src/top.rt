@@ -1,5 +1,4 @@
 //! Worked examples through the top call, over objects in memory.
-use qz_civil::let_go;
 use qz_cron_text::CronError;
 use qz_disk::{Disk, FaultDisk, MemDisk};
 use qz_io::{FaultSink, FaultSource, ListClock, MemSink, MemSource, Sink, Source};
@@ -92,7 +91,7 @@ fn call<D: Disk>(alloc: Global, given: Given, triggers: D, states: D) -> Called<
         states,
         &mut given.clock,
     );
-    let_go(given);
+    drop(given);
     Called { ended, out, err }
 }
 
@@ -115,7 +114,7 @@ impl<D: Disk> Called<D> {
     fn disks(self, wanted: &Wanted) -> Option<(D, D)> {
         let is_right = self.is(wanted);
         let Called { ended, out, err } = self;
-        let_go((out, err));
+        drop((out, err));
         let Ended {
             status: _,
             triggers,
@@ -153,7 +152,7 @@ fn answers<D: Disk>(
 ) -> bool {
     let left = left(alloc, disks, words, script, wanted);
     let is_right = left.is_some();
-    let_go(left);
+    drop(left);
     is_right
 }
 
@@ -268,7 +267,7 @@ fn ends<S: Source, K: Sink>(
         &mut clock,
     );
     let is_right = ended.status == status && err.bytes() == error.as_bytes();
-    let_go((ended, err));
+    drop((ended, err));
     Ok(is_right)
 }
 
@@ -285,7 +284,7 @@ fn keeps_what_was_answered(alloc: Global) -> Result<bool, AllocError> {
         Status::ReadFault,
     );
     let is_kept = out.bytes() == SIX_REPLIES.as_bytes();
-    let_go((input, out));
+    drop((input, out));
     Ok(is_right? && is_kept)
 }
 
@@ -302,7 +301,7 @@ fn holds_the_replies_before(alloc: Global) -> Result<bool, AllocError> {
         Status::WriteFault,
     );
     let is_kept = out.bytes() == b"ok\n".as_slice();
-    let_go((input, out));
+    drop((input, out));
     Ok(is_right? && is_kept)
 }
 

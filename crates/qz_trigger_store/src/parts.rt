@@ -4,7 +4,7 @@ ghost use Rattle.qz_model.specs.Tables.{empty};
 ghost use Rattle.qz_model.specs.History.{replay_from, replies_from, moments_from};
 
 use crate::TriggerStore;
-use qz_civil::{List, let_go};
+use qz_civil::List;
 use qz_disk::Disk;
 use qz_types::{Entry, Reply};
 
@@ -59,7 +59,7 @@ impl<D: Disk> TriggerStore<D> {
             is_open: _,
             undecided,
         } = self;
-        let_go(undecided);
+        drop(undecided);
         journal.into_disk()
     }
 }

@@ -11,7 +11,7 @@ ghost use Rattle.qz_trigger_store.specs.Bytes.{IsRecord, records};
 ghost use Rattle.qz_trigger_store.specs.Facts.{IsLegalFrom-prop};
 ghost use Rattle.qz_trigger_store.specs.Opening.{IsUnfit, IsStopped};
 
-use qz_civil::{List, let_go};
+use qz_civil::List;
 use qz_codec::{ReadError, get_command};
 use qz_journal::MountError;
 use qz_model::{PlainStore, StepRefused, Worked};
@@ -55,17 +55,17 @@ fn take(alloc: Global, tables: &mut PlainStore, payload: &[u8]) -> Result<Entry,
                 tables: next,
                 reply,
             } = worked;
-            let_go(reply);
+            drop(reply);
             *tables = next;
             Ok(entry)
         }
         Err(StepRefused::Refused(refusal)) => {
-            let_go(refusal);
-            let_go(entry);
+            drop(refusal);
+            drop(entry);
             Err(TakeError::Unfit)
         }
         Err(StepRefused::NoMemory) => {
-            let_go(entry);
+            drop(entry);
             Err(TakeError::NoMemory)
         }
     }

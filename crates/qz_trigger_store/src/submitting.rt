@@ -13,7 +13,7 @@ ghost use Rattle.qz_trigger_store.specs.Seen.{seen, IsAsBefore, LeavesEither};
 ghost use Rattle.qz_trigger_store.specs.Steps.{Submits, IsPrepareCause};
 
 use crate::{SubmitError, TriggerStore};
-use qz_civil::{List, let_go};
+use qz_civil::List;
 use qz_codec::put_command;
 use qz_disk::Disk;
 use qz_journal::{JournalFull, fits};
@@ -70,7 +70,7 @@ fn doubled(written: List<u8>, worked: Worked) -> Result<Prepared, NoMemory>
             })
         }
         Err(error) => {
-            let_go(worked);
+            drop(worked);
             Err(error)
         }
     }
@@ -105,14 +105,14 @@ impl<D: Disk> TriggerStore<D> {
         ensures any_moment { D.honest → LeavesEither self.old self.new }
     {
         if !self.is_open {
-            let_go(entry);
+            drop(entry);
             let at = self.journal.gate();
             return Err(SubmitError::Closed { at });
         }
         let prepared = match prepare(self.alloc, &self.tables, &entry) {
             Ok(prepared) => prepared,
             Err(error) => {
-                let_go(entry);
+                drop(entry);
                 return Err(error);
             }
         };
@@ -120,8 +120,8 @@ impl<D: Disk> TriggerStore<D> {
         match fits(self.journal.gate(), self.journal.count(), length) {
             Ok(()) => self.commit(entry, prepared),
             Err(JournalFull { need, room }) => {
-                let_go(entry);
-                let_go(prepared);
+                drop(entry);
+                drop(prepared);
                 Err(SubmitError::JournalFull { need, room })
             }
         }
@@ -147,8 +147,8 @@ impl<D: Disk> TriggerStore<D> {
         let room = match self.accepted.with_room(self.alloc) {
             Ok(room) => room,
             Err(NoMemory) => {
-                let_go(entry);
-                let_go(p);
+                drop(entry);
+                drop(p);
                 return Err(SubmitError::NoMemory);
             }
         };
@@ -167,7 +167,7 @@ impl<D: Disk> TriggerStore<D> {
             }
             // A fault: the journal is open, and the record fits.
             Err(_) => {
-                let_go(p);
+                drop(p);
                 self.accepted = room.into_accepted();
                 Err(close(&mut self.is_open, &mut self.undecided, entry))
             }
@@ -182,6 +182,6 @@ fn close(is_open: &mut bool, undecided: &mut Option<Entry>, entry: Entry) -> Sub
     ensures fault { result ≡ SubmitError.Fault }
 {
     *is_open = false;
-    let_go(mem::replace(undecided, Some(entry)));
+    drop(mem::replace(undecided, Some(entry)));
     SubmitError::Fault
 }

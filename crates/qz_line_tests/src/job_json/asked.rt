@@ -1,5 +1,5 @@
 //! Lines of `times` with what they say: the timing or the zone as a text, or the fault.
-use qz_civil::{Zone, let_go};
+use qz_civil::Zone;
 use qz_cron_text::CronError;
 use qz_job_json::{Asked, LineFault, read_asked};
 use std::alloc::{AllocError, Global};
@@ -25,7 +25,7 @@ type Around = (&'static str, &'static str);
 fn line_says(alloc: Global, line: &str, want: &str) -> Result<bool, AllocError> {
     let read = read_asked(alloc, line.as_bytes());
     let text = text_of(alloc, &read);
-    let_go(read);
+    drop(read);
     Ok(text?.as_str() == want)
 }
 

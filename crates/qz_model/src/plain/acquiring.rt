@@ -9,7 +9,7 @@ ghost use Rattle.qz_model.specs.Causes.{IsCause};
 
 use super::{PlainStore, StepRefused};
 use crate::rows::{acquire_trigger, job_of, put_fired};
-use qz_civil::{beside, let_go};
+use qz_civil::beside;
 use qz_types::{
     FIRED_LIMIT, FiredRow, FiredState, JobRow, List, MemberRow, NUMBER_LIMIT, Refusal, Reply,
     Taken, TriggerRow,
@@ -74,7 +74,7 @@ impl PlainStore {
         };
         let trigger = trigger.copy()?;
         let reply = self.acquire_one(moment, me, &trigger);
-        let_go(trigger);
+        drop(trigger);
         reply
     }
 

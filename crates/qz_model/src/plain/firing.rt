@@ -13,7 +13,7 @@ use crate::rows::{
     execute_fired, fired_of, job_of, remove_fired, remove_job, remove_trigger, same_key, same_text,
     spend_trigger, trigger_of,
 };
-use qz_civil::{beside, let_go};
+use qz_civil::beside;
 use qz_types::{
     Code, FiredRow, FiredState, JobRow, Key, MemberRow, Refusal, Reply, TriggerRow, TriggerState,
 };
@@ -38,7 +38,7 @@ impl PlainStore {
         };
         let row = row.copy()?;
         let reply = self.fire_row(moment, me, &row);
-        let_go(row);
+        drop(row);
         reply
     }
 
@@ -104,7 +104,7 @@ impl PlainStore {
         }
         let (entry, row) = (row.entry, row.copy()?);
         let ended = self.end_execution(moment, &row);
-        let_go(row);
+        drop(row);
         ended?;
         Ok(Reply::Completed { entry })
     }
@@ -125,7 +125,7 @@ impl PlainStore {
         }
         let trigger = trigger.copy()?;
         let removed = self.remove_finished(&trigger);
-        let_go(trigger);
+        drop(trigger);
         removed
     }
 

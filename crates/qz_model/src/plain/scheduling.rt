@@ -8,7 +8,6 @@ ghost use Rattle.qz_model.specs.Causes.{IsCause};
 
 use super::{PlainStore, StepRefused};
 use crate::rows::{job_of, put_job, put_trigger, same_text, trigger_of};
-use qz_civil::let_go;
 use qz_types::{
     JOB_LIMIT, JobRow, Kind, Refusal, Reply, TRIGGER_LIMIT, Text, TriggerRow, TriggerSpec,
     TriggerState,
@@ -26,7 +25,7 @@ impl PlainStore {
         ensures refused { IfErr result (IsCause (add_job self.old moment job replace)) }
     {
         if let Some(refusal) = self.add_job_refusal(&job, replace) {
-            let_go(job);
+            drop(job);
             return Err(StepRefused::Refused(refusal));
         }
         put_job(&mut self.jobs, job)?;
@@ -61,7 +60,7 @@ impl PlainStore {
         ensures refused { IfErr result (IsCause (add_trigger self.old moment spec replace)) }
     {
         if let Some(refusal) = self.add_trigger_refusal(&spec, replace) {
-            let_go(spec);
+            drop(spec);
             return Err(StepRefused::Refused(refusal));
         }
         let next = start_of(&spec);

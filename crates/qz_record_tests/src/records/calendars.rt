@@ -1,6 +1,5 @@
 //! Records of calendars and zones.
 use super::{Of, Spoiled};
-use qz_civil::let_go;
 use qz_codec::get_row;
 use qz_types::{CalendarKind, CalendarRow, ZoneRow};
 use std::alloc::Global;
@@ -122,21 +121,21 @@ fn is_zone(row: &ZoneRow) -> bool {
 fn reads_daily(alloc: Global) -> Option<bool> {
     let row: CalendarRow = get_row(alloc, DAILY).ok()?;
     let is_right = is_daily(&row);
-    let_go(row);
+    drop(row);
     Some(is_right)
 }
 
 fn reads_annual(alloc: Global) -> Option<bool> {
     let row: CalendarRow = get_row(alloc, ANNUAL).ok()?;
     let is_right = is_annual(&row);
-    let_go(row);
+    drop(row);
     Some(is_right)
 }
 
 fn reads_zone(alloc: Global) -> Option<bool> {
     let row: ZoneRow = get_row(alloc, ZONE).ok()?;
     let is_right = is_zone(&row);
-    let_go(row);
+    drop(row);
     Some(is_right)
 }
 

@@ -1,6 +1,5 @@
 //! Records of each command.
 use super::{Of, is_again, place_in};
-use qz_civil::let_go;
 use qz_codec::{ReadError, get_command};
 use qz_types::Entry;
 use std::alloc::{AllocError, Global};
@@ -129,7 +128,7 @@ fn text_of(alloc: Global, read: &Result<Entry, ReadError>) -> Result<String, All
 fn prints(alloc: Global, record: &[u8], printed: &str) -> bool {
     let read = get_command(alloc, record);
     let text = text_of(alloc, &read);
-    let_go(read);
+    drop(read);
     matches!(text, Ok(text) if text.as_str() == printed)
 }
 

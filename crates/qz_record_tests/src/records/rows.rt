@@ -1,6 +1,5 @@
 //! Records of rows.
 use super::{Of, Spoiled, place_in};
-use qz_civil::let_go;
 use qz_codec::{get_row, put_row};
 use qz_types::{FiredRow, FiredState, StateRow, Text, TriggerRow, TriggerState};
 use std::alloc::Global;
@@ -122,21 +121,21 @@ fn is_state_row(row: &StateRow) -> bool {
 fn reads_trigger(alloc: Global) -> Option<bool> {
     let row = get_row(alloc, TRIGGER).ok()?;
     let is_right = is_trigger(&row);
-    let_go(row);
+    drop(row);
     Some(is_right)
 }
 
 fn reads_fired(alloc: Global) -> Option<bool> {
     let row = get_row(alloc, FIRED).ok()?;
     let is_right = is_fired_row(&row);
-    let_go(row);
+    drop(row);
     Some(is_right)
 }
 
 fn reads_state(alloc: Global) -> Option<bool> {
     let row = get_row(alloc, STATE).ok()?;
     let is_right = is_state_row(&row);
-    let_go(row);
+    drop(row);
     Some(is_right)
 }
 
@@ -166,7 +165,7 @@ fn state_at_place(alloc: Global, place: u8) -> Option<TriggerState> {
     bytes.push(place).ok()?;
     let row: TriggerRow = get_row(alloc, &bytes).ok()?;
     let state = row.state;
-    let_go(row);
+    drop(row);
     Some(state)
 }
 

@@ -1,6 +1,5 @@
 //! Records of state entries.
 use super::{Of, Spoiled};
-use qz_civil::let_go;
 use qz_codec::get_state;
 use qz_types::{StateCommand, StateEntry};
 use std::alloc::Global;
@@ -57,14 +56,14 @@ fn is_forget(entry: &StateEntry) -> bool {
 fn reads_check_in(alloc: Global) -> Option<bool> {
     let entry = get_state(alloc, CHECK_IN).ok()?;
     let is_right = is_check_in(&entry);
-    let_go(entry);
+    drop(entry);
     Some(is_right)
 }
 
 fn reads_forget(alloc: Global) -> Option<bool> {
     let entry = get_state(alloc, FORGET).ok()?;
     let is_right = is_forget(&entry);
-    let_go(entry);
+    drop(entry);
     Some(is_right)
 }
 

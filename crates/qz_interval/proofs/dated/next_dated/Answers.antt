@@ -11,8 +11,8 @@ returns-in-Some c =
     let ms = to_z-of_z w64 c.in-Some.ms f in
     let clock = rw start at c.clock_of.ensures.value in
     let same = rw clock at c.from_clock.ensures in
-    let natural : pos c.natural-in-Some.result ≡ c.in-Some.ms = c.natural-in-Some.ensures.value ∙ ms in
-    turn_next c.args.zone.now _ _ c.args.start c.args.end c.args.after c.in-Some.ms c.natural-in-Some.result c.cut-in-Some.result same (omega (arith, ints)) natural (rw after at c.in-Some.ensures) c.cut-in-Some.ensures.kept c.cut-in-Some.ensures.gone
+    let natural : pos c.to_unsigned-in-Some.result ≡ c.in-Some.ms = c.to_unsigned-in-Some.ensures.value ∙ ms in
+    turn_next c.args.zone.now _ _ c.args.start c.args.end c.args.after c.in-Some.ms c.to_unsigned-in-Some.result c.before_end-in-Some.result same (omega (arith, ints)) natural (rw after at c.in-Some.ensures) c.before_end-in-Some.ensures.kept c.before_end-in-Some.ensures.gone
 
 pub returns-in-None : goal.returns-in-None
 returns-in-None c =

@@ -1,31 +1,31 @@
 //! What the schedules of triggers share: even steps, and the end.
 ghost use Rattle.std.specs.Prelude.{◌≡◌, ℕ, ◌+◌, ◌*◌, ◌<◌, ◌≤◌, ◌^◌, ◌⊎◌, ℤ, pos, ◌≤ℤ◌, IfSome, IfNone};
-ghost use Rattle.qz_civil.specs.Turns.{IsBefore, IsPast, IsTurn};
+ghost use Rattle.qz_civil.specs.Occurrences.{IsBefore, IsOccurrence, IsPast};
 
 use crate::limits::LAST;
 
-/// A turn of an even stepping, and where it is.
+/// An occurrence of an even stepping, and where it is.
 #[derive(Clone, Copy, Debug)]
-pub struct Turn {
-    /// How many steps behind the start.
+pub struct Occurrence {
+    /// How many steps after the start.
     pub place: u64,
     pub moment: u64,
 }
 
-/// The first turn of `start`, `start + step`, `start + 2 * step` and so on that isn't below `from`. None where there is
+/// The first of `start`, `start + step`, `start + 2 * step` and so on that isn't below `from`. None where there is
 /// none, which only a step of 0 leaves possible. No memory.
-#[tactic(auto, using(crate::proofs::TurnLemmas::turns))]
-pub fn first_turn(start: u64, step: u64, from: u64) -> Option<Turn>
+#[tactic(auto, using(crate::proofs::OccurrenceLemmas::occurrences))]
+pub fn first_occurrence(start: u64, step: u64, from: u64) -> Option<Occurrence>
     requires start { start ≤ 2 ^ 62 }
     requires step { step ≤ 2 ^ 62 }
     requires from { from ≤ 2 ^ 62 }
-    ensures first { IfSome result (λ turn. IsTurn start step from turn.place) }
-    ensures moment { IfSome result (λ turn. turn.moment ≡ start + turn.place * step) }
-    ensures bound { IfSome result (λ turn. (turn.moment ≡ start) ⊎ (turn.moment < from + step)) }
+    ensures first { IfSome result (λ o. IsOccurrence start step from o.place) }
+    ensures moment { IfSome result (λ o. o.moment ≡ start + o.place * step) }
+    ensures bound { IfSome result (λ o. (o.moment ≡ start) ⊎ (o.moment < from + step)) }
     ensures none { IfNone result ((j : ℕ) → from ≤ start + j * step → ⊥) }
 {
     if from <= start {
-        return Some(Turn {
+        return Some(Occurrence {
             place: 0,
             moment: start,
         });
@@ -34,14 +34,14 @@ pub fn first_turn(start: u64, step: u64, from: u64) -> Option<Turn>
         return None;
     }
     let place = (from - start - 1) / step + 1;
-    Some(Turn {
+    Some(Occurrence {
         place,
         moment: start + place * step,
     })
 }
 
 /// The moment as a timestamp, where it is one and comes before the end. No memory.
-pub fn cut(moment: u64, end: Option<i64>) -> Option<i64>
+pub fn before_end(moment: u64, end: Option<i64>) -> Option<i64>
     ensures kept { IfSome result (λ t. (t ≡ pos moment) × (t ≤ℤ LAST) × IsBefore end t) }
     ensures gone { IfNone result (IsPast end moment) }
 {
@@ -55,7 +55,7 @@ pub fn cut(moment: u64, end: Option<i64>) -> Option<i64>
 }
 
 /// The same number, where it isn't negative. No memory.
-pub fn natural(value: i64) -> u64
+pub fn to_unsigned(value: i64) -> u64
     requires { pos 0 ≤ℤ value }
     ensures value { pos result ≡ value }
     ensures bound { result < 2 ^ 63 }

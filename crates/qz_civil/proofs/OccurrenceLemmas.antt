@@ -1,8 +1,8 @@
--- The first turn of an even stepping is found by division.
+-- The first occurrence of an even stepping is found by division.
 use Rattle.std.proofs.Common.{◌≡◌, ℕ, ◌+◌, ◌-◌, ◌*◌, ◌/◌, ◌<◌, ◌≤◌, inl, inr, refl, arith}
 use Rattle.std.proofs.lemmas.Bool.{cases_lt}
 use Rattle.std.proofs.lemmas.Nat.{mul-le, div-add-mod'}
-use Rattle.qz_civil.specs.Turns.{IsTurn}
+use Rattle.qz_civil.specs.Occurrences.{IsOccurrence}
 
 -- below the quotient and one, a multiple doesn't pass what was divided
 below : (step d q j : ℕ) → q * step ≤ d → d < j * step → j < q + 1 → ⊥
@@ -16,8 +16,8 @@ above step d h =
 under : (step d : ℕ) → d / step * step ≤ d
 under step d = omega (arith, div-add-mod' d step)
 
-pub turn_at : (start step from d q : ℕ) → start + d + 1 ≡ from → 0 < step → q ≡ d / step → IsTurn start step from (q + 1)
-turn_at start step from d q total pos same =
+pub occurrence_at : (start step from d q : ℕ) → start + d + 1 ≡ from → 0 < step → q ≡ d / step → IsOccurrence start step from (q + 1)
+occurrence_at start step from d q total pos same =
     let a : d < (q + 1) * step = rw same (above step d pos) in
     let u : q * step ≤ d = rw same (under step d) in
     record {
@@ -28,13 +28,13 @@ turn_at start step from d q total pos same =
       ];
     }
 
-pub turn_at-place : (start step from : ℕ) → start < from → 0 < step → IsTurn start step from ((from - start - 1) / step + 1)
-turn_at-place start step from below pos = turn_at start step from (from - start - 1) ((from - start - 1) / step) (omega arith) pos refl
+pub occurrence_at-place : (start step from : ℕ) → start < from → 0 < step → IsOccurrence start step from ((from - start - 1) / step + 1)
+occurrence_at-place start step from below pos = occurrence_at start step from (from - start - 1) ((from - start - 1) / step) (omega arith) pos refl
 
--- where the first turn is
-pub turn_at-bound : (start step from : ℕ) → start < from → 0 < step → start + ((from - start - 1) / step + 1) * step < from + step
-turn_at-bound start step from lt pos =
+-- where the first occurrence is
+pub occurrence_at-bound : (start step from : ℕ) → start < from → 0 < step → start + ((from - start - 1) / step + 1) * step < from + step
+occurrence_at-bound start step from lt pos =
     let e : ((from - start - 1) / step + 1) * step ≡ (from - start - 1) / step * step + step = grind arith in
     omega (arith, e, under step (from - start - 1))
 
-pub ruleset turns = (turn_at-place, turn_at-bound)
+pub ruleset occurrences = (occurrence_at-place, occurrence_at-bound)
