@@ -5,6 +5,7 @@ pub mod Earliest
 pub mod Fields
 pub mod Instants
 pub mod Least
+pub mod Lists
 pub mod Months
 pub mod Timings
 pub mod Occurrences

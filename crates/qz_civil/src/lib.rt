@@ -12,6 +12,7 @@ mod fields;
 mod kept;
 mod limits;
 mod lists;
+mod lists_with_room;
 mod occurrences;
 mod spans;
 mod stretches;
@@ -31,6 +32,7 @@ pub use limits::{
     LONGEST, NAME_LIMIT, OFFSET_LIMIT, STRETCH_LENGTH, STRETCH_LIMIT,
 };
 pub use lists::List;
+pub use lists_with_room::ListWithRoom;
 pub use occurrences::{Occurrence, before_end, first_occurrence, to_unsigned};
 pub use spans::{SECONDS, Span, second_from};
 pub use stretches::{BadZone, Stretch, is_offset, may_begin};

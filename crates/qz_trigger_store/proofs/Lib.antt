@@ -1,5 +1,5 @@
 pub mod Appending
-pub mod Damage
 pub mod Kept
 pub mod Moments
 pub mod Once
+pub mod Replays

@@ -1,4 +1,4 @@
-use Rattle.qz_trigger_store.proofs.Damage.{by_cause, refused_unfit}
+use Rattle.qz_trigger_store.proofs.Replays.{by_cause, refused_unfit}
 use Rattle.qz_trigger_store.proofs.replaying.take.Goals as goal
 
 pub returns-in-Err-Refused-clause-unfit : goal.returns-in-Err-Refused-clause-unfit

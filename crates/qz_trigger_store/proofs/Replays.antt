@@ -1,11 +1,12 @@
 -- Payloads that are taken one by one, and the first that is unfit.
-use Rattle.std.proofs.Common.{◌≡◌, inl, inr, ℕ, ◌+◌, ◌≤◌, ◌-◌, List, [], ◌∷◌, ◌++◌, length, get_or, take, drop, refl, sym, ◌∙◌, ap, subst, arith, append_assoc, length-append, take-append-drop}
+use Rattle.std.proofs.Common.{◌≡◌, inl, inr, ℕ, ◌+◌, ◌<◌, ◌≤◌, ◌-◌, List, [], ◌∷◌, ◌++◌, length, get_or, take, drop, suc, refl, sym, ◌∙◌, ap, subst, arith, append_assoc, length-append, take-append-drop, add-one}
+use Rattle.std.proofs.Math.Seq.{split_at}
 use Rattle.std.specs.Prelude.{Result, Ok, All}
 use Rattle.std.specs.List.{AllByRecursion}
-use Rattle.std.proofs.lemmas.List.{get_or_append_left, get_or-append_right}
+use Rattle.std.proofs.lemmas.List.{take_more, get_or_append_left, get_or-append_right}
 use Rattle.qz_types.specs.Entries.{EntryData}
 use Rattle.qz_types.specs.declared.replies.Refusal.{Refusal}
-use Rattle.qz_model.specs.Tables.{SchedulerTables}
+use Rattle.qz_model.specs.Tables.{SchedulerTables, empty}
 use Rattle.qz_model.specs.Outcomes.{Outcome, refused}
 use Rattle.qz_model.specs.Causes.{IsCause}
 use Rattle.qz_model.specs.declared.plain.StepRefused.{StepRefused}
@@ -21,9 +22,8 @@ use Rattle.qz_journal.specs.declared.layout.TheConstants.{TRIGGERS}
 use Rattle.qz_journal.proofs.Stands.{end_of-push}
 use Rattle.qz_codec.specs.Layout.{record_of}
 use Rattle.qz_codec.specs.Values.{IsEntry}
-use Rattle.qz_trigger_store.specs.Bytes.{records}
-use Rattle.qz_trigger_store.specs.Facts.{records-push}
-use Rattle.qz_trigger_store.specs.Opening.{HaveUnfit, AreReplayed, IsDamaged, IsRefused, IsStopped, IsFirstBad}
+use Rattle.qz_trigger_store.specs.Bytes.{Encodes, Encode, IsRecord}
+use Rattle.qz_trigger_store.specs.Opening.{IsUnfit, AreReplayed, AreHistory, HaveUnfit, IsDamaged, IsRefused, IsStopped, IsFirstBad}
 
 -- the entry that a payload is the record of, and it alone, was refused
 pub refused_unfit : (T : SchedulerTables) (e f : EntryData) (x : Refusal) → ◌≡◌ {A = Result EntryData ℕ} (Ok e) (Ok f) → transaction T f ≡ refused x → IsAccepted (transaction T e) → ⊥
@@ -33,60 +33,86 @@ refused_unfit T e f x same way = let one : e ≡ f = cc in λ is. subst IsAccept
 pub by_cause : (o : Outcome) (cause : StepRefused) (x : Refusal) → cause ≡ Refused x → IsCause o cause → o ≡ refused x
 by_cause o cause x is why = subst (IsCause o) is why
 
-pub blocks-append : (ps qs : List (List ℕ)) → blocks (ps ++ qs) ≡ blocks ps ++ blocks qs
+blocks-append : (ps qs : List (List ℕ)) → blocks (ps ++ qs) ≡ blocks ps ++ blocks qs
 blocks-append [] qs = refl
 blocks-append (p ∷ ps) qs = ap (λ (l : List ℕ). 165 ∷ l) (ap (λ (l : List ℕ). body_of p ++ l) (blocks-append ps qs) ∙ sym (append_assoc (body_of p) (blocks ps) (blocks qs)))
 
--- what stands behind the records of some entries, one entry later
-pub taken_whole : (payloads : List (List ℕ)) (es fs : List EntryData) (e : EntryData) (p : List ℕ) (rest behind : List (List ℕ)) → fs ≡ es ++ e ∷ [] → p ≡ record_of e → rest ≡ p ∷ behind
-    → payloads ≡ records es ++ rest → payloads ≡ records fs ++ behind
-taken_whole payloads es fs e p rest behind fs_is p_is rest_is whole =
-    whole
-    ∙ ap (λ (l : List (List ℕ)). records es ++ l) (rest_is ∙ ap (λ (x : List ℕ). x ∷ behind) p_is)
-    ∙ sym (append_assoc (records es) (record_of e ∷ []) behind)
-    ∙ ap (λ (l : List (List ℕ)). l ++ behind) (sym (records-push es e) ∙ ap records (sym fs_is))
-
-pub taken_gate : (gate : ℕ) (es fs : List EntryData) (e : EntryData) (p : List ℕ) → fs ≡ es ++ e ∷ [] → p ≡ record_of e → gate ≡ end_of (records es) → gate + (5 + length p) ≡ end_of (records fs)
-taken_gate gate es fs e p fs_is p_is gate_is =
-    omega (arith, gate_is, ap (λ (l : List ℕ). length l) p_is, end_of-push (records es) (record_of e), ap end_of (records-push es e), ap (λ (l : List EntryData). end_of (records l)) fs_is)
-
 -- no place passes the last one
-pub within : (payloads ps : List (List ℕ)) (p : List ℕ) (behind : List (List ℕ)) → payloads ≡ ps ++ p ∷ behind → end_of ps + (5 + length p) ≤ end_of payloads
-within payloads ps p behind whole =
+within : (payloads ps : List (List ℕ)) (p : List ℕ) (rest : List (List ℕ)) → payloads ≡ ps ++ p ∷ rest → end_of ps + (5 + length p) ≤ end_of payloads
+within payloads ps p rest whole =
     omega (
       arith,
       ap end_of whole,
-      ap (λ (l : List (List ℕ)). end_of l) (sym (append_assoc ps (p ∷ []) behind)),
-      ap length (blocks-append (ps ++ p ∷ []) behind),
-      length-append (blocks (ps ++ p ∷ [])) (blocks behind),
+      ap (λ (l : List (List ℕ)). end_of l) (sym (append_assoc ps (p ∷ []) rest)),
+      ap length (blocks-append (ps ++ p ∷ []) rest),
+      length-append (blocks (ps ++ p ∷ [])) (blocks rest),
       end_of-push ps p,
     )
+
+-- payloads, cut at the one that is at this place
+cut_at : (ps : List (List ℕ)) (i : ℕ) (p : List ℕ) → i < length ps → p ≡ get_or ps i p → ps ≡ take i ps ++ p ∷ drop (suc i) ps
+cut_at ps i p below is = split_at ps i p below ∙ ap (λ (x : List ℕ). take i ps ++ x ∷ drop (suc i) ps) (sym is)
+
+pub gate_fits : (ps : List (List ℕ)) (i : ℕ) (p : List ℕ) (gate : ℕ) → i < length ps → p ≡ get_or ps i p → gate ≡ end_of (take i ps) → gate + (5 + length p) ≤ end_of ps
+gate_fits ps i p gate below is gate_is = omega (arith, within ps (take i ps) p (drop (suc i) ps) (cut_at ps i p below is), gate_is)
 
 pub All-pushed : {A : Type 0} (P : A → Type 0) (xs : List A) (x : A) → AllByRecursion P xs → P x → AllByRecursion P (xs ++ x ∷ [])
 All-pushed P [] x all is = (is, tt)
 All-pushed P (y ∷ xs) x all is = (all.0, All-pushed P xs x all.1 is)
 
-pub taken_all : (es fs : List EntryData) (e : EntryData) → fs ≡ es ++ e ∷ [] → AllByRecursion IsEntry es → IsEntry e → AllByRecursion IsEntry fs
-taken_all es fs e fs_is all is = subst (AllByRecursion IsEntry) (sym fs_is) (All-pushed IsEntry es e all is)
+pub Encode-pushed : (ps : List (List ℕ)) (es : List EntryData) (p : List ℕ) (e : EntryData) → Encode ps es → Encodes p e → Encode (ps ++ p ∷ []) (es ++ e ∷ [])
+Encode-pushed [] [] p e all is = (is, tt)
+Encode-pushed [] (f ∷ es) p e all is = absurd all
+Encode-pushed (q ∷ ps) [] p e all is = absurd all
+Encode-pushed (q ∷ ps) (f ∷ es) p e all is = (all.0, Encode-pushed ps es p e all.1 is)
 
-pub taken_legal : (T U : SchedulerTables) (es fs : List EntryData) (e : EntryData) → fs ≡ es ++ e ∷ [] → U ≡ replay_from T es → IsLegalFrom T es → IsAccepted (transaction U e) → IsLegalFrom T fs
-taken_legal T U es fs e fs_is same legal is = subst (IsLegalFrom T) (sym fs_is) (IsLegalFrom-entry T es e legal (subst (λ (V : SchedulerTables). IsAccepted (transaction V e)) same is))
+-- one payload more was taken
+pub taken_more : (payloads : List (List ℕ)) (i : ℕ) (p : List ℕ) (T : SchedulerTables) (es fs : List EntryData) (e : EntryData)
+    → i < length payloads → p ≡ get_or payloads i p → fs ≡ es ++ e ∷ [] → T ≡ replay_from (empty 1) es → IsRecord p e → IsAccepted (transaction T e)
+    → AreReplayed (take i payloads) es → AreReplayed (take (i + 1) payloads) fs
+taken_more payloads i p T es fs e below at_is fs_is tables is passes so_far =
+    let taken = take_more payloads i p below ∙ ap (λ (x : List ℕ). take i payloads ++ x ∷ []) (sym at_is) in
+    rw (taken, fs_is) (record {
+      encode = Encode-pushed (take i payloads) es p e so_far.encode is.bytes_are;
+      valid = All-pushed IsEntry es e so_far.valid is.valid;
+      legal = IsLegalFrom-entry (empty 1) es e so_far.legal (subst (λ (U : SchedulerTables). IsAccepted (transaction U e)) tables passes);
+    })
 
 pub taken_tables : (T U V : SchedulerTables) (es fs : List EntryData) (e : EntryData) → fs ≡ es ++ e ∷ [] → U ≡ replay_from T es → V ≡ tables_left U (transaction U e) → V ≡ replay_from T fs
 taken_tables T U V es fs e fs_is same next =
     next ∙ ap (λ (W : SchedulerTables). tables_left W (transaction W e)) same ∙ sym (replay_from-append T es (e ∷ [])) ∙ ap (replay_from T) (sym fs_is)
 
--- a gate that is bad behind a history is the first bad place
-pub bad_gate : (bytes : List ℕ) (at : ℕ) (payloads : List (List ℕ)) → IsDamagedBehind bytes TRIGGERS payloads at → AreReplayed payloads → IsDamaged bytes at
+pub taken_gate : (payloads : List (List ℕ)) (i : ℕ) (p : List ℕ) (gate n : ℕ) → i < length payloads → p ≡ get_or payloads i p → n ≡ length p → gate ≡ end_of (take i payloads) → gate + (5 + n) ≡ end_of (take (i + 1) payloads)
+taken_gate payloads i p gate n below at_is n_is gate_is =
+    let taken = take_more payloads i p below ∙ ap (λ (x : List ℕ). take i payloads ++ x ∷ []) (sym at_is) in
+    omega (arith, gate_is, n_is, ap end_of taken, end_of-push (take i payloads) p)
+
+-- the payload at this place is the first that is unfit
+pub stops_at : (payloads : List (List ℕ)) (i : ℕ) (p : List ℕ) (gate : ℕ) (T : SchedulerTables) (es : List EntryData)
+    → i < length payloads → p ≡ get_or payloads i p → gate ≡ end_of (take i payloads) → T ≡ replay_from (empty 1) es → AreReplayed (take i payloads) es → IsUnfit T p
+    → HaveUnfit payloads gate
+stops_at payloads i p gate T es below at_is gate_is tables so_far unfit = record {
+  taken = take i payloads;
+  entries = es;
+  replayed = so_far;
+  payload = p;
+  more = drop (suc i) payloads;
+  whole = cut_at payloads i p below at_is;
+  at_is = gate_is;
+  unfit = subst (λ (U : SchedulerTables). IsUnfit U p) tables unfit;
+}
+
+-- a gate that is bad after a history is the first bad place
+bad_gate : (bytes : List ℕ) (at : ℕ) (payloads : List (List ℕ)) → IsDamagedBehind bytes TRIGGERS payloads at → AreHistory payloads → IsDamaged bytes at
 bad_gate bytes at payloads damaged are = record {
-  entries = are.entries;
-  valid = are.valid;
-  legal = are.legal;
-  sizes = subst (All IsPayload) are.whole damaged.sizes;
+  payloads = payloads;
+  entries = are.0;
+  replayed = are.1;
+  sizes = damaged.sizes;
   tail = damaged.tail;
   header = damaged.header;
-  whole = damaged.whole ∙ ap (λ (ps : List (List ℕ)). blocks ps ++ damaged.tail) are.whole;
-  at_is = damaged.at_is ∙ ap end_of are.whole;
+  whole = damaged.whole;
+  at_is = damaged.at_is;
   bad = inl damaged.bad;
 }
 
@@ -100,29 +126,29 @@ All-middle ps qs p all =
     get_or-append_right ps (p ∷ qs) (length ps) (length ps) [] refl (omega arith) ∙ ap (λ (n : ℕ). get_or (p ∷ qs) n []) none in
     subst IsPayload here (all (length ps) [] (omega (arith, length-append ps (p ∷ qs))))
 
--- the first unfit payload is the first bad place, whatever stands behind
-pub bad_payload : (bytes : List ℕ) (at : ℕ) (payloads : List (List ℕ)) (tail : List ℕ) → All IsPayload payloads → IsHeader TRIGGERS (take 16 bytes) → drop 16 bytes ≡ blocks payloads ++ tail
+-- the first unfit payload is the first bad place, whatever comes after it
+bad_payload : (bytes : List ℕ) (at : ℕ) (payloads : List (List ℕ)) (tail : List ℕ) → All IsPayload payloads → IsHeader TRIGGERS (take 16 bytes) → drop 16 bytes ≡ blocks payloads ++ tail
     → HaveUnfit payloads at → IsDamaged bytes at
 bad_payload bytes at payloads tail sizes header whole has =
-    let ps = records has.entries in
+    let ps = has.taken in
     let q = has.payload in
     let all = subst (All IsPayload) has.whole sizes in
-    let behind = blocks has.more ++ tail in
-    let split : blocks payloads ++ tail ≡ blocks ps ++ (165 ∷ (body_of q ++ behind)) =
+    let rest = blocks has.more ++ tail in
+    let split : blocks payloads ++ tail ≡ blocks ps ++ (165 ∷ (body_of q ++ rest)) =
     ap (λ (l : List (List ℕ)). blocks l ++ tail) has.whole
     ∙ ap (λ (l : List ℕ). l ++ tail) (blocks-append ps (q ∷ has.more))
     ∙ append_assoc (blocks ps) (blocks (q ∷ has.more)) tail
     ∙ ap (λ (l : List ℕ). blocks ps ++ (165 ∷ l)) (append_assoc (body_of q) (blocks has.more) tail) in
     record {
+      payloads = ps;
       entries = has.entries;
-      valid = has.valid;
-      legal = has.legal;
+      replayed = has.replayed;
       sizes = All-front ps (q ∷ has.more) all;
-      tail = 165 ∷ (body_of q ++ behind);
+      tail = 165 ∷ (body_of q ++ rest);
       header = header;
       whole = whole ∙ split;
       at_is = has.at_is;
-      bad = inr (record { payload = q; rest = behind; size = All-middle ps has.more q all; whole = refl; unfit = has.unfit });
+      bad = inr (record { payload = q; rest = rest; size = All-middle ps has.more q all; whole = refl; unfit = has.unfit });
     }
 
 -- of a journal that is whole
@@ -144,5 +170,5 @@ bad_in_damaged bytes at payloads (mount.Damaged place) damaged (inl has) = bad_p
 bad_in_damaged bytes at payloads (mount.Damaged place) damaged (inr are) = subst (IsDamaged bytes) (sym are.0) (bad_gate bytes at payloads damaged are.1)
 
 -- what an opening of the journal salvaged
-pub damaged_behind : (bytes : List ℕ) (payloads : List (List ℕ)) (e : MountError) (at : ℕ) → e ≡ mount.Damaged at → IsRefusedBehind bytes TRIGGERS payloads e → IsDamagedBehind bytes TRIGGERS payloads at
-damaged_behind bytes payloads e at is why = subst (IsRefusedBehind bytes TRIGGERS payloads) is why
+pub damaged_after : (bytes : List ℕ) (payloads : List (List ℕ)) (e : MountError) (at : ℕ) → e ≡ mount.Damaged at → IsRefusedBehind bytes TRIGGERS payloads e → IsDamagedBehind bytes TRIGGERS payloads at
+damaged_after bytes payloads e at is why = subst (IsRefusedBehind bytes TRIGGERS payloads) is why
