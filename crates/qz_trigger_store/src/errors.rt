@@ -25,7 +25,7 @@ pub enum SubmitError {
 }
 
 impl From<NoMemory> for SubmitError {
-    ghost use Rattle.qz_trigger_store.specs.declared.errors.SubmitError.TheVariants as submit;
+    ghost use Rattle.qz_types.specs.declared.errors.SubmitError.TheVariants as submit;
 
     ghost from_gives = { λ _ e. e ≡ submit.NoMemory };
 
