@@ -1,5 +1,5 @@
 -- The tables are valid after every transaction.
-use Rattle.std.proofs.Common.{◌≡◌, ℕ, ℤ, IsTrue, arith}
+use Rattle.std.proofs.Common.{◌≡◌, ℕ, ℤ, IsTrue, refl, arith}
 use Rattle.std.proofs.lemmas.Bool.{and_parts}
 use Rattle.qz_types.specs.Entries.{EntryData, is_command, is_of_node, has_actor, is_entry}
 use Rattle.qz_types.specs.declared.commands.Command.{Command}
@@ -7,10 +7,11 @@ use Rattle.qz_types.specs.declared.commands.Command.TheVariants.{AddJob, DeleteJ
 use Rattle.qz_types.specs.declared.commands.Actor.{Actor}
 use Rattle.qz_types.specs.declared.commands.Actor.TheVariants.{Client, Node}
 use Rattle.qz_types.specs.declared.replies.Reply.{Reply}
-use Rattle.qz_model.specs.Tables.{SchedulerTables, IsMoment, empty, recorded_moment}
+use Rattle.qz_types.specs.Tables.{SchedulerTables, IsMoment, empty, new_tables, recorded_moment}
 use Rattle.qz_types.specs.declared.replies.Refusal.TheVariants.{Unbuilt}
-use Rattle.qz_model.specs.Outcomes.{accepted, refused}
+use Rattle.qz_types.specs.Outcomes.{accepted, refused}
 use Rattle.qz_model.specs.Transaction.{by_command, transaction}
+use Rattle.qz_model.specs.Executions.{is_busy}
 use Rattle.qz_model.specs.Invariant.{TablesValid}
 use Rattle.qz_model.proofs.Changes.{moment_within}
 use Rattle.qz_model.proofs.KeptScheduling.{kept-add_job, kept-add_trigger}
@@ -56,27 +57,37 @@ command_of e is = (and_parts (is_command e.command) (has_actor (is_of_node e.com
 
 -- An accepted transaction of a valid entry keeps the tables valid.
 pub kept : (T T' : SchedulerTables) (e : EntryData) (r : Reply) → IsTrue (is_entry e) → TablesValid T → transaction T e ≡ accepted T' r → TablesValid T'
-kept T T' e r good valid way = kept-by_command T T' (recorded_moment T e.at) e.actor e.command r (command_of e good) valid (moment_within T e.at valid.next_times.last_moment) way
+kept T T' e r good valid way = kept-by_command T T' (recorded_moment T e.at) e.actor e.command r (command_of e good) valid (moment_within T e.at valid.next_times.moment) way
 
 -- The tables of a new store are valid.
-pub valid-new : (version : ℕ) → TablesValid (empty version)
-valid-new version = record {
-  ordered = record { jobs = tt; triggers = tt; members = tt; fired = tt };
-  limits = record {
-    stored = tt;
-    jobs = omega arith;
-    triggers = omega arith;
-    members = omega arith;
-    fired = omega arith;
-    next_entry = omega arith;
-    next_epoch = omega arith;
-    threshold = record { low = omega arith; high = omega arith };
+pub valid-empty : (version : ℕ) → TablesValid (empty version)
+unfolding is_busy
+valid-empty version = record {
+  references_and_limits = record {
+    ordered = record { jobs = tt; triggers = tt; calendars = tt; zones = tt; paused_groups = tt; members = tt; fired = tt };
+    stored = record { trigger_jobs = tt; trigger_calendars = tt; trigger_zones = tt; bases = tt; calendar_zones = tt; chains = tt };
+    limits = record {
+      jobs = omega arith;
+      triggers = omega arith;
+      calendars = omega arith;
+      zones = omega arith;
+      paused_groups = omega arith;
+      members = omega arith;
+      fired = omega arith;
+      next_entry = omega arith;
+      next_epoch = omega arith;
+      threshold = refl;
+    };
   };
-  acquired = record { one_row = tt; a_trigger = tt };
-  next_times = record { next = tt; last_moment = record { low = omega arith; high = omega arith } };
+  acquired_match = record { one_row = tt; a_trigger = tt };
+  concurrency_agrees = record { with_rows = tt; with_jobs = tt };
+  one_exclusive = record { one = λ key. omega arith; blocked = tt };
+  blocked_are_busy = record { busy = tt };
+  rows_of_members = record { given = tt; distinct = tt; rows = tt };
+  next_times = record { next = tt; moment = record { low = omega arith; high = omega arith } };
   fresh = record { fired = tt; added = tt };
   row_times = record { rows = tt };
 }
 
-pub valid-empty : TablesValid (empty 1)
-valid-empty = valid-new 1
+pub valid-new_tables : TablesValid new_tables
+valid-new_tables = valid-empty 1

@@ -2,7 +2,6 @@ pub mod Changes
 mod Counts
 mod DueFirst
 pub mod DueLaws
-pub mod Found
 pub mod Histories
 pub mod Kept
 pub mod KeptAcquiring
@@ -11,6 +10,7 @@ pub mod KeptFiring
 pub mod KeptMembership
 pub mod KeptScheduling
 pub mod LookUps
+pub mod References
 pub mod RowLaws
 pub mod RowPoints
 pub mod Scripts

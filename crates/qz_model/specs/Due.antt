@@ -7,8 +7,8 @@ use Rattle.qz_types.specs.Sorted.{put}
 use Rattle.qz_types.specs.Rows.{TriggerData}
 use Rattle.qz_types.specs.declared.triggers.TriggerState.{TriggerState}
 use Rattle.qz_types.specs.declared.triggers.TriggerState.TheVariants.{Waiting}
-use Rattle.qz_model.specs.Tables.{SchedulerTables}
-use Rattle.qz_model.specs.Words.{key_cmp}
+use Rattle.qz_types.specs.Tables.{SchedulerTables}
+use Rattle.qz_types.specs.Words.{key_cmp}
 
 abbrev pub is_waiting : TriggerState → Bool
 is_waiting Waiting = true

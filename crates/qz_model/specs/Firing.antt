@@ -8,7 +8,6 @@ use Rattle.qz_types.specs.declared.limits.TheConstants.{FIRED_LIMIT, NUMBER_LIMI
 use Rattle.qz_types.specs.declared.keys.Key.{Key}
 use Rattle.qz_types.specs.declared.triggers.TriggerState.{TriggerState}
 use Rattle.qz_types.specs.declared.triggers.TriggerState.TheVariants as state
-use Rattle.qz_types.specs.declared.fired.FiredState.{FiredState}
 use Rattle.qz_types.specs.declared.fired.FiredState.TheVariants as row
 use Rattle.qz_types.specs.declared.commands.Code.{Code}
 use Rattle.qz_types.specs.declared.commands.Code.TheVariants.{Noop}
@@ -16,10 +15,11 @@ use Rattle.qz_types.specs.declared.replies.Reply.{Reply}
 use Rattle.qz_types.specs.declared.replies.Reply.TheVariants as reply
 use Rattle.qz_types.specs.declared.replies.Refusal.{Refusal}
 use Rattle.qz_types.specs.declared.replies.Refusal.TheVariants.{Unbuilt, UnknownEntry, Early}
-use Rattle.qz_model.specs.Tables.{SchedulerTables}
-use Rattle.qz_model.specs.Outcomes.{Outcome, accepted, refused, unless}
-use Rattle.qz_model.specs.Words.{same_text, same_key, job_of, without_job, trigger_of, with_trigger, without_trigger, fired_of, put_fired, with_fired, without_fired}
+use Rattle.qz_types.specs.Tables.{SchedulerTables}
+use Rattle.qz_types.specs.Outcomes.{Outcome, accepted, refused, unless}
+use Rattle.qz_types.specs.Words.{same_text, same_key, job_of, without_job, trigger_of, with_trigger, without_trigger, fired_of, put_fired, with_fired, without_fired}
 use Rattle.qz_model.specs.Due.{due_triggers, is_before}
+use Rattle.qz_model.specs.Executions.{is_acquired}
 use Rattle.qz_model.specs.Membership.{node_refusal}
 
 -- Acquire. Not built are a window, more than one trigger, and fired rows or entry numbers beyond their limits.
@@ -76,11 +76,6 @@ abbrev pub acquire : SchedulerTables → ℤ → MemberData → ℤ → ℤ → 
 acquire T m me no_later window max =
     unless (node_refusal T me) (unless (acquire_refusal T window max) (acquire_first T m me (due_triggers T m (no_later +ℤ window))))
 
--- its execution hasn't begun
-abbrev pub is_acquired : FiredState → Bool
-is_acquired row.Acquired = true
-is_acquired row.Executing = false
-
 -- the row is this member's
 unfoldable pub is_of : MemberData → FiredData → Bool
 is_of me f = same_text me.node f.node && (me.epoch == f.epoch)
@@ -103,6 +98,10 @@ abbrev pub early : ℤ → Option ℤ → Option Refusal
 early m None = None
 early m (Some next) = if is_before next (Some m) then Some (Early next) else None
 
+-- Not built are jobs whose executions exclude each other.
+unfoldable pub fire_refusal : ℤ → TriggerData → JobData → Option Refusal
+fire_refusal m t job = if job.no_concurrent then Some Unbuilt else early m t.next
+
 -- what the node has to run, and that the trigger doesn't fire again
 unfoldable pub fired_reply : ℤ → FiredData → TriggerData → JobData → Reply
 fired_reply m f t job = reply.Fired f.entry f.scheduled m None t.spec.key job
@@ -111,7 +110,7 @@ fired_reply m f t job = reply.Fired f.entry f.scheduled m None t.spec.key job
 abbrev pub fire_for : SchedulerTables → ℤ → FiredData → Option TriggerData → Option JobData → Outcome
 fire_for T m f None job = refused Unbuilt
 fire_for T m f (Some t) None = refused Unbuilt
-fire_for T m f (Some t) (Some job) = unless (early m t.next)
+fire_for T m f (Some t) (Some job) = unless (fire_refusal m t job)
     (accepted (record T {
       triggers = with_trigger t.spec.key spent T.triggers;
       fired = with_fired f.entry (executing m job) T.fired;
@@ -131,7 +130,7 @@ fire_row T m me (Some f) = if is_of me f && is_acquired f.state then fire_one T 
 abbrev pub fire : SchedulerTables → ℤ → MemberData → ℕ → Outcome
 fire T m me entry = unless (node_refusal T me) (fire_row T m me (fired_of entry T.fired))
 
--- Complete. NOOP is the only code that is built.
+-- Complete. NOOP is the only code that is built, and rows of executions that exclude others aren't.
 abbrev pub is_noop : Code → Bool
 is_noop Noop = true
 is_noop code = false
@@ -178,7 +177,7 @@ completed T m f =
 abbrev pub complete_row : SchedulerTables → ℤ → MemberData → Option FiredData → Code → Outcome
 complete_row T m me None code = refused UnknownEntry
 complete_row T m me (Some f) code =
-    if is_of me f && not (is_acquired f.state) && is_noop code
+    if is_of me f && not (is_acquired f.state) && not f.no_concurrent && is_noop code
     then accepted (completed T m f) (reply.Completed f.entry)
     else refused Unbuilt
 

@@ -7,8 +7,8 @@ use Rattle.qz_types.specs.declared.commands.Command.TheVariants.{AddJob, DeleteJ
 use Rattle.qz_types.specs.declared.commands.Actor.{Actor}
 use Rattle.qz_types.specs.declared.commands.Actor.TheVariants.{Client, Node}
 use Rattle.qz_types.specs.declared.replies.Refusal.TheVariants.{Unbuilt}
-use Rattle.qz_model.specs.Tables.{SchedulerTables, recorded_moment}
-use Rattle.qz_model.specs.Outcomes.{Outcome, refused}
+use Rattle.qz_types.specs.Tables.{SchedulerTables, recorded_moment}
+use Rattle.qz_types.specs.Outcomes.{Outcome, refused}
 use Rattle.qz_model.specs.Scheduling.{add_job, add_trigger}
 use Rattle.qz_model.specs.Membership.{join}
 use Rattle.qz_model.specs.Firing.{acquire, fire, complete}

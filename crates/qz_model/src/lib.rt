@@ -5,4 +5,4 @@
 mod plain;
 mod rows;
 
-pub use plain::{PlainStore, StepRefused, Worked};
+pub use plain::{PlainStore, Worked};

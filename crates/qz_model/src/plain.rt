@@ -1,12 +1,11 @@
 //! The plain store.
 ghost use Rattle.std.specs.Prelude.{◌≡◌, ◌≤ℤ◌, pos, IsTrue, IfOk, IfErr, OnOk, OnErr};
 ghost use Rattle.qz_types.specs.Entries.{is_entry};
-ghost use Rattle.qz_model.specs.Tables.{empty, IsMoment, recorded_moment};
-ghost use Rattle.qz_model.specs.Outcomes.{accepted};
+ghost use Rattle.qz_types.specs.Tables.{new_tables, IsMoment, recorded_moment};
+ghost use Rattle.qz_types.specs.Outcomes.{accepted};
+ghost use Rattle.qz_model.specs.Causes.{IsCause};
 ghost use Rattle.qz_model.specs.Transaction.{transaction};
 ghost use Rattle.qz_model.specs.Invariant.{TablesValid};
-ghost use Rattle.qz_model.specs.Causes.{IsCause};
-ghost use Rattle.qz_model.specs.declared.plain.StepRefused.TheVariants.{NoMemory as StepNoMemory};
 
 mod acquiring;
 mod due;
@@ -15,20 +14,11 @@ mod membership;
 mod scheduling;
 
 use qz_types::{
-    Actor, Command, Entry, FIRST_THRESHOLD, FiredRow, JobRow, LAST, MemberRow, NoMemory, Refusal,
-    Reply, TriggerRow,
+    Actor, CalendarRow, Command, Entry, FIRST_THRESHOLD, FiredRow, JobRow, LAST, MemberRow,
+    NoMemory, Refusal, Reply, StepRefused, Text, TriggerRow, ZoneRow,
 };
-use std::alloc::{AllocError, AllocFailed, Global};
+use std::alloc::Global;
 use std::marker::Model;
-
-/// Why a transaction wasn't done.
-#[derive(Debug, Drop)]
-pub enum StepRefused {
-    /// The transaction's own refusal, the first in its order; `Unbuilt` for what isn't built.
-    Refused(Refusal),
-    /// May come at any time. Nothing is known of the transaction.
-    NoMemory,
-}
 
 /// The tables behind a transaction, and its reply.
 #[derive(Drop)]
@@ -37,36 +27,15 @@ pub struct Worked {
     pub reply: Reply,
 }
 
-impl From<AllocError> for StepRefused {
-    ghost from_gives = { λ _ e. e ≡ StepNoMemory };
-
-    fn from(_error: AllocError) -> StepRefused {
-        StepRefused::NoMemory
-    }
-}
-
-impl<T: Drop> From<AllocFailed<T>> for StepRefused {
-    ghost from_gives = { λ _ e. e ≡ StepNoMemory };
-
-    fn from(_error: AllocFailed<T>) -> StepRefused {
-        StepRefused::NoMemory
-    }
-}
-
-impl From<NoMemory> for StepRefused {
-    ghost from_gives = { λ _ e. e ≡ StepNoMemory };
-
-    fn from(_error: NoMemory) -> StepRefused {
-        StepRefused::NoMemory
-    }
-}
-
 /// The trigger store as its tables alone, each a list in the order of its ids. It computes transactions as they are
 /// defined, and is slow: it is what other stores are compared with.
 #[derive(Drop)]
 pub struct PlainStore {
     jobs: Vec<JobRow>,
     triggers: Vec<TriggerRow>,
+    calendars: Vec<CalendarRow>,
+    zones: Vec<ZoneRow>,
+    paused_groups: Vec<Text>,
     members: Vec<MemberRow>,
     fired: Vec<FiredRow>,
     next_entry: u64,
@@ -79,13 +48,18 @@ pub struct PlainStore {
 impl Model for PlainStore {
     ghost use Rattle.std.specs.Prelude.{◌≤ℤ◌};
     ghost use Rattle.qz_civil.specs.declared.limits.TheConstants.{LAST as LAST_TIME};
-    ghost use Rattle.qz_model.specs.Tables.{SchedulerTables, IsMoment, IsThreshold};
+    ghost use Rattle.std.specs.Prelude.{IsTrue};
+    ghost use Rattle.qz_types.specs.Rows.{is_interval};
+    ghost use Rattle.qz_types.specs.Tables.{SchedulerTables, IsMoment};
 
     ghost Value = { SchedulerTables };
 
     ghost view = { λ a. record {
       jobs = a.jobs.items;
       triggers = a.triggers.items;
+      calendars = a.calendars.items;
+      zones = a.zones.items;
+      paused_groups = a.paused_groups.items;
       members = a.members.items;
       fired = a.fired.items;
       next_entry = a.next_entry;
@@ -95,17 +69,20 @@ impl Model for PlainStore {
       horizon = a.horizon;
     } };
 
-    ghost invariant = { λ a. IsMoment a.horizon a.last_moment × IsThreshold a.threshold × (a.horizon ≤ℤ LAST_TIME) };
+    ghost invariant = { λ a. IsMoment a.horizon a.last_moment × IsTrue (is_interval a.threshold) × (a.horizon ≤ℤ LAST_TIME) };
 }
 
 impl PlainStore {
     /// The store without rows, of format version 1. No memory.
     pub fn new(alloc: Global) -> Self
-        ensures { result ≡ empty 1 }
+        ensures { result ≡ new_tables }
     {
         PlainStore {
             jobs: Vec::new(alloc),
             triggers: Vec::new(alloc),
+            calendars: Vec::new(alloc),
+            zones: Vec::new(alloc),
+            paused_groups: Vec::new(alloc),
             members: Vec::new(alloc),
             fired: Vec::new(alloc),
             next_entry: 1,
@@ -123,6 +100,9 @@ impl PlainStore {
         Ok(PlainStore {
             jobs: self.jobs.clone()?,
             triggers: self.triggers.clone()?,
+            calendars: self.calendars.clone()?,
+            zones: self.zones.clone()?,
+            paused_groups: self.paused_groups.clone()?,
             members: self.members.clone()?,
             fired: self.fired.clone()?,
             next_entry: self.next_entry,

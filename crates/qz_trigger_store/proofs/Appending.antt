@@ -7,10 +7,10 @@ use Rattle.qz_disk.specs.Disk.{DiskState, Only, IsLawful, LeavesOnly}
 use Rattle.qz_disk.proofs.Moments.{started, weaker}
 use Rattle.qz_types.specs.Entries.{EntryData}
 use Rattle.qz_types.specs.declared.replies.Reply.{Reply}
-use Rattle.qz_model.specs.Tables.{SchedulerTables, empty, recorded_moment}
-use Rattle.qz_model.specs.Outcomes.{Outcome, accepted}
+use Rattle.qz_types.specs.Tables.{SchedulerTables, new_tables, recorded_moment}
+use Rattle.qz_types.specs.Outcomes.{Outcome, accepted, IsAccepted}
 use Rattle.qz_model.specs.Transaction.{transaction}
-use Rattle.qz_model.specs.History.{tables_left, onto_replies, IsAccepted, IsLegalFrom, replay_from, replies_from, moments_from}
+use Rattle.qz_model.specs.History.{tables_left, onto_replies, IsLegalFrom, replay_from, replies_from, moments_from}
 use Rattle.qz_model.proofs.Histories.{IsLegalFrom-entry, replay_from-append, replies_from-append, moments_from-append}
 use Rattle.qz_journal.specs.Layout.{Holds, IsBeforeOrAfter}
 use Rattle.qz_journal.specs.declared.layout.TheConstants.{TRIGGERS}
@@ -37,35 +37,35 @@ counted_with found old new e n m is n_is m_is =
 accepted_is : (o : Outcome) (T : SchedulerTables) (r : Reply) → o ≡ accepted T r → IsAccepted o
 accepted_is o T r way = subst IsAccepted (sym way) tt
 
-pub legal_with : (T : SchedulerTables) (found old new : List EntryData) (e : EntryData) (U : SchedulerTables) (r : Reply) → new ≡ old ++ e ∷ [] → T ≡ replay_from (empty 1) (found ++ old)
-    → IsLegalFrom (empty 1) (found ++ old) → transaction T e ≡ accepted U r → IsLegalFrom (empty 1) (found ++ new)
+pub legal_with : (T : SchedulerTables) (found old new : List EntryData) (e : EntryData) (U : SchedulerTables) (r : Reply) → new ≡ old ++ e ∷ [] → T ≡ replay_from new_tables (found ++ old)
+    → IsLegalFrom new_tables (found ++ old) → transaction T e ≡ accepted U r → IsLegalFrom new_tables (found ++ new)
 legal_with T found old new e U r is same legal way =
-    subst (IsLegalFrom (empty 1)) (sym (more found old new e is))
-    (IsLegalFrom-entry (empty 1) (found ++ old) e legal (subst (λ (W : SchedulerTables). IsAccepted (transaction W e)) same (accepted_is _ U r way)))
+    subst (IsLegalFrom new_tables) (sym (more found old new e is))
+    (IsLegalFrom-entry new_tables (found ++ old) e legal (subst (λ (W : SchedulerTables). IsAccepted (transaction W e)) same (accepted_is _ U r way)))
 
-pub replayed_with : (T : SchedulerTables) (found old new : List EntryData) (e : EntryData) (U : SchedulerTables) (r : Reply) → new ≡ old ++ e ∷ [] → T ≡ replay_from (empty 1) (found ++ old)
-    → transaction T e ≡ accepted U r → U ≡ replay_from (empty 1) (found ++ new)
+pub replayed_with : (T : SchedulerTables) (found old new : List EntryData) (e : EntryData) (U : SchedulerTables) (r : Reply) → new ≡ old ++ e ∷ [] → T ≡ replay_from new_tables (found ++ old)
+    → transaction T e ≡ accepted U r → U ≡ replay_from new_tables (found ++ new)
 replayed_with T found old new e U r is same way =
-    sym (ap (tables_left T) way) ∙ ap (λ (W : SchedulerTables). tables_left W (transaction W e)) same ∙ sym (replay_from-append (empty 1) (found ++ old) (e ∷ []))
-    ∙ ap (replay_from (empty 1)) (sym (more found old new e is))
+    sym (ap (tables_left T) way) ∙ ap (λ (W : SchedulerTables). tables_left W (transaction W e)) same ∙ sym (replay_from-append new_tables (found ++ old) (e ∷ []))
+    ∙ ap (replay_from new_tables) (sym (more found old new e is))
 
 pub recorded_with : (found old new : List EntryData) (e : EntryData) → new ≡ old ++ e ∷ [] → ∥ AllByRecursion IsEntry (found ++ old) ∥₁ → IsEntry e → ∥ AllByRecursion IsEntry (found ++ new) ∥₁
 recorded_with found old new e is all one = ∥∥₁_map all (λ a. subst (AllByRecursion IsEntry) (sym (more found old new e is)) (All-pushed IsEntry (found ++ old) e a one))
 
-tables_at : (T : SchedulerTables) (found old : List EntryData) → T ≡ replay_from (empty 1) (found ++ old) → T ≡ replay_from (replay_from (empty 1) found) old
-tables_at T found old same = same ∙ replay_from-append (empty 1) found old
+tables_at : (T : SchedulerTables) (found old : List EntryData) → T ≡ replay_from new_tables (found ++ old) → T ≡ replay_from (replay_from new_tables found) old
+tables_at T found old same = same ∙ replay_from-append new_tables found old
 
-pub moments_with : (T : SchedulerTables) (found old new : List EntryData) (e : EntryData) (ms ns : List ℤ) (m : ℤ) → new ≡ old ++ e ∷ [] → T ≡ replay_from (empty 1) (found ++ old)
-    → ns ≡ ms ++ m ∷ [] → m ≡ recorded_moment T e.at → ms ≡ moments_from (replay_from (empty 1) found) old → ns ≡ moments_from (replay_from (empty 1) found) new
+pub moments_with : (T : SchedulerTables) (found old new : List EntryData) (e : EntryData) (ms ns : List ℤ) (m : ℤ) → new ≡ old ++ e ∷ [] → T ≡ replay_from new_tables (found ++ old)
+    → ns ≡ ms ++ m ∷ [] → m ≡ recorded_moment T e.at → ms ≡ moments_from (replay_from new_tables found) old → ns ≡ moments_from (replay_from new_tables found) new
 moments_with T found old new e ms ns m is same ns_is m_is ms_is =
-    let B = replay_from (empty 1) found in
+    let B = replay_from new_tables found in
     ns_is ∙ ap (λ (l : List ℤ). l ++ m ∷ []) ms_is ∙ ap (λ (k : ℤ). moments_from B old ++ k ∷ []) (m_is ∙ ap (λ (W : SchedulerTables). recorded_moment W e.at) (tables_at T found old same))
     ∙ sym (moments_from-append B old (e ∷ [])) ∙ ap (moments_from B) (sym is)
 
-pub replies_with : (T : SchedulerTables) (found old new : List EntryData) (e : EntryData) (rs ss : List Reply) (U : SchedulerTables) (r : Reply) → new ≡ old ++ e ∷ [] → T ≡ replay_from (empty 1) (found ++ old)
-    → transaction T e ≡ accepted U r → ss ≡ rs ++ r ∷ [] → rs ≡ replies_from (replay_from (empty 1) found) old → ss ≡ replies_from (replay_from (empty 1) found) new
+pub replies_with : (T : SchedulerTables) (found old new : List EntryData) (e : EntryData) (rs ss : List Reply) (U : SchedulerTables) (r : Reply) → new ≡ old ++ e ∷ [] → T ≡ replay_from new_tables (found ++ old)
+    → transaction T e ≡ accepted U r → ss ≡ rs ++ r ∷ [] → rs ≡ replies_from (replay_from new_tables found) old → ss ≡ replies_from (replay_from new_tables found) new
 replies_with T found old new e rs ss U r is same way ss_is rs_is =
-    let B = replay_from (empty 1) found in
+    let B = replay_from new_tables found in
     let there : transaction (replay_from B old) e ≡ accepted U r = ap (λ (W : SchedulerTables). transaction W e) (sym (tables_at T found old same)) ∙ way in
     ss_is ∙ ap (λ (l : List Reply). l ++ r ∷ []) rs_is ∙ ap (λ (o : Outcome). replies_from B old ++ onto_replies o []) (sym there)
     ∙ sym (replies_from-append B old (e ∷ [])) ∙ ap (replies_from B) (sym is)

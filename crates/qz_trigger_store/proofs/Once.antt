@@ -2,7 +2,7 @@
 use Rattle.std.proofs.Common.{◌≡◌, ◌⊎◌, inr, ℕ, List, [], ◌∷◌, ◌++◌, refl, sym, ◌∙◌, ap, subst, append-nil}
 use Rattle.std.specs.List.{AllByRecursion}
 use Rattle.qz_types.specs.Entries.{EntryData}
-use Rattle.qz_model.specs.Tables.{SchedulerTables, empty}
+use Rattle.qz_types.specs.Tables.{SchedulerTables, new_tables}
 use Rattle.qz_model.specs.Transaction.{transaction}
 use Rattle.qz_model.specs.History.{History, tables_left, IsLegalFrom, replay_from}
 use Rattle.qz_journal.specs.Layout.{version, Holds}
@@ -47,7 +47,7 @@ only_memory h payloads mount.NotAStore is same stopped = absurd stopped
 only_memory h payloads mount.Fault is same stopped = absurd stopped
 only_memory h payloads (mount.Damaged at) is same stopped =
     let replayed = stopped.replayed in
-    absurd (none_unfit (empty 1) stopped.taken stopped.entries h.entries stopped.payload stopped.more replayed.encode
+    absurd (none_unfit new_tables stopped.taken stopped.entries h.entries stopped.payload stopped.more replayed.encode
     (subst (λ (ps : List (List ℕ)). Encode ps h.entries) stopped.whole same) replayed.valid is.valid
     (subst (λ (T : SchedulerTables). IsLegalFrom T h.entries) is.begins.base is.legal) stopped.unfit)
 

@@ -6,13 +6,13 @@ use Rattle.std.specs.List.{AllByRecursion}
 use Rattle.std.proofs.lemmas.List.{take_more, get_or_append_left, get_or-append_right}
 use Rattle.qz_types.specs.Entries.{EntryData}
 use Rattle.qz_types.specs.declared.replies.Refusal.{Refusal}
-use Rattle.qz_model.specs.Tables.{SchedulerTables, empty}
-use Rattle.qz_model.specs.Outcomes.{Outcome, refused}
+use Rattle.qz_types.specs.Tables.{SchedulerTables, new_tables}
+use Rattle.qz_types.specs.Outcomes.{Outcome, refused, IsAccepted}
 use Rattle.qz_model.specs.Causes.{IsCause}
-use Rattle.qz_model.specs.declared.plain.StepRefused.{StepRefused}
-use Rattle.qz_model.specs.declared.plain.StepRefused.TheVariants.{Refused}
+use Rattle.qz_types.specs.declared.errors.StepRefused.{StepRefused}
+use Rattle.qz_types.specs.declared.errors.StepRefused.TheVariants.{Refused}
 use Rattle.qz_model.specs.Transaction.{transaction}
-use Rattle.qz_model.specs.History.{tables_left, IsAccepted, IsLegalFrom, replay_from}
+use Rattle.qz_model.specs.History.{tables_left, IsLegalFrom, replay_from}
 use Rattle.qz_model.proofs.Histories.{IsLegalFrom-entry, replay_from-append}
 use Rattle.qz_journal.specs.Layout.{IsHeader, IsPayload, body_of, blocks, end_of, Holds}
 use Rattle.qz_journal.specs.Opening.{IsDamagedBehind, IsRefusedBehind}
@@ -68,14 +68,14 @@ Encode-pushed (q ∷ ps) (f ∷ es) p e all is = (all.0, Encode-pushed ps es p e
 
 -- one payload more was taken
 pub taken_more : (payloads : List (List ℕ)) (i : ℕ) (p : List ℕ) (T : SchedulerTables) (es fs : List EntryData) (e : EntryData)
-    → i < length payloads → p ≡ get_or payloads i p → fs ≡ es ++ e ∷ [] → T ≡ replay_from (empty 1) es → IsRecord p e → IsAccepted (transaction T e)
+    → i < length payloads → p ≡ get_or payloads i p → fs ≡ es ++ e ∷ [] → T ≡ replay_from new_tables es → IsRecord p e → IsAccepted (transaction T e)
     → AreReplayed (take i payloads) es → AreReplayed (take (i + 1) payloads) fs
 taken_more payloads i p T es fs e below at_is fs_is tables is passes so_far =
     let taken = take_more payloads i p below ∙ ap (λ (x : List ℕ). take i payloads ++ x ∷ []) (sym at_is) in
     rw (taken, fs_is) (record {
       encode = Encode-pushed (take i payloads) es p e so_far.encode is.bytes_are;
       valid = All-pushed IsEntry es e so_far.valid is.valid;
-      legal = IsLegalFrom-entry (empty 1) es e so_far.legal (subst (λ (U : SchedulerTables). IsAccepted (transaction U e)) tables passes);
+      legal = IsLegalFrom-entry new_tables es e so_far.legal (subst (λ (U : SchedulerTables). IsAccepted (transaction U e)) tables passes);
     })
 
 pub taken_tables : (T U V : SchedulerTables) (es fs : List EntryData) (e : EntryData) → fs ≡ es ++ e ∷ [] → U ≡ replay_from T es → V ≡ tables_left U (transaction U e) → V ≡ replay_from T fs
@@ -89,7 +89,7 @@ taken_gate payloads i p gate n below at_is n_is gate_is =
 
 -- the payload at this place is the first that is unfit
 pub stops_at : (payloads : List (List ℕ)) (i : ℕ) (p : List ℕ) (gate : ℕ) (T : SchedulerTables) (es : List EntryData)
-    → i < length payloads → p ≡ get_or payloads i p → gate ≡ end_of (take i payloads) → T ≡ replay_from (empty 1) es → AreReplayed (take i payloads) es → IsUnfit T p
+    → i < length payloads → p ≡ get_or payloads i p → gate ≡ end_of (take i payloads) → T ≡ replay_from new_tables es → AreReplayed (take i payloads) es → IsUnfit T p
     → HaveUnfit payloads gate
 stops_at payloads i p gate T es below at_is gate_is tables so_far unfit = record {
   taken = take i payloads;

@@ -2,7 +2,7 @@
 use Rattle.std.specs.Prelude.{◌≡◌, ◌⊎◌, ℕ, List, [], ◌∷◌, ◌++◌, length, Option, Some, None}
 use Rattle.std.specs.List.{AllByRecursion, AllZip}
 use Rattle.qz_types.specs.Entries.{EntryData}
-use Rattle.qz_model.specs.Tables.{empty}
+use Rattle.qz_types.specs.Tables.{empty}
 use Rattle.qz_model.specs.History.{History, new_history, IsLegal}
 use Rattle.qz_journal.specs.Layout.{Holds, version, end_of}
 use Rattle.qz_journal.specs.declared.layout.TheConstants.{TRIGGERS}

@@ -4,13 +4,13 @@ use Rattle.std.specs.declared.result.Result.{Result}
 use Rattle.qz_types.specs.Entries.{EntryData}
 use Rattle.qz_types.specs.declared.replies.Reply.{Reply}
 use Rattle.qz_types.specs.declared.replies.Refusal.{Refusal}
-use Rattle.qz_model.specs.Outcomes.{Outcome, accepted, refused}
+use Rattle.qz_types.specs.Outcomes.{Outcome, accepted, refused, IsAccepted}
 use Rattle.qz_model.specs.Transaction.{transaction}
-use Rattle.qz_model.specs.History.{History, new_history, with_entry, replay, IsAccepted}
+use Rattle.qz_model.specs.History.{History, new_history, with_entry, replay}
 use Rattle.qz_codec.specs.Layout.{record_of}
 use Rattle.qz_trigger_store.specs.Stores.{EntryKind, StoreState, LacksRoom}
-use Rattle.qz_trigger_store.specs.declared.errors.SubmitError.{SubmitError}
-use Rattle.qz_trigger_store.specs.declared.errors.SubmitError.TheVariants as submit
+use Rattle.qz_types.specs.declared.errors.SubmitError.{SubmitError}
+use Rattle.qz_types.specs.declared.errors.SubmitError.TheVariants as submit
 
 -- the reply of a transaction, or why it is refused
 abbrev pub answer_of : Outcome → Result Reply Refusal
@@ -27,7 +27,7 @@ trigger_entry = record {
 
 -- the history of these entries from a new store on
 abbrev pub history_of : List EntryData → History
-history_of entries = record (new_history 1) { entries = entries }
+history_of entries = record new_history { entries = entries }
 
 -- a trigger store at one moment
 abbrev pub TriggerState : Type 0

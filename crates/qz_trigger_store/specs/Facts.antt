@@ -6,10 +6,10 @@ use mathlib.Core.HLevel.{is_prop→PathP}
 use Rattle.std.specs.Prelude.{Option, Some, None}
 use Rattle.std.specs.List.{AllZip}
 use Rattle.qz_types.specs.Entries.{EntryData}
-use Rattle.qz_model.specs.Tables.{SchedulerTables}
-use Rattle.qz_model.specs.Outcomes.{Outcome, accepted, refused}
+use Rattle.qz_types.specs.Tables.{SchedulerTables}
+use Rattle.qz_types.specs.Outcomes.{Outcome, accepted, refused, IsAccepted}
 use Rattle.qz_model.specs.Transaction.{transaction}
-use Rattle.qz_model.specs.History.{tables_left, IsAccepted, IsLegalFrom}
+use Rattle.qz_model.specs.History.{tables_left, IsLegalFrom}
 use Rattle.qz_journal.specs.Layout.{Holds}
 use Rattle.qz_journal.proofs.Once.{holds_once}
 use Rattle.qz_journal.proofs.Undecided.{Holds-prop}

@@ -2,9 +2,10 @@
 use Rattle.std.specs.Prelude.{⊤, ◌≡◌, ◌⊎◌, ℕ, true, List, ◌∷◌, ◌++◌, take, drop, All, None}
 use Rattle.std.specs.List.{AllByRecursion}
 use Rattle.qz_types.specs.Entries.{EntryData}
-use Rattle.qz_model.specs.Tables.{SchedulerTables, empty}
+use Rattle.qz_types.specs.Tables.{SchedulerTables, new_tables}
 use Rattle.qz_model.specs.Transaction.{transaction}
-use Rattle.qz_model.specs.History.{History, IsAccepted, IsLegalFrom, replay_from, replay}
+use Rattle.qz_model.specs.History.{History, IsLegalFrom, replay_from, replay}
+use Rattle.qz_types.specs.Outcomes.{IsAccepted}
 use Rattle.qz_model.specs.Invariant.{TablesValid}
 use Rattle.qz_journal.specs.Layout.{IsHeader, IsPayload, open_gate, body_of, blocks, end_of}
 use Rattle.qz_journal.specs.Opening.{IsBad}
@@ -40,7 +41,7 @@ pub record BeginsUnfit (T : SchedulerTables) (tail : List ℕ) : Type 0 where
 pub record AreReplayed (payloads : List (List ℕ)) (entries : List EntryData) : Type 0 where
   pub encode : Encode payloads entries
   pub valid : AllByRecursion IsEntry entries
-  pub legal : IsLegalFrom (empty 1) entries
+  pub legal : IsLegalFrom new_tables entries
 
 -- After the records of entries that are accepted one by one there is a bad gate, or a payload that is unfit. Since all
 -- before it is right, it is the least such place.
@@ -53,7 +54,7 @@ pub record IsDamaged (bytes : List ℕ) (at : ℕ) : Type 0 where
   pub header : IsHeader TRIGGERS (take 16 bytes)
   pub whole : drop 16 bytes ≡ blocks payloads ++ tail
   pub at_is : at ≡ end_of payloads
-  pub bad : IsBad tail ⊎ BeginsUnfit (replay_from (empty 1) entries) tail
+  pub bad : IsBad tail ⊎ BeginsUnfit (replay_from new_tables entries) tail
 
 -- why an opening of these bytes is refused; that the disk or memory failed isn't seen in them
 abbrev pub IsRefused : List ℕ → MountError → Type 0
@@ -71,7 +72,7 @@ pub record HaveUnfit (payloads : List (List ℕ)) (at : ℕ) : Type 0 where
   pub more : List (List ℕ)
   pub whole : payloads ≡ taken ++ payload ∷ more
   pub at_is : at ≡ end_of taken
-  pub unfit : IsUnfit (replay_from (empty 1) entries) payload
+  pub unfit : IsUnfit (replay_from new_tables entries) payload
 
 -- payloads that are the records of a history
 abbrev pub AreHistory : List (List ℕ) → Type 0

@@ -4,8 +4,8 @@ use Rattle.std.specs.declared.result.Result.{Result}
 use Rattle.qz_civil.specs.Causes.{Rose}
 use Rattle.qz_types.specs.declared.replies.Refusal.{Refusal}
 use Rattle.qz_journal.specs.Commits.{IsFull, need_of, room_of}
-use Rattle.qz_trigger_store.specs.declared.errors.SubmitError.{SubmitError}
-use Rattle.qz_trigger_store.specs.declared.errors.SubmitError.TheVariants as submit
+use Rattle.qz_types.specs.declared.errors.SubmitError.{SubmitError}
+use Rattle.qz_types.specs.declared.errors.SubmitError.TheVariants as submit
 
 -- What the entries of a store are to it: what one comes to behind a history, which is its reply or why it is refused;
 -- the history with it; and the length of its record in bytes.

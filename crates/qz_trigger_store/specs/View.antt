@@ -4,7 +4,7 @@ use Rattle.qz_disk.specs.declared.disk.Disk.{Ghosts}
 use Rattle.qz_disk.specs.Disk.{DiskState, LeavesOnly}
 use Rattle.qz_types.specs.Entries.{EntryData}
 use Rattle.qz_types.specs.declared.replies.Reply.{Reply}
-use Rattle.qz_model.specs.Tables.{SchedulerTables}
+use Rattle.qz_types.specs.Tables.{SchedulerTables}
 use Rattle.qz_journal.specs.View.{disk_of as journal_disk, gate_of, count_of}
 use Rattle.qz_trigger_store.specs.Entries.{TriggerState, history_of}
 use Rattle.qz_trigger_store.specs.Bytes.{MayBe}

@@ -1,6 +1,6 @@
 //! What a store shows of itself.
 ghost use Rattle.std.specs.Prelude.{◌≡◌, ◌++◌, length, not};
-ghost use Rattle.qz_model.specs.Tables.{empty};
+ghost use Rattle.qz_types.specs.Tables.{new_tables};
 ghost use Rattle.qz_model.specs.History.{replay_from, replies_from, moments_from};
 ghost use Rattle.qz_trigger_store.specs.View.{view, found_of, added_of, moments_of, replies_of, disk_of};
 
@@ -33,7 +33,7 @@ impl<D: Disk> TriggerStore<D> {
     /// The recorded moments of the entries accepted since the mount, in ms since 1970-01-01T00:00:00Z.
     pub fn moments(&self) -> &[i64]
         ensures kept { result.now ≡ moments_of self.now }
-        ensures value { result.now ≡ moments_from (replay_from (empty 1) (found_of self.now)) (added_of self.now) }
+        ensures value { result.now ≡ moments_from (replay_from new_tables (found_of self.now)) (added_of self.now) }
     {
         self.accepted.moments.as_slice()
     }
@@ -41,7 +41,7 @@ impl<D: Disk> TriggerStore<D> {
     /// The replies to the entries accepted since the mount.
     pub fn replies(&self) -> &[Reply]
         ensures kept { result.now ≡ replies_of self.now }
-        ensures value { result.now ≡ replies_from (replay_from (empty 1) (found_of self.now)) (added_of self.now) }
+        ensures value { result.now ≡ replies_from (replay_from new_tables (found_of self.now)) (added_of self.now) }
     {
         self.accepted.replies.as_slice()
     }

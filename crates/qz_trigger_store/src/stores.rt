@@ -2,7 +2,7 @@
 ghost use Rattle.std.specs.Prelude.{◌≡◌, ◌++◌, List as Entries, ℕ, length, None, true};
 ghost use Rattle.std.proofs.Props.{props};
 ghost use Rattle.std.specs.List.{AllByRecursion};
-ghost use Rattle.qz_model.specs.Tables.{empty};
+ghost use Rattle.qz_types.specs.Tables.{new_tables};
 ghost use Rattle.qz_model.specs.History.{IsLegalFrom, replay_from, replies_from, moments_from};
 ghost use Rattle.qz_model.specs.Invariant.{TablesValid};
 ghost use Rattle.qz_journal.specs.declared.layout.TheConstants.{TRIGGERS as OF_TRIGGERS};
@@ -36,12 +36,12 @@ pub struct TriggerStore<D: Disk> {
     ghost ready: { is_open ≡ true → closed_at journal ≡ None },
     ghost settled: { is_open ≡ true → undecided ≡ None },
     ghost counted: { count_of journal ≡ length (found ++ accepted.entries.items) },
-    ghost legal: { IsLegalFrom (empty 1) (found ++ accepted.entries.items) } by { IsLegalFrom-prop (empty 1) (found ++ accepted.entries.items) },
-    ghost replayed: { tables ≡ replay_from (empty 1) (found ++ accepted.entries.items) },
+    ghost legal: { IsLegalFrom new_tables (found ++ accepted.entries.items) } by { IsLegalFrom-prop new_tables (found ++ accepted.entries.items) },
+    ghost replayed: { tables ≡ replay_from new_tables (found ++ accepted.entries.items) },
     ghost valid: { ∥ TablesValid tables ∥₁ },
     ghost recorded: { ∥ AllByRecursion IsEntry (found ++ accepted.entries.items) ∥₁ },
-    ghost moments: { accepted.moments.items ≡ moments_from (replay_from (empty 1) found) accepted.entries.items },
-    ghost replies: { accepted.replies.items ≡ replies_from (replay_from (empty 1) found) accepted.entries.items },
+    ghost moments: { accepted.moments.items ≡ moments_from (replay_from new_tables found) accepted.entries.items },
+    ghost replies: { accepted.replies.items ≡ replies_from (replay_from new_tables found) accepted.entries.items },
     ghost stands: { D.honest → is_open ≡ true → HoldEntries (D.state (disk_of journal)).content (found ++ accepted.entries.items) } by { Prim.hlevel (props, HoldEntries-prop) },
     ghost images: { D.honest → (b : Entries ℕ) → (D.state (disk_of journal)).IsImage b → MayHold (found ++ accepted.entries.items) undecided b } by { Prim.hlevel (props, MayHold-prop) },
 }

@@ -4,8 +4,8 @@ ghost use Rattle.qz_codec.specs.Layout.{record_of};
 ghost use Rattle.qz_codec.specs.Values.{IsEntry};
 ghost use Rattle.qz_journal.specs.Layout.{IsPayload};
 ghost use Rattle.qz_model.specs.Invariant.{TablesValid};
-ghost use Rattle.qz_model.specs.Outcomes.{accepted};
-ghost use Rattle.qz_model.specs.Tables.{recorded_moment};
+ghost use Rattle.qz_types.specs.Outcomes.{accepted};
+ghost use Rattle.qz_types.specs.Tables.{recorded_moment};
 ghost use Rattle.qz_model.specs.Transaction.{transaction};
 ghost use Rattle.qz_types.specs.Entries.{is_entry};
 ghost use Rattle.qz_trigger_store.specs.Accepted.{HasRoomForOne};
@@ -13,13 +13,13 @@ ghost use Rattle.qz_trigger_store.specs.Entries.{trigger_entry, IsCause, IsUnwri
 ghost use Rattle.qz_trigger_store.specs.Stores.{HasRoom, Submits};
 ghost use Rattle.qz_trigger_store.specs.View.{view, found_of, added_of, moments_of, replies_of, tables_of, IsAsBefore, LeavesEither};
 
-use crate::{SubmitError, TriggerStore};
+use crate::TriggerStore;
 use qz_civil::List;
 use qz_codec::put_command;
 use qz_disk::Disk;
 use qz_journal::{JournalFull, fits};
-use qz_model::{PlainStore, StepRefused, Worked};
-use qz_types::{Entry, NoMemory, Reply};
+use qz_model::{PlainStore, Worked};
+use qz_types::{Entry, NoMemory, Reply, StepRefused, SubmitError};
 use std::mem;
 
 // An accepted entry's record, and what it comes to.

@@ -1,18 +1,18 @@
 //! A node acquires a trigger that is due.
 ghost use Rattle.std.specs.Prelude.{◌≡◌, ◌∷◌, [], ◌<◌, IfOk, IfErr, IfNone, IsTrue, option_copied};
 ghost use Rattle.qz_civil.specs.Timings.{is_span};
-ghost use Rattle.qz_model.specs.Tables.{IsMoment};
-ghost use Rattle.qz_model.specs.Outcomes.{accepted};
+ghost use Rattle.qz_types.specs.Tables.{IsMoment};
+ghost use Rattle.qz_types.specs.Outcomes.{accepted};
+ghost use Rattle.qz_model.specs.Causes.{IsCause};
 ghost use Rattle.qz_model.specs.Due.{due_triggers};
 ghost use Rattle.qz_model.specs.Firing.{acquire_refusal, acquired_row, acquire_one, acquire_first, acquire};
-ghost use Rattle.qz_model.specs.Causes.{IsCause};
 
-use super::{PlainStore, StepRefused};
+use super::PlainStore;
 use crate::rows::{acquire_trigger, job_of, put_fired};
 use qz_civil::beside;
 use qz_types::{
     FIRED_LIMIT, FiredRow, FiredState, JobRow, List, MemberRow, NUMBER_LIMIT, Refusal, Reply,
-    Taken, TriggerRow,
+    StepRefused, Taken, TriggerRow,
 };
 use std::alloc::{AllocError, Global};
 

@@ -1,21 +1,22 @@
 //! A node fires an acquired trigger, and completes the execution.
 ghost use Rattle.std.specs.Prelude.{◌≡◌, IfOk, IfErr, OnOk, option_copied};
 ghost use Rattle.std.specs.List.{list_any};
-ghost use Rattle.qz_model.specs.Tables.{IsMoment};
-ghost use Rattle.qz_model.specs.Outcomes.{accepted};
-ghost use Rattle.qz_model.specs.Words.{same_key, without_trigger};
-ghost use Rattle.qz_model.specs.Firing.{is_of, is_acquired, early, fired_reply, fire_one, fire_row, fire, is_noop, is_complete, is_finished, is_orphan, without_orphan_of, completed, complete};
+ghost use Rattle.qz_types.specs.Tables.{IsMoment};
+ghost use Rattle.qz_types.specs.Outcomes.{accepted};
 ghost use Rattle.qz_model.specs.Causes.{IsCause};
+ghost use Rattle.qz_types.specs.Words.{same_key, without_trigger};
+ghost use Rattle.qz_model.specs.Firing.{is_of, early, fire_refusal, fired_reply, fire_one, fire_row, fire, is_noop, is_complete, is_finished, is_orphan, without_orphan_of, completed, complete};
+ghost use Rattle.qz_model.specs.Executions.{is_acquired};
 
+use super::PlainStore;
 use super::due::is_before;
-use super::{PlainStore, StepRefused};
 use crate::rows::{
-    execute_fired, fired_of, job_of, remove_fired, remove_job, remove_trigger, same_key, same_text,
-    spend_trigger, trigger_of,
+    execute_fired, fired_of, is_acquired, job_of, remove_fired, remove_job, remove_trigger,
+    same_key, same_text, spend_trigger, trigger_of,
 };
 use qz_civil::beside;
 use qz_types::{
-    Code, FiredRow, FiredState, JobRow, Key, MemberRow, Refusal, Reply, TriggerRow, TriggerState,
+    Code, FiredRow, JobRow, Key, MemberRow, Refusal, Reply, StepRefused, TriggerRow, TriggerState,
 };
 use std::alloc::AllocError;
 
@@ -72,7 +73,7 @@ impl PlainStore {
         let Some(job) = job_of(&self.jobs, &row.job) else {
             return Err(StepRefused::Refused(Refusal::Unbuilt));
         };
-        if let Some(refusal) = early(moment, trigger.next) {
+        if let Some(refusal) = fire_refusal(moment, trigger, job) {
             return Err(StepRefused::Refused(refusal));
         }
         let Start { trigger, job } = make_start(trigger, job)?;
@@ -99,7 +100,7 @@ impl PlainStore {
         let Some(row) = fired_of(&self.fired, entry) else {
             return Err(StepRefused::Refused(Refusal::UnknownEntry));
         };
-        if !is_of(me, row) || is_acquired(row.state) || !is_noop(code) {
+        if !is_of(me, row) || is_acquired(row.state) || row.no_concurrent || !is_noop(code) {
             return Err(StepRefused::Refused(Refusal::Unbuilt));
         }
         let (entry, row) = (row.entry, row.copy()?);
@@ -192,6 +193,17 @@ fn fired_reply(moment: i64, row: &FiredRow, trigger: TriggerRow, job: JobRow) ->
     }
 }
 
+#[tactic(auto, unfolding(crate::specs::Firing::fire_refusal))]
+fn fire_refusal(moment: i64, trigger: &TriggerRow, job: &JobRow) -> Option<Refusal>
+    ensures { result ≡ fire_refusal moment trigger.now job.now }
+{
+    if job.no_concurrent {
+        Some(Refusal::Unbuilt)
+    } else {
+        early(moment, trigger.next)
+    }
+}
+
 fn early(moment: i64, next: Option<i64>) -> Option<Refusal>
     ensures { result ≡ early moment next }
 {
@@ -206,12 +218,6 @@ fn is_of(me: &MemberRow, row: &FiredRow) -> bool
     ensures { result ≡ is_of me.now row.now }
 {
     same_text(me.node.as_str(), row.node.as_str()) && me.epoch == row.epoch
-}
-
-fn is_acquired(state: FiredState) -> bool
-    ensures { result ≡ is_acquired state }
-{
-    matches!(state, FiredState::Acquired)
 }
 
 fn is_noop(code: Code) -> bool

@@ -1,14 +1,14 @@
 //! The commands on members, and the fence for nodes that aren't members any more.
 ghost use Rattle.std.specs.Prelude.{◌≡◌, ◌<◌, IfOk, IfErr, IfNone, IsTrue, option_copied};
 ghost use Rattle.qz_types.specs.Rows.{is_node};
-ghost use Rattle.qz_model.specs.Tables.{IsMoment};
-ghost use Rattle.qz_model.specs.Outcomes.{accepted};
-ghost use Rattle.qz_model.specs.Membership.{live_epoch, is_live, node_refusal, join_refusal, join};
+ghost use Rattle.qz_types.specs.Tables.{IsMoment};
+ghost use Rattle.qz_types.specs.Outcomes.{accepted};
 ghost use Rattle.qz_model.specs.Causes.{IsCause};
+ghost use Rattle.qz_model.specs.Membership.{live_epoch, is_live, node_refusal, join_refusal, join};
 
-use super::{PlainStore, StepRefused};
+use super::PlainStore;
 use crate::rows::{member_of, put_member};
-use qz_types::{MEMBER_LIMIT, MemberRow, NUMBER_LIMIT, Refusal, Reply, Text};
+use qz_types::{MEMBER_LIMIT, MemberRow, NUMBER_LIMIT, Refusal, Reply, StepRefused, Text};
 
 impl PlainStore {
     pub(super) fn join(&mut self, moment: i64, node: Text) -> Result<Reply, StepRefused>

@@ -2,7 +2,7 @@ use Rattle.std.proofs.Common.{◌≡◌, ◌++◌, length, take}
 use Rattle.std.specs.List.{AllByRecursion}
 use Rattle.qz_codec.specs.Values.{IsEntry}
 use Rattle.qz_journal.specs.Layout.{end_of}
-use Rattle.qz_model.specs.Tables.{empty}
+use Rattle.qz_types.specs.Tables.{new_tables}
 use Rattle.qz_model.specs.History.{replay_from}
 use Rattle.qz_model.specs.Invariant.{TablesValid}
 use Rattle.qz_trigger_store.specs.Opening.{AreReplayed}
@@ -12,7 +12,7 @@ use Rattle.qz_trigger_store.proofs.replaying.replay.Given as goal
 abbrev pub invariant-loop-payload : goal.invariant-loop-payload
 invariant-loop-payload l = record {
   replayed : AreReplayed (take l.payload-index l.payloads) l.entries;
-  tables_are : l.tables ≡ replay_from (empty 1) l.entries;
+  tables_are : l.tables ≡ replay_from new_tables l.entries;
   valid : TablesValid l.tables;
   gate_is : l.gate ≡ end_of (take l.payload-index l.payloads);
 }
