@@ -15,8 +15,8 @@ ghost use Rattle.qz_trigger_store.specs.Opening.{IsUnfit, IsStopped};
 use qz_civil::List;
 use qz_codec::{ReadError, get_command};
 use qz_journal::MountError;
-use qz_model::{PlainStore, StepRefused, Worked};
-use qz_types::Entry;
+use qz_model::{PlainStore, Worked};
+use qz_types::{Entry, StepRefused};
 use std::alloc::Global;
 
 /// A history from a new store on, and the tables that it leaves.

@@ -17,8 +17,8 @@ use qz_civil::List;
 use qz_codec::put_command;
 use qz_disk::Disk;
 use qz_journal::{JournalFull, fits};
-use qz_model::{PlainStore, StepRefused, Worked};
-use qz_types::{Entry, NoMemory, Reply};
+use qz_model::{PlainStore, Worked};
+use qz_types::{Entry, NoMemory, Reply, StepRefused};
 use std::alloc::Global;
 use std::mem;
 
