@@ -49,7 +49,7 @@ fn months_of(length: u64) -> u16
 }
 
 fn leap_years(years: &[u64; 4]) -> [u64; 4]
-    ensures { (i : ℕ) → i < 256 → has_word result i ≡ (has_word years.now i && has LEAP_YEARS (i % 64)) }
+    ensures { (i : ℕ) → i < 256 → has_word result i ≡ (has_word years.now i && has_bit LEAP_YEARS (i % 64)) }
 {
     [
         years[0] & LEAP_YEARS,

@@ -2,7 +2,7 @@
 ghost use Rattle.std.specs.Prelude.{◌≡◌, ◌+◌, ◌-◌, ◌^◌, ◌<◌, ◌≤◌, ◌==◌, Bool, true, IfSome, max};
 ghost use Rattle.std.specs.Int.{IsInRange};
 ghost use Rattle.qz_civil.specs.Dates.{date_of};
-ghost use Rattle.qz_civil.specs.Fields.{has as has_value, in_days, in_week, nearest};
+ghost use Rattle.qz_civil.specs.Fields.{has_bit as has_value, in_days, in_week, nearest};
 ghost use Rattle.qz_civil.specs.Least.{IsFirst};
 ghost use Rattle.qz_civil.specs.declared.limits.TheConstants.{END_DAY};
 ghost use Rattle.qz_cron.specs.Search.{first_of, meets_in_month, month_days, weekday_in};
