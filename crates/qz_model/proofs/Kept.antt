@@ -90,4 +90,5 @@ valid-empty version = record {
 }
 
 pub valid-new_tables : TablesValid new_tables
+unfolding new_tables
 valid-new_tables = valid-empty 1

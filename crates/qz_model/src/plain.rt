@@ -73,7 +73,8 @@ impl Model for PlainStore {
 }
 
 impl PlainStore {
-    /// The store without rows, of format version 1. No memory.
+    /// A new store's tables, without rows.
+    #[tactic(auto, unfolding(qz_types::specs::Tables::new_tables))]
     pub fn new(alloc: Global) -> Self
         ensures { result ≡ new_tables }
     {

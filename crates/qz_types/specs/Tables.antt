@@ -48,7 +48,7 @@ empty version = record {
 }
 
 -- the tables of a new store, of the format version that is written today
-abbrev pub new_tables : SchedulerTables
+unfoldable pub new_tables : SchedulerTables
 new_tables = empty 1
 
 -- from 0 to the horizon
