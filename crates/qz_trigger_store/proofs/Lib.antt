@@ -3,3 +3,4 @@ pub mod Kept
 pub mod Moments
 pub mod Once
 pub mod Replays
+pub mod Sound

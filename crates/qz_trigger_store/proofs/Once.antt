@@ -42,6 +42,7 @@ none_unfit T (x ∷ ps) (e ∷ es) (h ∷ hs) payload more p q a b legal unfit =
 
 -- why the payloads of a history aren't replayed: memory ran out
 pub only_memory : (h : History) (payloads : List (List ℕ)) (e : MountError) → IsHistory h → Encode payloads h.entries → IsStopped payloads e → (e ≡ mount.Fault) ⊎ (e ≡ mount.NoMemory)
+unfolding new_tables
 only_memory h payloads mount.NoMemory is same stopped = inr refl
 only_memory h payloads mount.NotAStore is same stopped = absurd stopped
 only_memory h payloads mount.Fault is same stopped = absurd stopped
@@ -52,6 +53,7 @@ only_memory h payloads (mount.Damaged at) is same stopped =
     (subst (λ (T : SchedulerTables). IsLegalFrom T h.entries) is.begins.base is.legal) stopped.unfit)
 
 history_is : (h : History) (entries : List EntryData) → BeginsNew version h → entries ≡ h.entries → history_of entries ≡ h
+unfolding new_tables
 history_is h entries begins same = λ i. record { base_count = sym begins.count i; base = sym begins.base i; entries = same i }
 
 -- the history of a store that was just opened

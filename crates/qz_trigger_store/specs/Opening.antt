@@ -4,26 +4,32 @@ use Rattle.std.specs.List.{AllByRecursion}
 use Rattle.qz_types.specs.Entries.{EntryData}
 use Rattle.qz_types.specs.Tables.{SchedulerTables, new_tables}
 use Rattle.qz_model.specs.Transaction.{transaction}
-use Rattle.qz_model.specs.History.{History, IsLegalFrom, replay_from, replay}
+use Rattle.qz_model.specs.History.{IsLegal, IsLegalFrom, replay_from, replay}
 use Rattle.qz_types.specs.Outcomes.{IsAccepted}
 use Rattle.qz_model.specs.Invariant.{TablesValid}
-use Rattle.qz_journal.specs.Layout.{IsHeader, IsPayload, open_gate, body_of, blocks, end_of}
+use Rattle.qz_journal.specs.Layout.{version, IsHeader, IsPayload, open_gate, body_of, blocks, end_of}
 use Rattle.qz_journal.specs.Opening.{IsBad}
 use Rattle.qz_journal.specs.declared.layout.TheConstants.{TRIGGERS}
 use Rattle.qz_journal.specs.declared.errors.MountError.{MountError}
 use Rattle.qz_journal.specs.declared.errors.MountError.TheVariants as mount
 use Rattle.qz_codec.specs.Values.{IsEntry}
 use Rattle.qz_trigger_store.specs.Entries.{TriggerState}
-use Rattle.qz_trigger_store.specs.Bytes.{IsRecord, IsHistory, IsPlaced, Encode}
+use Rattle.qz_trigger_store.specs.Bytes.{IsRecord, IsPlaced, Encode, BeginsNew}
 
--- A store that was just opened, whatever its disk tells: its history is legal and begins with a new store, its tables
--- are valid, and its gate comes after the records of its entries.
+-- What holds of a store at each moment, whatever its disk tells: its history is legal and begins with a new store, its
+-- tables are valid, and its gate comes after the records of its entries.
+pub record IsSound (s : TriggerState) : Type 0 where
+  pub begins : BeginsNew version s.history
+  pub legal : IsLegal s.history
+  pub tables : TablesValid (replay s.history)
+  pub placed : IsPlaced s
+
+-- a store that was just opened
 pub record IsOpened (s : TriggerState) : Type 0 where
   pub is_open : s.is_open ≡ true
   pub settled : s.undecided ≡ None
-  pub history : IsHistory s.history
-  pub tables : TablesValid (replay s.history)
-  pub placed : IsPlaced s
+  pub sound : IsSound s
+  pub valid : AllByRecursion IsEntry s.history.entries
 
 -- It is the record of no entry that is accepted at these tables: it is no record at all, or its command is refused.
 abbrev pub IsUnfit : SchedulerTables → List ℕ → Type 0
