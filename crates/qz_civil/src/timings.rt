@@ -100,13 +100,13 @@ pub struct Timing {
 /// What a misfire makes of a trigger.
 #[derive(Clone, Copy, PartialEq, Eq, Debug)]
 pub struct Moved {
-    /// The new start, in ms since 1970-01-01T00:00:00Z.
+    /// Its start, in ms since 1970-01-01T00:00:00Z.
     pub start: i64,
-    /// The new next fire time, in ms since 1970-01-01T00:00:00Z.
+    /// Its next fire time, in ms since 1970-01-01T00:00:00Z.
     pub next: Option<i64>,
-    /// The count of its kind, and 0 where the kind has none.
+    /// The count of a simple trigger, and 0 for the other kinds.
     pub count: i64,
-    /// How often it has fired.
+    /// How often it has fired, up to 2 to the power of 63.
     pub times: u64,
 }
 
