@@ -7,6 +7,7 @@ pub mod Instants
 pub mod Least
 pub mod Lists
 pub mod Months
-pub mod Timings
 pub mod Occurrences
+pub mod Spans
+pub mod Timings
 pub mod Zones

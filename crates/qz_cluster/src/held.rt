@@ -30,7 +30,7 @@ pub(crate) fn room_for_one(
 {
     let mut rows = without(alloc, held, node)?;
     rows.reserve(1)?;
-    let name = node.copy()?;
+    let name = node.clone()?;
     Ok((rows, name))
 }
 
