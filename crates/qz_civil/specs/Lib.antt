@@ -4,8 +4,8 @@ pub mod Dates
 pub mod Earliest
 pub mod Fields
 pub mod Instants
-pub mod Least
 pub mod Lists
+pub mod Least
 pub mod Months
 pub mod Occurrences
 pub mod Spans
