@@ -1,1 +1,3 @@
-mod Unaccepted
+pub mod Cases
+pub mod Held
+pub mod Unaccepted

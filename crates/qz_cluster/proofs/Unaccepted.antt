@@ -21,7 +21,7 @@ pub ends : (e : EntryData) (x : SubmitError) (s t : TriggerState) → Submits tr
 ends e (submit.Closed at) s t is = tt
 ends e (submit.Refused refusal) s t is = tt
 ends e (submit.JournalFull need room) s t is = is
-ends e submit.NoMemory s t is = is
+ends e submit.NoMemory s t is = is.same
 ends e submit.Fault s t is = tt
 
 -- All but a fault leaves the store as it was.

@@ -17,12 +17,12 @@ use crate::entries::{client_entry, node_entry};
 use crate::held::{epoch_of, put_reserved, room_for_one};
 use crate::{Cluster, StepEnd};
 use qz_disk::Disk;
-use qz_types::{Command, Entry, MemberRow, NoMemory, Reply, Step, StepReply, SubmitError, Text};
+use qz_types::{Command, Entry, MemberRow, Reply, Step, StepReply, SubmitError, Text};
 
 impl<D: Disk> Cluster<D> {
     /// Does one step at this reading of the clock, in ms since 1970-01-01T00:00:00Z. The store and its disk stay as they
-    /// were, except for an accepted transaction and for a fault. `NoMemory` and `JournalFull` are answered only where the
-    /// step's transaction would be accepted.
+    /// were, except for an accepted transaction and for a fault. `JournalFull` is answered only where the step's
+    /// transaction would be accepted.
     pub fn step(&mut self, step: Step, at: i64) -> Result<StepReply, StepEnd>
         requires { IsTrue (is_step step) }
         ensures ok { IfOk result (λ r. IsStep (record { step = step; at = at }) r (view self.old) (view self.new)) }
@@ -81,14 +81,10 @@ impl<D: Disk> Cluster<D> {
         ensures unchanged { OnErr result (KeepsStores self.old self.new) }
         ensures any_moment { D.honest → EachLeavesEither self.old self.new }
     {
-        match room_for_one(self.alloc, &self.held, &node) {
-            Ok((rows, name)) => {
-                let reply = self.submit(client_entry(Command::Join { node }, at))?;
-                self.hold(name, rows, &reply);
-                Ok(reply)
-            }
-            Err(NoMemory) => self.decide(client_entry(Command::Join { node }, at)),
-        }
+        let (rows, name) = room_for_one(self.alloc, &self.held, &node)?;
+        let reply = self.submit(client_entry(Command::Join { node }, at))?;
+        self.hold(name, rows, &reply);
+        Ok(reply)
     }
 
     // The epochs after a join that was answered so, where these are the rows of the other nodes.
@@ -134,19 +130,6 @@ impl<D: Disk> Cluster<D> {
     {
         match self.triggers.submit(entry) {
             Ok(reply) => Ok(StepReply::Ok(reply)),
-            Err(error) => unaccepted(error),
-        }
-    }
-
-    // What a transaction comes to where there is no memory for it.
-    fn decide(&self, entry: Entry) -> Result<StepReply, StepEnd>
-        ensures ok { IfOk result (λ r. Submitted entry r (view self.now).triggers (view self.now).triggers) }
-        ensures err { IfErr result (λ e. Unsubmitted entry e (view self.now).triggers (view self.now).triggers) }
-    {
-        let decided = self.triggers.check(&entry);
-        drop(entry);
-        match decided {
-            Ok(()) => Err(StepEnd::NoMemory),
             Err(error) => unaccepted(error),
         }
     }

@@ -9,6 +9,7 @@ use Rattle.qz_io.specs.Clocks.{Tells}
 use Rattle.qz_io.proofs.TakenLaws.{whole_end}
 use Rattle.qz_io.specs.Lines.{IsOneLine, lines_of, with_feeds}
 use Rattle.qz_io.specs.declared.readers.TheConstants.{LINE_COUNT_LIMIT}
+use Rattle.qz_cluster.specs.Steps.{is_closed}
 use Rattle.qz_top.specs.declared.statuses.Status.{Status}
 use Rattle.qz_top.specs.declared.statuses.Status.TheVariants as status
 use Rattle.qz_top.specs.Lines.{IsGood, readings_of, first_bad, first_bad_from}
@@ -41,14 +42,6 @@ wrote_nothing x y z text p q = subst (Appends x z) (append-nil text) (Appends-tr
 -- good lines within the limit have no bad one among them
 none_bad : (lines : List (List ℕ)) → AllByRecursion IsGood lines → length lines ≤ LINE_COUNT_LIMIT → first_bad lines ≡ None
 none_bad lines good low = ap (first_bad_from 1) (sym (append-nil lines)) ∙ first_bad_from-append 1 lines [] good (omega arith)
-
-stands_open : (closed now : Bool) → closed ≡ not now → closed ≡ false → now ≡ true
-stands_open closed true tells isnt = refl
-stands_open closed false tells isnt = let bad : true ≡ false = sym tells ∙ isnt in absurd cc
-
-stands_closed : (closed now : Bool) → closed ≡ not now → closed ≡ true → now ≡ false
-stands_closed closed false tells is = refl
-stands_closed closed true tells is = let bad : false ≡ true = sym tells ∙ is in absurd cc
 
 -- all lines were read
 pub record AllRead (left left' : Option (List ℕ)) (lines : List (List ℕ)) : Type 0 where
@@ -85,7 +78,7 @@ wrote_whole x z replies written = record {
 -- Nothing is ahead, and the output was flushed, or that failed.
 pub IsRun-finished : (s : Status) (closed : Bool) (lines : List (List ℕ)) (readings : List ℤ) (i j k : Option (List ℕ)) (pending : List ℕ) (R S S' : RunState) (x y z w : Option (List ℕ)) (a b c : Option (List ℤ)) (m n : ℕ)
     → Upto lines readings i j pending R S x y a b → (went : WentToEnd j k pending S S' y z b c) → length lines + length went.lines ≤ LINE_COUNT_LIMIT
-    → closed ≡ not S'.cluster.triggers.is_open → Finishes s closed z w m n
+    → closed ≡ is_closed S'.cluster → Finishes s closed z w m n
     → (replies : List StepReply) × IsRun s R S' i k x w a c (lines ++ went.lines) (readings ++ went.readings) replies
 IsRun-finished status.Ok closed lines readings i j k pending R S S' x y z w a b c m n upto went low tells flushed =
     let ran = Ran-more lines went.lines readings went.readings R S S' x y z a b c upto.ran went.ran in (
@@ -97,7 +90,7 @@ IsRun-finished status.Ok closed lines readings i j k pending R S S' x y z w a b 
         went = ran.did.went;
         idles = Idles-none S';
         full = tt;
-        closed = stands_open closed S'.cluster.triggers.is_open tells flushed.0;
+        closed = sym tells ∙ flushed.0;
         reads = (reads_all i j k lines pending S S' y z b c upto.one_line upto.taken went ran.did.good (simp length-append low)).ok;
         clocked = exact_readings status.Ok a c _ _ ran.did.count ran.did.told;
         writes = wrote_nothing x z w _ ran.written flushed.1;
@@ -113,7 +106,7 @@ IsRun-finished status.DiskFault closed lines readings i j k pending R S S' x y z
         went = ran.did.went;
         idles = Idles-none S';
         full = tt;
-        closed = stands_closed closed S'.cluster.triggers.is_open tells flushed.0;
+        closed = sym tells ∙ flushed.0;
         reads = (reads_all i j k lines pending S S' y z b c upto.one_line upto.taken went ran.did.good (simp length-append low)).closed;
         clocked = exact_readings status.DiskFault a c _ _ ran.did.count ran.did.told;
         writes = wrote_nothing x z w _ ran.written flushed.1;
@@ -164,7 +157,7 @@ nothing_ahead j k pending R x a taken none ended = record {
 -- As many lines as a script may have were done, and nothing is ahead.
 pub IsRun-full : (s : Status) (closed : Bool) (lines : List (List ℕ)) (readings : List ℤ) (i j k : Option (List ℕ)) (pending : List ℕ) (R S : RunState) (x y z : Option (List ℕ)) (a b : Option (List ℤ)) (m n : ℕ)
     → Upto lines readings i j pending R S x y a b → Consumes j k [] × (pending ≡ []) × IsAtEnd k → length lines ≡ LINE_COUNT_LIMIT
-    → closed ≡ not S.cluster.triggers.is_open → Finishes s closed y z m n
+    → closed ≡ is_closed S.cluster → Finishes s closed y z m n
     → (all : List (List ℕ)) × (taken : List ℤ) × (replies : List StepReply) × IsRun s R S i k x z a b all taken replies
 IsRun-full s closed lines readings i j k pending R S x y z a b m n upto nothing full tells flushed =
     let end = nothing_ahead j k pending S y b nothing.0 nothing.1 nothing.2 in

@@ -6,7 +6,7 @@ use Rattle.qz_io.specs.Clocks.{Tells}
 use Rattle.qz_types.specs.declared.steps.StepReply.{StepReply}
 use Rattle.qz_model.specs.Script.{TimedStep}
 use Rattle.qz_report.specs.Replies.{reply_text}
-use Rattle.qz_cluster.specs.Steps.{Stays, FindsNoRoom}
+use Rattle.qz_cluster.specs.Steps.{Stays, OverflowedStep}
 use Rattle.qz_job_json.specs.declared.lines.Given.{Given}
 use Rattle.qz_job_json.specs.declared.lines.LineFault.{LineFault}
 use Rattle.qz_job_json.specs.declared.lines.LineFault.TheVariants as line_fault
@@ -72,14 +72,14 @@ pub record StepFull (given : Given) (need room : ℕ)
   pub own : IsOwn given.at at
   pub told : Tells clock clock' (taken_reading given.at at)
   pub kept : Appends held held' []
-  pub full : FindsNoRoom (step_at given at) need room R.cluster R'.cluster
+  pub full : OverflowedStep (step_at given at) need room R.cluster R'.cluster
   pub trail : R'.trail ≡ R.trail
   pub is_own : R'.is_own ≡ R.is_own
 
 -- what is left where a step has no answer
 abbrev pub NotDone : LineEnd → TimedStep → RunState → RunState → Type 0
 NotDone (ends.JournalFull need room) t R R' =
-    FindsNoRoom t need room R.cluster R'.cluster × (R'.trail ≡ R.trail) × (R'.is_own ≡ R.is_own)
+    OverflowedStep t need room R.cluster R'.cluster × (R'.trail ≡ R.trail) × (R'.is_own ≡ R.is_own)
 NotDone ends.NoMemory t R R' = Idles R R'
 NotDone (ends.Bad kind) t R R' = ⊥
 NotDone ends.ReadFault t R R' = ⊥

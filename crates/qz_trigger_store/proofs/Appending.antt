@@ -10,15 +10,15 @@ use Rattle.qz_types.specs.declared.replies.Reply.{Reply}
 use Rattle.qz_types.specs.Tables.{SchedulerTables, new_tables, recorded_moment}
 use Rattle.qz_types.specs.Outcomes.{Outcome, accepted, IsAccepted}
 use Rattle.qz_model.specs.Transaction.{transaction}
-use Rattle.qz_model.specs.History.{tables_left, onto_replies, IsLegalFrom, replay_from, replies_from, moments_from}
+use Rattle.qz_model.specs.History.{new_history, tables_left, onto_replies, IsLegalFrom, replay_from, replies_from, moments_from}
 use Rattle.qz_model.proofs.Histories.{IsLegalFrom-entry, replay_from-append, replies_from-append, moments_from-append}
-use Rattle.qz_journal.specs.Layout.{Holds, IsBeforeOrAfter}
+use Rattle.qz_journal.specs.Layout.{version, Holds, IsBeforeOrAfter}
 use Rattle.qz_journal.specs.declared.layout.TheConstants.{TRIGGERS}
 use Rattle.qz_journal.proofs.Once.{holds_once}
 use Rattle.qz_codec.specs.Layout.{record_of}
 use Rattle.qz_codec.specs.Values.{IsEntry}
 use Rattle.qz_trigger_store.specs.Entries.{history_of}
-use Rattle.qz_trigger_store.specs.Bytes.{Encode, HoldEntries, MayHold, MayBe, Stands}
+use Rattle.qz_trigger_store.specs.Bytes.{Encode, HoldEntries, MayHold, MayBe, BeginsNew, Stands}
 use Rattle.qz_trigger_store.proofs.Replays.{All-pushed, Encode-pushed}
 
 -- In memory.
@@ -113,6 +113,15 @@ images_undecided es u e s t u_is lawful leaves b is = subst (λ v. MayHold es v 
 stands_as : (es : List EntryData) (b : List ℕ) → HoldEntries b es → Stands b (history_of es)
 unfolding new_tables
 stands_as es b held = record { begins = record { count = refl; base = refl }; held = held }
+
+-- a new store
+
+pub begins_new : BeginsNew version new_history
+unfolding new_tables
+begins_new = record { count = refl; base = refl }
+
+pub stands_new : (b : List ℕ) → Holds b TRIGGERS [] → Stands b new_history
+stands_new b holds = record { begins = begins_new; held = holding b [] [] holds tt }
 
 pub may_be : (es : List EntryData) (u : Option EntryData) (b : List ℕ) → MayHold es u b → MayBe (history_of es) u b
 may_be es None b held = stands_as es b held

@@ -18,6 +18,7 @@ use Rattle.qz_model.specs.Transaction.{by_command, transaction}
 use Rattle.qz_types.specs.Words.{fired_of, job_of, trigger_of}
 use Rattle.qz_model.specs.Scheduling.{add_job_refusal, add_trigger_refusal}
 use Rattle.qz_model.specs.Membership.{node_refusal, join_refusal}
+use Rattle.qz_model.specs.Executions.{is_acquired}
 use Rattle.qz_model.specs.Firing
 
 -- if it is accepted, this is the last moment
@@ -42,7 +43,7 @@ acquire_first-records T m me (t ∷ ts) = acquire_for-records T m me t t.next (j
 fire_for-records : (T : SchedulerTables) (m : ℤ) (f : FiredData) (t : Option TriggerData) (job : Option JobData) → Records m (Firing.fire_for T m f t job)
 fire_for-records T m f None job = tt
 fire_for-records T m f (Some t) None = tt
-fire_for-records T m f (Some t) (Some job) = unless-records m (Firing.early m t.next) _ refl
+fire_for-records T m f (Some t) (Some job) = unless-records m (Firing.fire_refusal m t job) _ refl
 
 either-records : (m : ℤ) (test : Bool) (o : Outcome) (x : Refusal) → Records m o → Records m (if test then o else refused x)
 either-records m true o x is = is
@@ -68,7 +69,7 @@ completed-moment T m f = without_finished-moment _ (trigger_of f.trigger T.trigg
 complete_row-records : (T : SchedulerTables) (m : ℤ) (me : MemberData) (f : Option FiredData) (code : Code) → Records m (Firing.complete_row T m me f code)
 complete_row-records T m me None code = tt
 complete_row-records T m me (Some f) code =
-    either-records m (Firing.is_of me f && not (Firing.is_acquired f.state) && Firing.is_noop code) (accepted (Firing.completed T m f) (Completed f.entry)) Unbuilt (completed-moment T m f)
+    either-records m (Firing.is_of me f && not (is_acquired f.state) && not f.no_concurrent && Firing.is_noop code) (accepted (Firing.completed T m f) (Completed f.entry)) Unbuilt (completed-moment T m f)
 
 by_command-records : (T : SchedulerTables) (m : ℤ) (actor : Actor) (c : Command) → Records m (by_command T m actor c)
 by_command-records T m actor (AddJob job replace) = unless-records m (add_job_refusal T job replace) _ refl

@@ -66,6 +66,11 @@ Encode-pushed [] (f ∷ es) p e all is = absurd all
 Encode-pushed (q ∷ ps) [] p e all is = absurd all
 Encode-pushed (q ∷ ps) (f ∷ es) p e all is = (all.0, Encode-pushed ps es p e all.1 is)
 
+-- none was taken yet
+pub taken_none : (payloads : List (List ℕ)) (es : List EntryData) → es ≡ [] → AreReplayed (take 0 payloads) es
+taken_none payloads [] none = record { encode = tt; valid = tt; legal = tt }
+taken_none payloads (e ∷ es) none = absurd cc
+
 -- one payload more was taken
 pub taken_more : (payloads : List (List ℕ)) (i : ℕ) (p : List ℕ) (T : SchedulerTables) (es fs : List EntryData) (e : EntryData)
     → i < length payloads → p ≡ get_or payloads i p → fs ≡ es ++ e ∷ [] → T ≡ replay_from new_tables es → IsRecord p e → IsAccepted (transaction T e)

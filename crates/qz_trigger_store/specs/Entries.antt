@@ -4,7 +4,7 @@ use Rattle.std.specs.declared.result.Result.{Result}
 use Rattle.qz_types.specs.Entries.{EntryData}
 use Rattle.qz_types.specs.declared.replies.Reply.{Reply}
 use Rattle.qz_types.specs.declared.replies.Refusal.{Refusal}
-use Rattle.qz_types.specs.Outcomes.{Outcome, accepted, refused, IsAccepted}
+use Rattle.qz_types.specs.Outcomes.{Outcome, accepted, refused}
 use Rattle.qz_model.specs.Transaction.{transaction}
 use Rattle.qz_model.specs.History.{History, new_history, with_entry, replay}
 use Rattle.qz_codec.specs.Layout.{record_of}
@@ -33,10 +33,10 @@ history_of entries = record new_history { entries = entries }
 abbrev pub TriggerState : Type 0
 TriggerState = StoreState History EntryData
 
--- Why a transaction isn't done at these tables. There is want of memory only where it would be accepted.
+-- why a transaction isn't done at these tables: it is refused, or memory ran out
 abbrev pub IsCause : Outcome → SubmitError → Type 0
 IsCause outcome (submit.Refused refusal) = outcome ≡ refused refusal
-IsCause outcome submit.NoMemory = IsAccepted outcome
+IsCause outcome submit.NoMemory = ⊤
 IsCause outcome (submit.Closed at) = ⊥
 IsCause outcome (submit.JournalFull need room) = ⊥
 IsCause outcome submit.Fault = ⊥

@@ -1,7 +1,19 @@
-use Rattle.std.proofs.Common.{◌≡◌, ◌<◌, List, ℕ, Err, length, get_or, sym, ap, subst, arith}
+use Rattle.std.proofs.Common.{◌≡◌, ◌∙◌, ◌<◌, List, ℕ, Err, length, get_or, refl, sym, ap, subst, arith}
+use Rattle.qz_types.specs.Tables.{new_tables}
+use Rattle.qz_model.specs.History.{replay_from}
+use Rattle.qz_model.specs.Invariant.{TablesValid}
+use Rattle.qz_model.proofs.Kept.{valid-new_tables}
 use Rattle.qz_trigger_store.specs.Bytes.{IsRecord}
-use Rattle.qz_trigger_store.proofs.Replays.{gate_fits, taken_more, taken_tables, taken_gate, stops_at}
+use Rattle.qz_trigger_store.proofs.Replays.{gate_fits, taken_none, taken_more, taken_tables, taken_gate, stops_at}
 use Rattle.qz_trigger_store.proofs.replaying.replay.Goals as goal
+
+pub loop-payload-init : goal.loop-payload-init
+loop-payload-init c = record {
+  replayed = taken_none c.args.payloads.now _ c.new-entries.ensures;
+  tables_are = c.new-tables.ensures ∙ ap (replay_from new_tables) (sym c.new-entries.ensures);
+  valid = subst TablesValid (sym c.new-tables.ensures) valid-new_tables;
+  gate_is = refl;
+}
 
 pub overflow_add-gate-in-loop-payload : goal.overflow_add-gate-in-loop-payload
 overflow_add-gate-in-loop-payload c =
