@@ -2,7 +2,7 @@
 ghost use Rattle.std.specs.Prelude.{◌≡◌, ◌⊎◌, ◌≤◌, [], IfOk, IfErr, MatchResult};
 ghost use Rattle.qz_civil.specs.Causes.{Rose};
 ghost use Rattle.qz_model.specs.History.{History};
-ghost use Rattle.qz_journal.specs.Through.{OnlyReads};
+ghost use Rattle.qz_journal.specs.Through.{OnlyReads, OnlyReadsUnless};
 ghost use Rattle.qz_trigger_store.specs.Bytes.{Stands, IsHistory};
 ghost use Rattle.qz_trigger_store.specs.Opening.{IsOpened, IsRefused};
 ghost use Rattle.qz_cluster.specs.Steps.{is_closed};
@@ -23,7 +23,7 @@ impl<D: Disk> Cluster<D> {
         ensures nothing_held { IfOk result (λ c. (view c).held ≡ []) }
         ensures stands { D.honest → IfOk result (λ c. Stands (D.state triggers).content (view c).triggers.history) }
         ensures reads { D.honest → IfOk result (λ c. OnlyReads (D.state triggers) (triggers_disk c)) }
-        ensures reads_err { D.honest → IfErr result (λ e. OnlyReads (D.state triggers) (D.state e.1)) }
+        ensures reads_err { D.honest → IfErr result (λ e. OnlyReadsUnless (e.0 ≡ MountError.Fault) (D.state triggers) (D.state e.1)) }
         ensures refused { D.honest → IfErr result (λ e. IsRefused (D.state triggers).content e.0) }
         // Where the bytes are those of a history, it comes to that history, or memory or the disk fails.
         ensures whole { D.honest → (h : History) → IsHistory h → Stands (D.state triggers).content h

@@ -5,7 +5,7 @@ ghost use Rattle.std.specs.List.{AllByRecursion};
 ghost use Rattle.qz_codec.specs.Values.{IsEntry};
 ghost use Rattle.qz_journal.specs.Layout.{end_of};
 ghost use Rattle.qz_journal.specs.declared.layout.TheConstants.{TRIGGERS as OF_TRIGGERS};
-ghost use Rattle.qz_journal.specs.Through.{OnlyReads};
+ghost use Rattle.qz_journal.specs.Through.{OnlyReads, OnlyReadsUnless};
 ghost use Rattle.qz_journal.specs.View.{disk_of as journal_disk, kind_of, count_of, closed_at};
 ghost use Rattle.qz_model.specs.History.{History};
 ghost use Rattle.qz_model.specs.Invariant.{TablesValid};
@@ -31,7 +31,7 @@ impl<D: Disk> TriggerStore<D> {
         ensures nothing_added { IfOk result (λ store. added_of store ≡ []) }
         ensures stands { D.honest → IfOk result (λ store. Stands (D.state disk).content (view store).history) }
         ensures reads { D.honest → IfOk result (λ store. OnlyReads (D.state disk) (disk_state store)) }
-        ensures reads_err { D.honest → IfErr result (λ e. OnlyReads (D.state disk) (D.state e.1)) }
+        ensures reads_err { D.honest → IfErr result (λ e. OnlyReadsUnless (e.0 ≡ MountError.Fault) (D.state disk) (D.state e.1)) }
         ensures refused { D.honest → IfErr result (λ e. IsRefused (D.state disk).content e.0) }
         // Where the bytes are those of a history, it comes to that history, or memory or the disk fails.
         ensures whole { D.honest → (h : History) → IsHistory h → Stands (D.state disk).content h
