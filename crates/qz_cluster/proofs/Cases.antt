@@ -1,6 +1,6 @@
 -- The case of a step, from what its entry came to.
-use Rattle.std.proofs.Common.{◌≡◌, ℕ, ℤ, List, Bool, true, false, not, IsTrue, Some, None, refl, sym, ◌∙◌, ap, arith}
-use Rattle.std.specs.Prelude.{IfOk, IfErr, Result, Ok, Err, IsOk}
+use Rattle.std.proofs.Common.{◌≡◌, ℕ, ℤ, List, Bool, true, false, not, IsTrue, Some, None, refl, sym, ◌∙◌, ap, subst, arith}
+use Rattle.std.specs.Prelude.{IfOk, IfErr, OnErr, Result, Ok, Err}
 use Rattle.qz_types.specs.Rows.{MemberData}
 use Rattle.qz_types.specs.Entries.{EntryData}
 use Rattle.qz_types.specs.Steps.{is_step}
@@ -111,3 +111,53 @@ unheld_case node c at true r S none is closed stopped =
     rw (stopped is) (record { needs_open = ap not is; unheld = ap (λ m. entry_of_member m c at) (sym none); stays = record { triggers = same_itself S.triggers; held = refl } })
 unheld_case node c at false r S none is closed stopped =
     rw (closed is) (record { needs_closed = ap not is; stays = record { triggers = same_itself S.triggers; held = refl } })
+
+-- As a step's answer.
+
+pub client_ok : (x : Result StepReply StepEnd) (step : Step) (c : Command) (at : ℤ) (S S' : ClusterState) → step ≡ Client c → IsTrue (is_step step)
+    → IfOk x (λ r. Submitted (entry_of actor.Client c at) r S.triggers S'.triggers) → S'.held ≡ S.held → IfOk x (λ r. IsStep (record { step = step; at = at }) r S S')
+client_ok (Ok r) step c at S S' is valid done held =
+    subst (λ (s : Step). IsStep (record { step = s; at = at }) r S S') (sym is) (client_step c at r S S' (subst (λ (s : Step). IsTrue (is_step s)) is valid) done held)
+client_ok (Err e) step c at S S' is valid done held = tt
+
+pub client_err : (x : Result StepReply StepEnd) (step : Step) (c : Command) (at : ℤ) (S S' : ClusterState) → step ≡ Client c → IsTrue (is_step step)
+    → IfErr x (λ e. Unsubmitted (entry_of actor.Client c at) e S.triggers S'.triggers) → S'.held ≡ S.held → IfErr x (λ e. IsCutShort (record { step = step; at = at }) e S S')
+client_err (Ok r) step c at S S' is valid done held = tt
+client_err (Err e) step c at S S' is valid done held =
+    subst (λ (s : Step). IsCutShort (record { step = s; at = at }) e S S') (sym is) (client_end c at e S S' (subst (λ (s : Step). IsTrue (is_step s)) is valid) done held)
+
+pub join_ok : (x : Result StepReply StepEnd) (step : Step) (node : List ℕ) (interval at : ℤ) (S S' : ClusterState) → step ≡ Join node interval → IsTrue (is_step step)
+    → IfOk x (λ r. Submitted (entry_of actor.Client (command.Join node) at) r S.triggers S'.triggers) → IfOk x (λ r. S'.held ≡ held_after_answer node S.held r)
+    → IfOk x (λ r. IsStep (record { step = step; at = at }) r S S')
+join_ok (Ok r) step node interval at S S' is valid done held =
+    subst (λ (s : Step). IsStep (record { step = s; at = at }) r S S') (sym is) (join_step node interval at r S S' (subst (λ (s : Step). IsTrue (is_step s)) is valid) done held)
+join_ok (Err e) step node interval at S S' is valid done held = tt
+
+pub join_err : (x : Result StepReply StepEnd) (step : Step) (node : List ℕ) (interval at : ℤ) (S S' : ClusterState) → step ≡ Join node interval → IsTrue (is_step step)
+    → IfErr x (λ e. Unsubmitted (entry_of actor.Client (command.Join node) at) e S.triggers S'.triggers) → OnErr x (S'.held ≡ S.held)
+    → IfErr x (λ e. IsCutShort (record { step = step; at = at }) e S S')
+join_err (Ok r) step node interval at S S' is valid done held = tt
+join_err (Err e) step node interval at S S' is valid done held =
+    subst (λ (s : Step). IsCutShort (record { step = s; at = at }) e S S') (sym is) (join_end node interval at e S S' (subst (λ (s : Step). IsTrue (is_step s)) is valid) done held)
+
+pub node_ok : (x : Result StepReply StepEnd) (step : Step) (node : List ℕ) (c : Command) (at : ℤ) (S S' : ClusterState) → step ≡ Node node c → IsTrue (is_step step)
+    → IfOk x (λ r. StepCase (record { step = Node node c; at = at }) r S S') → IfOk x (λ r. IsStep (record { step = step; at = at }) r S S')
+node_ok (Ok r) step node c at S S' is valid case =
+    subst (λ (s : Step). IsStep (record { step = s; at = at }) r S S') (sym is) (record { valid = subst (λ (s : Step). IsTrue (is_step s)) is valid; case = case })
+node_ok (Err e) step node c at S S' is valid case = tt
+
+pub node_err : (x : Result StepReply StepEnd) (step : Step) (node : List ℕ) (c : Command) (at : ℤ) (S S' : ClusterState) → step ≡ Node node c → IsTrue (is_step step)
+    → IfErr x (λ e. EndCase (record { step = Node node c; at = at }) e S S') → IfErr x (λ e. IsCutShort (record { step = step; at = at }) e S S')
+node_err (Ok r) step node c at S S' is valid case = tt
+node_err (Err e) step node c at S S' is valid case =
+    subst (λ (s : Step). IsCutShort (record { step = s; at = at }) e S S') (sym is) (record { valid = subst (λ (s : Step). IsTrue (is_step s)) is valid; case = case })
+
+pub submitted_ok : (x : Result StepReply StepEnd) (node : List ℕ) (c : Command) (at : ℤ) (me : MemberData) (S S' : ClusterState) → Some me ≡ member_of node S.held
+    → IfOk x (λ r. Submitted (entry_of (actor.Node me) c at) r S.triggers S'.triggers) → S'.held ≡ S.held → IfOk x (λ r. StepCase (record { step = Node node c; at = at }) r S S')
+submitted_ok (Ok r) node c at me S S' found done held = node_case node c at me r S S' found done held
+submitted_ok (Err e) node c at me S S' found done held = tt
+
+pub submitted_err : (x : Result StepReply StepEnd) (node : List ℕ) (c : Command) (at : ℤ) (me : MemberData) (S S' : ClusterState) → Some me ≡ member_of node S.held
+    → IfErr x (λ e. Unsubmitted (entry_of (actor.Node me) c at) e S.triggers S'.triggers) → S'.held ≡ S.held → IfErr x (λ e. EndCase (record { step = Node node c; at = at }) e S S')
+submitted_err (Ok r) node c at me S S' found done held = tt
+submitted_err (Err e) node c at me S S' found done held = node_end node c at me e S S' found done held
