@@ -155,7 +155,7 @@ fn acquired_row(
 {
     let no_concurrent = is_exclusive(jobs, &trigger.spec.job);
     let requests_recovery = is_recovered(jobs, &trigger.spec.job);
-    let node = me.node.copy()?;
+    let node = me.node.clone()?;
     let (node, key) = beside(node, trigger.spec.key.copy())?;
     let ((node, key), job_key) = beside((node, key), trigger.spec.job.copy())?;
     Ok(FiredRow {
