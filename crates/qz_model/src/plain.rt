@@ -134,6 +134,7 @@ impl PlainStore {
         requires { IsTrue (is_entry entry.now) }
         ensures ok { IfOk result (λ worked. transaction self.now entry.now ≡ accepted worked.tables worked.reply) }
         ensures cause { IfErr result (IsErrorOf (transaction self.now entry.now)) }
+        ensures valid { IfOk result (λ worked. ∥ TablesValid worked.tables ∥₁) }
     {
         if let Some(refusal) = self.tables.refusal(entry) {
             return Err(StepRefused::Refused(refusal));
