@@ -1,5 +1,5 @@
 -- The tables are valid after every transaction.
-use Rattle.std.proofs.Common.{◌≡◌, ℕ, ℤ, IsTrue, refl, arith}
+use Rattle.std.proofs.Common.{◌≡◌, ℕ, ℤ, None, IsTrue, refl, arith}
 use Rattle.std.proofs.lemmas.Bool.{and_parts}
 use Rattle.qz_types.specs.Entries.{EntryData, is_command, is_of_node, has_actor, is_entry}
 use Rattle.qz_types.specs.declared.commands.Command.{Command}
@@ -8,7 +8,8 @@ use Rattle.qz_types.specs.declared.commands.Actor.{Actor}
 use Rattle.qz_types.specs.declared.commands.Actor.TheVariants.{Client, Node}
 use Rattle.qz_types.specs.declared.replies.Reply.{Reply}
 use Rattle.qz_types.specs.Tables.{SchedulerTables, IsMoment, empty, new_tables, recorded_moment}
-use Rattle.qz_types.specs.declared.replies.Refusal.TheVariants.{Unbuilt}
+use Rattle.qz_types.specs.declared.replies.Refusal.{Refusal}
+use Rattle.qz_types.specs.declared.replies.Refusal.TheVariants.{Unbuilt, Fenced}
 use Rattle.qz_types.specs.Outcomes.{accepted, refused}
 use Rattle.qz_model.specs.Transaction.{by_command, transaction}
 use Rattle.qz_model.specs.Executions.{is_busy}
@@ -20,36 +21,36 @@ use Rattle.qz_model.proofs.KeptAcquiring.{kept-acquire}
 use Rattle.qz_model.proofs.KeptFiring.{kept-fire}
 use Rattle.qz_model.proofs.KeptCompletion.{kept-complete}
 
--- what isn't built is refused
-unbuilt-keeps : (T' : SchedulerTables) (r : Reply) → refused Unbuilt ≡ accepted T' r → TablesValid T'
-unbuilt-keeps T' r e = absurd (cc)
+-- what is refused leaves no other tables
+refused-keeps : (T' : SchedulerTables) (r : Reply) (x : Refusal) → refused x ≡ accepted T' r → TablesValid T'
+refused-keeps T' r x e = absurd (cc)
 
 kept-by_command : (T T' : SchedulerTables) (m : ℤ) (actor : Actor) (c : Command) (r : Reply) → IsTrue (is_command c) → TablesValid T → IsMoment T.horizon m → by_command T m actor c ≡ accepted T' r → TablesValid T'
 kept-by_command T T' m actor (AddJob job replace) r good valid is e = kept-add_job T T' m job replace r valid is e
 kept-by_command T T' m actor (AddTrigger spec replace) r good valid is e = kept-add_trigger T T' m spec replace r good valid is e
 kept-by_command T T' m actor (Join node) r good valid is e = kept-join T T' m node r valid is e
-kept-by_command T T' m Client (Acquire no_later window max) r good valid is e = unbuilt-keeps T' r e
+kept-by_command T T' m Client (Acquire no_later window max) r good valid is e = refused-keeps T' r (Fenced None) e
 kept-by_command T T' m (Node me) (Acquire no_later window max) r good valid is e = kept-acquire T T' m me no_later window max r valid is e
-kept-by_command T T' m Client (Fire entry) r good valid is e = unbuilt-keeps T' r e
+kept-by_command T T' m Client (Fire entry) r good valid is e = refused-keeps T' r (Fenced None) e
 kept-by_command T T' m (Node me) (Fire entry) r good valid is e = kept-fire T T' m me entry r valid is e
-kept-by_command T T' m Client (Complete entry code) r good valid is e = unbuilt-keeps T' r e
+kept-by_command T T' m Client (Complete entry code) r good valid is e = refused-keeps T' r (Fenced None) e
 kept-by_command T T' m (Node me) (Complete entry code) r good valid is e = kept-complete T T' m me entry code r valid is e
-kept-by_command T T' m actor (DeleteJob key) r good valid is e = unbuilt-keeps T' r e
-kept-by_command T T' m actor (DeleteTrigger key) r good valid is e = unbuilt-keeps T' r e
-kept-by_command T T' m actor (PauseTrigger key) r good valid is e = unbuilt-keeps T' r e
-kept-by_command T T' m actor (ResumeTrigger key) r good valid is e = unbuilt-keeps T' r e
-kept-by_command T T' m actor (PauseGroup group) r good valid is e = unbuilt-keeps T' r e
-kept-by_command T T' m actor (ResumeGroup group) r good valid is e = unbuilt-keeps T' r e
-kept-by_command T T' m actor (AddCalendar calendar replace) r good valid is e = unbuilt-keeps T' r e
-kept-by_command T T' m actor (DeleteCalendar name) r good valid is e = unbuilt-keeps T' r e
-kept-by_command T T' m actor (AddZone zone) r good valid is e = unbuilt-keeps T' r e
-kept-by_command T T' m actor (DeleteZone name) r good valid is e = unbuilt-keeps T' r e
-kept-by_command T T' m actor (TriggerNow job) r good valid is e = unbuilt-keeps T' r e
-kept-by_command T T' m actor (Threshold ms) r good valid is e = unbuilt-keeps T' r e
-kept-by_command T T' m actor Leave r good valid is e = unbuilt-keeps T' r e
-kept-by_command T T' m actor (Release entry) r good valid is e = unbuilt-keeps T' r e
-kept-by_command T T' m actor Misfires r good valid is e = unbuilt-keeps T' r e
-kept-by_command T T' m actor (Recover node) r good valid is e = unbuilt-keeps T' r e
+kept-by_command T T' m actor (DeleteJob key) r good valid is e = refused-keeps T' r Unbuilt e
+kept-by_command T T' m actor (DeleteTrigger key) r good valid is e = refused-keeps T' r Unbuilt e
+kept-by_command T T' m actor (PauseTrigger key) r good valid is e = refused-keeps T' r Unbuilt e
+kept-by_command T T' m actor (ResumeTrigger key) r good valid is e = refused-keeps T' r Unbuilt e
+kept-by_command T T' m actor (PauseGroup group) r good valid is e = refused-keeps T' r Unbuilt e
+kept-by_command T T' m actor (ResumeGroup group) r good valid is e = refused-keeps T' r Unbuilt e
+kept-by_command T T' m actor (AddCalendar calendar replace) r good valid is e = refused-keeps T' r Unbuilt e
+kept-by_command T T' m actor (DeleteCalendar name) r good valid is e = refused-keeps T' r Unbuilt e
+kept-by_command T T' m actor (AddZone zone) r good valid is e = refused-keeps T' r Unbuilt e
+kept-by_command T T' m actor (DeleteZone name) r good valid is e = refused-keeps T' r Unbuilt e
+kept-by_command T T' m actor (TriggerNow job) r good valid is e = refused-keeps T' r Unbuilt e
+kept-by_command T T' m actor (Threshold ms) r good valid is e = refused-keeps T' r Unbuilt e
+kept-by_command T T' m actor Leave r good valid is e = refused-keeps T' r Unbuilt e
+kept-by_command T T' m actor (Release entry) r good valid is e = refused-keeps T' r Unbuilt e
+kept-by_command T T' m actor Misfires r good valid is e = refused-keeps T' r Unbuilt e
+kept-by_command T T' m actor (Recover node) r good valid is e = refused-keeps T' r Unbuilt e
 
 command_of : (e : EntryData) → IsTrue (is_entry e) → IsTrue (is_command e.command)
 unfolding is_entry

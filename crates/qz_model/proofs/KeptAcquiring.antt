@@ -1,5 +1,5 @@
 -- Acquiring a trigger keeps the tables valid.
-use Rattle.std.proofs.Common.{◌≡◌, ℕ, ◌+◌, ◌<◌, ◌≤◌, ◌==◌, ℤ, pos, ◌+ℤ◌, true, false, not, ◌||◌, ◌&&◌, List, [], ◌∷◌, length, nat_lt, count_by, Option, Some, None, IsSomeAnd, option_map, refl, sym, ap, ◌∙◌, subst, arith, zero-add, if◌then◌else◌}
+use Rattle.std.proofs.Common.{◌≡◌, ℕ, ◌+◌, ◌<◌, ◌≤◌, ◌==◌, ℤ, pos, ◌+ℤ◌, true, false, not, ◌||◌, ◌&&◌, List, [], ◌∷◌, length, nat_lt, count_by, Option, Some, None, IsSomeAnd, option_map, unwrap_or, refl, sym, ap, ◌∙◌, subst, arith, zero-add, if◌then◌else◌}
 use Rattle.std.specs.List.{AllByRecursion}
 use Rattle.std.specs.Ordering.{int_eq}
 use Rattle.std.proofs.lemmas.Bool.{or_parts, and_parts, not-false, eqb-true, ltb-false, false_from_ne_true}
@@ -11,14 +11,14 @@ use Rattle.qz_types.specs.Tables.{SchedulerTables, IsMoment}
 use Rattle.qz_types.specs.Outcomes.{accepted}
 use Rattle.qz_types.specs.declared.keys.Key.{Key}
 use Rattle.qz_types.specs.declared.replies.Refusal.TheVariants.{Fenced}
-use Rattle.qz_types.specs.Words.{same_key, job_of, trigger_of, with_trigger, member_of, put_fired}
+use Rattle.qz_types.specs.Words.{same_key, trigger_of, with_trigger, member_of, put_fired}
 use Rattle.qz_model.specs.Due.{due_triggers}
 use Rattle.qz_model.specs.Membership.{live_epoch, is_live, node_refusal}
-use Rattle.qz_model.specs.Firing.{acquire_refusal, acquired, acquired_row, acquire_for, acquire_one, acquire_first, acquire}
+use Rattle.qz_model.specs.Firing.{acquire_refusal, acquired, acquired_row, stored_job, next_time, acquire_one, acquire_first, acquire}
 use Rattle.qz_model.specs.Executions.{is_acquired, is_exclusive_of, is_busy}
 use Rattle.qz_model.specs.Invariant.{AreStored, ReferencesAndLimits, IsRowOf, is_acquired_for, AcquiredMatch, HasFlag, ConcurrencyAgrees, is_blocked_or_done, OneExclusive, BlockedAreBusy, RowsOfMembers, is_live_state, TablesValid}
 use Rattle.qz_model.proofs.RowPoints.{All-weaker, All-both, count_by-none}
-use Rattle.qz_model.proofs.RowLaws.{same_key_laws, ordered-with_trigger, All-with_trigger, only_trigger, trigger_of-alike, trigger_of-with_trigger, length-with_trigger, ordered-put_fired, fired_of-above, fired_of-put_fired, All-put_fired, count_by-put_fired, length-put_fired}
+use Rattle.qz_model.proofs.RowLaws.{same_key_laws, ordered-with_trigger, All-trigger_of, All-with_trigger, only_trigger, trigger_of-alike, trigger_of-with_trigger, length-with_trigger, ordered-put_fired, fired_of-above, fired_of-put_fired, All-put_fired, count_by-put_fired, length-put_fired}
 use Rattle.qz_model.proofs.References.{references-triggers, references-fired}
 use Rattle.qz_model.proofs.DueLaws.{IsStoredWaiting, each_due}
 use Rattle.qz_model.proofs.Changes.{HasOneRow, HasItsTrigger, HasNextTime, HasJob, HasCalendar, HasZone, AgreesWithRows, AgreesWithJob, StaysBlocked, IsBlockedBy, HasMember, HasRowTimes, busy-same, passes, clear3, HasNumber, SharesNone, HasNumber-kept, HasNumber-alike, valid-moment}
@@ -208,19 +208,24 @@ member_of_actor T me clear =
       | false ↦ λ live e. absurd (cc)
     ] refl clear
 
-kept-acquire_for : (T T' : SchedulerTables) (m : ℤ) (me : MemberData) (t : TriggerData) (next : Option ℤ) (job : Option JobData) (r : Reply) → TablesValid T → IsMoment T.horizon m
-    → IsSomeAnd (member_of me.node T.members) (λ x. x.epoch ≡ me.epoch) → IsStoredWaiting T t → length T.fired + 1 ≤ FIRED_LIMIT → T.next_entry + 1 ≤ NUMBER_LIMIT → t.next ≡ next → acquire_for T m me t next job ≡ accepted T' r → TablesValid T'
-kept-acquire_for T T' m me t None job r valid is member one room number due e = absurd (cc)
-kept-acquire_for T T' m me t (Some next) None r valid is member one room number due e = absurd (cc)
-kept-acquire_for T T' m me t (Some next) (Some job) r valid is member one room number due e =
-    subst TablesValid (cc) (valid-acquired (record T { last_moment = m }) me t next job (valid-moment T m valid is) member one.stored one.waits due room number)
+-- a next time that is there
+next_is : (P : ℤ → Type 0) (o : Option ℤ) → IsSomeAnd o P → o ≡ Some (unwrap_or o (pos 0))
+next_is P None is = absurd is
+next_is P (Some n) is = refl
+
+has_next : (T : SchedulerTables) (t : TriggerData) → TablesValid T → IsStoredWaiting T t → t.next ≡ Some (next_time t)
+unfolding next_time
+has_next T t valid one =
+    next_is (IsMoment T.horizon) t.next (All-trigger_of (HasNextTime T.horizon) t.spec.key t T.triggers valid.next_times.next one.stored (ap is_live_state one.waits))
 
 kept-acquire_first : (T T' : SchedulerTables) (m : ℤ) (me : MemberData) (ts : List TriggerData) (r : Reply) → TablesValid T → IsMoment T.horizon m
     → IsSomeAnd (member_of me.node T.members) (λ x. x.epoch ≡ me.epoch) → AllByRecursion (IsStoredWaiting T) ts
     → length T.fired + 1 ≤ FIRED_LIMIT → T.next_entry + 1 ≤ NUMBER_LIMIT → acquire_first T m me ts ≡ accepted T' r → TablesValid T'
 unfolding acquire_one
 kept-acquire_first T T' m me [] r valid is member each room number e = subst TablesValid (cc) (valid-moment T m valid is)
-kept-acquire_first T T' m me (t ∷ ts) r valid is member each room number e = kept-acquire_for T T' m me t t.next (job_of t.spec.job T.jobs) r valid is member each.0 room number refl e
+kept-acquire_first T T' m me (t ∷ ts) r valid is member each room number e =
+    subst TablesValid (cc)
+    (valid-acquired (record T { last_moment = m }) me t (next_time t) (stored_job t.spec.job T.jobs) (valid-moment T m valid is) member each.0.stored each.0.waits (has_next T t valid each.0) room number)
 
 pub kept-acquire : (T T' : SchedulerTables) (m : ℤ) (me : MemberData) (no_later window : ℤ) (max : ℕ) (r : Reply) → TablesValid T → IsMoment T.horizon m → acquire T m me no_later window max ≡ accepted T' r → TablesValid T'
 unfolding acquire_refusal

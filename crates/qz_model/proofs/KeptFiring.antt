@@ -1,5 +1,6 @@
 -- Firing a trigger keeps the tables valid.
-use Rattle.std.proofs.Common.{◌≡◌, ℕ, ◌<◌, ◌≤◌, ◌==◌, ℤ, ◌≤ℤ◌, int_lt, Bool, true, false, not, ◌&&◌, List, count_by, Option, Some, None, IsSomeAnd, refl, sym, ap, ◌∙◌, subst, arith, if◌then◌else◌}
+use Rattle.std.proofs.Common.{◌≡◌, ℕ, ◌<◌, ◌≤◌, ◌==◌, ℤ, ◌≤ℤ◌, int_lt, Bool, true, false, not, ◌&&◌, List, count_by, Option, Some, None, IsSome, is_some, IsSomeAnd, option_and_then, refl, sym, ap, ◌∙◌, subst, arith, if◌then◌else◌}
+use Rattle.std.proofs.Math.Logic.{∥∥₁_elim}
 use Rattle.std.specs.List.{AllByRecursion}
 use Rattle.std.proofs.lemmas.Bool.{and_parts, and_from, and_right, false_from_ne_true}
 use Rattle.std.proofs.lemmas.Int.{ints}
@@ -13,11 +14,11 @@ use Rattle.qz_types.specs.Outcomes.{accepted, refused}
 use Rattle.qz_types.specs.declared.keys.Key.{Key}
 use Rattle.qz_types.specs.Words.{same_key, job_of, trigger_of, with_trigger, fired_of, with_fired}
 use Rattle.qz_model.specs.Membership.{node_refusal}
-use Rattle.qz_model.specs.Firing.{is_of, spent, executing, early, fire_refusal, fire_for, fire_one, fire_row, fire}
+use Rattle.qz_model.specs.Firing.{is_of, spent, executing, early, stored_job, next_of, fire_refusal, fire_one, fire_row, fire}
 use Rattle.qz_model.specs.Executions.{is_acquired, is_exclusive_of, is_busy}
 use Rattle.qz_model.specs.Invariant.{AreStored, ReferencesAndLimits, IsRowOf, is_acquired_for, HasFlag, ConcurrencyAgrees, OneExclusive, BlockedAreBusy, RowsOfMembers, is_live_state, TablesValid}
 use Rattle.qz_model.proofs.RowPoints.{All-weaker, All-both}
-use Rattle.qz_model.proofs.RowLaws.{same_key_laws, All-job_of, job_of-key, only_job, ordered-with_trigger, All-trigger_of, trigger_of-key, All-with_trigger, trigger_of-with_other, length-with_trigger, ordered-with_fired, All-fired_of, fired_of-entry, only_fired, one_fired, fired_of-with_fired, All-with_fired, count_by-with_fired, length-with_fired}
+use Rattle.qz_model.proofs.RowLaws.{same_key_laws, same_key-exact, All-job_of, job_of-key, only_job, ordered-with_trigger, All-trigger_of, trigger_of-key, All-with_trigger, trigger_of-with_other, length-with_trigger, ordered-with_fired, All-fired_of, fired_of-entry, only_fired, one_fired, fired_of-with_fired, All-with_fired, count_by-with_fired, length-with_fired}
 use Rattle.qz_model.proofs.References.{references-triggers, references-fired}
 use Rattle.qz_model.proofs.Changes.{HasOneRow, HasItsTrigger, HasNextTime, HasJob, HasCalendar, HasZone, AgreesWithRows, AgreesWithJob, StaysBlocked, IsBlockedBy, HasMember, HasRowTimes, busy-same, passes, HasNumber, SharesNone, HasNumber-kept, HasNumber-alike, valid-moment}
 
@@ -235,33 +236,66 @@ module _ (T : SchedulerTables) (m : ℤ) (f : FiredData) (t : TriggerData) (job 
   }
 
 -- a firing that isn't refused
-clear_fire : (m : ℤ) (t : TriggerData) (job : JobData) → fire_refusal m t job ≡ None → (job.no_concurrent ≡ false) × (early m t.next ≡ None)
+clear_fire : (T : SchedulerTables) (m : ℤ) (f : FiredData) → fire_refusal T m f ≡ None → ((stored_job f.job T.jobs).no_concurrent ≡ false) × (early m (next_of f.trigger T.triggers) ≡ None)
 unfolding fire_refusal
-clear_fire m t job clear = elim job.no_concurrent as (λ b. (if b then Some Unbuilt else early m t.next) ≡ None → (b ≡ false) × (early m t.next ≡ None)) [
+clear_fire T m f clear = elim (stored_job f.job T.jobs).no_concurrent as (λ b. (if b then Some Unbuilt else early m (next_of f.trigger T.triggers)) ≡ None → (b ≡ false) × (early m (next_of f.trigger T.triggers) ≡ None)) [
   | true ↦ λ e. absurd (cc)
   | false ↦ λ e. (refl, e)
 ] clear
 
-kept-fire_for : (T T' : SchedulerTables) (m : ℤ) (f : FiredData) (t : Option TriggerData) (job : Option JobData) (r : Reply) → TablesValid T → IsMoment T.horizon m
-    → fired_of f.entry T.fired ≡ Some f → is_acquired f.state ≡ true → trigger_of f.trigger T.triggers ≡ t → job_of f.job T.jobs ≡ job → fire_for T m f t job ≡ accepted T' r → TablesValid T'
-kept-fire_for T T' m f None job r valid is row taken found job_found e = absurd (cc)
-kept-fire_for T T' m f (Some t) None r valid is row taken found job_found e = absurd (cc)
-kept-fire_for T T' m f (Some t) (Some job) r valid is row taken found job_found e =
-    let way = passes (fire_refusal m t job) _ T' r e in
-    let clear = clear_fire m t job way.clear in
-    let same : accepted (record T { triggers = with_trigger t.spec.key spent T.triggers; fired = with_fired f.entry (executing m job) T.fired; last_moment = m }) _ ≡ accepted T' r = way.outcome in
-    subst TablesValid (cc)
-    (valid-fired (record T { last_moment = m }) m f t job (valid-moment T m valid is) (record { row = row; taken = taken; trigger = found; in_time = clear.1; stored = job_found; shared = clear.0 }))
+-- an acquired row has its trigger and its job
+row_has : (T : SchedulerTables) (f : FiredData) → TablesValid T → fired_of f.entry T.fired ≡ Some f → is_acquired f.state ≡ true → IsSomeAnd (trigger_of f.trigger T.triggers) (IsRowOf f)
+row_has T f valid row taken = All-fired_of (HasItsTrigger T.triggers) f.entry f T.fired valid.acquired_match.a_trigger row taken
+
+job_has : (T : SchedulerTables) (f : FiredData) (o : Option TriggerData) → TablesValid T → trigger_of f.trigger T.triggers ≡ o → IsSomeAnd o (IsRowOf f) → IsSome (job_of f.job T.jobs)
+job_has T f None valid found row = absurd row
+job_has T f (Some t) valid found row = subst (λ k. IsSome (job_of k T.jobs)) row.job (All-trigger_of (HasJob T.jobs) f.trigger t T.triggers valid.references_and_limits.stored.trigger_jobs found)
+
+pub job_of_row : (T : SchedulerTables) (f : FiredData) → TablesValid T → fired_of f.entry T.fired ≡ Some f → is_acquired f.state ≡ true → IsSome (job_of f.job T.jobs)
+job_of_row T f valid row taken = job_has T f (trigger_of f.trigger T.triggers) valid refl (row_has T f valid row taken)
+
+-- so valid tables lack none
+pub no_job_missing : (T : SchedulerTables) (n : ℕ) (f : FiredData) → ∥ TablesValid T ∥₁ → fired_of n T.fired ≡ Some f → is_acquired f.state ≡ true → job_of f.job T.jobs ≡ None → ⊥
+no_job_missing T n f valid row taken missing = ∥∥₁_elim valid (λ x y. absurd x) (λ is.
+    let stored : IsSome (job_of f.job T.jobs) = job_of_row T f is (subst (λ k. fired_of k T.fired ≡ Some f) (fired_of-entry n f T.fired row) row) taken in
+    let wrong : is_some (job_of f.job T.jobs) ≡ false = ap is_some missing in
+    absurd (cc))
+
+stored_is : (key : Key) (jobs : List JobData) (o : Option JobData) → IsSome o → job_of key jobs ≡ o → job_of key jobs ≡ Some (stored_job key jobs)
+unfolding stored_job
+stored_is key jobs None some is = absurd (cc)
+stored_is key jobs (Some j) some is = rw is refl
+
+next_found : (k : Key) (t : TriggerData) (rows : List TriggerData) → trigger_of k rows ≡ Some t → next_of k rows ≡ t.next
+unfolding next_of
+next_found k t rows found = ap (option_and_then (λ x. x.next)) found
+
+-- the trigger of an acquired row, by its own key
+kept-fire_one_of : (T T' : SchedulerTables) (m : ℤ) (f : FiredData) (t : Option TriggerData) (r : Reply) → TablesValid T → IsMoment T.horizon m → fired_of f.entry T.fired ≡ Some f → is_acquired f.state ≡ true
+    → trigger_of f.trigger T.triggers ≡ t → IsSomeAnd t (IsRowOf f) → fire_one T m f ≡ accepted T' r → TablesValid T'
+unfolding fire_one
+kept-fire_one_of T T' m f None r valid is row taken found has e = absurd has
+kept-fire_one_of T T' m f (Some t) r valid is row taken found has e =
+    let way = passes (fire_refusal T m f) _ T' r e in
+    let clear = clear_fire T m f way.clear in
+    let key : f.trigger ≡ t.spec.key = same_key-exact f.trigger t.spec.key (trigger_of-key f.trigger t T.triggers found) in
+    let in_time : early m t.next ≡ None = subst (λ o. early m o ≡ None) (next_found f.trigger t T.triggers found) clear.1 in
+    let stored = stored_is f.job T.jobs (job_of f.job T.jobs) (job_has T f (Some t) valid found has) refl in
+    let job : JobData = stored_job f.job T.jobs in
+    let after : TablesValid (record T { triggers = with_trigger t.spec.key spent T.triggers; fired = with_fired f.entry (executing m job) T.fired; last_moment = m }) =
+    valid-fired (record T { last_moment = m }) m f t job (valid-moment T m valid is) (record { row = row; taken = taken; trigger = found; in_time = in_time; stored = stored; shared = clear.0 }) in
+    let same : accepted (record T { triggers = with_trigger f.trigger spent T.triggers; fired = with_fired f.entry (executing m job) T.fired; last_moment = m }) _ ≡ accepted T' r = way.outcome in
+    subst TablesValid (cc) (subst (λ k. TablesValid (record T { triggers = with_trigger k spent T.triggers; fired = with_fired f.entry (executing m job) T.fired; last_moment = m })) (sym key) after)
 
 kept-fire_row : (T T' : SchedulerTables) (m : ℤ) (me : MemberData) (entry : ℕ) (f : Option FiredData) (r : Reply) → TablesValid T → IsMoment T.horizon m
     → fired_of entry T.fired ≡ f → fire_row T m me f ≡ accepted T' r → TablesValid T'
-unfolding fire_one
 kept-fire_row T T' m me entry None r valid is found e = absurd (cc)
 kept-fire_row T T' m me entry (Some f) r valid is found e =
     elim (is_of me f && is_acquired f.state) as (λ b. (is_of me f && is_acquired f.state) ≡ b → (if b then fire_one T m f else refused Unbuilt) ≡ accepted T' r → TablesValid T') [
       | true ↦ λ yes way.
-          kept-fire_for T T' m f (trigger_of f.trigger T.triggers) (job_of f.job T.jobs) r valid is (subst (λ n. fired_of n T.fired ≡ Some f) (fired_of-entry entry f T.fired found) found)
-          (and_parts (is_of me f) (is_acquired f.state) yes).1 refl refl way
+          let row = subst (λ n. fired_of n T.fired ≡ Some f) (fired_of-entry entry f T.fired found) found in
+          let taken = (and_parts (is_of me f) (is_acquired f.state) yes).1 in
+          kept-fire_one_of T T' m f (trigger_of f.trigger T.triggers) r valid is row taken refl (row_has T f valid row taken) way
       | false ↦ λ no way. absurd (cc)
     ] refl e
 

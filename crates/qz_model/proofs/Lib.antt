@@ -11,6 +11,7 @@ pub mod KeptMembership
 pub mod KeptScheduling
 pub mod LookUps
 pub mod References
+mod Refused
 pub mod RowLaws
 pub mod RowPoints
 pub mod Scripts

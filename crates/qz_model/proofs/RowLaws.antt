@@ -2,7 +2,10 @@
 use Rattle.std.proofs.Common.{◌≡◌, ℕ, ◌+◌, ◌<◌, ◌≤◌, ◌==◌, Bool, true, false, not, cond, List, length, count_by, Option, Some, None, IsSome, is_some, is_none, option_map, refl, sym, ap, ◌∙◌, arith, if◌then◌else◌}
 use Rattle.std.specs.List.{AllByRecursion}
 use Rattle.std.specs.Cmp.{IsTotalOrder, IsEquivalence}
-use Rattle.std.specs.Ordering.{nat_cmp, is_eq}
+use Rattle.std.specs.Ordering.{nat_cmp, is_eq, ordering_then}
+use Rattle.std.specs.declared.cmp.Ordering.{Ordering}
+use Rattle.std.specs.declared.cmp.Ordering.TheVariants.{Less, Equal, Greater}
+use Rattle.std.proofs.lemmas.Map.Lookups.{exact_bytes}
 use Rattle.std.proofs.lemmas.Bool.{eqb-true, ne_eqb}
 use Rattle.std.proofs.lemmas.Bool.Decides.{nat_tests}
 use Rattle.std.proofs.lemmas.Cmp.{nat_cmp_total, nat_list_cmp_total, then_total, on_total, eq_by_cmp_equiv}
@@ -21,6 +24,26 @@ key_total = then_total (on_total (λ k. k.group) nat_list_cmp_total) (on_total (
 pub same_key_laws : IsEquivalence same_key
 unfolding same_key
 same_key_laws = eq_by_cmp_equiv key_total
+
+then_equal : (a b : Ordering) → ordering_then a b ≡ Equal → (a ≡ Equal) × (b ≡ Equal)
+then_equal Less b e = absurd (cc)
+then_equal Equal b e = (refl, e)
+then_equal Greater b e = absurd (cc)
+
+abbrev key_with : List ℕ → List ℕ → Key
+key_with group name = record { group = group; name = name }
+
+key_alike : (g h n m : List ℕ) → g ≡ h → n ≡ m → key_with g n ≡ key_with h m
+key_alike g h n m group name = ap (λ (x : List ℕ). key_with x n) group ∙ ap (λ (y : List ℕ). key_with h y) name
+
+-- keys that the order doesn't tell apart are equal
+pub same_key-exact : (a b : Key) → same_key a b ≡ true → a ≡ b
+unfolding same_key
+same_key-exact a b same =
+    let parts = then_equal (text_cmp a.group b.group) (text_cmp a.name b.name) (equal_from (key_cmp a b) same) in
+    let group : a.group ≡ b.group = exact_bytes a.group b.group parts.0 in
+    let name : a.name ≡ b.name = exact_bytes a.name b.name parts.1 in
+    key_alike a.group b.group a.name b.name group name
 
 -- a key that is one of two that differ isn't the other
 pub other_key : (j k l : Key) → same_key j k ≡ false → same_key k l ≡ true → same_key j l ≡ false

@@ -2,7 +2,7 @@
 ghost use Rattle.std.specs.Prelude.{◌≡◌, ◌==◌, OnOk, option_copied, if◌then◌else◌};
 ghost use Rattle.qz_types.specs.Words.{same_text, same_key, job_of, put_job, without_job, trigger_of, put_trigger, with_trigger, without_trigger, member_of, put_member, fired_of, put_fired, with_fired, without_fired, is_paused};
 ghost use Rattle.qz_model.specs.Executions.{is_acquired, is_exclusive_of, is_busy};
-ghost use Rattle.qz_model.specs.Firing.{acquired, spent, executing};
+ghost use Rattle.qz_model.specs.Firing.{acquired, spent, executing, stored_job};
 
 use qz_types::{
     FiredRow, FiredState, JobRow, Key, MemberRow, TIMES_LIMIT, Text, TriggerRow, TriggerState,
@@ -177,6 +177,28 @@ pub fn is_busy(key: &Key, fired: &[FiredRow]) -> bool
     ensures { result ≡ is_busy key.now fired.now }
 {
     fired.iter().any(|row| is_exclusive_of(key, row))
+}
+
+/// Whether the executions of this job exclude each other; none where it isn't stored.
+#[tactic(auto, unfolding(crate::specs::Firing::stored_job))]
+pub fn is_exclusive(jobs: &[JobRow], key: &Key) -> bool
+    ensures { result ≡ (stored_job key.now jobs.now).no_concurrent }
+{
+    match job_of(jobs, key) {
+        Some(job) => job.no_concurrent,
+        None => false,
+    }
+}
+
+/// Whether a lost execution of this job yields a recovery trigger; none where it isn't stored.
+#[tactic(auto, unfolding(crate::specs::Firing::stored_job))]
+pub fn is_recovered(jobs: &[JobRow], key: &Key) -> bool
+    ensures { result ≡ (stored_job key.now jobs.now).requests_recovery }
+{
+    match job_of(jobs, key) {
+        Some(job) => job.requests_recovery,
+        None => false,
+    }
 }
 
 /// The execution of this entry number's row begins.

@@ -6,14 +6,14 @@ ghost use Rattle.qz_types.specs.Outcomes.{accepted};
 ghost use Rattle.qz_model.specs.Causes.{IsCause};
 ghost use Rattle.qz_model.specs.Scheduling.{is_plain_job, add_job_refusal, add_job, is_one_shot, is_plain_trigger, is_reserved, new_trigger, add_trigger_refusal, add_trigger};
 
-use super::PlainStore;
+use super::tables::PlainTables;
 use crate::rows::{is_busy, is_paused, job_of, put_job, put_trigger, same_text, trigger_of};
 use qz_types::{
     JOB_LIMIT, JobRow, Kind, Refusal, Reply, StepRefused, TRIGGER_LIMIT, Text, TriggerRow,
     TriggerSpec, TriggerState,
 };
 
-impl PlainStore {
+impl PlainTables {
     pub(super) fn add_job(
         &mut self,
         moment: i64,
@@ -34,7 +34,7 @@ impl PlainStore {
     }
 
     #[tactic(auto, unfolding(crate::specs::Scheduling::add_job_refusal))]
-    fn add_job_refusal(&self, job: &JobRow, replace: bool) -> Option<Refusal>
+    pub(super) fn add_job_refusal(&self, job: &JobRow, replace: bool) -> Option<Refusal>
         ensures { result ≡ add_job_refusal self.now job.now replace }
     {
         if replace || !is_plain_job(job) || is_busy(&job.key, &self.fired) {
@@ -70,7 +70,7 @@ impl PlainStore {
     }
 
     #[tactic(auto, unfolding(crate::specs::Scheduling::add_trigger_refusal))]
-    fn add_trigger_refusal(&self, spec: &TriggerSpec, replace: bool) -> Option<Refusal>
+    pub(super) fn add_trigger_refusal(&self, spec: &TriggerSpec, replace: bool) -> Option<Refusal>
         ensures { result ≡ add_trigger_refusal self.now spec.now replace }
     {
         if job_of(&self.jobs, &spec.job).is_none() {
