@@ -30,29 +30,22 @@ unless-records : (m : ℤ) (x : Option Refusal) (o : Outcome) → Records m o �
 unless-records m None o is = is
 unless-records m (Some x) o is = tt
 
-acquire_for-records : (T : SchedulerTables) (m : ℤ) (me : MemberData) (t : TriggerData) (next : Option ℤ) (job : Option JobData) → Records m (Firing.acquire_for T m me t next job)
-acquire_for-records T m me t None job = tt
-acquire_for-records T m me t (Some next) None = tt
-acquire_for-records T m me t (Some next) (Some job) = refl
-
 acquire_first-records : (T : SchedulerTables) (m : ℤ) (me : MemberData) (ts : List TriggerData) → Records m (Firing.acquire_first T m me ts)
 unfolding Firing.acquire_one
 acquire_first-records T m me [] = refl
-acquire_first-records T m me (t ∷ ts) = acquire_for-records T m me t t.next (job_of t.spec.job T.jobs)
+acquire_first-records T m me (t ∷ ts) = refl
 
-fire_for-records : (T : SchedulerTables) (m : ℤ) (f : FiredData) (t : Option TriggerData) (job : Option JobData) → Records m (Firing.fire_for T m f t job)
-fire_for-records T m f None job = tt
-fire_for-records T m f (Some t) None = tt
-fire_for-records T m f (Some t) (Some job) = unless-records m (Firing.fire_refusal m t job) _ refl
+fire_one-records : (T : SchedulerTables) (m : ℤ) (f : FiredData) → Records m (Firing.fire_one T m f)
+unfolding Firing.fire_one
+fire_one-records T m f = unless-records m (Firing.fire_refusal T m f) _ refl
 
 either-records : (m : ℤ) (test : Bool) (o : Outcome) (x : Refusal) → Records m o → Records m (if test then o else refused x)
 either-records m true o x is = is
 either-records m false o x is = tt
 
 fire_row-records : (T : SchedulerTables) (m : ℤ) (me : MemberData) (f : Option FiredData) → Records m (Firing.fire_row T m me f)
-unfolding Firing.fire_one
 fire_row-records T m me None = tt
-fire_row-records T m me (Some f) = either-records m _ _ _ (fire_for-records T m f (trigger_of f.trigger T.triggers) (job_of f.job T.jobs))
+fire_row-records T m me (Some f) = either-records m (Firing.is_of me f && is_acquired f.state) (Firing.fire_one T m f) Unbuilt (fire_one-records T m f)
 
 one_moment : (T U : SchedulerTables) (test : Bool) → U.last_moment ≡ T.last_moment → (if test then U else T).last_moment ≡ T.last_moment
 one_moment T U true same = same

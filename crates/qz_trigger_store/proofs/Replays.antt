@@ -7,8 +7,7 @@ use Rattle.std.proofs.lemmas.List.{take_more, get_or_append_left, get_or-append_
 use Rattle.qz_types.specs.Entries.{EntryData}
 use Rattle.qz_types.specs.declared.replies.Refusal.{Refusal}
 use Rattle.qz_types.specs.Tables.{SchedulerTables, new_tables}
-use Rattle.qz_types.specs.Outcomes.{Outcome, refused, IsAccepted}
-use Rattle.qz_model.specs.Causes.{IsCause}
+use Rattle.qz_types.specs.Outcomes.{Outcome, refused, IsAccepted, IsErrorOf}
 use Rattle.qz_types.specs.declared.errors.StepRefused.{StepRefused}
 use Rattle.qz_types.specs.declared.errors.StepRefused.TheVariants.{Refused}
 use Rattle.qz_model.specs.Transaction.{transaction}
@@ -30,8 +29,8 @@ pub refused_unfit : (T : SchedulerTables) (e f : EntryData) (x : Refusal) → �
 refused_unfit T e f x same way = let one : e ≡ f = cc in λ is. subst IsAccepted (ap (transaction T) one ∙ way) is
 
 -- why a step was refused, where it wasn't for want of memory
-pub by_cause : (o : Outcome) (cause : StepRefused) (x : Refusal) → cause ≡ Refused x → IsCause o cause → o ≡ refused x
-by_cause o cause x is why = subst (IsCause o) is why
+pub by_cause : (o : Outcome) (cause : StepRefused) (x : Refusal) → cause ≡ Refused x → IsErrorOf o cause → o ≡ refused x
+by_cause o cause x is why = subst (IsErrorOf o) is why
 
 blocks-append : (ps qs : List (List ℕ)) → blocks (ps ++ qs) ≡ blocks ps ++ blocks qs
 blocks-append [] qs = refl

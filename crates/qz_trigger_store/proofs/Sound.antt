@@ -1,5 +1,6 @@
 -- What submitting an entry leaves of a store is sound, where the store was.
 use Rattle.std.proofs.Common.{◌≡◌, ℕ, List, [], ◌∷◌, ◌++◌, length, length-append, IsTrue, refl, sym, ◌∙◌, subst, arith}
+use Rattle.std.proofs.Math.Logic.{∥∥₁_map}
 use Rattle.std.specs.Prelude.{Result, Ok, Err}
 use Rattle.qz_types.specs.Entries.{EntryData, is_entry}
 use Rattle.qz_types.specs.Outcomes.{Outcome, accepted, refused, IsAccepted}
@@ -30,7 +31,7 @@ sound_as s t history gate payloads sound =
     record {
       begins = subst (BeginsNew version) (sym history) sound.begins;
       legal = subst IsLegal (sym history) sound.legal;
-      tables = subst (λ (h : History). TablesValid (replay h)) (sym history) sound.tables;
+      tables = subst (λ (h : History). ∥ TablesValid (replay h) ∥₁) (sym history) sound.tables;
       placed = record {
         payloads = placed.payloads;
         encode = subst (λ (h : History). Encode placed.payloads h.entries) (sym history) placed.encode;
@@ -50,7 +51,7 @@ appended_sound e r s t good appends sound =
     record {
       begins = subst (BeginsNew version) (sym appends.history) (record { count = sound.begins.count; base = sound.begins.base });
       legal = subst IsLegal (sym appends.history) (IsLegalFrom-entry h.base h.entries e sound.legal (accepted_from _ r appends.accepted_as));
-      tables = subst (λ (g : History). TablesValid (replay g)) (sym appends.history) (subst TablesValid (sym tables) (valid-left (replay h) e good sound.tables));
+      tables = subst (λ (g : History). ∥ TablesValid (replay g) ∥₁) (sym appends.history) (∥∥₁_map sound.tables (λ valid. subst TablesValid (sym tables) (valid-left (replay h) e good valid)));
       placed = record {
         payloads = placed.payloads ++ record_of e ∷ [];
         encode = subst (λ (g : History). Encode (placed.payloads ++ record_of e ∷ []) g.entries) (sym appends.history) (Encode-pushed placed.payloads h.entries (record_of e) e placed.encode refl);

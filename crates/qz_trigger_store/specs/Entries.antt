@@ -33,14 +33,6 @@ history_of entries = record new_history { entries = entries }
 abbrev pub TriggerState : Type 0
 TriggerState = StoreState History EntryData
 
--- why a transaction isn't done at these tables: it is refused, or memory ran out
-abbrev pub IsCause : Outcome → SubmitError → Type 0
-IsCause outcome (submit.Refused refusal) = outcome ≡ refused refusal
-IsCause outcome submit.NoMemory = ⊤
-IsCause outcome (submit.Closed at) = ⊥
-IsCause outcome (submit.JournalFull need room) = ⊥
-IsCause outcome submit.Fault = ⊥
-
 -- Why a record of this length isn't written: it has no room, so many bytes are needed and so many are left; or there is
 -- no memory for it.
 abbrev pub IsUnwritten : ℕ → TriggerState → SubmitError → Type 0

@@ -21,7 +21,7 @@ use Rattle.qz_trigger_store.specs.Bytes.{IsRecord, IsPlaced, Encode, BeginsNew}
 pub record IsSound (s : TriggerState) : Type 0 where
   pub begins : BeginsNew version s.history
   pub legal : IsLegal s.history
-  pub tables : TablesValid (replay s.history)
+  pub tables : ∥ TablesValid (replay s.history) ∥₁
   pub placed : IsPlaced s
 
 -- a store that was just opened

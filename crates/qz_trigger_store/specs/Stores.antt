@@ -67,9 +67,10 @@ pub record Overflows {H E R : Type 0} (kind : EntryKind H E R) (e : E) (need roo
   pub full : LacksRoom (kind.size e) need room s
   pub same : Same s t
 
--- There was no memory for an entry; it isn't known whether it would be accepted.
-pub record Starves {H E : Type 0} (s t : StoreState H E) : Type 0 where
+-- The entry would be accepted, and there was no memory for it.
+pub record Starves {H E R : Type 0} (kind : EntryKind H E R) (e : E) (s t : StoreState H E) : Type 0 where
   pub was_open : s.is_open ≡ true
+  pub passes : IsOk (kind.answer s.history e)
   pub same : Same s t
 
 -- The entry would be accepted and has room, and the disk failed. The store is closed, and the entry may be on the disk
@@ -97,7 +98,7 @@ Submits kind e (Ok reply) s t = Appends kind e reply s t
 Submits kind e (Err (submit.Closed at)) s t = Stops s t × (at ≡ s.gate)
 Submits kind e (Err (submit.Refused refusal)) s t = Refuses kind e refusal s t
 Submits kind e (Err (submit.JournalFull need room)) s t = Overflows kind e need room s t
-Submits kind e (Err submit.NoMemory) s t = Starves s t
+Submits kind e (Err submit.NoMemory) s t = Starves kind e s t
 Submits kind e (Err submit.Fault) s t = Fails kind e s t
 
 -- the bytes are those of a history, or of it with the undecided entry, where this says which bytes are whose

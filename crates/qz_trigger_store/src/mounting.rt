@@ -59,7 +59,7 @@ fn begin<D: Disk>(alloc: Global, journal: Journal<D>, replayed: Replayed) -> Tri
     requires open { closed_at journal ≡ None }
     requires counted { count_of journal ≡ length replayed.entries }
     requires stands { D.honest → HoldEntries (D.state (journal_disk journal)).content replayed.entries }
-    requires valid { TablesValid replayed.tables }
+    requires valid { ∥ TablesValid replayed.tables ∥₁ }
     requires recorded { ∥ AllByRecursion IsEntry replayed.entries ∥₁ }
     ensures journal { result.journal ≡ journal }
     ensures found { result.found ≡ replayed.entries }

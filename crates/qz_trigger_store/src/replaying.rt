@@ -40,7 +40,7 @@ fn take(alloc: Global, tables: &mut PlainStore, payload: &[u8]) -> Result<Entry,
     ensures is_record { IfOk result (IsRecord payload.now) }
     ensures accepted { IfOk result (λ entry. IsAccepted (transaction tables.old entry)) }
     ensures tables { IfOk result (λ entry. tables.new ≡ tables_left tables.old (transaction tables.old entry)) }
-    ensures valid { TablesValid tables.old → OnOk result (TablesValid tables.new) }
+    ensures valid { OnOk result ∥ TablesValid tables.new ∥₁ }
     ensures unfit { result ≡ Err TakeError.Unfit → IsUnfit tables.old payload.now }
 {
     let entry = match get_command(alloc, payload) {
@@ -74,7 +74,7 @@ fn take(alloc: Global, tables: &mut PlainStore, payload: &[u8]) -> Result<Entry,
 pub(crate) fn replay(alloc: Global, payloads: &List<List<u8>>) -> Result<Replayed, MountError>
     requires offsets { end_of payloads.now < 2 ^ 64 }
     ensures replayed { IfOk result (λ found. AreReplayed payloads.now found.entries) }
-    ensures valid { IfOk result (λ found. TablesValid found.tables) }
+    ensures valid { IfOk result (λ found. ∥ TablesValid found.tables ∥₁) }
     ensures stopped { IfErr result (IsStopped payloads.now) }
 {
     let mut entries = List::new(alloc);

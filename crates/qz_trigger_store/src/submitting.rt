@@ -1,5 +1,5 @@
 //! One entry more.
-ghost use Rattle.std.specs.Prelude.{◌≡◌, ◌≢◌, ◌++◌, ◌∷◌, ◌≤◌, [], length, IsTrue, IfOk, OnOk, OnErr, IfErr, Err, Some, true, false};
+ghost use Rattle.std.specs.Prelude.{◌≡◌, ◌≢◌, ◌++◌, ◌∷◌, ◌≤◌, [], length, IsTrue, IsOk, IfOk, OnOk, OnErr, IfErr, Err, Some, true, false};
 ghost use Rattle.qz_codec.specs.Layout.{record_of};
 ghost use Rattle.qz_codec.specs.Values.{IsEntry};
 ghost use Rattle.qz_journal.specs.Layout.{IsPayload};
@@ -9,7 +9,7 @@ ghost use Rattle.qz_types.specs.Tables.{recorded_moment};
 ghost use Rattle.qz_model.specs.Transaction.{transaction};
 ghost use Rattle.qz_types.specs.Entries.{is_entry};
 ghost use Rattle.qz_trigger_store.specs.Accepted.{HasRoomForOne};
-ghost use Rattle.qz_trigger_store.specs.Entries.{trigger_entry, IsCause, IsUnwritten};
+ghost use Rattle.qz_trigger_store.specs.Entries.{trigger_entry, IsUnwritten};
 ghost use Rattle.qz_trigger_store.specs.Stores.{HasRoom, Submits};
 ghost use Rattle.qz_trigger_store.specs.View.{view, found_of, added_of, moments_of, replies_of, tables_of, IsAsBefore, LeavesEither};
 
@@ -18,8 +18,8 @@ use qz_civil::List;
 use qz_codec::put_command;
 use qz_disk::Disk;
 use qz_journal::{JournalFull, fits};
-use qz_model::{PlainStore, Worked};
-use qz_types::{Entry, NoMemory, Reply, StepRefused, SubmitError};
+use qz_model::Worked;
+use qz_types::{Entry, NoMemory, Reply, SubmitError};
 use std::mem;
 
 // An accepted entry's record, and what it comes to.
@@ -36,21 +36,6 @@ struct Prepared {
 struct Recorded {
     record: List<u8>,
     reply: Reply,
-}
-
-// What a transaction comes to.
-#[tactic(auto, using(crate::proofs::Kept::stay_valid))]
-fn work(tables: &PlainStore, entry: &Entry) -> Result<Worked, SubmitError>
-    requires { IsTrue (is_entry entry.now) }
-    ensures accepted { IfOk result (λ w. transaction tables.now entry.now ≡ accepted w.tables w.reply) }
-    ensures valid { ∥ TablesValid tables.now ∥₁ → IfOk result (λ w. ∥ TablesValid w.tables ∥₁) }
-    ensures err { IfErr result (IsCause (transaction tables.now entry.now)) }
-{
-    match tables.work(entry) {
-        Ok(worked) => Ok(worked),
-        Err(StepRefused::Refused(refusal)) => Err(SubmitError::Refused(refusal)),
-        Err(StepRefused::NoMemory) => Err(SubmitError::NoMemory),
-    }
 }
 
 impl<D: Disk> TriggerStore<D> {
@@ -77,7 +62,25 @@ impl<D: Disk> TriggerStore<D> {
         }
     }
 
+    /// Whether an entry would be accepted, apart from the room on the disk: else `Closed` or `Refused`. It takes no
+    /// memory.
+    pub fn check(&self, entry: &Entry) -> Result<(), SubmitError>
+        ensures ok { OnOk result (((view self.now).is_open ≡ true) × IsOk (trigger_entry.answer (view self.now).history entry.now)) }
+        ensures err { IfErr result (λ e. Submits trigger_entry entry.now (Err e) (view self.now) (view self.now)) }
+        ensures decided { result ≢ Err SubmitError.NoMemory }
+    {
+        if !self.is_open {
+            let at = self.journal.gate();
+            return Err(SubmitError::Closed { at });
+        }
+        match self.tables.refusal(entry) {
+            None => Ok(()),
+            Some(refusal) => Err(SubmitError::Refused(refusal)),
+        }
+    }
+
     // All that is decided without the disk, and all memory.
+    #[tactic(auto, using(crate::proofs::Refused::error_is, crate::proofs::Refused::unwritten_is))]
     fn prepare(&mut self, entry: &Entry) -> Result<Prepared, SubmitError>
         requires { IsTrue (is_entry entry.now) }
         ensures open { OnOk result (self.old.is_open ≡ true) }
@@ -95,7 +98,7 @@ impl<D: Disk> TriggerStore<D> {
             let at = self.journal.gate();
             return Err(SubmitError::Closed { at });
         }
-        let worked = work(&self.tables, entry)?;
+        let worked = self.tables.work(entry)?;
         match self.record(entry, &worked.reply) {
             Ok(Recorded { record, reply }) => Ok(Prepared {
                 record,

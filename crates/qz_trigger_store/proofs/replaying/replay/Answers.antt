@@ -1,5 +1,5 @@
 use Rattle.std.proofs.Common.{◌≡◌, ◌∙◌, ◌<◌, List, ℕ, Err, length, get_or, refl, sym, ap, subst, arith}
-use Rattle.qz_types.specs.Tables.{new_tables}
+use Rattle.qz_types.specs.Tables.{SchedulerTables, new_tables}
 use Rattle.qz_model.specs.History.{replay_from}
 use Rattle.qz_model.specs.Invariant.{TablesValid}
 use Rattle.qz_model.proofs.Kept.{valid-new_tables}
@@ -11,7 +11,7 @@ pub loop-payload-init : goal.loop-payload-init
 loop-payload-init c = record {
   replayed = taken_none c.args.payloads.now _ c.new-entries.ensures;
   tables_are = c.new-tables.ensures ∙ ap (replay_from new_tables) (sym c.new-entries.ensures);
-  valid = subst TablesValid (sym c.new-tables.ensures) valid-new_tables;
+  valid = subst (λ (T : SchedulerTables). ∥ TablesValid T ∥₁) (sym c.new-tables.ensures) ∣ valid-new_tables ∣₁;
   gate_is = refl;
 }
 
@@ -35,7 +35,7 @@ loop-payload-preserved c =
     record {
       replayed = taken_more c.args.payloads.now w.payload-index p _ w.entries _ c.in-Ok.entry below here more w.invariant.tables_are is c.in-Ok.ensures.accepted w.invariant.replayed;
       tables_are = taken_tables _ _ _ w.entries _ c.in-Ok.entry more w.invariant.tables_are c.in-Ok.ensures.tables;
-      valid = c.in-Ok.ensures.valid w.invariant.valid;
+      valid = c.in-Ok.ensures.valid;
       gate_is = taken_gate c.args.payloads.now w.payload-index p w.gate _ below here c.len.ensures w.invariant.gate_is;
     }
 

@@ -13,6 +13,6 @@ abbrev pub invariant-loop-payload : goal.invariant-loop-payload
 invariant-loop-payload l = record {
   replayed : AreReplayed (take l.payload-index l.payloads) l.entries;
   tables_are : l.tables ≡ replay_from new_tables l.entries;
-  valid : TablesValid l.tables;
+  valid : ∥ TablesValid l.tables ∥₁;
   gate_is : l.gate ≡ end_of (take l.payload-index l.payloads);
 }
