@@ -44,7 +44,7 @@ submitted_case x at e reply.Stopped S S' asked is held = absurd is
 unsubmitted_case : (x : Step) (at : ℤ) (e : EntryData) (end : StepEnd) (S S' : ClusterState) → entry_of_step S.held x at ≡ Some e → Unsubmitted e end S.triggers S'.triggers → S'.held ≡ S.held
     → EndCase (record { step = x; at = at }) end S S'
 unsubmitted_case x at e (ends.JournalFull need room) S S' asked is held = record { needs_open = needed x S ∙ ap not is.was_open; entry = e; asked = asked; triggers = is; held = held }
-unsubmitted_case x at e ends.NoMemory S S' asked is held = record { triggers = is; held = held }
+unsubmitted_case x at e ends.NoMemory S S' asked is held = record { needs_open = needed x S ∙ ap not is.was_open; entry = e; asked = asked; triggers = is; held = held }
 
 -- of a client
 

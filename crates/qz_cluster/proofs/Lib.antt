@@ -1,3 +1,4 @@
 pub mod Cases
 pub mod Held
+pub mod Sound
 pub mod Unaccepted

@@ -15,7 +15,7 @@ use Rattle.qz_types.specs.declared.steps.StepReply.{StepReply}
 use Rattle.qz_types.specs.declared.steps.StepReply.TheVariants as reply
 use Rattle.qz_model.specs.Script.{TimedStep, held_after_join, entry_of}
 use Rattle.qz_trigger_store.specs.Entries.{TriggerState, trigger_entry}
-use Rattle.qz_trigger_store.specs.Stores.{Same, Appends, Refuses, Overflows, Fails}
+use Rattle.qz_trigger_store.specs.Stores.{Same, Appends, Refuses, Overflows, Starves, Fails}
 use Rattle.qz_cluster.specs.declared.errors.StepEnd.{StepEnd}
 use Rattle.qz_cluster.specs.declared.errors.StepEnd.TheVariants as ends
 
@@ -120,9 +120,17 @@ pub record OverflowedStep (t : TimedStep) (need room : ℕ) (S S' : ClusterState
   pub triggers : Overflows trigger_entry entry need room S.triggers S'.triggers
   pub held : S'.held ≡ S.held
 
+-- The step's entry would be accepted, and there is no memory for it. Nothing is done.
+pub record StarvedStep (t : TimedStep) (S S' : ClusterState) : Type 0 where
+  pub needs_open : is_closed_for t.step S ≡ false
+  pub entry : EntryData
+  pub asked : entry_of_step S.held t.step t.at ≡ Some entry
+  pub triggers : Starves trigger_entry entry S.triggers S'.triggers
+  pub held : S'.held ≡ S.held
+
 abbrev pub EndCase : TimedStep → StepEnd → ClusterState → ClusterState → Type 0
 EndCase t (ends.JournalFull need room) S S' = OverflowedStep t need room S S'
-EndCase t ends.NoMemory S S' = Stays S S'
+EndCase t ends.NoMemory S S' = StarvedStep t S S'
 
 -- a valid step at its reading of the clock has no answer, which ends the run
 pub record IsCutShort (t : TimedStep) (end : StepEnd) (S S' : ClusterState) : Type 0 where

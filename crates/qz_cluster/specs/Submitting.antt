@@ -10,7 +10,7 @@ use Rattle.qz_types.specs.declared.steps.StepReply.{StepReply}
 use Rattle.qz_types.specs.declared.steps.StepReply.TheVariants as reply
 use Rattle.qz_model.specs.Script.{held_after_join}
 use Rattle.qz_trigger_store.specs.Entries.{TriggerState, trigger_entry}
-use Rattle.qz_trigger_store.specs.Stores.{Same, Appends, Refuses, Overflows, Fails, Stops}
+use Rattle.qz_trigger_store.specs.Stores.{Appends, Refuses, Overflows, Starves, Fails, Stops}
 use Rattle.qz_cluster.specs.declared.errors.StepEnd.{StepEnd}
 use Rattle.qz_cluster.specs.declared.errors.StepEnd.TheVariants as ends
 
@@ -25,7 +25,7 @@ Submitted e reply.Stopped s t = ⊥
 -- what the store made of an entry that found no room or no memory
 abbrev pub Unsubmitted : EntryData → StepEnd → TriggerState → TriggerState → Type 0
 Unsubmitted e (ends.JournalFull need room) s t = Overflows trigger_entry e need room s t
-Unsubmitted e ends.NoMemory s t = Same s t
+Unsubmitted e ends.NoMemory s t = Starves trigger_entry e s t
 
 -- what comes of a step whose entry wasn't accepted
 abbrev pub unaccepted : SubmitError → Result StepReply StepEnd

@@ -17,12 +17,12 @@ use crate::entries::{client_entry, node_entry};
 use crate::held::{epoch_of, put_reserved, room_for_one};
 use crate::{Cluster, StepEnd};
 use qz_disk::Disk;
-use qz_types::{Command, Entry, MemberRow, Reply, Step, StepReply, SubmitError, Text};
+use qz_types::{Command, Entry, MemberRow, NoMemory, Reply, Step, StepReply, SubmitError, Text};
 
 impl<D: Disk> Cluster<D> {
     /// Does one step at this reading of the clock, in ms since 1970-01-01T00:00:00Z. The store and its disk stay as they
-    /// were, except for an accepted transaction and for a fault. `JournalFull` is answered only where the step's
-    /// transaction would be accepted.
+    /// were, except for an accepted transaction and for a fault. `JournalFull` and `NoMemory` are answered only where the
+    /// step's transaction would be accepted.
     pub fn step(&mut self, step: Step, at: i64) -> Result<StepReply, StepEnd>
         requires { IsTrue (is_step step) }
         ensures ok { IfOk result (λ r. IsStep (record { step = step; at = at }) r (view self.old) (view self.new)) }
@@ -81,7 +81,32 @@ impl<D: Disk> Cluster<D> {
         ensures unchanged { OnErr result (KeepsStores self.old self.new) }
         ensures any_moment { D.honest → EachLeavesEither self.old self.new }
     {
-        let (rows, name) = room_for_one(self.alloc, &self.held, &node)?;
+        match room_for_one(self.alloc, &self.held, &node) {
+            Ok((rows, name)) => self.join_with(node, at, rows, name),
+            Err(NoMemory) => self.decide(client_entry(Command::Join { node }, at)),
+        }
+    }
+
+    // The same, with the rows of the other nodes, which have room for one more, and the node's name once more.
+    fn join_with(
+        &mut self,
+        node: Text,
+        at: i64,
+        rows: Vec<MemberRow>,
+        name: Text,
+    ) -> Result<StepReply, StepEnd>
+        requires node { IsTrue (is_node node) }
+        requires rows { rows.items ≡ without_member node (view self.old).held }
+        requires room { vec_len rows < vec_capacity rows }
+        requires name { name ≡ node }
+        ensures ok { IfOk result (λ r. Submitted (entry_of actor.Client (command_is.Join node) at) r (view self.old).triggers (view self.new).triggers) }
+        ensures held { IfOk result (λ r. (view self.new).held ≡ held_after_answer node (view self.old).held r) }
+        ensures err { IfErr result (λ e. Unsubmitted (entry_of actor.Client (command_is.Join node) at) e (view self.old).triggers (view self.new).triggers) }
+        ensures held_stays { OnErr result ((view self.new).held ≡ (view self.old).held) }
+        ensures keeps { IfOk result (λ r. KeepsUnlessDone r self.old self.new) }
+        ensures unchanged { OnErr result (KeepsStores self.old self.new) }
+        ensures any_moment { D.honest → EachLeavesEither self.old self.new }
+    {
         let reply = self.submit(client_entry(Command::Join { node }, at))?;
         self.hold(name, rows, &reply);
         Ok(reply)
@@ -130,6 +155,21 @@ impl<D: Disk> Cluster<D> {
     {
         match self.triggers.submit(entry) {
             Ok(reply) => Ok(StepReply::Ok(reply)),
+            Err(error) => unaccepted(error),
+        }
+    }
+
+    // What a transaction comes to for which there is no memory.
+    #[tactic(auto, using(crate::proofs::Unaccepted::replies, crate::proofs::Unaccepted::ends, crate::proofs::Unaccepted::changes_nothing, crate::proofs::Unaccepted::starves_here))]
+    fn decide(&self, entry: Entry) -> Result<StepReply, StepEnd>
+        ensures ok { IfOk result (λ r. Submitted entry r (view self.now).triggers (view self.now).triggers) }
+        ensures err { IfErr result (λ e. Unsubmitted entry e (view self.now).triggers (view self.now).triggers) }
+        ensures keeps { IfOk result (λ r. KeepsUnlessDone r self.now self.now) }
+    {
+        let decided = self.triggers.check(&entry);
+        drop(entry);
+        match decided {
+            Ok(()) => Err(StepEnd::NoMemory),
             Err(error) => unaccepted(error),
         }
     }
