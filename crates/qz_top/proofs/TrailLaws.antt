@@ -37,10 +37,10 @@ Went-more ts us rs qs R S T p q = record {
 }
 
 -- one step, whose state was shown
-pub Went-one : (t : TimedStep) (r : StepReply) (R R' : RunState) → IsStep t r R.cluster R'.cluster → R'.trail ≡ R.trail ++ R'.cluster ∷ []
-    → R'.is_own ≡ R.is_own → (R.is_own ≡ true → is_fault r ≡ false) → Went (t ∷ []) (r ∷ []) R R'
-Went-one t r R R' step trail own no_fault =
-    record { states = R'.cluster ∷ []; done = (step, tt); last = refl; trail = trail; own = own; no_fault = λ is_own. (no_fault is_own, tt) }
+pub Went-one : (t : TimedStep) (r : StepReply) (R S : RunState) → IsStep t r R.cluster S.cluster → S.trail ≡ R.trail ++ S.cluster ∷ []
+    → S.is_own ≡ R.is_own → (R.is_own ≡ true → is_fault r ≡ false) → Went (t ∷ []) (r ∷ []) R S
+Went-one t r R S step trail own no_fault =
+    record { states = S.cluster ∷ []; done = (step, tt); last = refl; trail = trail; own = own; no_fault = λ is_own. (no_fault is_own, tt) }
 
 -- a cluster on a new store
 pub new_state : (S : ClusterState) → S.triggers.history ≡ new_history 1 → S.triggers.is_open ≡ true → S.triggers.undecided ≡ None → S.held ≡ [] → S ≡ new_cluster S.triggers.faults

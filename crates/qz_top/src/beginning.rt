@@ -26,6 +26,7 @@ impl<D: Disk> Run<D> {
         }
         trail.push_reserved(Snapshot::of(&cluster));
         Ok(Run {
+            alloc,
             cluster,
             trail,
             is_own,

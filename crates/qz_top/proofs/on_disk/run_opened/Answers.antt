@@ -27,4 +27,4 @@ returns-clause-done g c triggers opened begins is_open settled nothing_held stan
 pub returns-clause-disk : goal.returns-clause-disk
 returns-clause-disk g c triggers opened begins is_open later status =
     let ran = rw begins at c.run_lines-status.ensures.run in
-    rw c.into_disk.ensures (disk_rose _ _ _ _ _ _ _ _ _ _ _ _ _ is_open later status ran.3)
+    rw c.into_disk.ensures (disk_rose _ _ _ _ _ _ _ _ _ is_open later status ran.3)

@@ -14,7 +14,7 @@ returns-clause-done g c =
       readings = ran.1;
       replies = ran.2;
       run = ran.3;
-      plain = plain_of _ _ _ _ _ _ _ _ _ _ _ _ ran.3;
+      plain = plain_of _ _ _ _ _ _ _ _ ran.3;
       trail_is = ap states_in c.of-trail.ensures;
-      no_fault = no_disk_fault _ _ _ _ _ _ _ _ _ _ _ _ ran.3;
+      no_fault = no_disk_fault _ _ _ _ _ _ _ _ ran.3;
     })
