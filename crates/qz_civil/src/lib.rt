@@ -36,5 +36,5 @@ pub use spans::{SECONDS, Span, second_from};
 pub use stretches::{BadZone, Stretch, is_offset, may_begin};
 pub use texts::Text;
 pub use times::Times;
-pub use timings::{Kind, Timing, Unit};
+pub use timings::{Kind, Moved, Timing, Unit};
 pub use zones::Zone;

@@ -82,6 +82,19 @@ pub struct Timing {
     pub end: Option<i64>,
 }
 
+/// What a misfire makes of a trigger.
+#[derive(Clone, Copy, PartialEq, Eq, Debug)]
+pub struct Moved {
+    /// Its start, in ms since 1970-01-01T00:00:00Z.
+    pub start: i64,
+    /// Its next fire time, in ms since 1970-01-01T00:00:00Z.
+    pub next: Option<i64>,
+    /// The count of a simple trigger, and 0 for the other kinds.
+    pub count: i64,
+    /// How often it has fired, up to 2 to the power of 63.
+    pub times: u64,
+}
+
 impl Clone for Kind {
     ghost is_clone = { λ a b. b ≡ a };
 
