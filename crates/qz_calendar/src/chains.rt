@@ -48,7 +48,7 @@ impl Chain {
 
     /// Puts a calendar behind the others, as the base of the last one.
     pub fn push(&mut self, kind: CalendarKind, zone: Zone) -> Result<(), ChainFull>
-        requires { is_calendar_kind kind ≡ true }
+        requires { IsTrue (is_calendar_kind kind) }
         ensures ok { OnOk result (self.new ≡ self.old ++ record { kind = kind; zone = zone } ∷ []) }
         ensures err { OnErr result (self.new ≡ self.old) }
         ensures full { IsOk result ↔ (length self.old < CHAIN_LIMIT) }

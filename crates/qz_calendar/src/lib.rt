@@ -11,3 +11,4 @@ mod seconds;
 mod spans;
 
 pub use chains::{CHAIN_LIMIT, Chain, ChainFull, included, next_included};
+pub use listed::{are_annual_days, are_holidays};
