@@ -2,8 +2,8 @@
 use Rattle.std.specs.Prelude.{◌≢◌, Err, IfOk, IfErr, OnErr}
 use Rattle.qz_disk.specs.declared.disk.Disk.{Ghosts}
 use Rattle.qz_types.specs.Entries.{EntryData}
-use Rattle.qz_trigger_store.specs.declared.errors.SubmitError.{SubmitError}
-use Rattle.qz_trigger_store.specs.declared.errors.SubmitError.TheVariants as submit
+use Rattle.qz_types.specs.declared.errors.SubmitError.{SubmitError}
+use Rattle.qz_types.specs.declared.errors.SubmitError.TheVariants as submit
 use Rattle.qz_trigger_store.specs.declared.stores.TriggerStore.{TriggerStore}
 use Rattle.qz_trigger_store.specs.Steps.{StoreState, Submits}
 use Rattle.qz_trigger_store.specs.Seen.{IsAsBefore}

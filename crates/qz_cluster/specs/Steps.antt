@@ -10,10 +10,10 @@ use Rattle.qz_types.specs.declared.steps.Step.{Step}
 use Rattle.qz_types.specs.declared.steps.Step.TheVariants.{Client, Join, Node}
 use Rattle.qz_types.specs.declared.steps.StepReply.{StepReply}
 use Rattle.qz_types.specs.declared.steps.StepReply.TheVariants as reply
-use Rattle.qz_model.specs.Words.{member_of, without_member}
+use Rattle.qz_types.specs.Words.{member_of, without_member}
 use Rattle.qz_model.specs.Script.{TimedStep, held_after_join, entry_of}
-use Rattle.qz_trigger_store.specs.declared.errors.SubmitError.{SubmitError}
-use Rattle.qz_trigger_store.specs.declared.errors.SubmitError.TheVariants as submit
+use Rattle.qz_types.specs.declared.errors.SubmitError.{SubmitError}
+use Rattle.qz_types.specs.declared.errors.SubmitError.TheVariants as submit
 use Rattle.qz_trigger_store.specs.Steps.{StoreState, Same, Appends, Refuses, Overflows, Fails, Stops}
 use Rattle.qz_cluster.specs.declared.errors.StepEnd.{StepEnd}
 use Rattle.qz_cluster.specs.declared.errors.StepEnd.TheVariants as ends

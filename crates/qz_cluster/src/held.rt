@@ -1,13 +1,13 @@
 //! The epochs that nodes hold.
 ghost use Rattle.std.specs.Prelude.{◌≡◌, ◌<◌, IsTrue, IfOk, option_copied, vec_len, vec_capacity};
 ghost use Rattle.qz_types.specs.Rows.{is_node};
-ghost use Rattle.qz_model.specs.Words.{member_of, put_member, without_member};
+ghost use Rattle.qz_types.specs.Words.{member_of, put_member, without_member};
 
 use qz_types::{MemberRow, NoMemory, Text, find, insert};
 use std::alloc::Global;
 use std::cmp::Ordering;
 
-#[tactic(auto, unfolding(qz_model::specs::Words::member_of))]
+#[tactic(auto, unfolding(qz_types::specs::Words::member_of))]
 pub(crate) fn member_of<'a>(held: &'a [MemberRow], node: &Text) -> Option<&'a MemberRow>
     ensures { option_copied result ≡ member_of node.now held.now }
 {
@@ -28,7 +28,7 @@ pub(crate) fn others(
     Ok(rows)
 }
 
-#[tactic(auto, unfolding(qz_model::specs::Words::without_member, qz_model::specs::Words::same_text))]
+#[tactic(auto, unfolding(qz_types::specs::Words::without_member, qz_types::specs::Words::same_text))]
 fn without(alloc: Global, held: &[MemberRow], node: &Text) -> Result<Vec<MemberRow>, NoMemory>
     ensures { IfOk result (λ rows. rows.items ≡ without_member node.now held.now) }
 {
@@ -42,7 +42,7 @@ fn without(alloc: Global, held: &[MemberRow], node: &Text) -> Result<Vec<MemberR
 }
 
 /// Puts in a row for which there is room.
-#[tactic(auto, unfolding(qz_model::specs::Words::put_member))]
+#[tactic(auto, unfolding(qz_types::specs::Words::put_member))]
 pub(crate) fn put_reserved(rows: &mut Vec<MemberRow>, row: MemberRow)
     requires { vec_len rows.old < vec_capacity rows.old }
     ensures { rows.new.items ≡ put_member row rows.old.items }

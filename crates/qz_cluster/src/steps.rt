@@ -6,7 +6,7 @@ ghost use Rattle.qz_types.specs.Entries.{is_command, is_of_node};
 ghost use Rattle.qz_types.specs.declared.commands.Actor.TheVariants as actor;
 ghost use Rattle.qz_types.specs.declared.commands.Command.TheVariants as command_is;
 ghost use Rattle.qz_types.specs.declared.steps.Step.TheVariants as step_is;
-ghost use Rattle.qz_model.specs.Words.{without_member};
+ghost use Rattle.qz_types.specs.Words.{without_member};
 ghost use Rattle.qz_model.specs.Script.{entry_of};
 ghost use Rattle.qz_trigger_store.specs.Seen.{seen, IsAsBefore, LeavesEither};
 ghost use Rattle.qz_cluster.specs.Steps.{Answered, Submitted, Refrained, unaccepted, held_behind_join, IsStep, IsCutShort};

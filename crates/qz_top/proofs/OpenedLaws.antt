@@ -29,7 +29,7 @@ disk_rose faults s S after old new lines readings replies was earlier is run =
 
 -- A run on a disk of its own has a plain scheduler's replies.
 pub plain_of : (n : ℕ) (s : Status) (after : RunState) (old new : Outside) (lines : List (List ℕ)) (readings : List ℤ) (replies : List StepReply)
-    → IsRun s (begun true (new_cluster n)) after old new lines readings replies → replies ≡ step_replies (new_script 1) (steps_of lines readings)
+    → IsRun s (begun true (new_cluster n)) after old new lines readings replies → replies ≡ step_replies (new_script) (steps_of lines readings)
 plain_of n s after old new lines readings replies run =
     run_plain (new_cluster n) (steps_of lines readings) replies run.went.states run.went.done refl (run.went.no_fault refl)
 

@@ -14,7 +14,7 @@ use Rattle.qz_types.specs.declared.steps.Step.TheVariants.{Client, Join, Node}
 use Rattle.qz_types.specs.declared.steps.StepReply.{StepReply}
 use Rattle.qz_types.specs.declared.steps.StepReply.TheVariants as reply
 use Rattle.qz_model.specs.History.{History, replay}
-use Rattle.qz_model.specs.Words.{member_of}
+use Rattle.qz_types.specs.Words.{member_of}
 use Rattle.qz_model.specs.Script.{ScriptState, TimedStep, StepEffect, held_after_join, entry_of, submit, effect_of_node, step_effect, with_optional, effect_in, after_step, step_replies}
 use Rattle.qz_trigger_store.specs.Steps.{StoreState}
 use Rattle.qz_cluster.specs.Steps.{ClusterState, entry_of_member, entry_of_step, Submitted, Answered, held_behind_join, held_behind, IsStep}

@@ -43,7 +43,7 @@ Went-one t r R S step trail own no_fault =
     record { states = S.cluster ∷ []; done = (step, tt); last = refl; trail = trail; own = own; no_fault = λ is_own. (no_fault is_own, tt) }
 
 -- a cluster on a new store
-pub new_state : (S : ClusterState) → S.triggers.history ≡ new_history 1 → S.triggers.is_open ≡ true → S.triggers.undecided ≡ None → S.held ≡ [] → S ≡ new_cluster S.triggers.faults
+pub new_state : (S : ClusterState) → S.triggers.history ≡ new_history → S.triggers.is_open ≡ true → S.triggers.undecided ≡ None → S.held ≡ [] → S ≡ new_cluster S.triggers.faults
 new_state S history is_open undecided held =
     λ i. record { triggers = record { history = history i; is_open = is_open i; undecided = undecided i; faults = S.triggers.faults }; held = held i }
 

@@ -37,7 +37,7 @@ pub record RanInMemory (s : Status) (trail : List ClusterState)
   pub readings : List ℤ
   pub replies : List StepReply
   pub run : IsRun s (begun true (new_cluster faults)) behind old new lines readings replies
-  pub plain : replies ≡ step_replies (new_script 1) (steps_of lines readings)
+  pub plain : replies ≡ step_replies (new_script) (steps_of lines readings)
   pub trail_is : trail ≡ behind.trail
   pub no_fault : s ≡ status.DiskFault → ⊥
 

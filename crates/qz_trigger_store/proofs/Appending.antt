@@ -7,10 +7,10 @@ use Rattle.qz_disk.specs.Disk.{DiskState, Only, IsLawful, LeavesOnly}
 use Rattle.qz_disk.proofs.Moments.{started, weaker}
 use Rattle.qz_types.specs.Entries.{EntryData}
 use Rattle.qz_types.specs.declared.replies.Reply.{Reply}
-use Rattle.qz_model.specs.Tables.{SchedulerTables, empty, recorded_moment}
-use Rattle.qz_model.specs.Outcomes.{Outcome, accepted}
+use Rattle.qz_types.specs.Tables.{SchedulerTables, new_tables, recorded_moment}
+use Rattle.qz_types.specs.Outcomes.{Outcome, accepted, IsAccepted}
 use Rattle.qz_model.specs.Transaction.{transaction}
-use Rattle.qz_model.specs.History.{History, tables_left, onto_replies, IsAccepted, IsLegalFrom, replay_from, replies_from, moments_from}
+use Rattle.qz_model.specs.History.{History, tables_left, onto_replies, IsLegalFrom, replay_from, replies_from, moments_from}
 use Rattle.qz_model.proofs.Histories.{replay_from-append, replies_from-append, moments_from-append}
 use Rattle.qz_journal.specs.Layout.{end_of, Holds, IsBeforeOrAfter}
 use Rattle.qz_journal.proofs.Stands.{end_of-push}
@@ -38,32 +38,32 @@ placed_with es fs e written n m is same n_is m_is =
     m_is ∙ ap (λ k. k + (5 + length written)) n_is ∙ ap (λ (l : List ℕ). end_of (records es) + (5 + length l)) same
     ∙ sym (end_of-push (records es) (record_of e)) ∙ ap end_of (sym (records-push es e)) ∙ ap (λ (l : List EntryData). end_of (records l)) (sym is)
 
-pub legal_with : (T : SchedulerTables) (es fs : List EntryData) (e : EntryData) (U : SchedulerTables) (r : Reply) → fs ≡ es ++ e ∷ [] → T ≡ replay_from (empty 1) es → IsLegalFrom (empty 1) es
-    → transaction T e ≡ accepted U r → IsLegalFrom (empty 1) fs
-legal_with T es fs e U r is same legal way = taken_legal (empty 1) T es fs e is same legal (accepted_is _ U r way)
+pub legal_with : (T : SchedulerTables) (es fs : List EntryData) (e : EntryData) (U : SchedulerTables) (r : Reply) → fs ≡ es ++ e ∷ [] → T ≡ replay_from new_tables es → IsLegalFrom new_tables es
+    → transaction T e ≡ accepted U r → IsLegalFrom new_tables fs
+legal_with T es fs e U r is same legal way = taken_legal new_tables T es fs e is same legal (accepted_is _ U r way)
 
 left_is : (T U : SchedulerTables) (e : EntryData) (r : Reply) → transaction T e ≡ accepted U r → tables_left T (transaction T e) ≡ U
 left_is T U e r way = ap (tables_left T) way
 
-pub replayed_with : (T : SchedulerTables) (es fs : List EntryData) (e : EntryData) (U : SchedulerTables) (r : Reply) → fs ≡ es ++ e ∷ [] → T ≡ replay_from (empty 1) es
-    → transaction T e ≡ accepted U r → U ≡ replay_from (empty 1) fs
+pub replayed_with : (T : SchedulerTables) (es fs : List EntryData) (e : EntryData) (U : SchedulerTables) (r : Reply) → fs ≡ es ++ e ∷ [] → T ≡ replay_from new_tables es
+    → transaction T e ≡ accepted U r → U ≡ replay_from new_tables fs
 replayed_with T es fs e U r is same way =
-    sym (left_is T U e r way) ∙ ap (λ (W : SchedulerTables). tables_left W (transaction W e)) same ∙ sym (replay_from-append (empty 1) es (e ∷ [])) ∙ ap (replay_from (empty 1)) (sym is)
+    sym (left_is T U e r way) ∙ ap (λ (W : SchedulerTables). tables_left W (transaction W e)) same ∙ sym (replay_from-append new_tables es (e ∷ [])) ∙ ap (replay_from new_tables) (sym is)
 
 pub recorded_with : (es fs : List EntryData) (e : EntryData) → fs ≡ es ++ e ∷ [] → ∥ AllByRecursion IsEntry es ∥₁ → IsEntry e → ∥ AllByRecursion IsEntry fs ∥₁
 recorded_with es fs e is all one = ∥∥₁_map all (λ a. subst (AllByRecursion IsEntry) (sym is) (All-pushed IsEntry es e a one))
 
-pub moments_with : (T B : SchedulerTables) (found old new : List EntryData) (e : EntryData) (ms ns : List ℤ) (m : ℤ) → B ≡ replay_from (empty 1) found → new ≡ old ++ e ∷ [] → T ≡ replay_from (empty 1) (found ++ old)
+pub moments_with : (T B : SchedulerTables) (found old new : List EntryData) (e : EntryData) (ms ns : List ℤ) (m : ℤ) → B ≡ replay_from new_tables found → new ≡ old ++ e ∷ [] → T ≡ replay_from new_tables (found ++ old)
     → ns ≡ ms ++ m ∷ [] → m ≡ recorded_moment T e.at → ms ≡ moments_from B old → ns ≡ moments_from B new
 moments_with T B found old new e ms ns m base is same ns_is m_is ms_is =
-    let here : T ≡ replay_from B old = same ∙ replay_from-append (empty 1) found old ∙ ap (λ (W : SchedulerTables). replay_from W old) (sym base) in
+    let here : T ≡ replay_from B old = same ∙ replay_from-append new_tables found old ∙ ap (λ (W : SchedulerTables). replay_from W old) (sym base) in
     ns_is ∙ ap (λ (l : List ℤ). l ++ m ∷ []) ms_is ∙ ap (λ (k : ℤ). moments_from B old ++ k ∷ []) (m_is ∙ ap (λ (W : SchedulerTables). recorded_moment W e.at) here)
     ∙ sym (moments_from-append B old (e ∷ [])) ∙ ap (moments_from B) (sym is)
 
-pub replies_with : (T B : SchedulerTables) (found old new : List EntryData) (e : EntryData) (rs ss : List Reply) (U : SchedulerTables) (r : Reply) → B ≡ replay_from (empty 1) found → new ≡ old ++ e ∷ [] → T ≡ replay_from (empty 1) (found ++ old)
+pub replies_with : (T B : SchedulerTables) (found old new : List EntryData) (e : EntryData) (rs ss : List Reply) (U : SchedulerTables) (r : Reply) → B ≡ replay_from new_tables found → new ≡ old ++ e ∷ [] → T ≡ replay_from new_tables (found ++ old)
     → transaction T e ≡ accepted U r → ss ≡ rs ++ r ∷ [] → rs ≡ replies_from B old → ss ≡ replies_from B new
 replies_with T B found old new e rs ss U r base is same way ss_is rs_is =
-    let here : T ≡ replay_from B old = same ∙ replay_from-append (empty 1) found old ∙ ap (λ (W : SchedulerTables). replay_from W old) (sym base) in
+    let here : T ≡ replay_from B old = same ∙ replay_from-append new_tables found old ∙ ap (λ (W : SchedulerTables). replay_from W old) (sym base) in
     let there : transaction (replay_from B old) e ≡ accepted U r = ap (λ (W : SchedulerTables). transaction W e) (sym here) ∙ way in
     ss_is ∙ ap (λ (l : List Reply). l ++ r ∷ []) rs_is ∙ ap (λ (o : Outcome). replies_from B old ++ onto_replies o []) (sym there)
     ∙ sym (replies_from-append B old (e ∷ [])) ∙ ap (replies_from B) (sym is)

@@ -5,13 +5,13 @@ use Rattle.std.specs.List.{AllByRecursion}
 use Rattle.std.proofs.lemmas.List.{get_or_append_left, get_or-append_right}
 use Rattle.qz_types.specs.Entries.{EntryData}
 use Rattle.qz_types.specs.declared.replies.Refusal.{Refusal}
-use Rattle.qz_model.specs.Tables.{SchedulerTables}
-use Rattle.qz_model.specs.Outcomes.{Outcome, refused}
+use Rattle.qz_types.specs.Tables.{SchedulerTables}
+use Rattle.qz_types.specs.Outcomes.{Outcome, refused, IsAccepted}
 use Rattle.qz_model.specs.Causes.{IsCause}
-use Rattle.qz_model.specs.declared.plain.StepRefused.{StepRefused}
-use Rattle.qz_model.specs.declared.plain.StepRefused.TheVariants.{Refused}
+use Rattle.qz_types.specs.declared.errors.StepRefused.{StepRefused}
+use Rattle.qz_types.specs.declared.errors.StepRefused.TheVariants.{Refused}
 use Rattle.qz_model.specs.Transaction.{transaction}
-use Rattle.qz_model.specs.History.{tables_left, IsAccepted, IsLegalFrom, replay_from}
+use Rattle.qz_model.specs.History.{tables_left, IsLegalFrom, replay_from}
 use Rattle.qz_model.proofs.Histories.{IsLegalFrom-entry, replay_from-append}
 use Rattle.qz_journal.specs.Layout.{IsHeader, IsPayload, body_of, blocks, end_of, Holds}
 use Rattle.qz_journal.specs.Opening.{IsDamagedBehind, IsRefusedBehind}

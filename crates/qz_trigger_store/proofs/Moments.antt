@@ -12,10 +12,10 @@ use Rattle.qz_types.specs.declared.replies.Reply.{Reply}
 use Rattle.qz_types.specs.declared.replies.Reply.TheVariants.{Completed}
 use Rattle.qz_types.specs.declared.replies.Refusal.{Refusal}
 use Rattle.qz_types.specs.declared.replies.Refusal.TheVariants.{Unbuilt}
-use Rattle.qz_model.specs.Tables.{SchedulerTables, recorded_moment}
-use Rattle.qz_model.specs.Outcomes.{Outcome, accepted, refused, unless}
+use Rattle.qz_types.specs.Tables.{SchedulerTables, recorded_moment}
+use Rattle.qz_types.specs.Outcomes.{Outcome, accepted, refused, unless}
 use Rattle.qz_model.specs.Transaction.{by_command, transaction}
-use Rattle.qz_model.specs.Words.{fired_of, job_of, trigger_of}
+use Rattle.qz_types.specs.Words.{fired_of, job_of, trigger_of}
 use Rattle.qz_model.specs.Scheduling.{add_job_refusal, add_trigger_refusal}
 use Rattle.qz_model.specs.Membership.{node_refusal, join_refusal}
 use Rattle.qz_model.specs.Firing

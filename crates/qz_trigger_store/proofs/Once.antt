@@ -2,7 +2,7 @@
 use Rattle.std.proofs.Common.{◌≡◌, ◌⊎◌, inr, ℕ, List, [], ◌∷◌, ◌++◌, get_or, drop, refl, sym, ◌∙◌, ap, subst, append-nil}
 use Rattle.std.specs.List.{AllByRecursion}
 use Rattle.qz_types.specs.Entries.{EntryData}
-use Rattle.qz_model.specs.Tables.{SchedulerTables, empty}
+use Rattle.qz_types.specs.Tables.{SchedulerTables, new_tables}
 use Rattle.qz_model.specs.Transaction.{transaction}
 use Rattle.qz_model.specs.History.{History, tables_left, IsLegalFrom, replay_from}
 use Rattle.qz_journal.specs.declared.errors.MountError.{MountError}
@@ -47,7 +47,7 @@ only_memory h payloads mount.NoMemory is same stopped = inr refl
 only_memory h payloads mount.NotAStore is same stopped = absurd stopped
 only_memory h payloads mount.Fault is same stopped = absurd stopped
 only_memory h payloads (mount.Damaged at) is same stopped =
-    absurd (none_unfit (empty 1) stopped.entries h.entries stopped.payload stopped.more stopped.valid is.valid
+    absurd (none_unfit new_tables stopped.entries h.entries stopped.payload stopped.more stopped.valid is.valid
     (subst (λ (x : History). IsLegalFrom x.base h.entries) is.begins is.legal) (sym same ∙ stopped.whole) stopped.unfit)
 
 -- the history of a store that was just opened

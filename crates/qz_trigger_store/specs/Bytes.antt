@@ -2,7 +2,7 @@
 use Rattle.std.specs.Prelude.{◌≡◌, ◌⊎◌, ℕ, List, map, Option, Some, None}
 use Rattle.std.specs.List.{AllByRecursion}
 use Rattle.qz_types.specs.Entries.{EntryData}
-use Rattle.qz_model.specs.Tables.{empty}
+use Rattle.qz_types.specs.Tables.{new_tables}
 use Rattle.qz_model.specs.History.{History, with_entry, IsLegal}
 use Rattle.qz_journal.specs.Layout.{Holds}
 use Rattle.qz_journal.specs.declared.layout.TheConstants.{TRIGGERS}
@@ -11,7 +11,7 @@ use Rattle.qz_codec.specs.Values.{IsEntry}
 
 -- the history of these entries from a new store on
 abbrev pub history_of : List EntryData → History
-history_of entries = record { base_count = 0; base = empty 1; entries = entries }
+history_of entries = record { base_count = 0; base = new_tables; entries = entries }
 
 abbrev pub records : List EntryData → List (List ℕ)
 records entries = map record_of entries

@@ -2,10 +2,10 @@
 use Rattle.std.proofs.Common.{◌≡◌, ◌⊎◌, ℕ, List, [], ◌∷◌, ◌++◌, refl, sym, ap, subst}
 use Rattle.std.specs.Prelude.{Option, Some, None}
 use Rattle.qz_types.specs.Entries.{EntryData}
-use Rattle.qz_model.specs.Tables.{SchedulerTables}
-use Rattle.qz_model.specs.Outcomes.{Outcome, accepted, refused}
+use Rattle.qz_types.specs.Tables.{SchedulerTables}
+use Rattle.qz_types.specs.Outcomes.{Outcome, accepted, refused, IsAccepted}
 use Rattle.qz_model.specs.Transaction.{transaction}
-use Rattle.qz_model.specs.History.{History, tables_left, IsAccepted, IsLegalFrom}
+use Rattle.qz_model.specs.History.{History, tables_left, IsLegalFrom}
 use Rattle.qz_journal.specs.Layout.{Holds}
 use Rattle.qz_journal.proofs.Undecided.{Holds-prop, IsBeforeOrAfter-prop}
 use Rattle.qz_journal.specs.declared.layout.TheConstants.{TRIGGERS}

@@ -2,9 +2,10 @@
 use Rattle.std.specs.Prelude.{⊤, ◌≡◌, ◌⊎◌, ℕ, List, ◌∷◌, ◌++◌, take, drop, All}
 use Rattle.std.specs.List.{AllByRecursion}
 use Rattle.qz_types.specs.Entries.{EntryData}
-use Rattle.qz_model.specs.Tables.{SchedulerTables, empty}
+use Rattle.qz_types.specs.Tables.{SchedulerTables, new_tables}
 use Rattle.qz_model.specs.Transaction.{transaction}
-use Rattle.qz_model.specs.History.{IsAccepted, IsLegalFrom, replay_from}
+use Rattle.qz_model.specs.History.{IsLegalFrom, replay_from}
+use Rattle.qz_types.specs.Outcomes.{IsAccepted}
 use Rattle.qz_journal.specs.Layout.{IsHeader, IsPayload, open_gate, body_of, blocks, end_of}
 use Rattle.qz_journal.specs.Opening.{IsBad}
 use Rattle.qz_journal.specs.declared.layout.TheConstants.{TRIGGERS}
@@ -30,13 +31,13 @@ pub record BeginsUnfit (T : SchedulerTables) (tail : List ℕ) : Type 0 where
 pub record IsDamaged (bytes : List ℕ) (at : ℕ) : Type 0 where
   pub entries : List EntryData
   pub valid : AllByRecursion IsEntry entries
-  pub legal : IsLegalFrom (empty 1) entries
+  pub legal : IsLegalFrom new_tables entries
   pub sizes : All IsPayload (records entries)
   pub tail : List ℕ
   pub header : IsHeader TRIGGERS (take 16 bytes)
   pub whole : drop 16 bytes ≡ blocks (records entries) ++ tail
   pub at_is : at ≡ end_of (records entries)
-  pub bad : IsBad tail ⊎ BeginsUnfit (replay_from (empty 1) entries) tail
+  pub bad : IsBad tail ⊎ BeginsUnfit (replay_from new_tables entries) tail
 
 -- why an opening of these bytes is refused; that the disk or memory failed isn't seen in them
 abbrev pub IsRefused : List ℕ → MountError → Type 0
@@ -49,18 +50,18 @@ IsRefused bytes mount.NoMemory = ⊤
 pub record HaveUnfit (payloads : List (List ℕ)) (at : ℕ) : Type 0 where
   pub entries : List EntryData
   pub valid : AllByRecursion IsEntry entries
-  pub legal : IsLegalFrom (empty 1) entries
+  pub legal : IsLegalFrom new_tables entries
   pub payload : List ℕ
   pub more : List (List ℕ)
   pub whole : payloads ≡ records entries ++ payload ∷ more
   pub at_is : at ≡ end_of (records entries)
-  pub unfit : IsUnfit (replay_from (empty 1) entries) payload
+  pub unfit : IsUnfit (replay_from new_tables entries) payload
 
 -- payloads that are the records of a history from a new store on
 pub record AreReplayed (payloads : List (List ℕ)) : Type 0 where
   pub entries : List EntryData
   pub valid : AllByRecursion IsEntry entries
-  pub legal : IsLegalFrom (empty 1) entries
+  pub legal : IsLegalFrom new_tables entries
   pub whole : payloads ≡ records entries
 
 -- the first bad place of a journal that is damaged behind these payloads, at this offset

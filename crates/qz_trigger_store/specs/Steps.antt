@@ -5,14 +5,14 @@ use Rattle.qz_civil.specs.Causes.{Rose}
 use Rattle.qz_types.specs.Entries.{EntryData}
 use Rattle.qz_types.specs.declared.replies.Reply.{Reply}
 use Rattle.qz_types.specs.declared.replies.Refusal.{Refusal}
-use Rattle.qz_model.specs.Outcomes.{Outcome, accepted, refused}
+use Rattle.qz_types.specs.Outcomes.{Outcome, accepted, refused, IsAccepted}
 use Rattle.qz_model.specs.Transaction.{transaction}
-use Rattle.qz_model.specs.History.{History, with_entry, replay, IsAccepted}
+use Rattle.qz_model.specs.History.{History, with_entry, replay}
 use Rattle.qz_journal.specs.Layout.{end_of}
 use Rattle.qz_journal.specs.Commits.{IsFull, need_of, room_of}
 use Rattle.qz_codec.specs.Layout.{record_of}
-use Rattle.qz_trigger_store.specs.declared.errors.SubmitError.{SubmitError}
-use Rattle.qz_trigger_store.specs.declared.errors.SubmitError.TheVariants as submit
+use Rattle.qz_types.specs.declared.errors.SubmitError.{SubmitError}
+use Rattle.qz_types.specs.declared.errors.SubmitError.TheVariants as submit
 use Rattle.qz_trigger_store.specs.Bytes.{records, MayBe}
 
 -- A store at one moment: its history, whether it is open, the entry of which it isn't known whether the disk has it, and

@@ -2,13 +2,12 @@
 #![tactic(auto)]
 
 mod accepted;
-mod errors;
 mod mounting;
 mod parts;
 mod replaying;
 mod stores;
 mod submitting;
 
-pub use errors::SubmitError;
 pub use qz_journal::MountError;
+pub use qz_types::SubmitError;
 pub use stores::TriggerStore;

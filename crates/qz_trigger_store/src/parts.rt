@@ -1,6 +1,6 @@
 //! What a store shows of itself.
 ghost use Rattle.std.specs.Prelude.{◌≡◌, ◌++◌, length, not};
-ghost use Rattle.qz_model.specs.Tables.{empty};
+ghost use Rattle.qz_types.specs.Tables.{new_tables};
 ghost use Rattle.qz_model.specs.History.{replay_from, replies_from, moments_from};
 
 use crate::TriggerStore;
@@ -33,7 +33,7 @@ impl<D: Disk> TriggerStore<D> {
     /// The recorded moments of the entries accepted since the mount, in ms since 1970-01-01T00:00:00Z. No memory.
     pub fn moments(&self) -> &List<i64>
         ensures kept { result.now ≡ self.now.accepted.moments }
-        ensures value { result.now ≡ moments_from (replay_from (empty 1) self.now.found) self.now.accepted.entries }
+        ensures value { result.now ≡ moments_from (replay_from new_tables self.now.found) self.now.accepted.entries }
     {
         &self.accepted.moments
     }
@@ -41,7 +41,7 @@ impl<D: Disk> TriggerStore<D> {
     /// The replies to the entries accepted since the mount. No memory.
     pub fn replies(&self) -> &List<Reply>
         ensures kept { result.now ≡ self.now.accepted.replies }
-        ensures value { result.now ≡ replies_from (replay_from (empty 1) self.now.found) self.now.accepted.entries }
+        ensures value { result.now ≡ replies_from (replay_from new_tables self.now.found) self.now.accepted.entries }
     {
         &self.accepted.replies
     }

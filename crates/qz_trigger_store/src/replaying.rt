@@ -1,9 +1,10 @@
 //! The payloads of a journal, read as a history.
 ghost use Rattle.std.specs.Prelude.{◌≡◌, ◌+◌, ◌^◌, ◌<◌, ◌++◌, ℕ, List as Items, [], IfOk, IfErr, OnOk, Err};
 ghost use Rattle.qz_journal.specs.Layout.{end_of};
-ghost use Rattle.qz_model.specs.Tables.{empty};
+ghost use Rattle.qz_types.specs.Tables.{new_tables};
 ghost use Rattle.qz_model.specs.Transaction.{transaction};
-ghost use Rattle.qz_model.specs.History.{IsAccepted, IsLegalFrom, tables_left, replay_from};
+ghost use Rattle.qz_model.specs.History.{IsLegalFrom, tables_left, replay_from};
+ghost use Rattle.qz_types.specs.Outcomes.{IsAccepted};
 ghost use Rattle.qz_model.specs.Invariant.{TablesValid};
 ghost use Rattle.std.specs.List.{AllByRecursion};
 ghost use Rattle.qz_codec.specs.Values.{IsEntry};
@@ -14,8 +15,8 @@ ghost use Rattle.qz_trigger_store.specs.Opening.{IsUnfit, IsStopped};
 use qz_civil::List;
 use qz_codec::{ReadError, get_command};
 use qz_journal::MountError;
-use qz_model::{PlainStore, StepRefused, Worked};
-use qz_types::Entry;
+use qz_model::{PlainStore, Worked};
+use qz_types::{Entry, StepRefused};
 use std::alloc::Global;
 
 /// A history from a new store on, and the tables that it leaves.
@@ -23,8 +24,8 @@ use std::alloc::Global;
 pub(crate) struct Replayed {
     pub(crate) entries: List<Entry>,
     pub(crate) tables: PlainStore,
-    ghost legal: { IsLegalFrom (empty 1) entries } by { IsLegalFrom-prop (empty 1) entries },
-    ghost replayed: { tables ≡ replay_from (empty 1) entries },
+    ghost legal: { IsLegalFrom new_tables entries } by { IsLegalFrom-prop new_tables entries },
+    ghost replayed: { tables ≡ replay_from new_tables entries },
     ghost valid: { ∥ TablesValid tables ∥₁ },
     ghost recorded: { ∥ AllByRecursion IsEntry entries ∥₁ },
 }

@@ -1,7 +1,7 @@
 //! An open trigger store.
 ghost use Rattle.std.specs.Prelude.{◌≡◌, ◌++◌, List as Entries, ℕ, length, None, true};
 ghost use Rattle.std.proofs.Props.{props};
-ghost use Rattle.qz_model.specs.Tables.{empty};
+ghost use Rattle.qz_types.specs.Tables.{new_tables};
 ghost use Rattle.qz_model.specs.History.{IsLegalFrom, replay_from, replies_from, moments_from};
 ghost use Rattle.qz_model.specs.Invariant.{TablesValid};
 ghost use Rattle.qz_journal.specs.declared.layout.TheConstants.{TRIGGERS as OF_TRIGGERS};
@@ -37,12 +37,12 @@ pub struct TriggerStore<D: Disk> {
     ghost settled: { is_open ≡ true → undecided ≡ None },
     ghost counted: { journal.count ≡ length (found ++ accepted.entries) },
     ghost placed: { journal.gate ≡ end_of (records (found ++ accepted.entries)) },
-    ghost legal: { IsLegalFrom (empty 1) (found ++ accepted.entries) } by { IsLegalFrom-prop (empty 1) (found ++ accepted.entries) },
-    ghost replayed: { tables ≡ replay_from (empty 1) (found ++ accepted.entries) },
+    ghost legal: { IsLegalFrom new_tables (found ++ accepted.entries) } by { IsLegalFrom-prop new_tables (found ++ accepted.entries) },
+    ghost replayed: { tables ≡ replay_from new_tables (found ++ accepted.entries) },
     ghost valid: { ∥ TablesValid tables ∥₁ },
     ghost recorded: { ∥ AllByRecursion IsEntry (found ++ accepted.entries) ∥₁ },
-    ghost moments: { accepted.moments ≡ moments_from (replay_from (empty 1) found) accepted.entries },
-    ghost replies: { accepted.replies ≡ replies_from (replay_from (empty 1) found) accepted.entries },
+    ghost moments: { accepted.moments ≡ moments_from (replay_from new_tables found) accepted.entries },
+    ghost replies: { accepted.replies ≡ replies_from (replay_from new_tables found) accepted.entries },
     ghost stands: { D.honest → is_open ≡ true → Stands (D.state journal.disk).content (history_of (found ++ accepted.entries)) },
     ghost images: { D.honest → (b : Entries ℕ) → (D.state journal.disk).IsImage b → MayBe (history_of (found ++ accepted.entries)) undecided b } by { Prim.hlevel (props, MayBe-prop) },
 }

@@ -1,7 +1,7 @@
 use Rattle.std.proofs.Common.{◌∙◌, ◌+◌, ◌++◌, List, ℕ, Err, sym, ap, subst, arith}
-use Rattle.qz_model.specs.Tables.{SchedulerTables, empty}
+use Rattle.qz_types.specs.Tables.{SchedulerTables, new_tables}
 use Rattle.qz_model.specs.Transaction.{transaction}
-use Rattle.qz_model.specs.History.{IsAccepted}
+use Rattle.qz_types.specs.Outcomes.{IsAccepted}
 use Rattle.qz_trigger_store.specs.Bytes.{records, IsRecord}
 use Rattle.qz_trigger_store.proofs.Damage.{within, taken_whole, taken_gate, taken_all, taken_legal, taken_tables}
 use Rattle.qz_trigger_store.proofs.replaying.replay.Goals as goal
@@ -21,8 +21,8 @@ replay-preserved c =
     let p_is = sym c.as_slice.ensures ∙ is.bytes_are in
     record {
       whole = taken_whole _ c.replay.entries _ e _ _ _ more p_is c.in-Some.ensures.cases.0 w.whole;
-      legal = taken_legal (empty 1) c.replay.tables c.replay.entries _ e more w.replayed w.legal c.in-Ok.ensures.accepted;
-      replayed = taken_tables (empty 1) c.replay.tables _ c.replay.entries _ e more w.replayed c.in-Ok.ensures.tables;
+      legal = taken_legal new_tables c.replay.tables c.replay.entries _ e more w.replayed w.legal c.in-Ok.ensures.accepted;
+      replayed = taken_tables new_tables c.replay.tables _ c.replay.entries _ e more w.replayed c.in-Ok.ensures.tables;
       valid = c.in-Ok.ensures.valid w.valid;
       recorded = taken_all c.replay.entries _ e more w.recorded is.valid;
       gate_is = ap (λ (n : ℕ). c.replay.gate + (5 + n)) c.len.ensures ∙ taken_gate c.replay.gate c.replay.entries _ e _ more p_is w.gate_is;

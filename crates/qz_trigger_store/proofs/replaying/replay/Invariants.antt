@@ -2,7 +2,7 @@ use Rattle.std.proofs.Common.{◌≡◌, ◌++◌, length}
 use Rattle.std.specs.List.{AllByRecursion}
 use Rattle.qz_codec.specs.Values.{IsEntry}
 use Rattle.qz_journal.specs.Layout.{end_of}
-use Rattle.qz_model.specs.Tables.{empty}
+use Rattle.qz_types.specs.Tables.{new_tables}
 use Rattle.qz_model.specs.History.{IsLegalFrom, replay_from}
 use Rattle.qz_model.specs.Invariant.{TablesValid}
 use Rattle.qz_trigger_store.specs.Bytes.{records}
@@ -12,8 +12,8 @@ use Rattle.qz_trigger_store.proofs.replaying.replay.Given as goal
 abbrev pub invariant-replay : goal.invariant-replay
 invariant-replay l = record {
   whole : l.payloads ≡ records l.entries ++ l.rest;
-  legal : IsLegalFrom (empty 1) l.entries;
-  replayed : l.tables ≡ replay_from (empty 1) l.entries;
+  legal : IsLegalFrom new_tables l.entries;
+  replayed : l.tables ≡ replay_from new_tables l.entries;
   valid : TablesValid l.tables;
   recorded : AllByRecursion IsEntry l.entries;
   gate_is : l.gate ≡ end_of (records l.entries);

@@ -6,7 +6,7 @@ use Rattle.qz_journal.specs.Layout.{end_of, Holds}
 use Rattle.qz_codec.specs.Values.{IsEntry}
 use Rattle.qz_types.specs.Entries.{EntryData}
 use Rattle.qz_types.specs.declared.replies.Reply.{Reply}
-use Rattle.qz_model.specs.Tables.{empty}
+use Rattle.qz_types.specs.Tables.{new_tables}
 use Rattle.qz_model.specs.History.{IsLegalFrom, replay_from, moments_from, replies_from}
 use Rattle.qz_trigger_store.specs.Bytes.{history_of, records, MayBe}
 use Rattle.qz_trigger_store.proofs.Appending
@@ -52,7 +52,7 @@ invariant_of-self-in-Ok-append-clause-moments g c =
     let is = c.push.ensures.entries ∙ ap (λ (l : List EntryData). l ++ c.args.entry ∷ []) c.in-Ok.ensures.ok.0 in
     let same : to_z w64 (of_z w64 c.last_moment-moment.result) ≡ c.last_moment-moment.result = grind (arith, common_steps, to_z-of_z) in
     let moments = c.push.ensures.moments ∙ ap (λ (l : List ℤ). l ++ to_z w64 (of_z w64 c.last_moment-moment.result) ∷ []) c.in-Ok.ensures.ok.1 ∙ ap (λ (m : ℤ). s.accepted.moments ++ m ∷ []) same in
-    Appending.moments_with s.tables (replay_from (empty 1) s.found) s.found s.accepted.entries _ c.args.entry s.accepted.moments _ c.last_moment-moment.result refl is s.replayed
+    Appending.moments_with s.tables (replay_from new_tables s.found) s.found s.accepted.entries _ c.args.entry s.accepted.moments _ c.last_moment-moment.result refl is s.replayed
     moments (c.last_moment-moment.ensures.value ∙ last_moment-accepted s.tables _ c.args.entry _ c.requires.accepted) s.moments
 
 pub invariant_of-self-in-Ok-append-clause-replies : goal.invariant_of-self-in-Ok-append-clause-replies
@@ -60,7 +60,7 @@ invariant_of-self-in-Ok-append-clause-replies g c =
     let s = c.args.self.now in
     let is = c.push.ensures.entries ∙ ap (λ (l : List EntryData). l ++ c.args.entry ∷ []) c.in-Ok.ensures.ok.0 in
     let replies = c.push.ensures.replies ∙ ap (λ (l : List Reply). l ++ c.args.p.kept ∷ []) c.in-Ok.ensures.ok.2 ∙ ap (λ (r : Reply). s.accepted.replies ++ r ∷ []) c.requires.kept in
-    Appending.replies_with s.tables (replay_from (empty 1) s.found) s.found s.accepted.entries _ c.args.entry s.accepted.replies _ c.args.p.tables c.args.p.reply refl is s.replayed
+    Appending.replies_with s.tables (replay_from new_tables s.found) s.found s.accepted.entries _ c.args.entry s.accepted.replies _ c.args.p.tables c.args.p.reply refl is s.replayed
     c.requires.accepted replies s.replies
 
 pub invariant_of-self-in-Ok-append-clause-stands : goal.invariant_of-self-in-Ok-append-clause-stands
@@ -114,12 +114,12 @@ invariant_of-self-in-Err-append-clause-placed g c =
 pub invariant_of-self-in-Err-append-clause-legal : goal.invariant_of-self-in-Err-append-clause-legal
 invariant_of-self-in-Err-append-clause-legal g c =
     let s = c.args.self.now in
-    subst (λ (l : List EntryData). IsLegalFrom (empty 1) (s.found ++ l)) (sym (c.into_accepted.ensures.entries ∙ c.in-Ok.ensures.ok.0)) s.legal
+    subst (λ (l : List EntryData). IsLegalFrom new_tables (s.found ++ l)) (sym (c.into_accepted.ensures.entries ∙ c.in-Ok.ensures.ok.0)) s.legal
 
 pub invariant_of-self-in-Err-append-clause-replayed : goal.invariant_of-self-in-Err-append-clause-replayed
 invariant_of-self-in-Err-append-clause-replayed g c =
     let s = c.args.self.now in
-    s.replayed ∙ ap (λ (l : List EntryData). replay_from (empty 1) (s.found ++ l)) (sym (c.into_accepted.ensures.entries ∙ c.in-Ok.ensures.ok.0))
+    s.replayed ∙ ap (λ (l : List EntryData). replay_from new_tables (s.found ++ l)) (sym (c.into_accepted.ensures.entries ∙ c.in-Ok.ensures.ok.0))
 
 pub invariant_of-self-in-Err-append-clause-recorded : goal.invariant_of-self-in-Err-append-clause-recorded
 invariant_of-self-in-Err-append-clause-recorded g c =
@@ -129,12 +129,12 @@ invariant_of-self-in-Err-append-clause-recorded g c =
 pub invariant_of-self-in-Err-append-clause-moments : goal.invariant_of-self-in-Err-append-clause-moments
 invariant_of-self-in-Err-append-clause-moments g c =
     let s = c.args.self.now in
-    c.into_accepted.ensures.moments ∙ c.in-Ok.ensures.ok.1 ∙ s.moments ∙ ap (moments_from (replay_from (empty 1) s.found)) (sym (c.into_accepted.ensures.entries ∙ c.in-Ok.ensures.ok.0))
+    c.into_accepted.ensures.moments ∙ c.in-Ok.ensures.ok.1 ∙ s.moments ∙ ap (moments_from (replay_from new_tables s.found)) (sym (c.into_accepted.ensures.entries ∙ c.in-Ok.ensures.ok.0))
 
 pub invariant_of-self-in-Err-append-clause-replies : goal.invariant_of-self-in-Err-append-clause-replies
 invariant_of-self-in-Err-append-clause-replies g c =
     let s = c.args.self.now in
-    c.into_accepted.ensures.replies ∙ c.in-Ok.ensures.ok.2 ∙ s.replies ∙ ap (replies_from (replay_from (empty 1) s.found)) (sym (c.into_accepted.ensures.entries ∙ c.in-Ok.ensures.ok.0))
+    c.into_accepted.ensures.replies ∙ c.in-Ok.ensures.ok.2 ∙ s.replies ∙ ap (replies_from (replay_from new_tables s.found)) (sym (c.into_accepted.ensures.entries ∙ c.in-Ok.ensures.ok.0))
 
 pub invariant_of-self-in-Err-append-clause-images : goal.invariant_of-self-in-Err-append-clause-images
 invariant_of-self-in-Err-append-clause-images g c honest b is =

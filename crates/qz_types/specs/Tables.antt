@@ -3,12 +3,16 @@
 use Rattle.std.specs.Prelude.{ℕ, ℤ, pos, ◌≤ℤ◌, List, []}
 use Rattle.std.specs.Int.{int_max, int_min}
 use Rattle.qz_civil.specs.declared.limits.TheConstants.{LAST}
-use Rattle.qz_types.specs.declared.limits.TheConstants.{FIRST_THRESHOLD, INTERVAL_LIMIT}
-use Rattle.qz_types.specs.Rows.{JobData, TriggerData, MemberData, FiredData}
+use Rattle.qz_types.specs.declared.limits.TheConstants.{FIRST_THRESHOLD}
+use Rattle.qz_types.specs.Rows.{JobData, TriggerData, CalendarData, ZoneData, MemberData, FiredData}
 
 pub record SchedulerTables : Type 0 where
   pub jobs : List JobData
   pub triggers : List TriggerData
+  pub calendars : List CalendarData
+  pub zones : List ZoneData
+  -- the groups of triggers that are paused, triggers that are stored later too
+  pub paused_groups : List (List ℕ)
   pub members : List MemberData
   pub fired : List FiredData
   -- the entry number that the next fired row gets
@@ -31,6 +35,9 @@ abbrev pub empty : ℕ → SchedulerTables
 empty version = record {
   jobs = [];
   triggers = [];
+  calendars = [];
+  zones = [];
+  paused_groups = [];
   members = [];
   fired = [];
   next_entry = 1;
@@ -40,15 +47,14 @@ empty version = record {
   horizon = horizon_of version;
 }
 
+-- the tables of a new store, of the format version that is written today
+unfoldable pub new_tables : SchedulerTables
+new_tables = empty 1
+
 -- from 0 to the horizon
 pub record IsMoment (horizon m : ℤ) : Type 0 where
   pub low : pos 0 ≤ℤ m
   pub high : m ≤ℤ horizon
-
--- from 1 ms to a day
-pub record IsThreshold (n : ℤ) : Type 0 where
-  pub low : pos 1 ≤ℤ n
-  pub high : n ≤ℤ INTERVAL_LIMIT
 
 -- The moment at which a transaction with this reading of the clock is recorded: recorded moments never fall, and
 -- lie from 0 to the horizon.
