@@ -24,6 +24,7 @@ use Rattle.qz_job_json.specs.declared.lines.LineFault.TheVariants as line_fault
 use Rattle.qz_top.specs.declared.runs.Run.{Run}
 use Rattle.qz_top.specs.declared.statuses.BadKind.{BadKind}
 use Rattle.qz_top.specs.declared.statuses.BadKind.TheVariants as bad
+use Rattle.qz_cluster.specs.Steps.{is_closed}
 use Rattle.qz_top.specs.declared.statuses.Status.{Status}
 use Rattle.qz_top.specs.declared.statuses.Status.TheVariants as status
 use Rattle.qz_top.specs.Handling.{Does}
@@ -137,14 +138,6 @@ full_idles line need room R S a b full = record {
   stays = λ not_own. record { triggers = full.full.full.full.same; held = full.full.full.held };
 }
 
-stands_open : (closed now : Bool) → closed ≡ not now → closed ≡ false → now ≡ true
-stands_open closed true tells isnt = refl
-stands_open closed false tells isnt = let bad : true ≡ false = sym tells ∙ isnt in absurd cc
-
-stands_closed : (closed now : Bool) → closed ≡ not now → closed ≡ true → now ≡ false
-stands_closed closed false tells is = refl
-stands_closed closed true tells is = let bad : false ≡ true = sym tells ∙ is in absurd cc
-
 pub rose_later : (x y z : ℕ) → x ≤ y → Rose y z → Rose x z
 rose_later x y z later rose = omega (arith, later, rose)
 
@@ -185,7 +178,7 @@ module _ {D K C : Type 0} (g : Ghosts D) (k : sink.Ghosts K) (c : clock.Ghosts C
 
   -- All lines were done, and then the output was flushed, or that failed.
   pub IsRun-whole : (s : Status) (closed : Bool) (i j : Option (List ℕ)) (a b : State) (out : K) (m n : ℕ) → HandlesLines (Does {g = g} k c) (Ok tt) i j a b
-      → closed ≡ not (run_of b.handler).cluster.triggers.is_open → Finishes s closed (output_alone k b.out) (output_alone k out) m n
+      → closed ≡ is_closed (run_of b.handler).cluster → Finishes s closed (output_alone k b.out) (output_alone k out) m n
       → SomeRun s (run_of a.handler) (run_of b.handler) (around i a.out a.rest) (around j out b.rest)
   IsRun-whole status.Ok closed i j a b out m n lines tells finishes =
       let all = ran_to lines.lines a lines.state b lines.ends.state_is lines.handled in (
@@ -199,7 +192,7 @@ module _ {D K C : Type 0} (g : Ghosts D) (k : sink.Ghosts K) (c : clock.Ghosts C
           went = all.ran.did.went;
           idles = Idles-none (run_of b.handler);
           full = tt;
-          closed = stands_open closed _ tells finishes.0;
+          closed = sym tells ∙ finishes.0;
           reads = λ bytes is. let whole = lines.ends.all bytes is in record { all = whole; no_bad = ap first_bad whole ∙ none_bad lines.lines all.ran.did.good lines.ends.within; ended = lines.ends.ended };
           clocked = exact_readings status.Ok _ _ lines.lines all.readings all.ran.did.count all.ran.did.told;
           writes = wrote_nothing (k.held a.out) (k.held b.out) (k.held out) _ all.ran.written finishes.1.0;
@@ -218,7 +211,7 @@ module _ {D K C : Type 0} (g : Ghosts D) (k : sink.Ghosts K) (c : clock.Ghosts C
           went = all.ran.did.went;
           idles = Idles-none (run_of b.handler);
           full = tt;
-          closed = stands_closed closed _ tells finishes.0;
+          closed = sym tells ∙ finishes.0;
           reads = λ bytes is. let whole = lines.ends.all bytes is in record { all = whole; no_bad = ap first_bad whole ∙ none_bad lines.lines all.ran.did.good lines.ends.within; ended = lines.ends.ended };
           clocked = exact_readings status.DiskFault _ _ lines.lines all.readings all.ran.did.count all.ran.did.told;
           writes = wrote_nothing (k.held a.out) (k.held b.out) (k.held out) _ all.ran.written finishes.1.0;

@@ -8,7 +8,7 @@ use Rattle.qz_journal.specs.declared.errors.MountError.{MountError}
 use Rattle.qz_journal.specs.declared.errors.MountError.TheVariants as mount
 use Rattle.qz_journal.specs.Through.{OnlyReadsUnless}
 use Rattle.qz_trigger_store.specs.Bytes.{Stands, MayBe}
-use Rattle.qz_trigger_store.specs.Opening.{IsRefused}
+use Rattle.qz_trigger_store.specs.Opening.{IsOpened, IsRefused}
 use Rattle.qz_cluster.specs.Steps.{ClusterState}
 use Rattle.qz_model.specs.Script.{new_script, step_replies}
 use Rattle.qz_top.specs.Lines.{steps_of}
@@ -51,8 +51,7 @@ OwnDone s trail old new =
 pub record RanOnDisk {D : Type 0} {g : Ghosts D} (triggers : D) (e : Ended D g)
     (old new : Outside) : Type 0 where
   pub opened : ClusterState
-  pub is_open : opened.triggers.is_open ≡ true
-  pub settled : opened.triggers.undecided ≡ None
+  pub is_opened : IsOpened opened.triggers
   pub nothing_held : opened.held ≡ []
   pub stands : g.honest → Stands (g.state triggers).content opened.triggers.history
   pub no_earlier : g.faults triggers ≤ opened.triggers.faults
@@ -63,7 +62,7 @@ pub record RanOnDisk {D : Type 0} {g : Ghosts D} (triggers : D) (e : Ended D g)
   pub run : IsRun e.status (begun false opened) behind old new lines readings replies
   pub trail_is : trail_of e.trail ≡ behind.trail
   pub faults : g.faults e.triggers ≡ behind.cluster.triggers.faults
-  -- what a crash leaves stands for the history, or for it with the undecided entry
+  -- what a crash leaves are the bytes of the history, or of it with the undecided entry
   pub images : g.honest → (b : List ℕ) → (g.state e.triggers).IsImage b
       → MayBe behind.cluster.triggers.history behind.cluster.triggers.undecided b
 

@@ -8,7 +8,7 @@ use Rattle.qz_io.specs.Handlers.{IfKnown, IsNextLine}
 use Rattle.qz_io.specs.Lines.{IsOneLine, lines_of, with_feeds}
 use Rattle.qz_io.specs.Outside.{Outside, IsHandedOn}
 use Rattle.qz_types.specs.declared.steps.StepReply.{StepReply}
-use Rattle.qz_cluster.specs.Steps.{ClusterState, FindsNoRoom}
+use Rattle.qz_cluster.specs.Steps.{ClusterState, OverflowedStep, is_closed}
 use Rattle.qz_job_json.specs.declared.lines.Given.{Given}
 use Rattle.qz_top.specs.Lines.{line_meaning, IsGood, readings_of, steps_of, first_bad}
 use Rattle.qz_top.specs.Trails.{texts, RunState, Went}
@@ -61,7 +61,7 @@ pub record EndsFull (need room : ℕ) (left : Option (List ℕ)) (lines : List (
   pub meaning : line_meaning line ≡ Ok (Some given)
   pub at : ℤ
   pub own : IsOwn given.at at
-  pub full : FindsNoRoom (step_at given at) need room S T
+  pub full : OverflowedStep (step_at given at) need room S T
 
 abbrev pub Overflowed : Status → Option (List ℕ) → List (List ℕ) → ClusterState → ClusterState → Type 0
 Overflowed (status.JournalFull need room) left lines S T = EndsFull need room left lines S T
@@ -69,8 +69,8 @@ Overflowed s left lines S T = ⊤
 
 -- After the last line the status says whether the store is closed.
 abbrev pub TellsClosed : Status → ClusterState → Type 0
-TellsClosed status.Ok S = S.triggers.is_open ≡ true
-TellsClosed status.DiskFault S = S.triggers.is_open ≡ false
+TellsClosed status.Ok S = is_closed S ≡ false
+TellsClosed status.DiskFault S = is_closed S ≡ true
 TellsClosed s S = ⊤
 
 -- All replies were written except the last one, of which a part was written, none of it or all of it.

@@ -53,6 +53,6 @@ pub record Went (steps : List TimedStep) (replies : List StepReply) (before afte
 -- a cluster on a new store
 abbrev pub new_cluster : ℕ → ClusterState
 new_cluster faults = record {
-  triggers = record { history = new_history; is_open = true; undecided = None; faults = faults };
+  triggers = record { history = new_history; gate = 16; payloads = 0; is_open = true; undecided = None; faults = faults };
   held = [];
 }

@@ -7,7 +7,7 @@ use Rattle.qz_io.specs.Outside.{Outside}
 use Rattle.qz_types.specs.declared.steps.StepReply.{StepReply}
 use Rattle.qz_model.specs.Script.{TimedStep}
 use Rattle.qz_report.specs.Replies.{reply_text}
-use Rattle.qz_cluster.specs.Steps.{Stays, FindsNoRoom}
+use Rattle.qz_cluster.specs.Steps.{Stays, OverflowedStep}
 use Rattle.qz_job_json.specs.declared.lines.Given.{Given}
 use Rattle.qz_job_json.specs.declared.lines.LineFault.{LineFault}
 use Rattle.qz_job_json.specs.declared.lines.LineFault.TheVariants as line_fault
@@ -73,14 +73,14 @@ pub record StepFull (given : Given) (need room : ℕ)
   pub own : IsOwn given.at at
   pub told : Tells old.readings new.readings (taken_reading given.at at)
   pub kept : Appends old.held new.held []
-  pub full : FindsNoRoom (step_at given at) need room before.cluster after.cluster
+  pub full : OverflowedStep (step_at given at) need room before.cluster after.cluster
   pub trail : after.trail ≡ before.trail
   pub is_own : after.is_own ≡ before.is_own
 
 -- what is left where a step has no answer
 abbrev pub NotDone : LineEnd → TimedStep → RunState → RunState → Type 0
 NotDone (ends.JournalFull need room) t before after =
-    FindsNoRoom t need room before.cluster after.cluster × (after.trail ≡ before.trail) × (after.is_own ≡ before.is_own)
+    OverflowedStep t need room before.cluster after.cluster × (after.trail ≡ before.trail) × (after.is_own ≡ before.is_own)
 NotDone ends.NoMemory t before after = Idles before after
 NotDone (ends.Bad kind) t before after = ⊥
 NotDone ends.WriteFault t before after = ⊥

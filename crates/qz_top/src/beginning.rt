@@ -1,6 +1,6 @@
 //! How a script begins.
 ghost use Rattle.std.specs.Prelude.{◌≡◌, IfOk, IfErr};
-ghost use Rattle.qz_cluster.specs.Seen.{state_of};
+ghost use Rattle.qz_cluster.specs.View.{view as state_of};
 ghost use Rattle.qz_top.specs.Calls.{begun};
 ghost use Rattle.qz_top.specs.Seen.{run_of};
 

@@ -3,7 +3,7 @@ ghost use Rattle.std.specs.Prelude.{◌≡◌, IfSome, true, []};
 ghost use Rattle.qz_civil.specs.Causes.{Rose};
 ghost use Rattle.qz_io.specs.Around.{outside};
 ghost use Rattle.qz_journal.specs.Layout.{Holds};
-ghost use Rattle.qz_cluster.specs.Seen.{state_of};
+ghost use Rattle.qz_cluster.specs.View.{view as state_of};
 ghost use Rattle.qz_top.specs.Calls.{begun, trail_of, OwnDone};
 ghost use Rattle.qz_top.specs.Seen.{run_of, states_in};
 ghost use Rattle.qz_top.specs.Trails.{new_cluster};

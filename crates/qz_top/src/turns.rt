@@ -7,7 +7,7 @@ ghost use Rattle.qz_types.specs.Steps.{is_step};
 ghost use Rattle.qz_types.specs.declared.steps.StepReply.{StepReply as Reply};
 ghost use Rattle.qz_report.specs.Replies.{reply_text};
 ghost use Rattle.qz_cluster.specs.Steps.{IsStep, IsCutShort};
-ghost use Rattle.qz_cluster.specs.Seen.{state_of};
+ghost use Rattle.qz_cluster.specs.View.{view as state_of};
 ghost use Rattle.qz_top.specs.Lines.{line_meaning};
 ghost use Rattle.qz_top.specs.Seen.{run_of};
 ghost use Rattle.qz_top.specs.Trails.{Went, is_fault};

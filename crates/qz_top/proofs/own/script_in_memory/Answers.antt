@@ -1,5 +1,5 @@
 use Rattle.std.proofs.Common.{inl, ap}
-use Rattle.qz_cluster.specs.Seen.{state_of}
+use Rattle.qz_cluster.specs.View.{view as state_of}
 use Rattle.qz_top.specs.Seen.{run_of, states_in}
 use Rattle.qz_top.proofs.OpenedLaws.{plain_of, no_disk_fault}
 use Rattle.qz_top.proofs.own.script_in_memory.Goals as goal
