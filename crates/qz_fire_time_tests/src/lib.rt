@@ -1,4 +1,4 @@
-//! Tests of the crates of fire times: dates and zones, cron texts, and the four kinds.
+//! Tests of the crates of fire times: dates and zones, cron texts, the four kinds, and misfires.
 #![tactic(auto)]
 
 #[cfg(test)]
@@ -11,6 +11,8 @@ mod cron_text;
 mod daily;
 #[cfg(test)]
 mod interval;
+#[cfg(test)]
+mod misfires;
 #[cfg(test)]
 mod simple;
 #[cfg(test)]
