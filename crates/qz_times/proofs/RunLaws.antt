@@ -1,18 +1,17 @@
 -- Lines that were answered, and how they end.
-use Rattle.std.proofs.Common.{◌≡◌, ◌≤◌, ◌<◌, ℕ, ◌+◌, List, [], ◌∷◌, ◌++◌, length, true, take, Option, None, Some, refl, sym, ap, ◌∙◌, subst, arith, append_assoc}
-use Rattle.std.specs.Prelude.{Result, Ok, Err, nat_lt}
-use Rattle.std.specs.Io.KnownBytes.{Consumes, Appends, IsAtEnd}
-use Rattle.std.proofs.KnownBytes.{Appends-nil, Appends-trans, Consumes-nil}
+use Rattle.std.proofs.Common.{◌≡◌, ◌≤◌, ◌<◌, ℕ, List, [], ◌∷◌, ◌++◌, length, true, take, Option, None, refl, sym, ap, ◌∙◌, subst, arith, append_assoc}
+use Rattle.std.specs.Prelude.{Ok, Err, nat_lt}
+use Rattle.std.specs.Io.KnownBytes.{Consumes, Appends}
+use Rattle.std.proofs.KnownBytes.{Appends-nil, Appends-trans}
 use Rattle.std.proofs.lemmas.List.{append-nil}
 use Rattle.std.proofs.lemmas.Bool.Decides.{nat_tests}
 use Rattle.qz_civil.specs.Causes.{Rose}
-use Rattle.qz_io.specs.declared.limits.TheConstants.{LINE_COUNT_LIMIT}
 use Rattle.qz_io.specs.declared.handlers.LinesEnd.{LinesEnd}
 use Rattle.qz_io.specs.declared.handlers.LinesEnd.TheVariants as lines_end
 use Rattle.qz_io.specs.declared.traits.Sink as sink
 use Rattle.qz_io.specs.Ahead.{BeginWith}
 use Rattle.qz_io.specs.Around.{output_alone}
-use Rattle.qz_io.specs.Handlers.{AllHandled, IfKnown, HandlesLines}
+use Rattle.qz_io.specs.Handlers.{AllHandled, HandlesLines}
 use Rattle.qz_io.specs.LineStates.{LineState}
 use Rattle.qz_io.specs.Lines.{lines_of}
 use Rattle.qz_io.specs.Outside.{Outside}
@@ -22,11 +21,10 @@ use Rattle.qz_times.specs.declared.ends.LineEnd.{LineEnd}
 use Rattle.qz_times.specs.declared.ends.LineEnd.TheVariants as ends
 use Rattle.qz_times.specs.declared.ends.TimesEnd.{TimesEnd}
 use Rattle.qz_times.specs.declared.ends.TimesEnd.TheVariants as times
-use Rattle.qz_times.specs.declared.queries.Query.{Query}
 use Rattle.qz_times.specs.Runs.{IsRun}
 use Rattle.qz_times.specs.Said.{line_meaning, AllSaid}
-use Rattle.qz_times.specs.Answers.{Answers, Finishes, end_at, end_of}
-use Rattle.qz_times.proofs.SaidLaws.{AllSaid-none, AllSaid-one, AllSaid-append}
+use Rattle.qz_times.specs.Answers.{Answers, Finishes, end_of}
+use Rattle.qz_times.proofs.SaidLaws.{AllSaid-none, AllSaid-one}
 
 too_long : (line : List ℕ) → 65536 < length line → line_meaning line ≡ Err fault.TooLong
 unfolding line_meaning

@@ -1,5 +1,5 @@
 -- The answer to a line, and how the lines end.
-use Rattle.std.specs.Prelude.{⊤, ◌≡◌, ◌≤◌, ℕ, List, [], ◌++◌, take, Result, Ok, Err}
+use Rattle.std.specs.Prelude.{⊤, ◌≡◌, ◌≤◌, ℕ, List, [], take, Result, Ok, Err}
 use Rattle.std.specs.Io.KnownBytes.{Appends}
 use Rattle.qz_civil.specs.Causes.{Rose}
 use Rattle.qz_io.specs.Around.{output_alone}

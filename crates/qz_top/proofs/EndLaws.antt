@@ -2,15 +2,13 @@
 use Rattle.std.proofs.Common.{◌≡◌, ◌≤◌, ◌<◌, ℕ, ◌+◌, ℤ, Bool, true, false, not, List, [], ◌∷◌, ◌++◌, length, take, drop, Option, Some, None, refl, sym, ap, ◌∙◌, subst, arith, append_assoc}
 use Rattle.std.specs.Prelude.{Ok, Err, nat_lt}
 use Rattle.std.specs.List.{AllByRecursion}
-use Rattle.std.specs.Io.KnownBytes.{Consumes, Appends}
-use Rattle.std.proofs.KnownBytes.{Appends-nil, Appends-trans}
+use Rattle.std.specs.Io.KnownBytes.{Appends}
+use Rattle.std.proofs.KnownBytes.{Appends-trans}
 use Rattle.std.proofs.lemmas.Bool.Decides.{nat_tests}
 use Rattle.std.proofs.lemmas.List.{append-nil, take-append-drop}
 use Rattle.qz_civil.specs.Causes.{Rose}
 use Rattle.qz_disk.specs.declared.disk.Disk.{Ghosts}
 use Rattle.qz_types.specs.declared.steps.StepReply.{StepReply}
-use Rattle.qz_io.specs.declared.handlers.LinesEnd.{LinesEnd}
-use Rattle.qz_io.specs.declared.handlers.LinesEnd.TheVariants as lines_end
 use Rattle.qz_io.specs.declared.limits.TheConstants.{LINE_COUNT_LIMIT}
 use Rattle.qz_io.specs.declared.traits.Clock as clock
 use Rattle.qz_io.specs.declared.traits.Sink as sink
@@ -21,25 +19,23 @@ use Rattle.qz_io.specs.Handlers.{AllHandled, IsNextLine, HandlesLines}
 use Rattle.qz_io.specs.LineStates.{LineState}
 use Rattle.qz_io.specs.Lines.{lines_of}
 use Rattle.qz_io.specs.Outside.{Outside}
-use Rattle.qz_io.proofs.Readings.{Tells-nil, Tells-trans}
+use Rattle.qz_io.proofs.Readings.{Tells-trans}
 use Rattle.qz_job_json.specs.declared.lines.LineFault.TheVariants as line_fault
 use Rattle.qz_top.specs.declared.runs.Run.{Run}
 use Rattle.qz_top.specs.declared.statuses.BadKind.{BadKind}
 use Rattle.qz_top.specs.declared.statuses.BadKind.TheVariants as bad
 use Rattle.qz_top.specs.declared.statuses.Status.{Status}
 use Rattle.qz_top.specs.declared.statuses.Status.TheVariants as status
-use Rattle.qz_top.specs.declared.turns.LineEnd.{LineEnd}
-use Rattle.qz_top.specs.declared.turns.LineEnd.TheVariants as ends
 use Rattle.qz_top.specs.Handling.{Does}
 use Rattle.qz_top.specs.Lines.{line_meaning, IsGood, readings_of, first_bad, first_bad_from}
 use Rattle.qz_top.specs.Runs.{ReadToBad, WrotePart, Clocked, IsOfScript, IsRun}
 use Rattle.qz_top.specs.Seen.{run_of}
-use Rattle.qz_top.specs.Statuses.{status_at, status_of, Finishes}
+use Rattle.qz_top.specs.Statuses.{Finishes}
 use Rattle.qz_top.specs.Trails.{texts, RunState}
-use Rattle.qz_top.specs.Turns.{taken_reading, Ran, RanPart, IsBad, Idles, LineFull}
+use Rattle.qz_top.specs.Turns.{Ran, RanPart, IsBad, Idles, LineFull}
 use Rattle.qz_top.proofs.LineLaws.{first_bad_from-append, first_bad_from-bad, first_bad_from-many}
-use Rattle.qz_top.proofs.TrailLaws.{Idles-none, Went-none}
-use Rattle.qz_top.proofs.TurnLaws.{at_most_one, Ran-none, Did-more, Ran-more}
+use Rattle.qz_top.proofs.TrailLaws.{Idles-none}
+use Rattle.qz_top.proofs.TurnLaws.{Ran-none, Ran-more}
 
 -- Readings and replies.
 

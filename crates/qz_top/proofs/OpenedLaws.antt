@@ -1,5 +1,5 @@
 -- What a whole run tells: how it may end on a disk, and in memory.
-use Rattle.std.proofs.Common.{◌≡◌, ◌≤◌, ℕ, ℤ, List, true, false, Option, refl, sym, ap, ◌∙◌, subst, arith}
+use Rattle.std.proofs.Common.{◌≡◌, ◌≤◌, ℕ, ℤ, List, true, false, refl, sym, ap, ◌∙◌, subst, arith}
 use Rattle.qz_civil.specs.Causes.{Rose}
 use Rattle.qz_io.specs.Outside.{Outside}
 use Rattle.qz_types.specs.declared.steps.StepReply.{StepReply}

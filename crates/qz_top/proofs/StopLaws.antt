@@ -1,31 +1,25 @@
 -- How a script stops before the end of its input.
-use Rattle.std.proofs.Common.{◌≡◌, ℕ, ◌+◌, ℤ, List, [], ◌∷◌, ◌++◌, length, Option, refl, sym, ap, subst, arith}
+use Rattle.std.proofs.Common.{◌≡◌, ℕ, List, [], ◌∷◌, ◌++◌, Option, refl, sym, ap, subst}
 use Rattle.std.specs.Prelude.{Err}
 use Rattle.std.specs.Io.KnownBytes.{Consumes}
 use Rattle.qz_civil.specs.Causes.{Rose}
 use Rattle.qz_disk.specs.declared.disk.Disk.{Ghosts}
-use Rattle.qz_types.specs.declared.steps.StepReply.{StepReply}
 use Rattle.qz_io.specs.declared.handlers.LinesEnd.{LinesEnd}
 use Rattle.qz_io.specs.declared.handlers.LinesEnd.TheVariants as lines_end
 use Rattle.qz_io.specs.declared.traits.Clock as clock
 use Rattle.qz_io.specs.declared.traits.Sink as sink
 use Rattle.qz_io.specs.Handlers.{HandlesLines, IfKnown, IsNextLine, IsNextNumber}
 use Rattle.qz_io.specs.Lines.{lines_of}
-use Rattle.qz_io.specs.Outside.{Outside}
-use Rattle.qz_io.specs.Reading.{IsShortLine}
 use Rattle.qz_io.proofs.Readings.{Tells-trans}
 use Rattle.qz_job_json.specs.declared.lines.LineFault.TheVariants as line_fault
 use Rattle.qz_top.specs.declared.statuses.BadKind.TheVariants as bad
-use Rattle.qz_top.specs.declared.statuses.Status.{Status}
 use Rattle.qz_top.specs.declared.statuses.Status.TheVariants as status
 use Rattle.qz_top.specs.declared.turns.LineEnd.{LineEnd}
 use Rattle.qz_top.specs.declared.turns.LineEnd.TheVariants as ends
 use Rattle.qz_top.specs.Handling.{Does}
-use Rattle.qz_top.specs.Runs.{IsRun}
 use Rattle.qz_top.specs.Seen.{run_of}
-use Rattle.qz_top.specs.Statuses.{status_at, status_of, Finishes}
-use Rattle.qz_top.specs.Trails.{RunState}
-use Rattle.qz_top.specs.Turns.{taken_reading, Ran, RanPart, Idles, LineDone}
+use Rattle.qz_top.specs.Statuses.{status_at, status_of}
+use Rattle.qz_top.specs.Turns.{taken_reading, Idles, LineDone}
 use Rattle.qz_top.proofs.EndLaws.{exact_readings, told_nothing, wrote_nothing, wrote_whole, wrote_part, begins_before, reads_bad, reads_many, too_long, full_idles, rose_later, State, around, beside, SomeRun, AllRan, all_ran, ran_to}
 use Rattle.qz_top.proofs.TrailLaws.{Idles-none}
 use Rattle.qz_top.proofs.TurnLaws.{at_most_one, Did-more}

@@ -1,5 +1,5 @@
 -- What a call did, by what its words ask for.
-use Rattle.std.proofs.Common.{◌≡◌, ℕ, ℤ, List, [], Option, Result, subst, refl}
+use Rattle.std.proofs.Common.{◌≡◌, [], Result, subst, refl}
 use Rattle.std.specs.Prelude.{Ok, Err}
 use Rattle.qz_disk.specs.declared.disk.Disk.{Ghosts}
 use Rattle.qz_io.specs.Outside.{Outside}

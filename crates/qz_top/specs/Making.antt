@@ -1,5 +1,5 @@
 -- What `init` makes of the two disks.
-use Rattle.std.specs.Prelude.{⊤, ◌≡◌, ◌⊎◌, ◌≤◌, ℕ, List, [], take, drop, Bool, true, false, Option, codes, Result, Ok, Err}
+use Rattle.std.specs.Prelude.{⊤, ◌≡◌, ◌⊎◌, ◌≤◌, ℕ, [], take, drop, Bool, true, false, codes, Result, Ok, Err}
 use Rattle.std.specs.Io.KnownBytes.{Appends}
 use Rattle.qz_disk.specs.Disk.{DiskState, Only, Stays}
 use Rattle.qz_io.specs.Outside.{Outside, IsHandedOn}

@@ -1,5 +1,5 @@
 -- How a call of `times` ends.
-use Rattle.std.specs.Prelude.{⊤, ◌≡◌, ◌+◌, ℕ, List, Option}
+use Rattle.std.specs.Prelude.{⊤, ◌≡◌, ◌+◌}
 use Rattle.qz_io.specs.declared.limits.TheConstants.{LINE_COUNT_LIMIT}
 use Rattle.qz_io.specs.Outside.{Outside}
 use Rattle.qz_times.specs.declared.ends.TimesEnd.{TimesEnd}
