@@ -6,8 +6,8 @@ ghost use Rattle.qz_job_json.specs.Asked as spec;
 ghost use Rattle.qz_job_json.specs.Faults.{ReadsAs, or_shape};
 ghost use Rattle.qz_job_json.specs.Lines.{ReadsLineAs};
 
-use crate::forms::{Form, Word, is_unbuilt_word};
 use crate::faults::{LineError, LineFault};
+use crate::forms::{Form, Word, is_unbuilt_word};
 use crate::lines::json_of;
 use crate::members::{has_only, name_at, optional_bool_at, optional_integer_at, text_at};
 use crate::schedules::trigger_by_kind;

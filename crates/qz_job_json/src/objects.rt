@@ -6,8 +6,8 @@ ghost use Rattle.qz_job_json.specs.Faults.{ReadsAs, or_shape};
 ghost use Rattle.qz_job_json.specs.Members.{text_at};
 ghost use Rattle.qz_job_json.specs.Objects.{make_key, key_at, job_of, trigger_of, plain_job, one_shot, is_simple};
 
-use crate::forms::Form;
 use crate::faults::{LineError, LineFault};
+use crate::forms::Form;
 use crate::members::{group_at, has_only, name_at, span_at, text_at};
 use qz_civil::beside;
 use qz_types::{JobRow, Key, Kind, Text, Timing, TriggerSpec};

@@ -8,8 +8,8 @@ ghost use Rattle.qz_job_json.specs.Objects.{make_key};
 ghost use Rattle.qz_job_json.specs.Schedules as spec;
 
 use crate::clocks::{days_at, second_or};
-use crate::forms::{Form, KindWord};
 use crate::faults::{LineError, LineFault};
+use crate::forms::{Form, KindWord};
 use crate::members::{
     has_only, integer_or, name_at, name_or, number_at, optional_span_at, span_at, text_at,
 };

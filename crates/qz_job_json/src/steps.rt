@@ -8,8 +8,8 @@ ghost use Rattle.qz_job_json.specs.Lines.{step_of};
 ghost use Rattle.qz_job_json.specs.Members.{node_at};
 ghost use Rattle.qz_job_json.specs.declared.forms.Word.TheVariants.{AddJob, AddTrigger, Join, Acquire, Fire, Complete};
 
-use crate::forms::Word;
 use crate::faults::{LineError, LineFault};
+use crate::forms::Word;
 use crate::members::{node_at, number_at, span_at};
 use crate::objects::{job_of, trigger_of};
 use qz_types::{Code, Command, Step, Text};

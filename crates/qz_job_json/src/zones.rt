@@ -31,7 +31,14 @@ fn stretch_of(value: &Value) -> Option<Stretch>
 fn is_table(items: &[Value]) -> bool
     ensures { result ≡ spec.is_table (items_view items.now) }
 {
-    0 < items.len() && items.len() as u64 <= STRETCH_LIMIT && all_follow(items)
+    let count = items.len() as u64;
+    if count == 0 {
+        return false;
+    }
+    if count > STRETCH_LIMIT {
+        return false;
+    }
+    all_follow(items)
 }
 
 /// Whether each value is a stretch, and each may begin where it does.
