@@ -19,7 +19,7 @@ use Rattle.qz_types.specs.declared.steps.StepReply.TheVariants as reply
 use Rattle.qz_types.specs.declared.triggers.TriggerSpec.{TriggerSpec}
 use Rattle.qz_job_json.specs.declared.asked.Asked.{Asked}
 use Rattle.qz_job_json.specs.declared.asked.Asked.TheVariants.{AddZone, AddTrigger}
-use Rattle.qz_job_json.specs.declared.lines.LineFault.{LineFault}
+use Rattle.qz_job_json.specs.declared.faults.LineFault.{LineFault}
 use Rattle.qz_job_json.specs.Asked.{asked_meaning}
 use Rattle.qz_report.specs.Replies.{reply_text}
 use Rattle.qz_report.specs.Times.{times_text}
