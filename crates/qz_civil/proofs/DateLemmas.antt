@@ -10,7 +10,7 @@ use Rattle.jiff_core.proofs.CalendarLemmas.{days_from_civil-day_count, day_count
 use Rattle.jiff_core.proofs.DateLemmas.{epoch_day_injective, days_from_civil-day, days_from_civil-next_month, days_from_civil-next_year, days_from_civil-max}
 use Rattle.qz_civil.specs.declared.dates.Civil.{Civil}
 use Rattle.qz_civil.specs.declared.dates.Date.{Date}
-use Rattle.qz_civil.specs.declared.limits.TheConstants.{LAST_DAY}
+use Rattle.qz_civil.specs.declared.limits.TheConstants.{DAY_MS, LAST_DAY}
 use Rattle.qz_civil.specs.Dates.{days_in_month, month_length, next_month, next_date, date_of, IsDate, civil_of, date_part, weekday_of, IsInRanges}
 
 -- The months of this calendar are the library's.
@@ -26,7 +26,7 @@ december : (y : ℕ) → days_in_month y 12 ≡ 31
 unfolding days_in_month
 december y = refl
 
--- What comes after a date.
+-- The date after a date.
 
 if_lt : {A : Type 0} (a b : ℕ) (x y : A) → a < b → (if nat_lt a b then x else y) ≡ x
 if_lt a b x y h = grind arith
@@ -172,24 +172,24 @@ date_of-injective n m e =
 
 pub civil_of-injective : (n m : ℕ) → civil_of n ≡ civil_of m → n ≡ m
 civil_of-injective n m e =
-    let year : (date_of (n / 86400000)).year ≡ (date_of (m / 86400000)).year = ap (λ c. unsigned_abs c.year) e in
+    let year : (date_of (n / DAY_MS)).year ≡ (date_of (m / DAY_MS)).year = ap (λ c. unsigned_abs c.year) e in
     let month = ap (λ (c : Civil). c.month) e in
     let day = ap (λ (c : Civil). c.day) e in
-    let second : n % 86400000 / 1000 ≡ m % 86400000 / 1000 = ap (λ c. c.second) e in
+    let second : n % DAY_MS / 1000 ≡ m % DAY_MS / 1000 = ap (λ c. c.second) e in
     let milli : n % 1000 ≡ m % 1000 = ap (λ c. c.milli) e in
-    let date = date_of-injective _ _ (same_parts (date_of (n / 86400000)) (date_of (m / 86400000)) year month day) in
+    let date = date_of-injective _ _ (same_parts (date_of (n / DAY_MS)) (date_of (m / DAY_MS)) year month day) in
     omega arith
 
 pub civil_of-in_ranges : (n : ℕ) → IsInRanges (civil_of n)
 civil_of-in_ranges n = record { year = omega (arith, signed_arith); second = omega arith; milli = omega arith }
 
-pub civil_of-date : (n : ℕ) (c : Civil) → civil_of n ≡ c → date_of (n / 86400000) ≡ date_part c
+pub civil_of-date : (n : ℕ) (c : Civil) → civil_of n ≡ c → date_of (n / DAY_MS) ≡ date_part c
 civil_of-date n c e = ap date_part e
 
 -- it has the weekday of its date's day
 pub civil_of-weekday : (n day : ℕ) (c : Civil) → date_of day ≡ date_part c → civil_of n ≡ c → c.weekday ≡ weekday_of day
 civil_of-weekday n day c of_day e =
-    let same = date_of-injective (n / 86400000) day (civil_of-date n c e ∙ sym of_day) in
+    let same = date_of-injective (n / DAY_MS) day (civil_of-date n c e ∙ sym of_day) in
     sym (ap (λ (c : Civil). c.weekday) e) ∙ ap weekday_of same
 
 same_year : (y : ℤ) → pos 0 ≤ℤ y → pos (unsigned_abs y) ≡ y
@@ -199,13 +199,13 @@ same_year (negsuc n) h = absurd (omega (arith, signed_arith))
 abbrev civil_time : ℤ → ℕ → ℕ → ℕ → ℕ → ℕ → Civil
 civil_time y m d w s ms = record { year = y; month = m; day = d; weekday = w; second = s; milli = ms }
 
-pub civil_of-parts : (c : Civil) (day : ℕ) → IsInRanges c → date_of day ≡ date_part c → c.weekday ≡ weekday_of day → civil_of (day * 86400000 + c.second * 1000 + c.milli) ≡ c
+pub civil_of-parts : (c : Civil) (day : ℕ) → IsInRanges c → date_of day ≡ date_part c → c.weekday ≡ weekday_of day → civil_of (day * DAY_MS + c.second * 1000 + c.milli) ≡ c
 civil_of-parts c day h of_day weekday =
     let second_in = h.second in
     let milli_in = h.milli in
-    let here : (day * 86400000 + c.second * 1000 + c.milli) / 86400000 ≡ day = omega arith in
-    let second : (day * 86400000 + c.second * 1000 + c.milli) % 86400000 / 1000 ≡ c.second = omega arith in
-    let milli : (day * 86400000 + c.second * 1000 + c.milli) % 1000 ≡ c.milli = omega arith in
+    let here : (day * DAY_MS + c.second * 1000 + c.milli) / DAY_MS ≡ day = omega arith in
+    let second : (day * DAY_MS + c.second * 1000 + c.milli) % DAY_MS / 1000 ≡ c.second = omega arith in
+    let milli : (day * DAY_MS + c.second * 1000 + c.milli) % 1000 ≡ c.milli = omega arith in
     let year = same_year c.year h.year in
     let made : civil_time (pos (unsigned_abs c.year)) c.month c.day c.weekday c.second c.milli ≡ c = rw year refl in
     rw (here, of_day, second, milli, ← weekday) made

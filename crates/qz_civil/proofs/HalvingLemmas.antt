@@ -6,7 +6,7 @@ use Rattle.std.proofs.lemmas.List.Sums.{prefix_len_is}
 use Rattle.std.proofs.lemmas.Option.{slice_get-get_or}
 use Rattle.qz_civil.specs.declared.stretches.Stretch.{Stretch}
 use Rattle.qz_civil.specs.Zones.{begun, bad_zone}
-use Rattle.qz_civil.proofs.ZoneLemmas.{IsTable, begins_behind, zone-table}
+use Rattle.qz_civil.proofs.ZoneLemmas.{IsTable, begins_after, zone-table}
 
 began : (s : Stretch) (t : ℤ) → int_le s.from t ≡ true → s.from ≤ℤ t
 began s t h = grind (arith, ints)
@@ -15,7 +15,7 @@ parted : (before : Option ℤ) (zs : List Stretch) (t : ℤ) → IsTable before 
 parted before [] t h i j d le lt begins = absurd (omega arith)
 parted before (x ∷ rest) t h zero zero d le lt begins = begins
 parted before (x ∷ rest) t h zero (suc j) d le lt begins =
-    let later = begins_behind x.from rest j (get_or rest j d) h.2 (slice_get-get_or rest j d (omega arith)) in
+    let later = begins_after x.from rest j (get_or rest j d) h.2 (slice_get-get_or rest j d (omega arith)) in
     let at = began (get_or rest j d) t begins in
     grind (arith, ints)
 parted before (x ∷ rest) t h (suc i) zero d le lt begins = absurd (omega arith)

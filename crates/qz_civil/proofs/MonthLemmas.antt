@@ -1,9 +1,10 @@
 -- The months of days that follow each other.
-use Rattle.std.proofs.Common.{◌≡◌, ℕ, zero, suc, ◌+◌, ◌-◌, ◌<◌, ◌≤◌, inl, inr, refl, ap, arith, pos, ◌+ℤ◌}
+use Rattle.std.proofs.Common.{◌≡◌, ℕ, zero, suc, ◌+◌, ◌-◌, ◌*◌, ◌<◌, ◌≤◌, inl, inr, refl, ap, arith, pos, ◌+ℤ◌}
 use Rattle.std.proofs.lemmas.Bool.{cases_lt}
 use Rattle.jiff_core.proofs.SignedLemmas.{signed_arith}
 use Rattle.jiff_core.specs.Calendar.{day_count, days_from_civil, days_of_years, days_of_months}
 use Rattle.qz_civil.specs.declared.dates.Date.{Date}
+use Rattle.qz_civil.specs.declared.limits.TheConstants.{END_DAY, LAST_YEAR}
 use Rattle.qz_civil.specs.Dates.{date_of, days_in_month, next_date, IsDate}
 use Rattle.qz_civil.specs.Months.{month_number}
 use Rattle.qz_civil.proofs.DateLemmas.{date_of-valid, follows, Follows, number, number-date_of, date_of-number}
@@ -34,7 +35,7 @@ month_of-rises n m le =
     let e : n + (m - n) ≡ m = omega arith in
     rw e at (rises_by n (m - n))
 
--- so the day of an earlier month comes earlier
+-- so the day of an earlier month is earlier
 pub month_of-earlier : (n m : ℕ) → month_of n < month_of m → n < m
 month_of-earlier n m lt = elim (cases_lt n m) [
   | inl before ↦ before
@@ -47,22 +48,26 @@ date_of-same n m e =
     let same = ap number e in
     omega (arith, signed_arith, number-date_of n, number-date_of m)
 
--- 2100-01-02
+-- the date of END_DAY: the second day of the year after the last
 horizon : Date
-horizon = record { year = 2100; month = 1; day = 2 }
+horizon = record { year = LAST_YEAR + 1; month = 1; day = 2 }
 
 horizon-valid : IsDate horizon
 unfolding horizon days_in_month
 horizon-valid = ((omega arith, omega arith), (omega arith, omega arith))
 
-horizon-number : number horizon +ℤ pos 1 ≡ pos 47484
+horizon-number : number horizon +ℤ pos 1 ≡ pos END_DAY
 unfolding horizon days_from_civil day_count days_of_years days_of_months
 horizon-number = refl
 
-pub month_of-horizon : month_of 47484 ≡ 25200
-unfolding horizon
-month_of-horizon = ap month_number (date_of-number 47484 horizon (omega arith) horizon-valid (omega arith) horizon-number)
+-- the January after the last year
+abbrev pub end_month : ℕ
+end_month = 12 * (LAST_YEAR + 1)
 
--- before the third day of 2100 no month is later than its January
-pub month_of-last : (n : ℕ) → n ≤ 47484 → month_of n ≤ 25200
-month_of-last n le = omega (arith, month_of-rises n 47484 le, month_of-horizon)
+pub month_of-horizon : month_of END_DAY ≡ end_month
+unfolding horizon
+month_of-horizon = ap month_number (date_of-number END_DAY horizon (omega arith) horizon-valid (omega arith) horizon-number)
+
+-- no month up to END_DAY is later than that January
+pub month_of-last : (n : ℕ) → n ≤ END_DAY → month_of n ≤ end_month
+month_of-last n le = omega (arith, month_of-rises n END_DAY le, month_of-horizon)

@@ -4,7 +4,7 @@ use Rattle.std.proofs.lemmas.Bool.{cases_order}
 use Rattle.std.proofs.lemmas.Int.{ints, by_lt_z}
 use Rattle.std.proofs.lemmas.Option.{slice_get-get_or}
 use Rattle.jiff_core.proofs.SignedLemmas.{signed_arith}
-use Rattle.qz_civil.specs.declared.limits.TheConstants.{STRETCH_LENGTH}
+use Rattle.qz_civil.specs.declared.limits.TheConstants.{DAY_MS, OFFSET_LIMIT, STRETCH_LENGTH}
 use Rattle.qz_civil.specs.declared.stretches.Stretch.{Stretch}
 use Rattle.qz_civil.specs.Instants.{IsShownAt, IsEarliest, AreMembers}
 use Rattle.qz_civil.specs.Timings.{is_timestamp}
@@ -37,20 +37,20 @@ abbrev pub back : List Stretch → ℤ → ℤ → ℤ
 back zs a b = a -ℤ (pos (local zs a) -ℤ pos (local zs b))
 
 -- it lies in a's stretch, which began 48 hours or more before b's
-back_by : (a b from_a from_b offset_a offset_b la lb : ℤ) → la ≡ a +ℤ pos 86400000 +ℤ offset_a *ℤ pos 1000 → lb ≡ b +ℤ pos 86400000 +ℤ offset_b *ℤ pos 1000 → offset_a ≤ℤ pos 64800 → neg_ℤ (pos 64800) ≤ℤ offset_b → (from_a +ℤ STRETCH_LENGTH) ≤ℤ from_b → from_b ≤ℤ b → from_a ≤ℤ (a -ℤ (la -ℤ lb))
+back_by : (a b from_a from_b offset_a offset_b la lb : ℤ) → la ≡ a +ℤ pos DAY_MS +ℤ offset_a *ℤ pos 1000 → lb ≡ b +ℤ pos DAY_MS +ℤ offset_b *ℤ pos 1000 → offset_a ≤ℤ OFFSET_LIMIT → neg_ℤ OFFSET_LIMIT ≤ℤ offset_b → (from_a +ℤ STRETCH_LENGTH) ≤ℤ from_b → from_b ≤ℤ b → from_a ≤ℤ (a -ℤ (la -ℤ lb))
 back_by a b from_a from_b offset_a offset_b la lb ea eb high low apart begins = omega (arith, signed_arith)
 
-shows_by : (a la lb offset : ℤ) → la ≡ a +ℤ pos 86400000 +ℤ offset *ℤ pos 1000 → (a -ℤ (la -ℤ lb)) +ℤ pos 86400000 +ℤ offset *ℤ pos 1000 ≡ lb
+shows_by : (a la lb offset : ℤ) → la ≡ a +ℤ pos DAY_MS +ℤ offset *ℤ pos 1000 → (a -ℤ (la -ℤ lb)) +ℤ pos DAY_MS +ℤ offset *ℤ pos 1000 ≡ lb
 shows_by a la lb offset e = omega (arith, signed_arith)
 
-forward_by : (a b la lb offset : ℤ) → la ≡ a +ℤ pos 86400000 +ℤ offset *ℤ pos 1000 → lb ≡ b +ℤ pos 86400000 +ℤ offset *ℤ pos 1000 → a <ℤ b → la <ℤ lb
+forward_by : (a b la lb offset : ℤ) → la ≡ a +ℤ pos DAY_MS +ℤ offset *ℤ pos 1000 → lb ≡ b +ℤ pos DAY_MS +ℤ offset *ℤ pos 1000 → a <ℤ b → la <ℤ lb
 forward_by a b la lb offset ea eb lt = omega (arith, signed_arith)
 
 same_stretch : (zs : List Stretch) (a b : ℤ) → bad_zone zs ≡ None → pos 0 ≤ℤ a → a <ℤ b → stretch_at zs a ≡ stretch_at zs b → local zs a < local zs b
 same_stretch zs a b h low lt same =
     let offset : offset_at zs b ≡ offset_at zs a = ap (λ k. offset_of (slice_get zs k)) (sym same) in
     let ea = local-clock zs a h low in
-    let eb = local-clock zs b h (omega (arith, ints)) ∙ ap (λ (z : ℤ). b +ℤ pos 86400000 +ℤ z *ℤ pos 1000) offset in
+    let eb = local-clock zs b h (omega (arith, ints)) ∙ ap (λ (z : ℤ). b +ℤ pos DAY_MS +ℤ z *ℤ pos 1000) offset in
     let up = forward_by a b (pos (local zs a)) (pos (local zs b)) (offset_at zs a) ea eb lt in
     omega (arith, ints)
 
@@ -74,7 +74,7 @@ later_stretch zs a b h ka kb falls lt =
     let place : stretch_at zs (back zs a b) ≡ stretch_at zs a = omega arith in
     let offset : offset_at zs (back zs a b) ≡ offset_at zs a = ap (λ k. offset_of (slice_get zs k)) place in
     let begun_low : pos 0 ≤ℤ back zs a b = omega (arith, ints) in
-    let shows = local-clock zs (back zs a b) h begun_low ∙ (ap (λ (z : ℤ). back zs a b +ℤ pos 86400000 +ℤ z *ℤ pos 1000) offset ∙ shows_by a (pos (local zs a)) (pos (local zs b)) (offset_at zs a) la) in
+    let shows = local-clock zs (back zs a b) h begun_low ∙ (ap (λ (z : ℤ). back zs a b +ℤ pos DAY_MS +ℤ z *ℤ pos 1000) offset ∙ shows_by a (pos (local zs a)) (pos (local zs b)) (offset_at zs a) la) in
     (to_timestamp (back zs a b) begun_low (omega (arith, ints)), cc)
 
 -- where a later timestamp shows an earlier local time, an earlier one showed it before

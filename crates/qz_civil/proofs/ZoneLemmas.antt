@@ -29,12 +29,12 @@ pub record IsStretch (s : Stretch) : Type 0 where
   pub offset_low : neg_ℤ OFFSET_LIMIT ≤ℤ s.offset
   pub offset_high : s.offset ≤ℤ OFFSET_LIMIT
 
--- it begins far enough behind the one before
+-- it begins far enough after the one before
 abbrev pub IsApart : Option ℤ → ℤ → Type 0
 IsApart None from = Unit {0}
 IsApart (Some before) from = (before +ℤ STRETCH_LENGTH) ≤ℤ from
 
--- the stretches keep the rules, behind one that begins at `before`
+-- the stretches keep the rules, where the one before them begins at `before`
 abbrev pub IsTable : Option ℤ → List Stretch → Type 0
 IsTable before [] = Unit {0}
 IsTable before (s ∷ rest) = IsStretch s × IsApart before s.from × IsTable (Some s.from) rest
@@ -73,18 +73,18 @@ stretch_in before [] k s h e = cc
 stretch_in before (x ∷ rest) zero s h e = let same : x ≡ s = cc in subst IsStretch same h.0
 stretch_in before (x ∷ rest) (suc k) s h e = stretch_in (Some x.from) rest k s h.2 e
 
-pub begins_behind : (before : ℤ) (zs : List Stretch) (k : ℕ) (s : Stretch) → IsTable (Some before) zs → slice_get zs k ≡ Some s → (before +ℤ STRETCH_LENGTH) ≤ℤ s.from
-begins_behind before [] k s h e = cc
-begins_behind before (x ∷ rest) zero s h e = let same : x ≡ s = cc in subst (λ z. (before +ℤ STRETCH_LENGTH) ≤ℤ z.from) same h.1
-begins_behind before (x ∷ rest) (suc k) s h e =
-    let later = begins_behind x.from rest k s h.2 e in
+pub begins_after : (before : ℤ) (zs : List Stretch) (k : ℕ) (s : Stretch) → IsTable (Some before) zs → slice_get zs k ≡ Some s → (before +ℤ STRETCH_LENGTH) ≤ℤ s.from
+begins_after before [] k s h e = cc
+begins_after before (x ∷ rest) zero s h e = let same : x ≡ s = cc in subst (λ z. (before +ℤ STRETCH_LENGTH) ≤ℤ z.from) same h.1
+begins_after before (x ∷ rest) (suc k) s h e =
+    let later = begins_after x.from rest k s h.2 e in
     let first = h.1 in
     omega (arith, ints)
 
 pub begins_apart : (before : Option ℤ) (zs : List Stretch) (j k : ℕ) (s r : Stretch) → IsTable before zs → j < k → slice_get zs j ≡ Some s → slice_get zs k ≡ Some r → (s.from +ℤ STRETCH_LENGTH) ≤ℤ r.from
 begins_apart before [] j k s r h lt e f = cc
 begins_apart before (x ∷ rest) j zero s r h lt e f = absurd (omega arith)
-begins_apart before (x ∷ rest) zero (suc k) s r h lt e f = let same : x ≡ s = cc in subst (λ z. (z.from +ℤ STRETCH_LENGTH) ≤ℤ r.from) same (begins_behind x.from rest k r h.2 f)
+begins_apart before (x ∷ rest) zero (suc k) s r h lt e f = let same : x ≡ s = cc in subst (λ z. (z.from +ℤ STRETCH_LENGTH) ≤ℤ r.from) same (begins_after x.from rest k r h.2 f)
 begins_apart before (x ∷ rest) (suc j) (suc k) s r h lt e f = begins_apart (Some x.from) rest j k s r h.2 (omega arith) e f
 
 -- Stretches that have begun.
@@ -103,7 +103,7 @@ has_begun (x ∷ rest) t (suc k) s h e =
 
 later_than : (before : Option ℤ) (x : Stretch) (rest : List Stretch) (t : ℤ) (k : ℕ) (s : Stretch) → IsTable before (x ∷ rest) → t <ℤ x.from → slice_get (x ∷ rest) k ≡ Some s → t <ℤ s.from
 later_than before x rest t zero s h lt e = let same : x ≡ s = cc in subst (λ z. t <ℤ z.from) same lt
-later_than before x rest t (suc k) s h lt e = let apart = begins_behind x.from rest k s h.2 e in omega (arith, ints)
+later_than before x rest t (suc k) s h lt e = let apart = begins_after x.from rest k s h.2 e in omega (arith, ints)
 
 begins_later : (before : Option ℤ) (zs : List Stretch) (t : ℤ) (k : ℕ) (s : Stretch) → IsTable before zs → prefix_len (λ s. int_le s.from t) zs ≤ k → slice_get zs k ≡ Some s → t <ℤ s.from
 begins_later before [] t k s h le e = cc

@@ -3,7 +3,7 @@
 use Rattle.std.specs.Prelude.{ℕ, ◌/◌, ◌%◌, ◌^◌, Bool, true, ◌&&◌, nat_lt, nat_le, List, [], ◌∷◌, length, Option, Some, None}
 use Rattle.qz_civil.specs.declared.calendars.CalendarKind.{CalendarKind}
 use Rattle.qz_civil.specs.declared.calendars.CalendarKind.TheVariants.{Annual, Holiday, Weekly, Monthly, Daily, Cron}
-use Rattle.qz_civil.specs.declared.limits.TheConstants.{ANNUAL_LIMIT, HOLIDAY_LIMIT, LAST_YEAR}
+use Rattle.qz_civil.specs.declared.limits.TheConstants.{ANNUAL_LIMIT, DAY_MS, HOLIDAY_LIMIT, LAST_YEAR}
 use Rattle.qz_civil.specs.Dates.{days_in_month}
 use Rattle.qz_civil.specs.Fields.{is_cron_fields}
 
@@ -28,7 +28,7 @@ abbrev pub is_above : Option ℕ → ℕ → Bool
 is_above None n = true
 is_above (Some before) n = nat_lt before n
 
--- each passes the test and is above the one before; `before` is what stands before the first
+-- each passes the test and is above the one before; `before` is the one before the first
 abbrev pub are_above : (ℕ → Bool) → Option ℕ → List ℕ → Bool
 are_above passes before [] = true
 are_above passes before (n ∷ ns) = passes n && is_above before n && are_above passes (Some n) ns
@@ -39,8 +39,9 @@ is_list_of passes limit ns = nat_le (length ns) limit && are_above passes None n
 
 -- a millisecond of the day from one to another
 abbrev pub is_day_part : ℕ → ℕ → Bool
-is_day_part from to = nat_le from to && nat_le to 86399999
+is_day_part from to = nat_le from to && nat_lt to DAY_MS
 
+-- what the kind has is within its limits
 abbrev pub is_calendar_kind : CalendarKind → Bool
 is_calendar_kind (Annual days) = is_list_of is_annual_day ANNUAL_LIMIT days
 is_calendar_kind (Holiday dates) = is_list_of is_holiday HOLIDAY_LIMIT dates

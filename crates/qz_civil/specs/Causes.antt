@@ -2,7 +2,7 @@
 use Rattle.std.specs.Prelude.{ℕ, ◌+◌, ◌-◌, ◌^◌, ◌≤◌, min, OnErr}
 use Rattle.std.specs.declared.result.Result.{Result}
 
--- The count rose, or it stands at the end of its type, where a count can't rise and passes for one that did.
+-- The count rose, or it is the greatest of its type: a count that can't rise counts as one that did.
 abbrev pub Rose : ℕ → ℕ → Type 0
 Rose before now = min (before + 1) (2 ^ 64 - 1) ≤ now
 

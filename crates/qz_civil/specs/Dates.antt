@@ -4,6 +4,7 @@ use Rattle.std.specs.Prelude.{ℕ, zero, suc, ◌+◌, ◌/◌, ◌%◌, Bool, n
 use Rattle.std.specs.Int.{IsInRange}
 use Rattle.qz_civil.specs.declared.dates.Civil.{Civil}
 use Rattle.qz_civil.specs.declared.dates.Date.{Date}
+use Rattle.qz_civil.specs.declared.limits.TheConstants.{DAY_MS, DAY_SECONDS}
 
 -- every fourth year has a leap day, but of the centuries only every fourth
 abbrev pub is_leap_year : ℕ → Bool
@@ -49,21 +50,21 @@ date_part c = record { year = unsigned_abs c.year; month = c.month; day = c.day 
 -- The calendar has this date (of a negative year, the one without the sign), the weekday is 1 to 7, and the second is one of a
 -- day. The millisecond may be any.
 abbrev pub IsCivil : Civil → Type 0
-IsCivil c = IsDate (date_part c) × IsInRange 1 7 c.weekday × (c.second < 86400)
+IsCivil c = IsDate (date_part c) × IsInRange 1 7 c.weekday × (c.second < DAY_SECONDS)
 
 -- its year isn't negative, and its second and millisecond are within their ranges
 pub record IsInRanges (c : Civil) : Type 0 where
   pub year : pos 0 ≤ℤ c.year
-  pub second : c.second < 86400
+  pub second : c.second < DAY_SECONDS
   pub milli : c.milli < 1000
 
 -- the civil time that is n ms after 1969-12-31T00:00:00
 abbrev pub civil_of : ℕ → Civil
 civil_of n = record {
-  year = pos (date_of (n / 86400000)).year;
-  month = (date_of (n / 86400000)).month;
-  day = (date_of (n / 86400000)).day;
-  weekday = weekday_of (n / 86400000);
-  second = n % 86400000 / 1000;
+  year = pos (date_of (n / DAY_MS)).year;
+  month = (date_of (n / DAY_MS)).month;
+  day = (date_of (n / DAY_MS)).day;
+  weekday = weekday_of (n / DAY_MS);
+  second = n % DAY_MS / 1000;
   milli = n % 1000;
 }

@@ -23,7 +23,7 @@ number Month = 5
 number DayOfWeek = 6
 number Year = 7
 
--- the least value of the field, and the greatest
+-- the least value of the field
 unfoldable pub least : Field → ℕ
 least Seconds = 0
 least Minutes = 0
@@ -43,9 +43,11 @@ size Month = 12
 size DayOfWeek = 7
 size Year = LAST_YEAR - 1969
 
+-- the greatest value of the field
 unfoldable pub greatest : Field → ℕ
 greatest f = least f + size f - 1
 
+-- the number is one of the field's values
 unfoldable pub is_value : Field → ℕ → Bool
 is_value f v = nat_le (least f) v && nat_le v (greatest f)
 
@@ -84,6 +86,7 @@ in_week (weeks.Set set) length d w = has_bit set (w - 1)
 in_week (weeks.Last day) length d w = (w == day) && nat_lt length (d + 7)
 in_week (weeks.Nth day nth) length d w = (w == day) && ((d + 6) / 7 == nth)
 
+-- the months have this one, from 1 for January
 unfoldable pub in_months : CronFields → ℕ → Bool
 in_months f m = has_bit f.months (m - 1)
 
@@ -116,13 +119,16 @@ abbrev pub is_within_words : ℕ → List ℕ → Bool
 is_within_words n [] = true
 is_within_words n (w ∷ ws) = nat_lt w (2 ^ min n 64) && is_within_words (n - 64) ws
 
+-- some word has a bit
 abbrev pub has_some : List ℕ → Bool
 has_some [] = false
 has_some (w ∷ ws) = nat_lt 0 w || has_some ws
 
+-- words of at least one year, with no bit beyond the last year
 unfoldable pub is_year_set : List ℕ → Bool
 is_year_set words = has_some words && is_within_words (size Year) words
 
+-- a right field of the days of the month: `L-n` has n up to 30
 unfoldable pub is_day_field : DayField → Bool
 is_day_field days.Any = true
 is_day_field (days.Set set) = is_set DayOfMonth set
@@ -130,12 +136,14 @@ is_day_field (days.Last back) = nat_le back 30
 is_day_field days.LastWeekday = true
 is_day_field (days.Nearest a) = is_value DayOfMonth a
 
+-- a right field of the days of the week: `a#k` has k from 1 to 5
 unfoldable pub is_week_field : WeekField → Bool
 is_week_field weeks.Any = true
 is_week_field (weeks.Set set) = is_set DayOfWeek set
 is_week_field (weeks.Last day) = is_value DayOfWeek day
 is_week_field (weeks.Nth day nth) = is_value DayOfWeek day && (nat_le 1 nth && nat_le nth 5)
 
+-- the field is `?`
 abbrev pub is_any_day : DayField → Bool
 is_any_day days.Any = true
 is_any_day (days.Set set) = false
@@ -143,6 +151,7 @@ is_any_day (days.Last back) = false
 is_any_day days.LastWeekday = false
 is_any_day (days.Nearest a) = false
 
+-- the same of the week's field
 abbrev pub is_any_week : WeekField → Bool
 is_any_week weeks.Any = true
 is_any_week (weeks.Set set) = false
@@ -159,5 +168,6 @@ is_date_fields f =
     (is_day_field f.day && is_set Month f.months && is_week_field f.week && is_year_set f.years)
     && (if is_any_day f.day then not (is_any_week f.week) else is_any_week f.week)
 
+-- all seven fields are right
 abbrev pub is_cron_fields : CronFields → Bool
 is_cron_fields f = is_time_fields f && is_date_fields f

@@ -1,7 +1,7 @@
--- The least of a set that comes later, and the first number of a range that passes a test.
+-- The least of a set that is later, and the first number of a range that passes a test.
 use Rattle.std.specs.Prelude.{◌≡◌, ℕ, ◌<◌, ◌≤◌, Bool, true, false, ℤ, ◌<ℤ◌, ◌≤ℤ◌, Option, Some, None}
 
--- t is the least of the set's timestamps behind `after`, up to the horizon
+-- t is the least of the set's timestamps after `after`, up to the horizon
 pub record IsLeast (horizon : ℤ) (Member : ℤ → Type 0) (after t : ℤ) : Type 0 where
   pub member : Member t
   pub later : after <ℤ t

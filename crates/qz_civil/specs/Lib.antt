@@ -4,8 +4,10 @@ pub mod Dates
 pub mod Earliest
 pub mod Fields
 pub mod Instants
+pub mod Lists
 pub mod Least
 pub mod Months
-pub mod Timings
 pub mod Occurrences
+pub mod Spans
+pub mod Timings
 pub mod Zones

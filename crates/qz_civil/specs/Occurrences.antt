@@ -12,6 +12,6 @@ pub record IsOccurrence (start step from k : ℕ) : Type 0 where
   pub reached : from ≤ start + k * step
   pub first : (j : ℕ) → from ≤ start + j * step → k ≤ j
 
--- from that moment on no timestamp comes before the end
+-- from that moment on no timestamp is before the end
 abbrev pub IsPast : Option ℤ → ℕ → Type 0
 IsPast end moment = (t : ℤ) → pos moment ≤ℤ t → t ≤ℤ LAST → IsBefore end t → ⊥

@@ -1,7 +1,7 @@
 -- Which kinds and timings are valid. Times are in ms.
-use Rattle.std.specs.Prelude.{ℕ, ◌*◌, ◌^◌, ℤ, pos, negsuc, Bool, true, ◌&&◌, ◌||◌, nat_lt, nat_le, int_le, List, length, Option, Some, None}
+use Rattle.std.specs.Prelude.{ℕ, ◌*◌, ◌^◌, ℤ, pos, negsuc, Bool, true, false, ◌&&◌, ◌||◌, nat_lt, nat_le, int_le, List, length, Option, Some, None}
 use Rattle.std.specs.Ordering.{int_eq}
-use Rattle.qz_civil.specs.declared.limits.TheConstants.{LAST, LONGEST, NAME_LIMIT}
+use Rattle.qz_civil.specs.declared.limits.TheConstants.{COUNT_LIMIT, DAY_SECONDS, EVERY_LIMIT, LAST, LONGEST, NAME_LIMIT}
 use Rattle.qz_civil.specs.declared.timings.Kind.{Kind}
 use Rattle.qz_civil.specs.declared.timings.Kind.TheVariants.{Simple, Cron, Interval, Daily}
 use Rattle.qz_civil.specs.declared.timings.Timing.{Timing}
@@ -25,30 +25,38 @@ is_span t = is_within (pos 0) LONGEST t
 abbrev pub is_name : List ℕ → Bool
 is_name s = nat_lt 0 (length s) && nat_le (length s) NAME_LIMIT
 
--- the units that always have as many seconds; 0 for the others
-unfoldable pub seconds : Unit → ℕ
-seconds Second = 1
-seconds Minute = 60
-seconds Hour = 3600
-seconds Day = 0
-seconds Week = 0
-seconds Month = 0
-seconds Year = 0
+-- how many seconds the unit has, where it always has as many
+unfoldable pub seconds : Unit → Option ℕ
+seconds Second = Some 1
+seconds Minute = Some 60
+seconds Hour = Some 3600
+seconds Day = None
+seconds Week = None
+seconds Month = None
+seconds Year = None
 
--- once, or with an interval of at least 1 ms and a count from -1 (without end) to 2147483647
+-- once, or with an interval of at least 1 ms and a count from -1 (without end) to COUNT_LIMIT
 abbrev pub is_simple : ℤ → ℤ → Bool
 is_simple interval count =
     (int_eq interval (pos 0) && int_eq count (pos 0))
-    || (is_within (pos 1) LONGEST interval && is_within (negsuc 0) (pos 2147483647) count)
+    || (is_within (pos 1) LONGEST interval && is_within (negsuc 0) COUNT_LIMIT count)
 
--- at least one unit, and no more than 2147483647
+-- at least one unit, and no more than EVERY_LIMIT
 abbrev pub is_every : ℕ → Bool
-is_every every = nat_le 1 every && nat_le every 2147483647
+is_every every = nat_le 1 every && nat_le every EVERY_LIMIT
+
+-- so many units of that many seconds are a second to a day; units that vary in length aren't
+abbrev pub is_day_step : Option ℕ → ℕ → Bool
+is_day_step None every = false
+is_day_step (Some length) every = nat_le 1 (every * length) && nat_le (every * length) DAY_SECONDS
+
+-- the step of a daily trigger
+unfoldable pub is_step : Unit → ℕ → Bool
+is_step unit every = is_day_step (seconds unit) every
 
 -- a step of a second to a day, from one second of the day to a later one or the same
 abbrev pub is_daily_time : Unit → ℕ → ℕ → ℕ → Bool
-is_daily_time unit every from to =
-    (nat_le 1 (every * seconds unit) && nat_le (every * seconds unit) 86400) && (nat_le from to && nat_lt to 86400)
+is_daily_time unit every from to = is_step unit every && (nat_le from to && nat_lt to DAY_SECONDS)
 
 -- some of the seven days
 abbrev pub is_day_set : ℕ → Bool

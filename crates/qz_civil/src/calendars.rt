@@ -26,7 +26,7 @@ pub enum CalendarKind {
     Cron { fields: CronFields },
 }
 
-/// The same days again.
+// The same days again.
 #[tactic(auto, using(crate::proofs::CloneLaws::same_items))]
 fn copy_days(days: &List<u16>) -> Result<List<u16>, AllocError>
     ensures { IfOk result (λ copy. copy ≡ days.now) }
@@ -34,7 +34,7 @@ fn copy_days(days: &List<u16>) -> Result<List<u16>, AllocError>
     days.clone()
 }
 
-/// The same dates again.
+// The same dates again.
 #[tactic(auto, using(crate::proofs::CloneLaws::same_items))]
 fn copy_dates(dates: &List<u32>) -> Result<List<u32>, AllocError>
     ensures { IfOk result (λ copy. copy ≡ dates.now) }
@@ -73,7 +73,7 @@ pub fn is_annual_day(n: u16) -> bool
     1 <= month && month <= 12 && 1 <= day && day <= 31
 }
 
-/// Whether it is a date as `year * 10000 + month * 100 + day`, from 1970 to the last year that is known.
+/// Whether it is a date as `year * 10000 + month * 100 + day`, from 1970 to `LAST_YEAR`.
 pub fn is_holiday(n: u32) -> bool
     ensures { result ≡ spec.is_holiday n }
 {

@@ -5,7 +5,7 @@ ghost use Rattle.jiff_core.specs.Calendar.{IsBetween, IsEpochDay, days_from_civi
 ghost use Rattle.jiff_core.specs.Date.{epoch_day};
 ghost use Rattle.qz_civil.specs.Dates as spec;
 
-use crate::limits::LAST_DAY;
+use crate::limits::{DAY_MS, DAY_SECONDS, LAST_DAY};
 use jiff_core::civil;
 
 /// A date from 1969-12-31 on, the first one that a timestamp shows in any zone.
@@ -31,7 +31,7 @@ pub struct Civil {
     pub milli: u16,
 }
 
-/// The number of the month's last day. No memory.
+/// The number of the month's last day.
 #[tactic(auto, unfolding(crate::specs::Dates::days_in_month))]
 pub fn days_in_month(year: u32, month: u8) -> u8
     ensures value { result ≡ spec.days_in_month year month }
@@ -50,7 +50,7 @@ fn is_leap_year(year: u32) -> bool
     year % 4 == 0 && (year % 100 != 0 || year % 400 == 0)
 }
 
-/// The date that many days after 1969-12-31. No memory.
+/// The date that many days after 1969-12-31.
 pub fn date_of(day: u32) -> Date
     requires { day ≤ LAST_DAY }
     ensures value { result ≡ spec.date_of day }
@@ -80,7 +80,7 @@ fn epoch_date(day: u32) -> civil::Date
     civil::Date::from_unix_epoch_day(i64::from(day) - 1).unwrap()
 }
 
-/// The weekday of the date that many days after 1969-12-31, from 1 for Sunday. No memory.
+/// The weekday of the date that many days after 1969-12-31, from 1 for Sunday.
 pub fn weekday_of(day: u32) -> u8
     requires { day ≤ LAST_DAY }
     ensures { result ≡ spec.weekday_of day }
@@ -89,7 +89,7 @@ pub fn weekday_of(day: u32) -> u8
 }
 
 /// How many days after 1969-12-31 the date is. None where it is earlier, later than the year 9999, or no date of the
-/// calendar. No memory.
+/// calendar.
 pub fn day_of(date: Date) -> Option<u32>
     ensures found { IfSome result (λ day. spec.date_of day ≡ date) }
     ensures bound { IfSome result (λ day. day ≤ LAST_DAY) }
@@ -138,17 +138,17 @@ fn epoch_day_of(date: Date) -> i32
 
 // The civil time that is that many ms after 1969-12-31T00:00:00.
 pub(crate) fn civil_of(local: u64) -> Civil
-    requires { local < 86400000 * (LAST_DAY + 1) }
+    requires { local < DAY_MS * (LAST_DAY + 1) }
     ensures { result ≡ spec.civil_of local }
 {
-    let day = (local / 86_400_000) as u32;
+    let day = (local / DAY_MS) as u32;
     let date = date_of(day);
     Civil {
         year: date.year as i32,
         month: date.month,
         day: date.day,
         weekday: weekday_of(day),
-        second: (local % 86_400_000 / 1000) as u32,
+        second: (local % DAY_MS / 1000) as u32,
         milli: (local % 1000) as u16,
     }
 }
@@ -156,8 +156,8 @@ pub(crate) fn civil_of(local: u64) -> Civil
 // How many ms after 1969-12-31T00:00:00 the civil time is. None where it isn't one of the calendar from then on.
 pub(crate) fn local_of(civil: Civil) -> Option<u64>
     ensures found { IfSome result (λ local. spec.civil_of local ≡ civil) }
-    ensures bound { IfSome result (λ local. local < 86400000 * (LAST_DAY + 1)) }
-    ensures none { IfNone result ((local : ℕ) → local < 86400000 * (LAST_DAY + 1) → spec.civil_of local ≢ civil) }
+    ensures bound { IfSome result (λ local. local < DAY_MS * (LAST_DAY + 1)) }
+    ensures none { IfNone result ((local : ℕ) → local < DAY_MS * (LAST_DAY + 1) → spec.civil_of local ≢ civil) }
 {
     if !is_in_range(civil) {
         return None;
@@ -166,14 +166,14 @@ pub(crate) fn local_of(civil: Civil) -> Option<u64>
     if civil.weekday != weekday_of(day) {
         return None;
     }
-    Some(u64::from(day) * 86_400_000 + u64::from(civil.second) * 1000 + u64::from(civil.milli))
+    Some(u64::from(day) * DAY_MS + u64::from(civil.second) * 1000 + u64::from(civil.milli))
 }
 
 // Whether the parts that no calendar is needed for are in their ranges.
 fn is_in_range(civil: Civil) -> bool
     ensures { IsTrue result ↔ spec.IsInRanges civil }
 {
-    0 <= civil.year && civil.second < 86400 && civil.milli < 1000
+    0 <= civil.year && u64::from(civil.second) < DAY_SECONDS && civil.milli < 1000
 }
 
 // The civil time's date.

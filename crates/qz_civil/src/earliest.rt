@@ -5,17 +5,14 @@ ghost use Rattle.qz_civil.specs.Earliest.{HasEarliest};
 ghost use Rattle.qz_civil.specs.Instants.{IsShownAt};
 ghost use Rattle.qz_civil.specs.Timings.{is_timestamp};
 
-use crate::limits::{GREATEST_SHIFT_MS, LAST, LAST_DAY};
+use crate::limits::{DAY_MS, GREATEST_SHIFT_MS, LAST, LAST_DAY, LEAST_SHIFT_MS};
 use crate::zones::{Zone, unshifted};
-
-// How far a local clock is ahead of the timestamp at least, in ms: 6 hours.
-const LEAST_SHIFT_MS: u64 = 21_600_000;
 
 impl Zone {
     /// The first timestamp at which the local clock, in ms since 1969-12-31T00:00:00, shows that: the earlier one in a
-    /// fold, and None in a gap. No memory.
+    /// fold, and None in a gap.
     pub fn earliest_at(&self, local: u64) -> Option<i64>
-        requires { local < 86400000 * (LAST_DAY + 1) }
+        requires { local < DAY_MS * (LAST_DAY + 1) }
         ensures { HasEarliest (IsShownAt self.now local) result }
     {
         let mut from = local.saturating_sub(GREATEST_SHIFT_MS);

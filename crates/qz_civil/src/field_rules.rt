@@ -5,7 +5,7 @@ ghost use Rattle.qz_civil.specs.Fields as spec;
 use crate::fields::{DayField, Field};
 
 impl Field {
-    /// Whether it is one of the field's values. No memory.
+    /// Whether it is one of the field's values.
     #[tactic(auto, unfolding(crate::specs::Fields::is_value))]
     pub fn is_value(self, value: u16) -> bool
         ensures { result ≡ spec.is_value self value }
@@ -13,7 +13,7 @@ impl Field {
         self.least() <= value && value <= self.greatest()
     }
 
-    /// Whether the set has at least one of the field's values, and no bit beyond them. No memory.
+    /// Whether the set has at least one of the field's values, and no bit beyond them.
     #[tactic(auto, unfolding(crate::specs::Fields::is_set, crate::specs::Fields::size))]
     pub fn is_set(self, set: u64) -> bool
         ensures { result ≡ spec.is_set self set }
@@ -23,7 +23,7 @@ impl Field {
     }
 }
 
-/// Whether the words, as those of `CronFields::years`, have at least one year, and no bit beyond `LAST_YEAR`. No memory.
+/// Whether the words, as those of `CronFields::years`, have at least one year, and none after `LAST_YEAR`.
 #[tactic(auto, unfolding(crate::specs::Fields::is_year_set, crate::specs::Fields::size))]
 pub fn is_year_set(years: [u64; 4]) -> bool
     ensures { result ≡ spec.is_year_set years }
@@ -33,7 +33,7 @@ pub fn is_year_set(years: [u64; 4]) -> bool
 }
 
 impl DayField {
-    /// Whether the text doesn't say. No memory.
+    /// Whether it is `?`, which any day meets.
     pub fn is_any(self) -> bool
         ensures { result ≡ spec.is_any_day self }
     {

@@ -5,7 +5,7 @@ ghost use Rattle.qz_civil.specs.Dates.{IsCivil, IsDate};
 ghost use Rattle.qz_civil.specs.Fields as spec;
 
 use crate::dates::{Civil, Date, date_part, days_in_month};
-use crate::limits::LAST_YEAR;
+use crate::limits::{DAY_SECONDS, LAST_YEAR};
 
 /// A field of a cron text.
 #[derive(Clone, Copy, PartialEq, Eq, Debug)]
@@ -22,7 +22,7 @@ pub enum Field {
 /// The days of the month that a cron text names.
 #[derive(Clone, Copy, PartialEq, Eq, Debug)]
 pub enum DayField {
-    /// `?`: the text doesn't say.
+    /// `?`: any day, as far as this field is concerned.
     Any,
     /// Bit 0 is the 1st.
     Set(u32),
@@ -37,7 +37,7 @@ pub enum DayField {
 /// The days of the week that a cron text names, each from 1 for Sunday.
 #[derive(Clone, Copy, PartialEq, Eq, Debug)]
 pub enum WeekField {
-    /// `?`: the text doesn't say.
+    /// `?`: any day, as far as this field is concerned.
     Any,
     /// Bit 0 is Sunday.
     Set(u8),
@@ -47,7 +47,8 @@ pub enum WeekField {
     Nth { day: u8, nth: u8 },
 }
 
-/// What a cron text says, as in Quartz's `CronExpression`. Sets are bit sets whose bit 0 is the field's least value.
+/// The seven fields of a cron text, as in Quartz's `CronExpression`. Sets are bit sets whose bit 0 is the field's least
+/// value.
 #[derive(Clone, Copy, PartialEq, Eq, Debug)]
 pub struct CronFields {
     pub seconds: u64,
@@ -113,7 +114,7 @@ impl Field {
     }
 }
 
-/// Whether the set has the i-th value of its field, from 0. No memory.
+/// Whether the set has the i-th value of its field, from 0.
 #[tactic(auto, using(std::proofs::lemmas::Nat::Bits::shr_and_one), unfolding(crate::specs::Fields::has_bit))]
 pub fn has_bit(set: u64, i: u32) -> bool
     requires { i < 64 }
@@ -132,7 +133,7 @@ fn weekday_at(day: u32, weekday: u32, other: u32) -> u32
 }
 
 /// The day from Monday to Friday that is nearest to the day, within its month. `length` is how many days the month has,
-/// and `weekday` is the day's, from 1 for Sunday. No memory.
+/// and `weekday` is the day's, from 1 for Sunday.
 pub fn nearest_weekday(length: u32, day: u32, weekday: u32) -> u32
     requires day { IsInRange 1 31 day }
     requires length { 28 ≤ length }
@@ -148,7 +149,7 @@ pub fn nearest_weekday(length: u32, day: u32, weekday: u32) -> u32
 }
 
 impl DayField {
-    /// Whether the day, of this weekday and in a month of this length, meets the field.
+    // Whether the day, of this weekday and in a month of this length, meets the field.
     #[tactic(auto, unfolding(crate::specs::Fields::in_days))]
     fn meets(self, length: u8, day: u8, weekday: u8) -> bool
         requires length { IsInRange 28 31 length }
@@ -174,7 +175,7 @@ impl DayField {
 }
 
 impl WeekField {
-    /// Whether the day, of this weekday and in a month of this length, meets the field.
+    // Whether the day, of this weekday and in a month of this length, meets the field.
     #[tactic(auto, unfolding(crate::specs::Fields::in_week))]
     fn meets(self, length: u8, day: u8, weekday: u8) -> bool
         requires length { IsInRange 28 31 length }
@@ -192,7 +193,7 @@ impl WeekField {
 }
 
 impl CronFields {
-    /// Whether the years have this one. No memory.
+    /// Whether the years have this one.
     #[tactic(auto, unfolding(crate::specs::Fields::in_years, crate::specs::Fields::has_word, crate::specs::Fields::is_value, crate::specs::Fields::greatest, crate::specs::Fields::least, crate::specs::Fields::size))]
     pub fn has_year(&self, year: u32) -> bool
         ensures { result ≡ spec.in_years self.now year }
@@ -205,16 +206,16 @@ impl CronFields {
             }
     }
 
-    /// Whether the months have this one. No memory.
+    // Whether the months have this one.
     #[tactic(auto, unfolding(crate::specs::Fields::in_months))]
-    pub fn has_month(&self, month: u8) -> bool
+    fn has_month(&self, month: u8) -> bool
         requires { IsInRange 1 12 month }
         ensures { result ≡ spec.in_months self.now month }
     {
         has_bit(u64::from(self.months), u32::from(month - 1))
     }
 
-    /// Whether the date, of this weekday, meets the day, month, weekday and year. No memory.
+    /// Whether the date, of this weekday, meets the day, month, weekday and year.
     #[tactic(auto, unfolding(crate::specs::Fields::meets_date))]
     pub fn meets_date(&self, date: Date, weekday: u8) -> bool
         requires date { IsDate date }
@@ -228,10 +229,10 @@ impl CronFields {
             && self.week.meets(length, date.day, weekday)
     }
 
-    /// Whether the second of the day meets the hours, minutes and seconds. No memory.
+    /// Whether the second of the day meets the hours, minutes and seconds.
     #[tactic(auto, unfolding(crate::specs::Fields::meets_time))]
     pub fn meets_time(&self, second: u32) -> bool
-        requires { second < 86400 }
+        requires { second < DAY_SECONDS }
         ensures { result ≡ spec.meets_time self.now second }
     {
         has_bit(u64::from(self.hours), second / 3600)
@@ -239,7 +240,7 @@ impl CronFields {
             && has_bit(self.seconds, second % 3600 % 60)
     }
 
-    /// Whether the local time meets all seven fields. Fractions of a second don't matter. No memory.
+    /// Whether the local time meets all seven fields. Fractions of a second don't matter.
     pub fn meets(&self, civil: Civil) -> bool
         requires { IsCivil civil }
         ensures { result ≡ spec.meets self.now civil }

@@ -1,6 +1,6 @@
-//! What every layer of the scheduler stands on: texts and lists that contracts see as plain lists, the two
-//! failures that any layer may pass on, zones and their local time, the fields of a cron text, the timing of a trigger,
-//! the kinds of calendars, and how a value in hand is let go.
+//! What every layer of the scheduler uses: texts and lists that contracts see as plain lists, the two failures that any
+//! layer may pass on, the limits, zones and their local time, the fields of a cron text, the timing of a trigger, and
+//! the kinds of calendars.
 #![tactic(auto)]
 
 mod calendars;
@@ -12,11 +12,12 @@ mod fields;
 mod kept;
 mod limits;
 mod lists;
+mod lists_with_room;
 mod occurrences;
 mod spans;
 mod stretches;
 mod texts;
-mod times;
+mod timestamps;
 mod timings;
 mod zones;
 
@@ -27,14 +28,16 @@ pub use field_rules::is_year_set;
 pub use fields::{CronFields, DayField, Field, WeekField, has_bit, nearest_weekday};
 pub use kept::beside;
 pub use limits::{
-    ANNUAL_LIMIT, END_DAY, GREATEST_SHIFT_SECONDS, HOLIDAY_LIMIT, LAST, LAST_DAY, LAST_YEAR,
-    LONGEST, NAME_LIMIT, OFFSET_LIMIT, STRETCH_LENGTH, STRETCH_LIMIT,
+    ANNUAL_LIMIT, COUNT_LIMIT, DAY_MS, DAY_SECONDS, END_DAY, EVERY_LIMIT, GREATEST_SHIFT_SECONDS,
+    HOLIDAY_LIMIT, LAST, LAST_DAY, LAST_YEAR, LEAST_SHIFT_SECONDS, LONGEST, NAME_LIMIT,
+    OFFSET_LIMIT, SECONDS, STRETCH_LENGTH, STRETCH_LIMIT, limits_are,
 };
 pub use lists::List;
+pub use lists_with_room::ListWithRoom;
 pub use occurrences::{Occurrence, before_end, first_occurrence, to_unsigned};
-pub use spans::{SECONDS, Span, second_from};
+pub use spans::{Span, moment_of, second_from};
 pub use stretches::{BadZone, Stretch, is_offset, may_begin};
 pub use texts::Text;
-pub use times::Times;
+pub use timestamps::Times;
 pub use timings::{Kind, Moved, Timing, Unit};
 pub use zones::Zone;

@@ -13,7 +13,7 @@ pub struct Occurrence {
 }
 
 /// The first of `start`, `start + step`, `start + 2 * step` and so on that isn't below `from`. None where there is
-/// none, which only a step of 0 leaves possible. No memory.
+/// none, which only a step of 0 leaves possible.
 #[tactic(auto, using(crate::proofs::OccurrenceLemmas::occurrences))]
 pub fn first_occurrence(start: u64, step: u64, from: u64) -> Option<Occurrence>
     requires start { start ≤ 2 ^ 62 }
@@ -40,7 +40,7 @@ pub fn first_occurrence(start: u64, step: u64, from: u64) -> Option<Occurrence>
     })
 }
 
-/// The moment as a timestamp, where it is one and comes before the end. No memory.
+/// The moment as a timestamp, where it is one and is before the end. Both are in ms since 1970-01-01T00:00:00Z.
 pub fn before_end(moment: u64, end: Option<i64>) -> Option<i64>
     ensures kept { IfSome result (λ t. (t ≡ pos moment) × (t ≤ℤ LAST) × IsBefore end t) }
     ensures gone { IfNone result (IsPast end moment) }
@@ -54,7 +54,7 @@ pub fn before_end(moment: u64, end: Option<i64>) -> Option<i64>
     }
 }
 
-/// The same number, where it isn't negative. No memory.
+/// The same number, where it isn't negative.
 pub fn to_unsigned(value: i64) -> u64
     requires { pos 0 ≤ℤ value }
     ensures value { pos result ≡ value }

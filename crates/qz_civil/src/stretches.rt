@@ -73,14 +73,15 @@ fn begins_at_timestamp(stretch: &Stretch) -> bool
     0 <= stretch.from && stretch.from <= LAST
 }
 
-/// Whether a stretch may begin at `from` (in ms since 1970-01-01T00:00:00Z) right behind one that begins at `before`.
+/// Whether a stretch may begin at `from` where the one before it begins at `before`. Both are in ms since
+/// 1970-01-01T00:00:00Z.
 pub fn may_begin(before: Option<i64>, from: i64) -> bool
     ensures { result ≡ (is_timestamp from && spec.is_apart before from) }
 {
     0 <= from && from <= LAST && is_apart(before, from)
 }
 
-/// Whether local time may be so many seconds from UTC.
+/// Whether local time may be that many seconds from UTC.
 pub fn is_offset(offset: i32) -> bool
     ensures { result ≡ spec.is_offset offset }
 {

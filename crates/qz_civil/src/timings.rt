@@ -3,6 +3,7 @@ ghost use Rattle.std.specs.Prelude.{◌≡◌};
 ghost use Rattle.qz_civil.specs.Timings as spec;
 
 use crate::fields::CronFields;
+use crate::limits::DAY_SECONDS;
 use crate::texts::Text;
 use std::alloc::AllocError;
 
@@ -19,16 +20,30 @@ pub enum Unit {
 }
 
 impl Unit {
-    /// How many seconds it has, where it has always as many as a second, a minute or an hour; otherwise 0. No memory.
+    /// How many seconds it has, where that is always the same number: of a second, a minute and an hour.
     #[tactic(auto, unfolding(crate::specs::Timings::seconds))]
-    pub fn seconds(self) -> u64
+    pub fn seconds(self) -> Option<u64>
         ensures { result ≡ spec.seconds self }
     {
         match self {
-            Unit::Second => 1,
-            Unit::Minute => 60,
-            Unit::Hour => 3600,
-            Unit::Day | Unit::Week | Unit::Month | Unit::Year => 0,
+            Unit::Second => Some(1),
+            Unit::Minute => Some(60),
+            Unit::Hour => Some(3600),
+            Unit::Day | Unit::Week | Unit::Month | Unit::Year => None,
+        }
+    }
+
+    /// Whether so many of it may be the step of a daily trigger: seconds, minutes or hours, and in all a second to a day.
+    #[tactic(auto, unfolding(crate::specs::Timings::is_step))]
+    pub fn is_step(self, every: u32) -> bool
+        ensures { result ≡ spec.is_step self every }
+    {
+        match self.seconds() {
+            Some(length) => {
+                let step = u64::from(every) * length;
+                1 <= step && step <= DAY_SECONDS
+            }
+            None => false,
         }
     }
 }
@@ -38,7 +53,7 @@ impl Unit {
 #[derive(Debug, Drop)]
 pub enum Kind {
     /// Fires at the start and then every `interval` ms, `count` times more; -1 is without end. `interval` is 1 to
-    /// `LONGEST` and `count` is -1 to 2147483647, or both are 0.
+    /// `LONGEST` and `count` is -1 to `COUNT_LIMIT`, or both are 0.
     Simple {
         interval: i64,
         count: i64,
@@ -48,7 +63,7 @@ pub enum Kind {
         fields: CronFields,
         zone: Text,
     },
-    /// Fires at the start and then every so many units, 1 to 2147483647, as the zone's calendar counts them.
+    /// Fires at the start and then every so many units, 1 to `EVERY_LIMIT`, as the zone's calendar counts them.
     Interval {
         unit: Unit,
         every: u32,

@@ -5,7 +5,7 @@ ghost use Rattle.qz_civil.specs.Timings.{is_timestamp};
 ghost use Rattle.qz_civil.specs.Zones as spec;
 
 use crate::dates::{Civil, civil_of, local_of};
-use crate::limits::{GREATEST_SHIFT_MS, LAST, LAST_DAY, OFFSET_LIMIT, STRETCH_LIMIT};
+use crate::limits::{DAY_MS, GREATEST_SHIFT_MS, LAST, LAST_DAY, OFFSET_LIMIT, STRETCH_LIMIT};
 use crate::lists::List;
 use crate::stretches::{BadZone, Stretch, count_begun, fault_of, offset_of, start_of};
 use std::marker::Model;
@@ -37,14 +37,14 @@ impl Model for Zone {
 }
 
 impl Zone {
-    /// The zone of Coordinated Universal Time. No memory.
+    /// The zone of Coordinated Universal Time.
     pub fn utc() -> Zone
         ensures { result ≡ spec.fixed_offset (pos 0) }
     {
         Zone::fixed(0)
     }
 
-    /// The zone whose local time is always that many minutes after UTC. No memory.
+    /// The zone whose local time is always that many minutes ahead of UTC, up to 18 hours either way.
     #[tactic(auto, unfolding(crate::specs::Zones::bad_zone))]
     pub fn fixed(minutes: i32) -> Zone
         requires low { negsuc 1079 ≤ℤ minutes }
@@ -56,9 +56,9 @@ impl Zone {
         }
     }
 
-    /// The zone of a table of stretches. It has 1 to 512 of them, each begins at a timestamp from 0 to `LAST` and at least
-    /// 48 hours after the one before, and no offset is more than 18 hours. Of several faults `BadZone` says which one is
-    /// answered. No memory.
+    /// The zone of a table of stretches. It has 1 to `STRETCH_LIMIT` of them, each begins at a timestamp from 0 to `LAST`
+    /// and at least `STRETCH_LENGTH` after the one before, and no offset is more than `OFFSET_LIMIT`. `BadZone` gives the
+    /// order in which faults are answered.
     pub fn table(stretches: List<Stretch>) -> Result<Zone, BadZone>
         ensures ok { IfOk result (λ zone. (zone ≡ stretches) × (spec.bad_zone stretches ≡ None)) }
         ensures err { IfErr result (λ fault. spec.bad_zone stretches ≡ Some fault) }
@@ -71,9 +71,9 @@ impl Zone {
         }
     }
 
-    /// How many stretches have begun at the timestamp. No memory.
+    // How many stretches have begun at the timestamp.
     #[tactic(auto, unfolding(crate::specs::Zones::begun))]
-    pub fn begun(&self, ms: i64) -> usize
+    fn begun(&self, ms: i64) -> usize
         ensures { result ≡ spec.begun self.now ms }
     {
         match &self.offsets {
@@ -82,7 +82,7 @@ impl Zone {
         }
     }
 
-    /// The place of the stretch that holds at the timestamp, from 0. Before all stretches the first one holds. No memory.
+    /// The place, from 0, of the stretch in which the timestamp lies. One before all stretches counts as in the first.
     #[tactic(auto, using(crate::proofs::ZoneLemmas::zone_facts))]
     pub fn stretch_at(&self, ms: i64) -> u32
         ensures value { result ≡ spec.stretch_at self.now ms }
@@ -93,8 +93,8 @@ impl Zone {
         self.begun(ms).saturating_sub(1) as u32
     }
 
-    /// Local time less UTC at the timestamp, in seconds. No memory.
-    pub fn offset_at(&self, ms: i64) -> i32
+    // Local time less UTC at the timestamp, in seconds.
+    fn offset_at(&self, ms: i64) -> i32
         ensures value { result ≡ spec.offset_at self.now ms }
         ensures low { neg_ℤ OFFSET_LIMIT ≤ℤ result }
         ensures high { result ≤ℤ OFFSET_LIMIT }
@@ -102,23 +102,10 @@ impl Zone {
         self.offset_in(self.stretch_at(ms) as usize)
     }
 
-    /// When the next stretch after the timestamp begins. No memory.
-    pub fn next_start(&self, ms: i64) -> Option<i64>
-        ensures value { result ≡ option_map (λ s. s.from) (slice_get self.now (spec.begun self.now ms)) }
-        ensures later { IfSome result (λ start. ms <ℤ start) }
-        ensures high { IfSome result (λ start. start ≤ℤ LAST) }
-        // Until then the offset stays.
-        ensures stays { (t : ℤ) → ms ≤ℤ t → IfSome result (λ start. t <ℤ start) → spec.offset_at self.now t ≡ spec.offset_at self.now ms }
-    {
-        let _ = &self.offsets;
-        let place = self.begun(ms);
-        self.start_of(place)
-    }
-
-    /// The offset at the timestamp and when the next stretch begins, as `offset_at` and `next_start` give them, in one
-    /// look-up. No memory.
+    /// Local time less UTC at the timestamp, in seconds, and when the next stretch begins.
     pub fn offset_until(&self, ms: i64) -> (i32, Option<i64>)
         ensures offset { result.0 ≡ spec.offset_at self.now ms }
+        ensures next { result.1 ≡ spec.next_start self.now ms }
         ensures offset_low { neg_ℤ OFFSET_LIMIT ≤ℤ result.0 }
         ensures offset_high { result.0 ≤ℤ OFFSET_LIMIT }
         ensures later { IfSome result.1 (λ start. ms <ℤ start) }
@@ -136,17 +123,17 @@ impl Zone {
         )
     }
 
-    /// The local clock at the timestamp, in ms since 1969-12-31T00:00:00. No memory.
+    /// The local clock at the timestamp, in ms since 1969-12-31T00:00:00.
     pub fn local(&self, ms: i64) -> u64
         requires low { pos 0 ≤ℤ ms }
         requires high { ms ≤ℤ LAST }
         ensures value { result ≡ spec.local self.now ms }
-        ensures bound { result < LAST_DAY * 86400000 }
+        ensures bound { result < LAST_DAY * DAY_MS }
     {
         shifted(ms, self.offset_at(ms))
     }
 
-    /// The local date and time of day at a timestamp, in ms since 1970-01-01T00:00:00Z and 0 to `LAST`. No memory.
+    /// The local date and time of day at a timestamp, in ms since 1970-01-01T00:00:00Z and 0 to `LAST`.
     pub fn civil(&self, ms: i64) -> Civil
         requires low { pos 0 ≤ℤ ms }
         requires high { ms ≤ℤ LAST }
@@ -156,7 +143,7 @@ impl Zone {
     }
 
     /// The at most two timestamps with that local time, ascending: none in a gap, and two in a fold. A time that isn't
-    /// one of the calendar, its weekday included, has none. No memory.
+    /// one of the calendar, its weekday included, has none.
     pub fn instants_of(&self, civil: Civil) -> (Option<i64>, Option<i64>)
         ensures { AreMembers (IsInstant self.now civil) result.0 result.1 }
     {
@@ -167,10 +154,9 @@ impl Zone {
         }
     }
 
-    /// The at most two timestamps at which the local clock, in ms since 1969-12-31T00:00:00, shows that, ascending.
-    /// No memory.
-    pub fn timestamps_at(&self, local: u64) -> (Option<i64>, Option<i64>)
-        requires { local < 86400000 * (LAST_DAY + 1) }
+    // The at most two timestamps at which the local clock, in ms since 1969-12-31T00:00:00, shows that, ascending.
+    fn timestamps_at(&self, local: u64) -> (Option<i64>, Option<i64>)
+        requires { local < DAY_MS * (LAST_DAY + 1) }
         ensures { AreMembers (IsShownAt self.now local) result.0 result.1 }
     {
         let _ = &self.offsets;
@@ -186,7 +172,7 @@ impl Zone {
 
     // The timestamp in the stretch at that place, at which the local clock shows that.
     fn timestamp_in(&self, place: u32, local: u64) -> Option<i64>
-        requires { local < 86400000 * (LAST_DAY + 1) }
+        requires { local < DAY_MS * (LAST_DAY + 1) }
         ensures { IsOnly (IsShownIn self.now local place) result }
     {
         let _ = &self.offsets;
@@ -240,19 +226,19 @@ fn shifted(ms: i64, offset: i32) -> u64
     requires high { ms ≤ℤ LAST }
     requires offset_low { neg_ℤ OFFSET_LIMIT ≤ℤ offset }
     requires offset_high { offset ≤ℤ OFFSET_LIMIT }
-    ensures value { result ≡ unsigned_abs (ms +ℤ pos 86400000 +ℤ offset *ℤ pos 1000) }
-    ensures bound { result < LAST_DAY * 86400000 }
+    ensures value { result ≡ unsigned_abs (ms +ℤ pos DAY_MS +ℤ offset *ℤ pos 1000) }
+    ensures bound { result < LAST_DAY * DAY_MS }
 {
-    (ms + 86_400_000 + offset as i64 * 1000) as u64
+    (ms + DAY_MS as i64 + i64::from(offset) * 1000) as u64
 }
 
 // The timestamp at which the local clock at an offset shows that.
 #[tactic(auto, using(jiff_core::proofs::SignedLemmas::signed_arith))]
 pub(crate) fn unshifted(local: u64, offset: i32) -> i64
-    requires local { local < 86400000 * (LAST_DAY + 1) }
+    requires local { local < DAY_MS * (LAST_DAY + 1) }
     requires offset_low { neg_ℤ OFFSET_LIMIT ≤ℤ offset }
     requires offset_high { offset ≤ℤ OFFSET_LIMIT }
-    ensures { result ≡ pos local -ℤ pos 86400000 -ℤ offset *ℤ pos 1000 }
+    ensures { result ≡ pos local -ℤ pos DAY_MS -ℤ offset *ℤ pos 1000 }
 {
-    local as i64 - 86_400_000 - offset as i64 * 1000
+    local as i64 - DAY_MS as i64 - i64::from(offset) * 1000
 }

@@ -86,7 +86,9 @@ impl<D: Disk> Cluster<D> {
         ensures any_moment { D.honest → LeavesEither self.old.triggers self.new.triggers }
     {
         let rows = others(self.alloc, &self.held, &node)?;
-        let command = Command::Join { node: node.copy()? };
+        let command = Command::Join {
+            node: node.clone()?,
+        };
         let reply = self.submit(client_entry(command, at))?;
         self.hold(node, rows, &reply);
         Ok(reply)

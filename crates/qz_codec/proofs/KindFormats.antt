@@ -6,10 +6,10 @@ use Rattle.qz_civil.specs.declared.timings.Kind.{Kind}
 use Rattle.qz_civil.specs.declared.timings.Kind.TheVariants.{Simple, Cron, Interval, Daily}
 use Rattle.qz_civil.specs.declared.timings.Unit.{Unit as Units}
 use Rattle.qz_civil.specs.declared.timings.Unit.TheVariants.{Second, Minute, Hour, Day, Week, Month, Year}
-use Rattle.qz_civil.specs.Timings.{is_kind, is_every, is_day_set, seconds}
+use Rattle.qz_civil.specs.Timings.{is_kind, is_every, is_day_set, is_step, seconds}
 use Rattle.qz_codec.specs.Layout.{number, integer, text, cron_fields, unit_place, kind}
 use Rattle.qz_codec.specs.Values.{IsName, IsNumber, IsSpan, IsDaily, IsKind}
-use Rattle.qz_codec.specs.Reading.{checked, byte_at, number_at, integer_at, name_at, span_at, cron_fields_at, unit_at, simple_at, cron_at, interval_at, is_even, is_step, is_second_from, daily_at, kind_at}
+use Rattle.qz_codec.specs.Reading.{checked, byte_at, number_at, integer_at, name_at, span_at, cron_fields_at, unit_at, simple_at, cron_at, interval_at, is_even, is_second_from, daily_at, kind_at}
 use Rattle.qz_codec.proofs.Formats.{IsFormat, Any, Both, same, those}
 use Rattle.qz_codec.proofs.SingleFields.{wide32, one_byte}
 use Rattle.qz_codec.proofs.NameFormats.{name_format, tested, span_format, narrowed, narrow_byte}
@@ -80,7 +80,7 @@ even_format : IsFormat unit_byte Any (λ unit. is_even unit ≡ true) (checked i
 even_format = same (those is_even unit_format) (λ u k. refl) (λ u k p. p.passed) (λ u k p. record { fits = tt; passed = p })
 
 step-below : (unit : Units) (n : ℕ) → is_step unit n ≡ true → n < 2 ^ 32
-unfolding seconds
+unfolding seconds is_step
 step-below Second n h = grind arith
 step-below Minute n h = grind arith
 step-below Hour n h = grind arith
@@ -88,6 +88,17 @@ step-below Day n h = grind arith
 step-below Week n h = grind arith
 step-below Month n h = grind arith
 step-below Year n h = grind arith
+
+-- a unit that has a step is even
+step-even : (unit : Units) (n : ℕ) → is_step unit n ≡ true → is_even unit ≡ true
+unfolding seconds is_step
+step-even Second n h = refl
+step-even Minute n h = refl
+step-even Hour n h = refl
+step-even Day n h = cc
+step-even Week n h = cc
+step-even Month n h = cc
+step-even Year n h = cc
 
 step_format : (unit : Units) → IsFormat (number w32) Any (λ n. is_step unit n ≡ true) (checked (is_step unit) (number_at w32)) 4
 step_format unit = narrowed wide32 (is_step unit) (step-below unit)
@@ -134,7 +145,8 @@ daily-valid x p = record { time = rw (p.others.first, p.others.others.others.fir
 daily-parts : (unit : Units) (every from to days : ℕ) (zone : List ℕ) → IsDaily unit every from to days zone → AreDaily (unit, (every, (from, (to, (days, zone)))))
 daily-parts unit every from to days zone is =
     let time = is.time in
-    record { first = grind arith; others = record { first = grind arith; others = record { first = grind arith; others = record { first = grind arith; others = record { first = is.days; others = is.zone } } } } }
+    let step : is_step unit every ≡ true = grind arith in
+    record { first = step-even unit every step; others = record { first = step; others = record { first = grind arith; others = record { first = grind arith; others = record { first = is.days; others = is.zone } } } } }
 
 kind_choices : Choices Kind
 kind_choices = (0, simple_at) ∷ (1, cron_at) ∷ (2, interval_at) ∷ (3, daily_at) ∷ []

@@ -1,8 +1,8 @@
 -- Reading a record from left to right. `Fields` says what a reader answers.
-use Rattle.std.specs.Prelude.{◌≡◌, ℕ, ◌-◌, ◌*◌, List, length, nat_lt, nat_le, ◌==◌, ◌&&◌, Bool, Option, Some, None, Result, Ok, Err, if◌then◌else◌}
+use Rattle.std.specs.Prelude.{◌≡◌, ℕ, ◌-◌, List, length, nat_lt, nat_le, is_some, ◌==◌, ◌&&◌, Bool, Option, Some, None, Result, Ok, Err, if◌then◌else◌}
 use Rattle.std.specs.Int.{w32, w64}
 use Rattle.qz_civil.specs.Fields.{size}
-use Rattle.qz_civil.specs.Timings.{is_kind, is_misfire, is_every, is_day_set, seconds}
+use Rattle.qz_civil.specs.Timings.{is_kind, is_misfire, is_every, is_day_set, is_step, seconds}
 use Rattle.qz_civil.specs.declared.timings.Kind.{Kind}
 use Rattle.qz_civil.specs.declared.timings.Kind.TheVariants.{Simple, Cron, Interval, Daily}
 use Rattle.qz_civil.specs.declared.timings.Timing.{Timing}
@@ -10,6 +10,7 @@ use Rattle.qz_civil.specs.declared.timings.Unit.{Unit as Units}
 use Rattle.qz_civil.specs.declared.timings.Unit.TheVariants as units
 use Rattle.qz_types.specs.Rows.{JobData, MemberData}
 use Rattle.qz_types.specs.Entries.{EntryData}
+use Rattle.qz_civil.specs.declared.limits.TheConstants.{DAY_SECONDS}
 use Rattle.qz_types.specs.declared.limits.TheConstants.{ACQUIRE_LIMIT, PAYLOAD_LIMIT}
 use Rattle.qz_types.specs.declared.keys.Key.{Key}
 use Rattle.qz_types.specs.declared.triggers.TriggerSpec.{TriggerSpec}
@@ -97,15 +98,11 @@ interval_at bytes = do
 
 -- a second, a minute or an hour
 abbrev pub is_even : Units → Bool
-is_even unit = nat_lt 0 (seconds unit)
-
--- a step of a second to a day
-abbrev pub is_step : Units → ℕ → Bool
-is_step unit every = nat_le 1 (every * seconds unit) && nat_le (every * seconds unit) 86400
+is_even unit = is_some (seconds unit)
 
 -- a second of the day that isn't before `from`
 abbrev pub is_second_from : ℕ → ℕ → Bool
-is_second_from from n = nat_le from n && nat_lt n 86400
+is_second_from from n = nat_le from n && nat_lt n DAY_SECONDS
 
 unfoldable pub daily_at : List ℕ → Read Kind
 daily_at bytes = do

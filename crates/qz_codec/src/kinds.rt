@@ -1,22 +1,23 @@
 //! Reading the kinds of triggers.
 ghost use Rattle.std.specs.Prelude.{◌≡◌, ℕ, ℤ, ◌-◌, ◌*◌, ◌<◌, nat_le, nat_lt, ◌&&◌, IsTrue, IfOk};
 ghost use Rattle.std.specs.Int.{w32, w64};
-ghost use Rattle.qz_civil.specs.Timings.{is_daily_time, is_day_set, is_every, is_kind, is_misfire};
-ghost use Rattle.qz_codec.specs.Reading.{Gives, checked, byte_at, number_at, integer_at, small_at, unit_at, simple_at, cron_at, interval_at, is_even, is_step, is_second_from, daily_at, kind_at};
+ghost use Rattle.qz_civil.specs.Timings.{is_daily_time, is_day_set, is_every, is_kind, is_misfire, is_step};
+ghost use Rattle.qz_codec.specs.Reading.{Gives, checked, byte_at, number_at, integer_at, small_at, unit_at, simple_at, cron_at, interval_at, is_even, is_second_from, daily_at, kind_at};
 
 use crate::cron_fields::cron_fields_of;
 use crate::errors::Fault;
 use crate::fields::{i8_at, i64_at, is_between, span_of, u8_at, u32_at};
 use crate::rows::owned_name_of;
+use qz_civil::{COUNT_LIMIT, DAY_SECONDS, EVERY_LIMIT};
 use qz_types::{Kind, LONGEST, Unit};
 use std::alloc::Global;
 
-/// Once, or with an interval of at least 1 ms and a count from -1 to 2147483647.
+/// Once, or with an interval of at least 1 ms and a count from -1 to `COUNT_LIMIT`.
 fn is_simple(interval: i64, count: i64) -> bool
     ensures { result ≡ is_kind (Kind.Simple interval count) }
 {
     (interval == 0 && count == 0)
-        || (is_between(1, LONGEST, interval) && is_between(-1, 2147483647, count))
+        || (is_between(1, LONGEST, interval) && is_between(-1, COUNT_LIMIT, count))
 }
 
 /// The count of a trigger with this interval.
@@ -73,7 +74,7 @@ fn every_of(bytes: &[u8]) -> Result<(u32, &[u8]), Fault>
     ensures valid { IfOk result (λ x. IsTrue (is_every x.0)) }
 {
     match u32_at(bytes) {
-        Ok((every, _)) if every < 1 || every > 2147483647 => Err(Fault::at(bytes)),
+        Ok((every, _)) if every < 1 || every > EVERY_LIMIT => Err(Fault::at(bytes)),
         read => read,
     }
 }
@@ -94,20 +95,18 @@ fn even_unit_of(bytes: &[u8]) -> Result<(Unit, &[u8]), Fault>
     ensures { Gives (λ x. (x.0, x.1.now)) result (checked is_even unit_at bytes.now) }
 {
     match unit_of(bytes) {
-        Ok((unit, _)) if unit.seconds() == 0 => Err(Fault::at(bytes)),
+        Ok((unit, _)) if unit.seconds().is_none() => Err(Fault::at(bytes)),
         read => read,
     }
 }
 
 /// How many of these units, which are a second to a day.
-#[tactic(auto, using(qz_civil::proofs::StepLemmas::step_most))]
 fn steps_of(unit: Unit, bytes: &[u8]) -> Result<(u32, &[u8]), Fault>
     ensures exact { Gives (λ x. (x.0, x.1.now)) result (checked (is_step unit) (number_at w32) bytes.now) }
     ensures valid { IfOk result (λ x. IsTrue (is_step unit x.0)) }
 {
     let (every, rest) = u32_at(bytes)?;
-    let step = u64::from(every) * unit.seconds();
-    if step < 1 || step > 86400 {
+    if !unit.is_step(every) {
         return Err(Fault::at(bytes));
     }
     Ok((every, rest))
@@ -119,7 +118,9 @@ fn second_of_day(from: u32, bytes: &[u8]) -> Result<(u32, &[u8]), Fault>
     ensures valid { IfOk result (λ x. IsTrue (is_second_from from x.0)) }
 {
     match u32_at(bytes) {
-        Ok((second, _)) if second < from || second >= 86400 => Err(Fault::at(bytes)),
+        Ok((second, _)) if second < from || u64::from(second) >= DAY_SECONDS => Err(Fault::at(
+            bytes,
+        )),
         read => read,
     }
 }

@@ -5,8 +5,10 @@ use Rattle.std.proofs.lemmas.Bool.{and_parts, cases_lt}
 use Rattle.std.proofs.lemmas.Nat.{shr-shr}
 use Rattle.std.proofs.lemmas.Nat.Bits.{bit_at-zero, bit_at-trailing_zeros}
 use Rattle.qz_civil.specs.declared.fields.CronFields.{CronFields}
+use Rattle.qz_civil.specs.declared.limits.TheConstants.{LAST_YEAR}
 use Rattle.qz_civil.specs.Fields.{has_bit, has_word, in_years, is_value, least, greatest, size}
 use Rattle.qz_civil.specs.Least.{NoneIn, IsLeastIn}
+use Rattle.qz_cron.specs.declared.months.TheConstants.{END_MONTH, END_YEAR, FIRST_MONTH, YEARS}
 use Rattle.qz_cron.specs.Search.{meets_month}
 
 has-bit : (set i bit : ℕ) → bit_at set i ≡ bit → has_bit set i ≡ (bit == 1)
@@ -60,7 +62,7 @@ first_in_word words word low bit e small f =
 
 -- years
 
-years_of : (f : CronFields) (place : ℕ) → place < 130 → in_years f (1970 + place) ≡ has_word f.years place
+years_of : (f : CronFields) (place : ℕ) → place < YEARS → in_years f (1970 + place) ≡ has_word f.years place
 unfolding in_years is_value least greatest size
 years_of f place lt = let back : 1970 + place - 1970 ≡ place = omega arith in rw back (grind arith)
 
@@ -68,7 +70,7 @@ years_before : (f : CronFields) (y : ℕ) → y < 1970 → in_years f y ≡ fals
 unfolding in_years is_value least greatest size
 years_before f y lt = grind arith
 
-pub none_of_years : (f : CronFields) (from : ℕ) → NoneIn (has_word f.years) (max from 1970 - 1970) 130 → NoneIn (in_years f) from 2100
+pub none_of_years : (f : CronFields) (from : ℕ) → NoneIn (has_word f.years) (max from 1970 - 1970) YEARS → NoneIn (in_years f) from END_YEAR
 none_of_years f from none y low high =
     elim (cases_lt y 1970) [
       | inl lt ↦ years_before f y lt
@@ -77,7 +79,7 @@ none_of_years f from none y low high =
           rw is at (years_of f (y - 1970) (omega arith) ∙ none (y - 1970) (omega arith) (omega arith))
     ]
 
-pub first_of_years : (f : CronFields) (from place : ℕ) → IsLeastIn (has_word f.years) (max from 1970 - 1970) 130 place → IsLeastIn (in_years f) from 2100 (1970 + place)
+pub first_of_years : (f : CronFields) (from place : ℕ) → IsLeastIn (has_word f.years) (max from 1970 - 1970) YEARS place → IsLeastIn (in_years f) from END_YEAR (1970 + place)
 first_of_years f from place first =
     let a = first.low in
     let b = first.high in
@@ -93,14 +95,14 @@ first_of_years f from place first =
       ];
     }
 
-pub year-range : (f : CronFields) (y : ℕ) → in_years f y ≡ true → IsInRange 1970 2099 y
+pub year-range : (f : CronFields) (y : ℕ) → in_years f y ≡ true → IsInRange 1970 LAST_YEAR y
 unfolding in_years is_value least greatest size
 year-range f y h = grind arith
 
-pub month-range : (f : CronFields) (number : ℕ) → meets_month f number ≡ true → IsInRange 23640 25199 number
+pub month-range : (f : CronFields) (number : ℕ) → meets_month f number ≡ true → IsInRange FIRST_MONTH (END_MONTH - 1) number
 month-range f number h =
     let year = year-range f (number / 12) (and_parts _ _ h).0 in
     omega (arith, year.0, year.1)
 
-pub has_year : (f : CronFields) (y : ℕ) (low : Bool) → (in_years f y && low) ≡ true → y < 2100
+pub has_year : (f : CronFields) (y : ℕ) (low : Bool) → (in_years f y && low) ≡ true → y < END_YEAR
 has_year f y low h = let year = year-range f y (and_parts _ _ h).0 in omega (arith, year.1)

@@ -4,62 +4,43 @@ use Rattle.std.specs.Int.{IsInRange}
 use Rattle.std.proofs.lemmas.Bool.{cases_lt, and_left}
 use Rattle.qz_civil.specs.declared.dates.Date.{Date}
 use Rattle.qz_civil.specs.declared.fields.CronFields.{CronFields}
-use Rattle.qz_civil.specs.declared.limits.TheConstants.{LAST_DAY}
+use Rattle.qz_civil.specs.declared.limits.TheConstants.{END_DAY, LAST_DAY, LAST_YEAR}
 use Rattle.qz_civil.specs.Dates.{date_of, days_in_month, next_date, next_month, month_length, weekday_of, IsDate}
 use Rattle.qz_civil.specs.Fields.{meets_date, in_years, in_months, in_week, is_value, least, greatest, size}
 use Rattle.qz_civil.specs.Least.{NoneIn, IsLeastIn, IsFirst}
+use Rattle.qz_civil.specs.Months.{month_number}
 use Rattle.qz_civil.proofs.DateLemmas.{date_of-valid, days_in_month-bound, next_date-day, next_date-last, next_month-month, next_month-year, follows, Follows, same_parts}
 use Rattle.qz_civil.proofs.DateLemmas.Follows.{in_month, in_year, in_next}
-use Rattle.qz_civil.proofs.MonthLemmas.{month_of-horizon}
-use Rattle.qz_cron.specs.Search.{first_of, IsBare, meets_day, meets_in_month, meets_month, month_days, month_number}
+use Rattle.qz_civil.proofs.MonthLemmas.{month_of, month_of-horizon, month_of-rises}
+use Rattle.qz_cron.specs.declared.months.TheConstants.{END_MONTH, FIRST_MONTH}
+use Rattle.qz_cron.specs.Search.{first_of, IsBare, meets_day, meets_in_month, meets_month, month_days}
 use Rattle.qz_cron.proofs.Firsts.{first_same}
-
--- the number of the month in which day n lies
-abbrev pub month_of : ℕ → ℕ
-month_of n = month_number (date_of n)
 
 date_of-suc : (n : ℕ) → date_of (suc n) ≡ next_date (date_of n)
 unfolding date_of
 date_of-suc n = refl
 
--- a day and the next: months don't fall, and a month begins only behind the one before
+-- a day and the next: a month begins only after the one before
 pub record Steps (d e : Date) : Type 0 where
-  pub rises : month_number d ≤ month_number e
   pub small : month_number e ≤ month_number d + 1
   pub begins : e.day ≡ 1 → month_number e ≡ month_number d + 1
 
 steps_by : (d e : Date) → IsDate d → Follows d e → Steps d e
 steps_by d e h (in_month lt is) = rw is (record {
-  rises = omega arith;
   small = omega arith;
   begins = λ one. absurd (omega (arith, h.1));
 })
 steps_by d e h (in_year same lt is) = rw is (record {
-  rises = omega arith;
   small = omega arith;
   begins = λ one. omega (arith, h.0);
 })
 steps_by d e h (in_next same last is) = rw is (record {
-  rises = omega arith;
   small = omega arith;
   begins = λ one. omega arith;
 })
 
 steps : (n : ℕ) → Steps (date_of n) (date_of (suc n))
 steps n = rw (date_of-suc n) (steps_by (date_of n) (next_date (date_of n)) (date_of-valid n) (follows (date_of n) (date_of-valid n)))
-
-rises_by : (n k : ℕ) → month_of n ≤ month_of (n + k)
-rises_by n zero = let e : n + zero ≡ n = omega arith in rw e (omega arith)
-rises_by n (suc k) =
-    let e : n + suc k ≡ suc (n + k) = omega arith in
-    let s = steps (n + k) in
-    rw e (omega (arith, rises_by n k, s.rises))
-
--- the later day isn't in an earlier month
-pub month_of-rises : (n m : ℕ) → n ≤ m → month_of n ≤ month_of m
-month_of-rises n m le =
-    let e : n + (m - n) ≡ m = omega arith in
-    rw e at (rises_by n (m - n))
 
 -- a day before the first of a month is in an earlier month
 before_by : (k start : ℕ) → k < suc start → (date_of (suc start)).day ≡ 1 → month_of k < month_of (suc start)
@@ -128,37 +109,37 @@ within_month start number k e at =
 
 -- the first days of months
 
-start_of : (j : ℕ) → (start : ℕ) × (date_of start ≡ first_of (23640 + j)) × (start ≤ 1 + 31 * j)
+start_of : (j : ℕ) → (start : ℕ) × (date_of start ≡ first_of (FIRST_MONTH + j)) × (start ≤ 1 + 31 * j)
 unfolding date_of next_date next_month days_in_month
 start_of zero = (1, refl, omega arith)
 start_of (suc j) =
     let before = start_of j in
-    let long = days_in_month-bound ((23640 + j) / 12) ((23640 + j) % 12 + 1) in
-    let next : 23640 + suc j ≡ 23640 + j + 1 = omega arith in
-    (before.0 + month_days (23640 + j), rw next (next_first before.0 (23640 + j) before.1), omega (arith, before.2, long.1))
+    let long = days_in_month-bound ((FIRST_MONTH + j) / 12) ((FIRST_MONTH + j) % 12 + 1) in
+    let next : FIRST_MONTH + suc j ≡ FIRST_MONTH + j + 1 = omega arith in
+    (before.0 + month_days (FIRST_MONTH + j), rw next (next_first before.0 (FIRST_MONTH + j) before.1), omega (arith, before.2, long.1))
 
--- each month from January 1970 on begins with a day
-month_begins : (number : ℕ) → IsInRange 23640 25199 number → (start : ℕ) × (date_of start ≡ first_of number) × (start ≤ LAST_DAY)
+-- each month from January 1970 on has a first day
+month_begins : (number : ℕ) → IsInRange FIRST_MONTH (END_MONTH - 1) number → (start : ℕ) × (date_of start ≡ first_of number) × (start ≤ LAST_DAY)
 month_begins number h =
-    let start = start_of (number - 23640) in
-    let is : 23640 + (number - 23640) ≡ number = omega (arith, h.0) in
+    let start = start_of (number - FIRST_MONTH) in
+    let is : FIRST_MONTH + (number - FIRST_MONTH) ≡ number = omega (arith, h.0) in
     (start.0, rw is at start.1, omega (arith, start.2, h.1))
 
-pub some_start : (number : ℕ) (found : Option ℕ) → IsInRange 23640 25199 number → IfNone found ((day : ℕ) → day ≤ LAST_DAY → date_of day ≢ first_of number) → IsSome found
+pub some_start : (number : ℕ) (found : Option ℕ) → IsInRange FIRST_MONTH (END_MONTH - 1) number → IfNone found ((day : ℕ) → day ≤ LAST_DAY → date_of day ≢ first_of number) → IsSome found
 some_start number None h none = let start = month_begins number h in absurd (none start.0 start.2 start.1)
 some_start number (Some day) h none = search rules
 
--- and up to December 2099 it ends before 2100-01-02
-pub month-ends : (number start : ℕ) → IsInRange 23640 25199 number → date_of start ≡ first_of number → start + month_days number ≤ 47484
+-- and up to December of the last year it ends before END_DAY
+pub month-ends : (number start : ℕ) → IsInRange FIRST_MONTH (END_MONTH - 1) number → date_of start ≡ first_of number → start + month_days number ≤ END_DAY
 month-ends number start h e =
     let long = days_in_month-bound (number / 12) (number % 12 + 1) in
     let last : ℕ = start + month_days number - 1 in
-    elim (cases_lt 47484 (start + month_days number)) [
+    elim (cases_lt END_DAY (start + month_days number)) [
       | inl lt ↦ absurd (omega (
         arith,
         h.1,
         month_of-within start number last e (omega (arith, long.0)) (omega (arith, long.0)),
-        month_of-rises 47484 last (omega arith),
+        month_of-rises END_DAY last (omega arith),
         month_of-horizon,
       ))
       | inr ge ↦ ge
@@ -252,16 +233,16 @@ first_in_month f months from number end found start v to bare none next e here w
 }
 
 -- there is no month left
-in_years-late : (f : CronFields) (y : ℕ) → 2100 ≤ y → in_years f y ≡ false
+in_years-late : (f : CronFields) (y : ℕ) → LAST_YEAR + 1 ≤ y → in_years f y ≡ false
 unfolding in_years is_value least greatest size
 in_years-late f y late = grind arith
 
-late_is_bare : (f : CronFields) (number : ℕ) → 25200 ≤ number → IsBare f number
+late_is_bare : (f : CronFields) (number : ℕ) → END_MONTH ≤ number → IsBare f number
 late_is_bare f number late d w h = and_left _ _ (and_left _ _ (in_years-late f (number / 12) (omega arith)))
 
-pub none_left : (f : CronFields) (months : ℕ → Bool) (from number to : ℕ) → LeavesBare f months → NoneBefore f from number → NoneIn months number 25200 → NoneIn (meets_day f) from to
+pub none_left : (f : CronFields) (months : ℕ → Bool) (from number to : ℕ) → LeavesBare f months → NoneBefore f from number → NoneIn months number END_MONTH → NoneIn (meets_day f) from to
 none_left f months from number to bare none skipped k low high =
-    elim (cases_lt (month_of k) 25200) [
-      | inl lt ↦ none_up_to f months from number 25200 bare none skipped k low lt
+    elim (cases_lt (month_of k) END_MONTH) [
+      | inl lt ↦ none_up_to f months from number END_MONTH bare none skipped k low lt
       | inr ge ↦ meets_day-bare f k (late_is_bare f (month_of k) ge)
     ]

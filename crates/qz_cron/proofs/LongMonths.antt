@@ -5,10 +5,12 @@ use Rattle.std.proofs.lemmas.Bool.{agree_below_at, and_from, and_parts, both_way
 use Rattle.std.proofs.lemmas.Nat.Bits.{bit_at-lt, bit_at_and}
 use Rattle.qz_civil.specs.declared.fields.CronFields.{CronFields}
 use Rattle.qz_civil.specs.declared.fields.DayField.TheVariants as days
+use Rattle.qz_civil.specs.declared.limits.TheConstants.{LAST_YEAR}
 use Rattle.qz_civil.specs.Dates.{days_in_month}
 use Rattle.qz_civil.specs.Fields.{has_bit, has_word, in_days, in_years, is_value, least, greatest, size}
 use Rattle.qz_civil.specs.Least.{NoneIn, IsLeastIn}
 use Rattle.qz_civil.proofs.DateLemmas.{days_in_month-bound}
+use Rattle.qz_cron.specs.declared.lengths.TheConstants.{ALL_MONTHS, FEBRUARY, LEAP_YEARS, MONTHS_OF_31}
 use Rattle.qz_cron.specs.Search.{IsBare, meets_month, month_days}
 
 -- sets in common
@@ -48,9 +50,9 @@ least_of_nearest a length d w met = grind arith
 
 -- the months
 
-pub all_months : (m : ℕ) → m < 12 → has_bit 4095 m ≡ true
+pub all_months : (m : ℕ) → m < 12 → has_bit ALL_MONTHS m ≡ true
 unfolding has_bit
-all_months m lt = agree_below_at (has_bit 4095) (λ m. true) 12 m refl lt
+all_months m lt = agree_below_at (has_bit ALL_MONTHS) (λ m. true) 12 m refl lt
 
 short : (y m : ℕ) → m ≡ 2 → days_in_month y m ≤ 29
 unfolding days_in_month
@@ -59,10 +61,10 @@ short y m e = grind arith
 not_one : (m : ℕ) → (m ≡ 1 → ⊥) → not (m == 1) ≡ true
 not_one m h = grind arith
 
-pub not_february : (y m : ℕ) → m < 12 → 30 ≤ days_in_month y (m + 1) → has_bit 4093 m ≡ true
+pub not_february : (y m : ℕ) → m < 12 → 30 ≤ days_in_month y (m + 1) → has_bit (ALL_MONTHS - FEBRUARY) m ≡ true
 unfolding has_bit
 not_february y m lt long =
-    agree_below_at (has_bit 4093) (λ m. not (m == 1)) 12 m refl lt ∙ not_one m (λ e. omega (arith, short y (m + 1) (omega arith)))
+    agree_below_at (has_bit (ALL_MONTHS - FEBRUARY)) (λ m. not (m == 1)) 12 m refl lt ∙ not_one m (λ e. omega (arith, short y (m + 1) (omega arith)))
 
 -- the months of 28 to 30 days
 abbrev is_short : ℕ → Bool
@@ -72,29 +74,29 @@ long_is_not_short : (y m : ℕ) → 31 ≤ days_in_month y m → not (is_short m
 unfolding days_in_month
 long_is_not_short y m long = grind arith
 
-pub long_months : (y m : ℕ) → m < 12 → 31 ≤ days_in_month y (m + 1) → has_bit 2773 m ≡ true
+pub long_months : (y m : ℕ) → m < 12 → 31 ≤ days_in_month y (m + 1) → has_bit MONTHS_OF_31 m ≡ true
 unfolding has_bit
-long_months y m lt long = agree_below_at (has_bit 2773) (λ m. not (is_short (m + 1))) 12 m refl lt ∙ long_is_not_short y (m + 1) long
+long_months y m lt long = agree_below_at (has_bit MONTHS_OF_31) (λ m. not (is_short (m + 1))) 12 m refl lt ∙ long_is_not_short y (m + 1) long
 
 pub too_long : (y m : ℕ) → 32 ≤ days_in_month y m → ⊥
 too_long y m long = let bound = days_in_month-bound y m in omega (arith, bound.1)
 
 -- the years
 
-february : (m : ℕ) → m < 12 → has_bit 2 m ≡ true → m ≡ 1
+february : (m : ℕ) → m < 12 → has_bit FEBRUARY m ≡ true → m ≡ 1
 unfolding has_bit
-february m lt h = let one : (m == 1) ≡ true = sym (agree_below_at (has_bit 2) (λ m. m == 1) 12 m refl lt) ∙ h in grind arith
+february m lt h = let one : (m == 1) ≡ true = sym (agree_below_at (has_bit FEBRUARY) (λ m. m == 1) 12 m refl lt) ∙ h in grind arith
 
 fourth : (y : ℕ) → 29 ≤ days_in_month y 2 → y % 4 ≡ 0
 unfolding days_in_month
 fourth y long = grind arith
 
-leap_bits : (j : ℕ) → j < 64 → j % 4 ≡ 2 → has_bit 4919131752989213764 j ≡ true
+leap_bits : (j : ℕ) → j < 64 → j % 4 ≡ 2 → has_bit LEAP_YEARS j ≡ true
 unfolding has_bit
-leap_bits j lt e = agree_below_at (has_bit 4919131752989213764) (λ j. j % 4 == 2) 64 j refl lt ∙ (rw e refl)
+leap_bits j lt e = agree_below_at (has_bit LEAP_YEARS) (λ j. j % 4 == 2) 64 j refl lt ∙ (rw e refl)
 
 -- a year in which February has 29 days is among the leap years
-pub leap_year : (y m : ℕ) → IsInRange 1970 2099 y → m < 12 → has_bit 2 m ≡ true → 29 ≤ days_in_month y (m + 1) → has_bit 4919131752989213764 ((y - 1970) % 64) ≡ true
+pub leap_year : (y m : ℕ) → IsInRange 1970 LAST_YEAR y → m < 12 → has_bit FEBRUARY m ≡ true → 29 ≤ days_in_month y (m + 1) → has_bit LEAP_YEARS ((y - 1970) % 64) ≡ true
 leap_year y m h lt is long =
     let second : m + 1 ≡ 2 = omega (arith, february m lt is) in
     let four : y % 4 ≡ 0 = fourth y (rw second at long) in
@@ -119,13 +121,13 @@ leap_words words leap i lt = at_word (slice_index words) (slice_index (leap_list
 
 -- narrowed fields
 
-in_years-parts : (f : CronFields) (y : ℕ) → in_years f y ≡ true → IsInRange 1970 2099 y × (has_word f.years (y - 1970) ≡ true)
+in_years-parts : (f : CronFields) (y : ℕ) → in_years f y ≡ true → IsInRange 1970 LAST_YEAR y × (has_word f.years (y - 1970) ≡ true)
 unfolding in_years is_value least greatest size
 in_years-parts f y h =
-    let parts = and_parts (nat_le 1970 y && nat_le y 2099) (has_word f.years (y - 1970)) h in
+    let parts = and_parts (nat_le 1970 y && nat_le y LAST_YEAR) (has_word f.years (y - 1970)) h in
     ((grind arith), parts.1)
 
-in_years-from : (f : CronFields) (y : ℕ) → IsInRange 1970 2099 y → has_word f.years (y - 1970) ≡ true → in_years f y ≡ true
+in_years-from : (f : CronFields) (y : ℕ) → IsInRange 1970 LAST_YEAR y → has_word f.years (y - 1970) ≡ true → in_years f y ≡ true
 unfolding in_years is_value least greatest size
 in_years-from f y range h = let low = range.0 in let high = range.1 in and_from _ _ (grind arith) h
 
@@ -140,7 +142,7 @@ month-kept f g set months years number h =
 pub record Leaves (f g : CronFields) (set length : ℕ) : Type 0 where
   pub months : g.months ≡ bit_and f.months set
   pub set_has : (y m : ℕ) → m < 12 → length ≤ days_in_month y (m + 1) → has_bit set m ≡ true
-  pub years_have : (y m : ℕ) → IsInRange 1970 2099 y → m < 12 → has_bit g.months m ≡ true → length ≤ days_in_month y (m + 1) → has_word f.years (y - 1970) ≡ true → has_word g.years (y - 1970) ≡ true
+  pub years_have : (y m : ℕ) → IsInRange 1970 LAST_YEAR y → m < 12 → has_bit g.months m ≡ true → length ≤ days_in_month y (m + 1) → has_word f.years (y - 1970) ≡ true → has_word g.years (y - 1970) ≡ true
   pub least : (days d w : ℕ) → IsInRange 1 days d → in_days f.day days d w ≡ true → length ≤ days
 
 month_left : (f g : CronFields) (set length number : ℕ) → Leaves f g set length → meets_month f number ≡ true → length ≤ month_days number → meets_month g number ≡ true

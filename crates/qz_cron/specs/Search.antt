@@ -4,10 +4,11 @@ use Rattle.std.specs.Prelude.{◌≡◌, ℕ, ◌+◌, ◌-◌, ◌*◌, ◌/◌
 use Rattle.std.specs.Int.{IsInRange}
 use Rattle.qz_civil.specs.declared.dates.Date.{Date}
 use Rattle.qz_civil.specs.declared.fields.CronFields.{CronFields}
+use Rattle.qz_civil.specs.declared.limits.TheConstants.{DAY_SECONDS, GREATEST_SHIFT_SECONDS, LEAST_SHIFT_SECONDS}
 use Rattle.qz_civil.specs.declared.stretches.Stretch.{Stretch}
 use Rattle.qz_civil.specs.Dates.{date_of, days_in_month, weekday_of}
 use Rattle.qz_civil.specs.Fields.{has_bit, in_days, in_week, in_years, meets, meets_date, meets_time}
-use Rattle.qz_civil.specs.Zones.{civil, offset_at}
+use Rattle.qz_civil.specs.Zones.{civil}
 
 -- a number passes where its quotient by n passes the one test and its remainder the other
 abbrev pub both_parts : ℕ → (ℕ → Bool) → (ℕ → Bool) → ℕ → Bool
@@ -21,24 +22,23 @@ meets_in_hour f = both_parts 60 (has_bit f.minutes) (has_bit f.seconds)
 abbrev pub meets_month : CronFields → ℕ → Bool
 meets_month f = both_parts 12 (in_years f) (has_bit f.months)
 
+-- the day meets the four fields on it
 abbrev pub meets_day : CronFields → ℕ → Bool
 meets_day f k = meets_date f (date_of k) (weekday_of k)
 
+-- the second of the local clock meets the seven fields
 abbrev pub meets_second : CronFields → ℕ → Bool
-meets_second f = both_parts 86400 (meets_day f) (meets_time f)
+meets_second f = both_parts DAY_SECONDS (meets_day f) (meets_time f)
 
--- the zone's local time at second s from 1970-01-01T00:00:00Z on
+-- the zone's local time at second s from 1970-01-01T00:00:00Z on meets the seven fields
 abbrev pub meets_at : CronFields → List Stretch → ℕ → Bool
 meets_at f zone s = meets f (civil zone (pos (s * 1000)))
-
--- the months before this date's, from January of the year 0 on
-abbrev pub month_number : Date → ℕ
-month_number d = d.year * 12 + d.month - 1
 
 -- the first day of that month
 abbrev pub first_of : ℕ → Date
 first_of number = record { year = number / 12; month = number % 12 + 1; day = 1 }
 
+-- how many days that month has
 abbrev pub month_days : ℕ → ℕ
 month_days number = days_in_month (number / 12) (number % 12 + 1)
 
@@ -54,10 +54,6 @@ weekday_in start d = weekday_of (start + d - 1)
 abbrev pub meets_in_month : CronFields → ℕ → ℕ → ℕ → Bool
 meets_in_month f length start d = in_days f.day length d (weekday_in start d) && in_week f.week length d (weekday_in start d)
 
--- the offset is the same at each second from `from` to before `to`
-abbrev pub Stays : List Stretch → ℕ → ℕ → Type 0
-Stays zone from to = (s : ℕ) → from ≤ s → s < to → offset_at zone (pos (s * 1000)) ≡ offset_at zone (pos (from * 1000))
-
 -- q at each second is p at the local second, which is 6 to 42 hours further
 abbrev pub IsShiftOf : (ℕ → Bool) → (ℕ → Bool) → Type 0
-IsShiftOf p q = (s : ℕ) → (shift : ℕ) × (21600 ≤ shift) × (shift ≤ 151200) × (q s ≡ p (s + shift))
+IsShiftOf p q = (s : ℕ) → (shift : ℕ) × (LEAST_SHIFT_SECONDS ≤ shift) × (shift ≤ GREATEST_SHIFT_SECONDS) × (q s ≡ p (s + shift))

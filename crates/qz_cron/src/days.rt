@@ -2,7 +2,8 @@
 ghost use Rattle.std.specs.Prelude.{◌≡◌, ◌+◌, ◌^◌, ◌<◌, ◌≤◌, IfSome};
 ghost use Rattle.qz_civil.specs.Dates.{date_of as date_after};
 ghost use Rattle.qz_civil.specs.Least.{IsFirst};
-ghost use Rattle.qz_cron.specs.Search.{meets_day as passes, month_number};
+ghost use Rattle.qz_civil.specs.Months.{month_number};
+ghost use Rattle.qz_cron.specs.Search.{meets_day as passes};
 
 use crate::lengths::narrowed;
 use crate::month::Month;

@@ -6,7 +6,7 @@ ghost use Rattle.qz_civil.specs.Fields.{has_bit, has_word, in_days};
 ghost use Rattle.qz_cron.specs.Search.{IsBare, meets_month};
 
 use crate::bits::next_bit;
-use qz_civil::{CronFields, DayField};
+use qz_civil::{CronFields, DayField, LAST_YEAR};
 
 // Bit 0 is January.
 const ALL_MONTHS: u16 = 0b1111_1111_1111;
@@ -15,7 +15,7 @@ const FEBRUARY: u16 = 0b0000_0000_0010;
 
 const MONTHS_OF_31: u16 = 0b1010_1101_0101;
 
-// Of 64 years from 1970, 2034, 2098 and 2162 on, the leap years up to 2099.
+// Of the 64 years from 1970, 2034, 2098 or 2162 on, every fourth: all leap years are among them.
 const LEAP_YEARS: u64 = 0x4444_4444_4444_4444;
 
 // The fewest days that a month has where one of its days meets the field.
@@ -62,7 +62,7 @@ fn leap_years(years: &[u64; 4]) -> [u64; 4]
 // Those of the years in which one of the months may have so many days.
 fn years_of(years: &[u64; 4], months: u16, length: u64) -> [u64; 4]
     ensures kept { (i : ℕ) → i < 256 → has_word result i ≡ true → has_word years.now i ≡ true }
-    ensures left { (y m : ℕ) → IsInRange 1970 2099 y → m < 12 → has_bit months m ≡ true
+    ensures left { (y m : ℕ) → IsInRange 1970 LAST_YEAR y → m < 12 → has_bit months m ≡ true
         → length ≤ days_in_month y (m + 1) → has_word years.now (y - 1970) ≡ true
         → has_word result (y - 1970) ≡ true }
 {

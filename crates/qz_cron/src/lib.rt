@@ -10,4 +10,5 @@ mod months;
 mod seconds;
 mod times;
 
+pub use bits::next_bit;
 pub use moments::next;

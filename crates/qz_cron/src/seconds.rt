@@ -6,17 +6,17 @@ ghost use Rattle.qz_cron.specs.Search.{meets_day as passes, meets_second};
 
 use crate::days::{meets_day, next_day};
 use crate::times::next_time;
-use qz_civil::{CronFields, END_DAY};
+use qz_civil::{CronFields, DAY_SECONDS, END_DAY};
 
-/// The first second of that day.
-pub const END_SECOND: u64 = 86400 * END_DAY;
+/// The first second of that day, which no timestamp shows.
+pub const END_SECOND: u64 = DAY_SECONDS * END_DAY;
 
 // The first second of that day from `second` on that meets the fields.
 fn next_today(fields: &CronFields, day: u64, second: u64) -> Option<u64>
     requires day { day < END_DAY }
-    requires second { second < 86400 }
-    ensures first { IsFirst (λ v. passes fields.now day && meets_time fields.now v) second 86400 result }
-    ensures bound { IfSome result (λ v. v < 86400) }
+    requires second { second < DAY_SECONDS }
+    ensures first { IsFirst (λ v. passes fields.now day && meets_time fields.now v) second DAY_SECONDS result }
+    ensures bound { IfSome result (λ v. v < DAY_SECONDS) }
 {
     let low = next_time(fields, second)?;
     if meets_day(fields, day) {
@@ -33,11 +33,11 @@ pub fn next_second(fields: &CronFields, from: u64) -> Option<u64>
     ensures first { IsFirst (meets_second fields.now) from END_SECOND result }
     ensures bound { IfSome result (λ v. v < END_SECOND) }
 {
-    let day = from / 86400;
-    if let Some(low) = next_today(fields, day, from % 86400) {
-        return Some(day * 86400 + low);
+    let day = from / DAY_SECONDS;
+    if let Some(low) = next_today(fields, day, from % DAY_SECONDS) {
+        return Some(day * DAY_SECONDS + low);
     }
     let low = next_time(fields, 0)?;
     let high = next_day(fields, day + 1)?;
-    Some(high * 86400 + low)
+    Some(high * DAY_SECONDS + low)
 }

@@ -5,7 +5,7 @@ ghost use Rattle.qz_civil.specs.Least.{IsFirst};
 ghost use Rattle.qz_cron.specs.Search.{meets_in_hour};
 
 use crate::bits::{next_bit, next_bit_if};
-use qz_civil::{CronFields, has_bit};
+use qz_civil::{CronFields, DAY_SECONDS, has_bit};
 
 fn next_in_hour(fields: &CronFields, from: u64) -> Option<u64>
     requires { from < 3600 }
@@ -42,9 +42,9 @@ fn next_in_hour_if(passes: bool, fields: &CronFields, from: u64) -> Option<u64>
 /// The first second of the day from `from` on that meets the three fields on it.
 #[tactic(auto, unfolding(qz_civil::specs::Fields::meets_time))]
 pub fn next_time(fields: &CronFields, from: u64) -> Option<u64>
-    requires { from < 86400 }
-    ensures first { IsFirst (spec.meets_time fields.now) from 86400 result }
-    ensures bound { IfSome result (λ v. v < 86400) }
+    requires { from < DAY_SECONDS }
+    ensures first { IsFirst (spec.meets_time fields.now) from DAY_SECONDS result }
+    ensures bound { IfSome result (λ v. v < DAY_SECONDS) }
 {
     let hours = u64::from(fields.hours);
     let (hour, second) = (from / 3600, from % 3600);

@@ -2,7 +2,7 @@
 use Rattle.std.proofs.Common.{◌≡◌, ℕ, ◌+◌, ◌*◌, ◌/◌, ◌%◌, ◌<◌, ◌≤◌, inl, inr, true, false, refl, sym, ap, ◌∙◌, ◌&&◌, arith, ℤ, pos, ◌<ℤ◌, ◌≤ℤ◌, List, Option, Some, None, IfSome, IfNone}
 use Rattle.std.proofs.lemmas.Bool.{cases_lt}
 use Rattle.std.proofs.lemmas.Int.{ints}
-use Rattle.qz_civil.specs.declared.limits.TheConstants.{LAST}
+use Rattle.qz_civil.specs.declared.limits.TheConstants.{DAY_MS, DAY_SECONDS, LAST, SECONDS}
 use Rattle.qz_civil.specs.declared.stretches.Stretch.{Stretch}
 use Rattle.qz_civil.specs.Dates.{civil_of}
 use Rattle.qz_civil.specs.Least.{IsLeastIn, IsNext, NoneIn}
@@ -15,8 +15,8 @@ use Rattle.qz_daily.specs.Timestamps.{IsDaily, is_time, is_weekday}
 -- a second of the zone is one of its local clock
 at-shift : (p : Pattern) (zone : List Stretch) (s x : ℕ) → local zone (pos (s * 1000)) ≡ x * 1000 → is_at p zone s ≡ is_second p x
 at-shift p zone s x shown =
-    let day : x * 1000 / 86400000 ≡ x / 86400 = omega arith in
-    let time : x * 1000 % 86400000 / 1000 ≡ x % 86400 = omega arith in
+    let day : x * 1000 / DAY_MS ≡ x / DAY_SECONDS = omega arith in
+    let time : x * 1000 % DAY_MS / 1000 ≡ x % DAY_SECONDS = omega arith in
     ap (λ n. is_weekday p (civil_of n).weekday && is_time p (civil_of n).second) shown ∙ rw (day, time) refl
 
 -- the local clock runs on evenly from one second to another
@@ -53,13 +53,13 @@ in-time p zone start end t d e =
 abbrev IsFloor : ℤ → ℤ → ℕ → Type 0
 IsFloor start after floor = (s : ℕ) → start ≤ℤ pos (s * 1000) → after <ℤ pos (s * 1000) → floor ≤ s
 
-pub none-later : (p : Pattern) (zone : List Stretch) (start : ℤ) (end : Option ℤ) (after : ℤ) (floor : ℕ) → IsFloor start after floor → NoneIn (is_at p zone) floor 4102444800 → IsNext LAST (IsDaily start end p zone) after None
+pub none-later : (p : Pattern) (zone : List Stretch) (start : ℤ) (end : Option ℤ) (after : ℤ) (floor : ℕ) → IsFloor start after floor → NoneIn (is_at p zone) floor SECONDS → IsNext LAST (IsDaily start end p zone) after None
 none-later p zone start end after floor least none t d later within =
     let whole = d.whole in
     let started = d.started in
     in-time p zone start end t d (none d.second (least d.second (omega (arith, ints)) (omega (arith, ints))) (omega (arith, ints)))
 
-pub least-later : (p : Pattern) (zone : List Stretch) (start : ℤ) (end : Option ℤ) (after : ℤ) (floor second : ℕ) (result : Option ℤ) → start ≤ℤ pos (floor * 1000) → after <ℤ pos (floor * 1000) → IsFloor start after floor → IsLeastIn (is_at p zone) floor 4102444800 second → IfSome result (λ t. (t ≡ pos (second * 1000)) × (t ≤ℤ LAST) × IsBefore end t) → IfNone result (IsPast end (second * 1000)) → IsNext LAST (IsDaily start end p zone) after result
+pub least-later : (p : Pattern) (zone : List Stretch) (start : ℤ) (end : Option ℤ) (after : ℤ) (floor second : ℕ) (result : Option ℤ) → start ≤ℤ pos (floor * 1000) → after <ℤ pos (floor * 1000) → IsFloor start after floor → IsLeastIn (is_at p zone) floor SECONDS second → IfSome result (λ t. (t ≡ pos (second * 1000)) × (t ≤ℤ LAST) × IsBefore end t) → IfNone result (IsPast end (second * 1000)) → IsNext LAST (IsDaily start end p zone) after result
 least-later p zone start end after floor second None begun behind least first kept gone = λ t d later within.
     let whole = d.whole in
     let started = d.started in

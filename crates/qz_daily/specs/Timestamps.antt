@@ -1,5 +1,5 @@
 -- The timestamps of a daily trigger, as of Quartz's DailyTimeIntervalTrigger: the last time of the day is included, the end isn't.
-use Rattle.std.specs.Prelude.{◌≡◌, ℕ, ◌-◌, ◌*◌, ◌%◌, Bool, true, ◌&&◌, ◌==◌, nat_le, ℤ, pos, ◌≤ℤ◌, List, Option}
+use Rattle.std.specs.Prelude.{◌≡◌, ℕ, ◌-◌, ◌*◌, ◌%◌, Bool, true, ◌&&◌, ◌==◌, nat_le, ℤ, pos, ◌≤ℤ◌, List, Option, unwrap_or}
 use Rattle.qz_civil.specs.declared.stretches.Stretch.{Stretch}
 use Rattle.qz_civil.specs.declared.timings.Unit.{Unit}
 use Rattle.qz_civil.specs.Fields.{has_bit}
@@ -8,9 +8,13 @@ use Rattle.qz_civil.specs.Occurrences.{IsBefore}
 use Rattle.qz_civil.specs.Zones.{civil}
 use Rattle.qz_daily.specs.declared.patterns.Pattern.{Pattern}
 
+-- so many units in seconds; with units that vary in length the step is 0, so that a day has one time at most
+unfoldable pub step_of : Unit → ℕ → ℕ
+step_of unit every = every * unwrap_or (seconds unit) 0
+
 -- each so many units from one second of the day to another, on those days
 abbrev pub pattern : Unit → ℕ → ℕ → ℕ → ℕ → Pattern
-pattern unit every from to days = record { step = every * seconds unit; from = from; to = to; days = days }
+pattern unit every from to days = record { step = step_of unit every; from = from; to = to; days = days }
 
 -- the weekday, from 1 for Sunday, is chosen
 abbrev pub is_weekday : Pattern → ℕ → Bool

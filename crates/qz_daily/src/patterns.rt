@@ -2,12 +2,10 @@
 ghost use Rattle.std.specs.Prelude.{◌≡◌, ℕ, ◌&&◌, ◌+◌, ◌<◌, ◌≤◌, ◌^◌, IfSome, IfNone};
 ghost use Rattle.qz_civil.specs.Least.{IsFirst, IsLeastIn, NoneIn};
 ghost use Rattle.qz_daily.specs.Search.{has_day as is_chosen, is_second};
+ghost use Rattle.qz_daily.specs.Timestamps as spec;
 ghost use Rattle.qz_daily.specs.Timestamps.{is_time, pattern};
 
-use qz_civil::{Span, Unit, first_occurrence, has_bit, weekday_of};
-
-/// Seconds of a day.
-const DAY: u64 = 86400;
+use qz_civil::{DAY_SECONDS, Span, Unit, first_occurrence, has_bit, weekday_of};
 
 /// The times of a day, as seconds of the day, and the days.
 #[derive(Clone, Copy)]
@@ -21,8 +19,15 @@ pub struct Pattern {
     pub days: u8,
 }
 
+#[tactic(auto, using(qz_civil::proofs::StepLemmas::even_step_most), unfolding(crate::specs::Timestamps::step_of))]
+fn step_of(unit: Unit, every: u32) -> u64
+    ensures value { result ≡ spec.step_of unit every }
+    ensures bound { result < 2 ^ 62 }
+{
+    u64::from(every) * unit.seconds().unwrap_or(0)
+}
+
 impl Pattern {
-    #[tactic(auto, using(qz_civil::proofs::StepLemmas::step_most))]
     pub fn new(unit: Unit, every: u32, from: u32, to: u32, days: u8) -> Pattern
         ensures value { result ≡ pattern unit every from to days }
         ensures step { result.step < 2 ^ 62 }
@@ -30,7 +35,7 @@ impl Pattern {
         ensures to { result.to < 2 ^ 32 }
     {
         Pattern {
-            step: u64::from(every) * unit.seconds(),
+            step: step_of(unit, every),
             from: u64::from(from),
             to: u64::from(to),
             days,
@@ -42,11 +47,11 @@ impl Pattern {
         requires step { self.now.step < 2 ^ 62 }
         requires from { self.now.from < 2 ^ 32 }
         requires to { self.now.to < 2 ^ 32 }
-        requires floor { floor < DAY }
-        ensures first { IsFirst (is_time self.now) floor DAY result }
-        ensures bound { IfSome result (λ time. time < DAY) }
+        requires floor { floor < DAY_SECONDS }
+        ensures first { IsFirst (is_time self.now) floor DAY_SECONDS result }
+        ensures bound { IfSome result (λ time. time < DAY_SECONDS) }
     {
-        let end = DAY.min(self.to + 1);
+        let end = DAY_SECONDS.min(self.to + 1);
         match first_occurrence(self.from, self.step, floor) {
             Some(turn) if turn.moment < end => Some(turn.moment),
             _ => None,
@@ -66,9 +71,9 @@ impl Pattern {
         requires from { self.now.from < 2 ^ 32 }
         requires to { self.now.to < 2 ^ 32 }
         requires day { day < 2 ^ 20 }
-        requires floor { floor < DAY }
-        ensures first { IsFirst (λ time. is_chosen self.now day && is_time self.now time) floor DAY result }
-        ensures bound { IfSome result (λ time. time < DAY) }
+        requires floor { floor < DAY_SECONDS }
+        ensures first { IsFirst (λ time. is_chosen self.now day && is_time self.now time) floor DAY_SECONDS result }
+        ensures bound { IfSome result (λ time. time < DAY_SECONDS) }
     {
         if self.has_day(day) {
             self.first_time(floor)
@@ -86,12 +91,12 @@ impl Pattern {
         ensures some { IfSome result (λ second. IsLeastIn (is_second self.now) floor (second + 1) second) }
         ensures none { IfNone result ((end : ℕ) → NoneIn (is_second self.now) floor end) }
     {
-        let first = floor / DAY;
+        let first = floor / DAY_SECONDS;
         // The weekday of the first day comes again.
         for day in first..first + 8 {
-            let low = if day == first { floor % DAY } else { 0 };
+            let low = if day == first { floor % DAY_SECONDS } else { 0 };
             if let Some(time) = self.first_time_on(day, low) {
-                return Some(day * DAY + time);
+                return Some(day * DAY_SECONDS + time);
             }
         }
         None

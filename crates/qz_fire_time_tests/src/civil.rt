@@ -3,7 +3,7 @@ mod fields;
 mod rules;
 mod zones;
 
-use qz_civil::{List, NoMemory, Text, beside};
+use qz_civil::{List, ListWithRoom, NoMemory, Text, beside};
 use std::alloc::{AllocError, Global};
 use std::cmp::Ordering;
 
@@ -41,16 +41,21 @@ fn lists_keep_their_items(rt: HostRuntime) -> Result<(), AllocError> {
     Ok(())
 }
 
-// Whether the first comes before the second, and is the same as its copy alone.
-fn is_before(first: &Text, second: &Text) -> Result<bool, AllocError> {
-    let copy = first.copy()?;
-    let is_told_apart = first.same(&copy) && !first.same(second);
-    Ok(is_told_apart && first.cmp(second) == Ordering::Less)
+#[test]
+fn items_go_into_reserved_room(rt: HostRuntime) -> Result<(), AllocError> {
+    let mut list = ListWithRoom::new(rt.alloc());
+    list.reserve(2)?;
+    list.push_reserved(7);
+    list.push_reserved(8);
+    assert!(rt; list.as_slice() == [7, 8].as_slice());
+    Ok(())
 }
 
-// Whether the text is a string with these characters, and a text again.
-fn is_string(text: Text, wanted: &str) -> bool {
-    Text::from_string(text.into_string()).as_str() == wanted
+// Whether the first comes before the second, and is the same as its copy alone.
+fn is_before(first: &Text, second: &Text) -> Result<bool, AllocError> {
+    let copy = first.clone()?;
+    let is_told_apart = *first == copy && *first != *second;
+    Ok(is_told_apart && first.cmp(second) == Ordering::Less)
 }
 
 #[test]
@@ -58,7 +63,7 @@ fn texts_are_ordered_by_bytes(rt: HostRuntime) -> Result<(), AllocError> {
     let upper = Text::from_str(rt.alloc(), "B")?;
     let (upper, lower) = beside(upper, Text::from_str(rt.alloc(), "a"))?;
     assert!(rt; is_before(&upper, &lower)?);
-    assert!(rt; is_string(upper, "B"));
+    assert!(rt; Text::from_string(String::from_str(rt.alloc(), "B")?) == upper);
     Ok(())
 }
 

@@ -13,13 +13,10 @@ use crate::members::{
     has_only, integer_or, name_at, name_or, number_at, optional_span_at, span_at, text_at,
 };
 use crate::objects::{make_keys, names_at};
-use qz_civil::{Kind, LONGEST, Timing, Unit, beside};
+use qz_civil::{COUNT_LIMIT, DAY_SECONDS, EVERY_LIMIT, Kind, LONGEST, Timing, Unit, beside};
 use qz_types::{Key, Text, TriggerSpec};
 use serde_json::Value;
 use std::alloc::{AllocError, Global};
-
-/// How many seconds a daily schedule's step has at most.
-const DAY_SECONDS: u64 = 86400;
 
 #[tactic(auto, unfolding(crate::specs::Schedules::unit_of))]
 fn unit_of(text: &str) -> Option<Unit>
@@ -48,7 +45,7 @@ fn every_at(value: &Value) -> Option<u32>
     ensures valid { IfSome result (λ every. IsTrue (is_every every)) }
 {
     let every = number_at(value, "every")?;
-    if 1 <= every && every <= 2147483647 {
+    if 1 <= every && every <= u64::from(EVERY_LIMIT) {
         Some(every as u32)
     } else {
         None
@@ -69,7 +66,7 @@ fn simple_of(value: &Value) -> Result<Kind, LineFault>
     ensures last { IfOk result (λ kind. spec.last_of kind ≡ pos 5) }
 {
     let interval = integer_or(value, "interval", 0, LONGEST, 0).ok_or(LineFault::Shape)?;
-    let count = integer_or(value, "count", -1, 2147483647, 0).ok_or(LineFault::Shape)?;
+    let count = integer_or(value, "count", -1, COUNT_LIMIT, 0).ok_or(LineFault::Shape)?;
     if interval == 0 && count != 0 {
         return Err(LineFault::Shape);
     }
@@ -103,12 +100,10 @@ fn interval_of(alloc: Global, value: &Value) -> Result<Kind, LineFault>
 }
 
 /// Whether the step is one of a second to a day, and the times are in their order.
-#[tactic(auto, using(crate::proofs::Units::seconds_small))]
 fn is_daily_time(unit: Unit, every: u32, from: u32, to: u32) -> bool
     ensures { result ≡ is_daily_time unit every from to }
 {
-    let step = u64::from(every) * unit.seconds();
-    1 <= step && step <= DAY_SECONDS && from <= to && to < 86400
+    unit.is_step(every) && from <= to && u64::from(to) < DAY_SECONDS
 }
 
 #[tactic(auto, unfolding(crate::specs::Schedules::daily_of))]

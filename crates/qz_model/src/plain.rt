@@ -209,7 +209,7 @@ impl PlainStore {
             Command::AddTrigger { spec, replace } => {
                 self.add_trigger(moment, spec.copy()?, *replace)
             }
-            Command::Join { node } => self.join(moment, node.copy()?),
+            Command::Join { node } => self.join(moment, node.clone()?),
             Command::Acquire {
                 no_later,
                 window,

@@ -6,7 +6,8 @@ use std::alloc::{AllocError, Global};
 use std::process::Abort;
 
 fn zone_text(alloc: Global, zone: &Zone) -> Result<String, AllocError> {
-    format!(in alloc; "zone {} {:?}", zone.offset_at(0), zone.next_start(0))
+    let (offset, next_start) = zone.offset_until(0);
+    format!(in alloc; "zone {offset} {next_start:?}")
 }
 
 fn text_of(alloc: Global, read: &Result<Option<Asked>, LineFault>) -> Result<String, AllocError> {

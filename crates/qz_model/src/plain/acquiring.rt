@@ -140,7 +140,7 @@ fn acquired_row(
 ) -> Result<FiredRow, AllocError>
     ensures { IfOk result (λ row. row ≡ acquired_row entry me.now trigger.now next job.now) }
 {
-    let node = me.node.copy()?;
+    let node = me.node.clone()?;
     let (node, key) = beside(node, trigger.spec.key.copy())?;
     let ((node, key), job_key) = beside((node, key), trigger.spec.job.copy())?;
     Ok(FiredRow {

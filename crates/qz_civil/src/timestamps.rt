@@ -10,7 +10,7 @@ pub trait Times {
 
     ghost timestamps: { Self → ℤ → Type 0 };
 
-    /// The least timestamp of the set that is later, up to `LAST`, in ms since 1970-01-01T00:00:00Z. No memory.
+    /// The least timestamp of the set that is later, up to `LAST`, in ms since 1970-01-01T00:00:00Z.
     fn next(&self, after: i64) -> Option<i64>
         requires low { negsuc 0 ≤ℤ after }
         requires high { after ≤ℤ LAST }
