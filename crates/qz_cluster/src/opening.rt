@@ -2,7 +2,7 @@
 ghost use Rattle.std.specs.Prelude.{◌≡◌, ◌⊎◌, ◌≤◌, [], None, true, IfOk, IfErr, MatchResult, not};
 ghost use Rattle.qz_civil.specs.Causes.{Rose};
 ghost use Rattle.qz_model.specs.History.{History};
-ghost use Rattle.qz_journal.specs.Through.{OnlyReads};
+ghost use Rattle.qz_journal.specs.Through.{OnlyReads, OnlyReadsUnless};
 ghost use Rattle.qz_trigger_store.specs.Bytes.{Stands, IsHistory};
 ghost use Rattle.qz_trigger_store.specs.Opening.{IsRefused};
 ghost use Rattle.qz_trigger_store.specs.Seen.{disk_of};
@@ -22,7 +22,7 @@ impl<D: Disk> Cluster<D> {
         ensures opened { IfOk result (λ c. ((state_of c).triggers.is_open ≡ true) × ((state_of c).triggers.undecided ≡ None) × ((state_of c).held ≡ [])) }
         ensures stands { D.honest → IfOk result (λ c. Stands (D.state triggers).content (state_of c).triggers.history) }
         ensures reads { D.honest → IfOk result (λ c. OnlyReads (D.state triggers) (disk_of c.triggers)) }
-        ensures reads_err { D.honest → IfErr result (λ e. OnlyReads (D.state triggers) (D.state e.1)) }
+        ensures reads_err { D.honest → IfErr result (λ e. OnlyReadsUnless (e.0 ≡ MountError.Fault) (D.state triggers) (D.state e.1)) }
         ensures refused { D.honest → IfErr result (λ e. IsRefused (D.state triggers).content e.0) }
         // Where the bytes stand for a history, it comes to that history, or memory or the disk fails.
         ensures whole { D.honest → (h : History) → IsHistory h → Stands (D.state triggers).content h

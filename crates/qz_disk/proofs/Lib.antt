@@ -1,5 +1,9 @@
 pub mod Causes
 pub mod Choices
+pub mod Handles
 pub mod MemoryCalls
 pub mod Moments
 pub mod Replays
+pub mod ShortCalls
+pub mod Torn
+pub mod Transfers

@@ -10,7 +10,8 @@ use Rattle.qz_disk.specs.declared.calls.Call.{Call}
 use Rattle.qz_disk.specs.declared.calls.Call.TheVariants.{Len, Read, Write, Sync, Restart}
 use Rattle.qz_disk.specs.Disk.{Torn, Stays, Elapses, Measured, Reads, Writes, Syncs, Restarts}
 use Rattle.qz_disk.specs.Memory.{Standing, at_rest, after_call, after_calls, is_within, is_touched, is_reached, reach, IsImageOf, read_count, standing_of, memory_state}
-use Rattle.qz_disk.specs.MemoryLaws.{or_parts, outside_parts}
+use Rattle.qz_disk.specs.MemoryLaws.{or_parts, outside_parts, memory_lawful}
+use Rattle.qz_disk.proofs.Moments.{torn_same}
 
 after_calls-push : (s : Standing) (calls : List Call) (call : Call) → after_calls s (calls ++ call ∷ []) ≡ after_call (after_calls s calls) call
 after_calls-push s [] call = refl
@@ -85,7 +86,7 @@ sync_call {E} first first_2 calls mid later is = later_by (λ f. Syncs {T = Unit
   time = elapses_push first calls later Sync push;
   content = ap (λ (s : Standing). s.content) (standing-push first calls later Sync push);
   durable = λ b image. rest_only _ b (subst (λ (s : Standing). IsImageOf s b) (standing-push first calls later Sync push) image);
-  failed = tt;
+  images = λ b image. subst (IsImageOf (standing_of first calls)) (sym (rest_only _ b (subst (λ (s : Standing). IsImageOf s b) (standing-push first calls later Sync push) image))) (memory_lawful first calls).content;
   bytes_read = read-push calls later Sync push ∙ omega arith;
 })
 
@@ -202,6 +203,7 @@ write_call {E} first first_2 calls mid later at bytes is = later_by (λ f. Write
       content = ap (λ (s : Standing). s.content) up;
       failed = tt;
       any_bytes = λ a b of_old torn. subst (λ (s : Standing). IsImageOf s b) (sym up) (torn_image (standing_of first calls) at (length bytes) _ a b of_old torn);
+      keeps = λ b of_old. subst (λ (s : Standing). IsImageOf s b) (sym up) (torn_image (standing_of first calls) at (length bytes) _ b b of_old (torn_same at (length bytes) b));
       images = λ b of_new. was_image (standing_of first calls) at (length bytes) _ b (subst (λ (s : Standing). IsImageOf s b) up of_new);
       bytes_read = read-push calls later (Write at bytes) push ∙ omega arith;
     })

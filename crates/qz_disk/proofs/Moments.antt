@@ -16,13 +16,13 @@ pub no_len : (s : DiskState) → Measured s s
 no_len s = record { time = elapses_same s; same = stays_same s; bytes_read = refl }
 
 pub no_read : {T E : Type 0} (at : ℕ) (e : E) (into : List ℕ) (s : DiskState) → Reads {T = T} at (Err e) into s s
-no_read at e into s = record { time = elapses_same s; same = stays_same s; bytes = tt; bytes_read = tt; failed = refl }
+no_read at e into s = record { time = elapses_same s; same = stays_same s; bytes = tt; bytes_read = tt; failed = (omega arith, omega arith) }
 
 pub no_write : {T E : Type 0} (at : ℕ) (bytes : List ℕ) (e : E) (s : DiskState) → Writes {T = T} at bytes (Err e) s s
-no_write at bytes e s = record { time = elapses_same s; content = tt; failed = torn_same _ _ _; images = λ b is. (b, is, torn_same _ _ _); any_bytes = tt; bytes_read = refl }
+no_write at bytes e s = record { time = elapses_same s; content = tt; failed = torn_same _ _ _; images = λ b is. (b, is, torn_same _ _ _); any_bytes = tt; keeps = λ b is. is; bytes_read = refl }
 
 pub no_sync : {T E : Type 0} (e : E) (s : DiskState) → Syncs {T = T} (Err e) s s
-no_sync e s = record { time = elapses_same s; content = refl; durable = tt; failed = stays_same s; bytes_read = refl }
+no_sync e s = record { time = elapses_same s; content = tt; durable = tt; images = λ b is. is; bytes_read = refl }
 
 pub no_restart : {T E : Type 0} (e : E) (s : DiskState) → Restarts {T = T} (Err e) s s
 no_restart e s = record { time = elapses_same s; image = tt; durable = tt; failed = stays_same s; bytes_read = refl }

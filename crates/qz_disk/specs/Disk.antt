@@ -1,7 +1,7 @@
 -- What an honest disk is at one moment, and what each call does to it. Bytes are numbers below 256, offsets count from 0.
 --
--- A crash may tear each write since the last sync: its range, and a gap that it left behind the old end, may then hold
--- any bytes, and the file may have grown by part of it only. What a crash may leave is called an image.
+-- A crash may tear each write since the last sync: its range, and a gap between the old end and that range, may then
+-- hold any bytes, and the file may have grown by part of it only. What a crash may leave is called an image.
 use Rattle.std.specs.Prelude.{◌≡◌, ◌⊎◌, ◌↔◌, ℕ, ◌+◌, ◌≤◌, min, max, List, [], ◌++◌, length, take, drop, OnOk, OnErr}
 use Rattle.std.specs.declared.result.Result.{Result}
 
@@ -14,7 +14,7 @@ pub record DiskState : Type 1 where
   pub clock : ℕ
   -- the images of all moments from that one to now
   pub Since : ℕ → List ℕ → Type 0
-  -- the lengths of all reads that answered Ok, added up
+  -- how many bytes all reads gave
   pub bytes_read : ℕ
 
 -- these bytes at this offset, over what is there and past the end
@@ -59,13 +59,13 @@ pub record Measured (old new : DiskState) : Type 0 where
   pub same : Stays old new
   pub bytes_read : new.bytes_read ≡ old.bytes_read
 
--- a read at this offset, into a buffer that then holds these bytes
+-- A read at this offset, into a buffer that then holds these bytes. One that failed may have read a part.
 pub record Reads {T E : Type 0} (at : ℕ) (result : Result T E) (into : List ℕ) (old new : DiskState) : Type 0 where
   pub time : Elapses old new
   pub same : Stays old new
   pub bytes : OnOk result (into ≡ take (length into) (drop at old.content))
   pub bytes_read : OnOk result (new.bytes_read ≡ old.bytes_read + length into)
-  pub failed : OnErr result (new.bytes_read ≡ old.bytes_read)
+  pub failed : OnErr result ((old.bytes_read ≤ new.bytes_read) × (new.bytes_read ≤ old.bytes_read + length into))
 
 -- A write of these bytes at this offset. One that failed may have left any bytes in its range.
 pub record Writes {T E : Type 0} (at : ℕ) (bytes : List ℕ) (result : Result T E) (old new : DiskState) : Type 0 where
@@ -76,14 +76,19 @@ pub record Writes {T E : Type 0} (at : ℕ) (bytes : List ℕ) (result : Result 
   pub images : (b : List ℕ) → new.IsImage b → (a : List ℕ) × old.IsImage a × Torn at (length bytes) a b
   -- and each of those is one
   pub any_bytes : OnOk result ((a b : List ℕ) → old.IsImage a → Torn at (length bytes) a b → new.IsImage b)
+  -- a write makes nothing durable
+  pub keeps : (b : List ℕ) → old.IsImage b → new.IsImage b
   pub bytes_read : new.bytes_read ≡ old.bytes_read
 
--- after a sync that answers Ok, a crash leaves what a read gives
+-- After a sync that answers Ok, a crash leaves what a read gives. One that fails may have lost writes since the last
+-- sync: from then on a read gives one of the images, and which isn't known. So a further sync that answers Ok makes
+-- that image durable, and not what was written.
 pub record Syncs {T E : Type 0} (result : Result T E) (old new : DiskState) : Type 0 where
   pub time : Elapses old new
-  pub content : new.content ≡ old.content
+  pub content : OnOk result (new.content ≡ old.content)
   pub durable : OnOk result (Only old.content new)
-  pub failed : OnErr result (Stays old new)
+  -- an image after it was one before it
+  pub images : (b : List ℕ) → new.IsImage b → old.IsImage b
   pub bytes_read : new.bytes_read ≡ old.bytes_read
 
 -- a restart that answers Ok makes one of the images the content and the only image

@@ -22,5 +22,7 @@ pub record LiftsTheCut {D T E : Type 0} (faults : D → ℕ) (result : Result T 
 pub record FailsOrPasses {D T E : Type 0} (faults : D → ℕ) (result : Result T E) (old new : FaultDisk D) : Type 0 where
   pub calls : new.calls ≡ counted old.calls
   pub failing : new.failing ≡ old.failing
-  pub listed : is_listed old.failing (counted old.calls) ≡ true → OnOk result ⊥ × (new.inner ≡ old.inner) × (new.failures ≡ counted old.failures)
-  pub passed : is_listed old.failing (counted old.calls) ≡ false → HasCause (faults old.inner) (faults new.inner) result × (new.failures ≡ old.failures)
+  pub listed : is_listed old.failing (counted old.calls) ≡ true
+      → OnOk result ⊥ × (new.inner ≡ old.inner) × (new.failures ≡ counted old.failures)
+  pub passed : is_listed old.failing (counted old.calls) ≡ false
+      → HasCause (faults old.inner) (faults new.inner) result × (new.failures ≡ old.failures)

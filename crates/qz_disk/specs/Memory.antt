@@ -18,7 +18,11 @@ at_rest bytes = record { content = bytes; synced = bytes; ranges = [] }
 abbrev pub after_call : Standing → Call → Standing
 after_call s Len = s
 after_call s (Read at count) = s
-after_call s (Write at bytes) = record { content = written at bytes s.content; synced = s.synced; ranges = (at, length bytes) ∷ s.ranges }
+after_call s (Write at bytes) = record {
+  content = written at bytes s.content;
+  synced = s.synced;
+  ranges = (at, length bytes) ∷ s.ranges;
+}
 after_call s Sync = at_rest s.content
 after_call s (Restart image) = at_rest image
 
@@ -33,7 +37,7 @@ is_within range k = nat_le range.0 k && nat_lt (k - range.0) range.1
 abbrev pub is_touched : List (ℕ × ℕ) → ℕ → Bool
 is_touched ranges k = list_any (λ range. is_within range k) ranges
 
--- one of the ranges ends at this length or behind it
+-- one of the ranges ends at this length or after it
 abbrev pub is_reached : List (ℕ × ℕ) → ℕ → Bool
 is_reached ranges len = list_any (λ range. nat_le len range.1 || nat_le (len - range.1) range.0) ranges
 
@@ -46,7 +50,8 @@ reach n (range ∷ ranges) = max (reach n ranges) (range.0 + range.1)
 pub record IsImageOf (s : Standing) (bytes : List ℕ) : Type 0 where
   pub no_shorter : length s.synced ≤ length bytes
   pub no_longer : length bytes ≤ reach (length s.synced) s.ranges
-  pub same : (k : ℕ) → k < length s.synced → is_touched s.ranges k ≡ false → slice_index bytes k ≡ slice_index s.synced k
+  pub same : (k : ℕ) → k < length s.synced → is_touched s.ranges k ≡ false
+      → slice_index bytes k ≡ slice_index s.synced k
 
 -- an image at one of the moments from t on
 pub record WasImage (first : List ℕ) (calls : List Call) (t : ℕ) (bytes : List ℕ) : Type 0 where
@@ -76,7 +81,8 @@ memory_state first calls = record {
 }
 
 -- What a restart brings up, and which of the listed images it leaves for the next: the first that is an image, with
--- those behind it left; or the content as it was written, where none of them is one.
+-- those after it left; or the content as it was written, where none of them is one.
 abbrev pub BringsUp : Standing → List (List ℕ) → List ℕ → List (List ℕ) → Type 0
 BringsUp s [] up left = ((up ≡ s.content) × (left ≡ []))
-BringsUp s (image ∷ images) up left = (IsImageOf s image × (up ≡ image) × (left ≡ images)) ⊎ ((IsImageOf s image → ⊥) × BringsUp s images up left)
+BringsUp s (image ∷ images) up left = (IsImageOf s image × (up ≡ image) × (left ≡ images))
+    ⊎ ((IsImageOf s image → ⊥) × BringsUp s images up left)

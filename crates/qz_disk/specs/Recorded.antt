@@ -35,7 +35,12 @@ starved_once r = record { first = r.first; calls = r.calls; images = r.images; s
 
 -- a call is in the record exactly where it answered Ok
 pub record Records {T E : Type 0} (call : Call) (result : Result T E) (old new : Record) : Type 0 where
-  pub ok : OnOk result (new ≡ record { first = old.first; calls = old.calls ++ call ∷ []; images = old.images; starved = old.starved })
+  pub ok : OnOk result (new ≡ record {
+    first = old.first;
+    calls = old.calls ++ call ∷ [];
+    images = old.images;
+    starved = old.starved;
+  })
   pub err : OnErr result (new ≡ starved_once old)
 
 abbrev pub content_of : Record → List ℕ

@@ -19,7 +19,7 @@ pub struct CutDisk<D: Disk> {
 }
 
 impl<D: Disk> CutDisk<D> {
-    /// A disk whose first `passes` calls pass. No memory.
+    /// A disk whose first `passes` calls pass.
     pub fn new(inner: D, passes: u64) -> Self
         ensures { result ≡ record { inner = inner; passes = Some passes; failures = 0 } }
     {
@@ -105,7 +105,7 @@ impl<D: Disk> Disk for CutDisk<D> {
     }
 
     fn sync(&mut self) -> Result<(), Failed>
-        ensures length { D.len self.new.inner ≡ D.len self.old.inner }
+        ensures length { OnOk result (D.len self.new.inner ≡ D.len self.old.inner) }
         ensures cause { HasCause (D.faults self.old.inner + self.old.failures) (D.faults self.new.inner + self.new.failures) result }
         ensures told { D.honest → Syncs result (D.state self.old.inner) (D.state self.new.inner) }
         ensures call { CutsOrPasses D.faults result self.old self.new }

@@ -19,7 +19,7 @@ pub struct FaultDisk<D: Disk> {
 }
 
 impl<D: Disk> FaultDisk<D> {
-    /// A disk whose calls with these numbers fail. No memory.
+    /// A disk whose calls with these numbers fail.
     pub fn new(inner: D, failing: List<u64>) -> Self
         ensures { result ≡ record { inner = inner; failing = failing; calls = 0; failures = 0 } }
     {
@@ -33,7 +33,7 @@ impl<D: Disk> FaultDisk<D> {
 }
 
 // Counts a call. Whether it has to fail.
-fn has_to_fail(failing: &List<u64>, calls: &mut u64, failures: &mut u64) -> bool
+pub(crate) fn has_to_fail(failing: &List<u64>, calls: &mut u64, failures: &mut u64) -> bool
     ensures calls { calls.new ≡ counted calls.old }
     ensures value { result ≡ is_listed failing.now (counted calls.old) }
     ensures listed { result ≡ true → failures.new ≡ counted failures.old }
@@ -105,7 +105,7 @@ impl<D: Disk> Disk for FaultDisk<D> {
     }
 
     fn sync(&mut self) -> Result<(), Failed>
-        ensures length { D.len self.new.inner ≡ D.len self.old.inner }
+        ensures length { OnOk result (D.len self.new.inner ≡ D.len self.old.inner) }
         ensures cause { HasCause (D.faults self.old.inner + self.old.failures) (D.faults self.new.inner + self.new.failures) result }
         ensures told { D.honest → Syncs result (D.state self.old.inner) (D.state self.new.inner) }
         ensures call { FailsOrPasses D.faults result self.old self.new }

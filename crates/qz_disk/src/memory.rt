@@ -31,14 +31,14 @@ impl MemDisk {
     ghost use Rattle.qz_disk.specs.Memory.{BringsUp};
     ghost use Rattle.qz_disk.specs.Recorded.{Record, record_of, begun, content_of};
 
-    /// An empty disk. No memory.
+    /// An empty disk.
     pub fn new(alloc: Global) -> Self
         ensures { record_of result ≡ begun [] }
     {
         MemDisk::with_bytes(alloc, List::new(alloc))
     }
 
-    /// A disk that holds these bytes, as if they were synced. No memory.
+    /// A disk that holds these bytes, as if they were synced.
     pub fn with_bytes(alloc: Global, bytes: List<u8>) -> Self
         ensures { record_of result ≡ begun bytes }
     {
@@ -55,7 +55,7 @@ impl MemDisk {
 
     /// Chooses what the coming restarts bring up, in place of what was chosen before. Each restart takes the first
     /// listed bytes that a crash may leave by then; it passes over those before them, and the next restart goes on
-    /// behind. Where none is left, the bytes come up as they were written. No memory.
+    /// after them. Where none is left, the bytes come up as they were written.
     pub fn choose(&mut self, images: List<List<u8>>)
         ensures { record_of self.new ≡ record { first = self.old.first; calls = self.old.calls.items; images = images; starved = self.old.starved } }
     {
@@ -69,7 +69,7 @@ impl MemDisk {
         self.starved
     }
 
-    /// The calls that answered Ok, in order. No memory.
+    /// The calls that answered Ok, in order.
     pub fn calls(&self) -> &[Call]
         ensures { result.now ≡ (record_of self.now).calls }
     {
@@ -222,7 +222,7 @@ impl Disk for MemDisk {
     }
 
     fn sync(&mut self) -> Result<(), Failed>
-        ensures length { length_of self.new ≡ length_of self.old }
+        ensures length { OnOk result (length_of self.new ≡ length_of self.old) }
         ensures cause { HasCause self.old.starved self.new.starved result }
         ensures told { Unit {0} → Syncs result (state_of self.old) (state_of self.new) }
         ensures recorded { Records Sync result (record_of self.old) (record_of self.new) }

@@ -4,7 +4,7 @@ use Rattle.std.specs.Prelude.{Ok, Err, OnOk}
 use Rattle.std.specs.Result.{is_err, IsErr}
 use Rattle.qz_disk.specs.Disk.{DiskState, Torn, Only, Stays, LeavesOnly, IsLawful, Measured, Reads, Writes, Syncs, written}
 use Rattle.qz_disk.proofs.Moments.{started, goes_on, torn_same}
-use Rattle.qz_journal.specs.Through.{PutsThrough, OnlyReads}
+use Rattle.qz_journal.specs.Through.{PutsThrough, OnlyReads, OnlyReadsUnless}
 use Rattle.qz_journal.proofs.Append.{on_ok}
 use Rattle.qz_journal.proofs.Undecided.{was_image}
 
@@ -13,8 +13,7 @@ always (Ok x) P p = p
 always (Err e) P p = tt
 
 pub sync_leaves : {T E : Type 0} (r : Result T E) (s t : DiskState) → IsLawful s → Syncs r s t → LeavesOnly s t s.IsImage
-sync_leaves (Ok x) s t lawful told = goes_on s s t s.IsImage (started s s.IsImage lawful (λ b is. is)) told.time (λ b is. subst s.IsImage (sym (told.durable b is)) lawful.content)
-sync_leaves (Err e) s t lawful told = goes_on s s t s.IsImage (started s s.IsImage lawful (λ b is. is)) told.time (λ b is. (told.failed.images b).0 is)
+sync_leaves r s t lawful told = goes_on s s t s.IsImage (started s s.IsImage lawful (λ b is. is)) told.time told.images
 
 -- a sync, and the length
 pub synced_length_leaves : {T E : Type 0} (r : Result T E) (s m t : DiskState) → IsLawful s → IsLawful m → Syncs r s m → Measured m t → LeavesOnly s t s.IsImage
@@ -24,20 +23,35 @@ synced_length_leaves r s m t before between synced told =
 
 pub synced_length_durable : {T E U F : Type 0} (q : Result T E) (r : Result U F) (s m t : DiskState) → is_err q ≡ false → Syncs q s m → Measured m t → OnOk r (Only t.content t)
 synced_length_durable q r s m t ok synced told =
-    always r (Only t.content t) (λ b is. on_ok q _ ok synced.durable b ((told.same.images b).0 is) ∙ sym synced.content ∙ sym told.same.content)
+    always r (Only t.content t) (λ b is. on_ok q _ ok synced.durable b ((told.same.images b).0 is) ∙ sym (on_ok q _ ok synced.content) ∙ sym told.same.content)
+
+pub synced_length_content : {T E U F : Type 0} (q : Result T E) (r : Result U F) (s m t : DiskState) → is_err q ≡ false → Syncs q s m → Measured m t → OnOk r (t.content ≡ s.content)
+synced_length_content q r s m t ok synced told = always r (t.content ≡ s.content) (told.same.content ∙ on_ok q _ ok synced.content)
 
 -- and then a read from the first byte on
-pub read_reads : {T E : Type 0} (r : Result T E) (into : List ℕ) (s m t : DiskState) → IsLawful m → m.content ≡ s.content → LeavesOnly s m s.IsImage → m.bytes_read ≡ s.bytes_read → Reads 0 r into m t → OnlyReads s t
-read_reads (Ok x) into s m t lawful content leaves none told = record {
+pub read_reads : {T E : Type 0} (x : T) (into : List ℕ) (s m t : DiskState) → IsLawful m → m.content ≡ s.content → LeavesOnly s m s.IsImage → m.bytes_read ≡ s.bytes_read → Reads {E = E} 0 (Ok x) into m t → OnlyReads s t
+read_reads x into s m t lawful content leaves none told = record {
   content = told.same.content ∙ content;
   any_moment = goes_on s m t s.IsImage leaves told.time (λ b is. was_image s m lawful leaves b ((told.same.images b).0 is));
   bytes_read = omega (arith, none, told.bytes_read, ap length told.bytes, length-take (length into) (drop 0 m.content), length-drop 0 m.content, ap length content);
 }
-read_reads (Err e) into s m t lawful content leaves none told = record {
-  content = told.same.content ∙ content;
+
+pub read_fails : {T E : Type 0} (P : Type 0) (e : E) (into : List ℕ) (s m t : DiskState) → IsLawful m → m.content ≡ s.content → LeavesOnly s m s.IsImage → m.bytes_read ≡ s.bytes_read → length into ≡ length m.content → Reads {T = T} 0 (Err e) into m t → OnlyReadsUnless P s t
+read_fails P e into s m t lawful content leaves none long told = record {
+  content = λ _. told.same.content ∙ content;
   any_moment = goes_on s m t s.IsImage leaves told.time (λ b is. was_image s m lawful leaves b ((told.same.images b).0 is));
-  bytes_read = omega (arith, none, told.failed);
+  bytes_read = omega (arith, none, told.failed, long, ap length content);
 }
+
+-- nothing was read
+pub reads_nothing : (P : Type 0) (s t : DiskState) → ((P → ⊥) → t.content ≡ s.content) → LeavesOnly s t s.IsImage → t.bytes_read ≡ s.bytes_read → OnlyReadsUnless P s t
+reads_nothing P s t content leaves none = record { content = content; any_moment = leaves; bytes_read = omega (arith, none) }
+
+pub unless : (P : Type 0) (s t : DiskState) → OnlyReads s t → OnlyReadsUnless P s t
+unless P s t reads = record { content = λ _. reads.content; any_moment = reads.any_moment; bytes_read = reads.bytes_read }
+
+pub unless_by : (P Q : Type 0) (s t : DiskState) → (P → Q) → OnlyReadsUnless P s t → OnlyReadsUnless Q s t
+unless_by P Q s t by reads = record { content = λ not_q. reads.content (λ p. not_q (by p)); any_moment = reads.any_moment; bytes_read = reads.bytes_read }
 
 pub write_leaves : {T E : Type 0} (r : Result T E) (at : ℕ) (bytes from : List ℕ) (s t : DiskState) → IsLawful s → Writes at bytes r s t → Only from s → LeavesOnly s t (Torn at (length bytes) from)
 write_leaves r at bytes from s t lawful told only =
@@ -57,12 +71,12 @@ put_failed e (Err f) at bytes s t failed lawful told = record {
 -- a write, and a sync
 pub puts : {T U E : Type 0} (x : U) (r : Result T E) (at : ℕ) (bytes : List ℕ) (s m t : DiskState) → IsLawful s → IsLawful m → Writes {E = E} at bytes (Ok x) s m → Syncs r m t → PutsThrough at bytes r s t
 puts x r at bytes s m t before between wrote synced = record {
-  content = always r (t.content ≡ written at bytes s.content) (synced.content ∙ wrote.content);
+  content = wrote_through r synced;
   durable = stands r synced;
   any_moment = λ from only.
       let leaves = write_leaves (Ok x) at bytes from s m before wrote only in
       goes_on s m t (Torn at (length bytes) from) leaves synced.time
-      (λ b is. let was = wrote.images b (image r synced b is) in subst (λ (a : List ℕ). Torn at (length bytes) a b) (only was.0 was.1) was.2);
+      (λ b is. let was = wrote.images b (synced.images b is) in subst (λ (a : List ℕ). Torn at (length bytes) a b) (only was.0 was.1) was.2);
   bytes_read = synced.bytes_read ∙ wrote.bytes_read;
 }
   where
@@ -70,9 +84,9 @@ puts x r at bytes s m t before between wrote synced = record {
     stands (Ok y) synced = λ b is. synced.durable b is ∙ sym synced.content
     stands (Err e) synced = tt
 
-    image : {T E : Type 0} (r : Result T E) → Syncs r m t → (b : List ℕ) → t.IsImage b → m.IsImage b
-    image (Ok y) synced b is = subst m.IsImage (sym (synced.durable b is)) between.content
-    image (Err e) synced b is = (synced.failed.images b).0 is
+    wrote_through : {T E : Type 0} (r : Result T E) → Syncs r m t → OnOk r (t.content ≡ written at bytes s.content)
+    wrote_through (Ok y) synced = synced.content ∙ wrote.content
+    wrote_through (Err e) synced = tt
 
 pub both_stay : (s m t : DiskState) → Stays s m → Stays m t → Stays s t
 both_stay s m t first second = record {

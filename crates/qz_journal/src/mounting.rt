@@ -4,7 +4,7 @@ ghost use Rattle.qz_civil.specs.Causes.{Rose, HasCause};
 ghost use Rattle.qz_disk.specs.Disk.{Only, LeavesOnly, Restarts};
 ghost use Rattle.qz_journal.specs.Layout.{Holds, end_of};
 ghost use Rattle.qz_journal.specs.Opening.{IsRefused, IsRefusedBehind};
-ghost use Rattle.qz_journal.specs.Through.{OnlyReads};
+ghost use Rattle.qz_journal.specs.Through.{OnlyReads, OnlyReadsUnless};
 
 use crate::parsing::{Parsed, parse};
 use crate::{Journal, MountError};
@@ -19,14 +19,12 @@ const MAX_COMMIT: usize = crate::MAX_PAYLOAD + 5;
 fn synced_length<D: Disk>(disk: &mut D) -> Result<u64, Failed>
     ensures length { IfOk result (λ n. n ≡ D.len disk.new) }
     ensures durable { D.honest → OnOk result (Only (D.state disk.new).content (D.state disk.new)) }
-    ensures content { D.honest → (D.state disk.new).content ≡ (D.state disk.old).content }
+    ensures content { D.honest → OnOk result ((D.state disk.new).content ≡ (D.state disk.old).content) }
     ensures any_moment { D.honest → LeavesOnly (D.state disk.old) (D.state disk.new) (D.state disk.old).IsImage }
     ensures bytes_read { D.honest → (D.state disk.new).bytes_read ≡ (D.state disk.old).bytes_read }
     ensures cause { HasCause (D.faults disk.old) (D.faults disk.new) result }
 {
-    if disk.sync().is_err() {
-        return Err(Failed);
-    }
+    disk.sync()?;
     disk.len()
 }
 
@@ -35,7 +33,8 @@ fn read_all<D: Disk>(alloc: Global, disk: &mut D) -> Result<Vec<u8>, MountError>
     ensures bytes { D.honest → IfOk result (λ bytes. bytes.items ≡ (D.state disk.old).content) }
     ensures length { IfOk result (λ bytes. length bytes.items ≡ D.len disk.new) }
     ensures durable { D.honest → OnOk result (Only (D.state disk.new).content (D.state disk.new)) }
-    ensures reads { D.honest → OnlyReads (D.state disk.old) (D.state disk.new) }
+    ensures reads { D.honest → OnOk result (OnlyReads (D.state disk.old) (D.state disk.new)) }
+    ensures reads_err { D.honest → IfErr result (λ e. OnlyReadsUnless (e ≡ MountError.Fault) (D.state disk.old) (D.state disk.new)) }
     ensures later { D.faults disk.old ≤ D.faults disk.new }
     ensures fault { IfErr result (λ e. (e ≡ MountError.NoMemory) ⊎ ((e ≡ MountError.Fault) × Rose (D.faults disk.old) (D.faults disk.new))) }
 {
@@ -63,7 +62,7 @@ impl<D: Disk> Journal<D> {
         ensures ground { IfOk result (λ r. (r.0.kind ≡ kind) × (r.0.closed ≡ None)
             × (r.0.gate ≡ end_of r.1) × (r.0.count ≡ length r.1)) }
         ensures reads { D.honest → IfOk result (λ r. OnlyReads (D.state disk) (D.state r.0.disk)) }
-        ensures reads_err { D.honest → IfErr result (λ e. OnlyReads (D.state disk) (D.state e.1)) }
+        ensures reads_err { D.honest → IfErr result (λ e. OnlyReadsUnless (e.0 ≡ MountError.Fault) (D.state disk) (D.state e.1)) }
         ensures refused { D.honest → IfErr result (λ e. IsRefused (D.state disk).content kind e.0) }
         // Where the bytes stand for a list, it comes to that list, or memory or the disk fails.
         ensures whole { D.honest → (payloads : List (List ℕ)) → Holds (D.state disk).content kind payloads
@@ -90,7 +89,7 @@ impl<D: Disk> Journal<D> {
         ensures ground { IfOk result (λ r. (r.0.kind ≡ kind) × (r.0.closed ≡ None)
             × (r.0.gate ≡ end_of r.1) × (r.0.count ≡ length r.1)) }
         ensures reads { D.honest → IfOk result (λ r. OnlyReads (D.state disk) (D.state r.0.disk)) }
-        ensures reads_err { D.honest → IfErr result (λ e. OnlyReads (D.state disk) (D.state e.2)) }
+        ensures reads_err { D.honest → IfErr result (λ e. OnlyReadsUnless (e.0 ≡ MountError.Fault) (D.state disk) (D.state e.2)) }
         ensures refused { D.honest → IfErr result (λ e. IsRefusedBehind (D.state disk).content kind e.1 e.0) }
         // the place behind the payloads is an offset
         ensures place { IfErr result (λ e. end_of e.1 < 2 ^ 64) }
@@ -152,7 +151,8 @@ impl<D: Disk> Journal<D> {
         ensures closed { OnErr result ((self.new.closed ≡ Some self.old.gate)
             × (self.new.gate ≡ self.old.gate) × (self.new.count ≡ self.old.count)) }
         ensures same_kind { self.new.kind ≡ self.old.kind }
-        ensures reads { D.honest → OnlyReads (D.state self.old.disk) (D.state self.new.disk) }
+        ensures reads { D.honest → OnOk result (OnlyReads (D.state self.old.disk) (D.state self.new.disk)) }
+        ensures reads_err { D.honest → IfErr result (λ e. OnlyReadsUnless (e ≡ MountError.Fault) (D.state self.old.disk) (D.state self.new.disk)) }
         ensures refused { D.honest → IfErr result (λ e. IsRefused (D.state self.old.disk).content self.old.kind e) }
         ensures whole { D.honest → (payloads : List (List ℕ)) → Holds (D.state self.old.disk).content self.old.kind payloads
             → MatchResult result (λ found. found ≡ payloads) (λ e. (e ≡ MountError.Fault) ⊎ (e ≡ MountError.NoMemory)) }

@@ -5,7 +5,7 @@ mod help;
 mod words;
 
 use help::{HELP, VERSION};
-use qz_disk::FileDisk;
+use qz_disk::{FileDisk, SystemFile};
 use qz_io::{RealClock, Sink, StdSink, StdSource, write_all};
 use qz_top::{Status, command};
 use qz_types::{NoMemory, Text};
@@ -68,8 +68,8 @@ fn work<K: Sink, E: Sink>(rt: HostRuntime, words: &[Text], out: &mut K, err: &mu
                 &mut input,
                 out,
                 err,
-                FileDisk::new(rt, triggers),
-                FileDisk::new(rt, states),
+                FileDisk::new(SystemFile::new(rt, triggers)),
+                FileDisk::new(SystemFile::new(rt, states)),
                 &mut clock,
             );
             ended.status

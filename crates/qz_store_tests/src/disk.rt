@@ -1,9 +1,8 @@
-//! Worked examples of crashes, the disks that fail by a rule, and one real file.
+//! Worked examples of crashes, and the disks that fail by a rule.
 use crate::rows::{Row, check};
-use qz_civil::{List, Text, beside};
-use qz_disk::{Call, CutDisk, Disk, FaultDisk, FileDisk, MemDisk};
+use qz_civil::{List, beside};
+use qz_disk::{Call, CutDisk, Disk, FaultDisk, MemDisk};
 use std::alloc::{AllocError, Global};
-use std::{env, fs, process};
 
 fn list(alloc: Global, bytes: &[u8]) -> Result<List<u8>, AllocError> {
     Ok(List::from_vec(Vec::from_slice(alloc, bytes)?))
@@ -18,7 +17,7 @@ fn content<D: Disk>(alloc: Global, disk: &mut D) -> Option<Vec<u8>> {
 }
 
 // Whether the disk holds these bytes.
-fn holds<D: Disk>(alloc: Global, disk: &mut D, bytes: &[u8]) -> bool {
+pub(crate) fn holds<D: Disk>(alloc: Global, disk: &mut D, bytes: &[u8]) -> bool {
     match content(alloc, disk) {
         Some(held) => held.as_slice() == bytes,
         None => false,
@@ -26,7 +25,7 @@ fn holds<D: Disk>(alloc: Global, disk: &mut D, bytes: &[u8]) -> bool {
 }
 
 // A write at this offset, where the disk is that long.
-fn put<D: Disk>(disk: &mut D, at: u64, bytes: &[u8]) -> bool {
+pub(crate) fn put<D: Disk>(disk: &mut D, at: u64, bytes: &[u8]) -> bool {
     match disk.len() {
         Ok(len) if at <= len => disk.write_at(at, bytes).is_ok(),
         _ => false,
@@ -53,7 +52,11 @@ fn lists(alloc: Global, pieces: &[&[u8]]) -> Result<List<List<u8>>, AllocError> 
 }
 
 // A disk with these bytes, for which these images were chosen.
-fn disk_with_images(alloc: Global, bytes: &[u8], chosen: &[&[u8]]) -> Result<MemDisk, AllocError> {
+pub(crate) fn disk_with_images(
+    alloc: Global,
+    bytes: &[u8],
+    chosen: &[&[u8]],
+) -> Result<MemDisk, AllocError> {
     let (images, mut disk) = beside(lists(alloc, chosen)?, disk_with(alloc, bytes))?;
     disk.choose(images);
     Ok(disk)
@@ -166,57 +169,4 @@ fn the_listed_calls_fail(rt: HostRuntime) -> Result<(), AllocError> {
     let disk = FaultDisk::new(MemDisk::new(rt.alloc()), listed);
     assert!(rt; failing(disk) == [false, true, false, true, false]);
     Ok(())
-}
-
-// Whether two writes, a sync and a restart leave what was written.
-fn keeps_two_writes<D: Disk>(alloc: Global, disk: &mut D) -> bool {
-    let first = put(disk, 0, b"abcde") && disk.sync().is_ok();
-    let second = put(disk, 4, b"XYZ") && disk.restart().is_ok();
-    first && second && holds(alloc, disk, b"abcdXYZ")
-}
-
-// A file's name in the folder for such.
-fn file_name(rt: HostRuntime) -> Option<Text> {
-    let name = format!(in rt.alloc(); "qz-disk-test-{}", process::id(rt.process())).ok()?;
-    let folder = env::temp_dir(&rt).ok()?;
-    let path = folder.join(rt.alloc(), name.as_str()).ok()?;
-    Text::from_str(rt.alloc(), path.as_str()).ok()
-}
-
-// Whether a disk is empty, makes no file by itself, and keeps what is written.
-fn keeps_a_file<D: Disk>(rt: HostRuntime, path: &str, mut disk: D) -> bool {
-    let empty = disk.len() == Ok(0) && disk.sync().is_ok();
-    let made_none = matches!(fs::exists(&rt, path), Ok(false));
-    empty && made_none && keeps_two_writes(rt.alloc(), &mut disk)
-}
-
-// Whether it is found out that another program cuts the file: what was measured isn't there to be read.
-fn finds_a_cut<D: Disk>(rt: HostRuntime, path: &str, mut disk: D) -> bool {
-    let long = disk.len() == Ok(7);
-    let cut = fs::write(&rt, path, "a").is_ok();
-    long && cut && disk.read(0, &mut [0; 3]).is_err()
-}
-
-// Whether a file is kept, and then cut, and can be removed.
-fn is_made(rt: HostRuntime, path: &str) -> Result<bool, AllocError> {
-    let kept = keeps_a_file(
-        rt,
-        path,
-        FileDisk::new(rt, Text::from_str(rt.alloc(), path)?),
-    );
-    let cut = finds_a_cut(
-        rt,
-        path,
-        FileDisk::new(rt, Text::from_str(rt.alloc(), path)?),
-    );
-    let removed = fs::remove_file(&rt, path).is_ok();
-    Ok(kept && cut && removed)
-}
-
-#[test]
-fn a_file_is_made_at_the_first_write(rt: HostRuntime) {
-    let path = file_name(rt);
-    let is_made = matches!(&path, Some(path) if is_made(rt, path.as_str()) == Ok(true));
-    drop(path);
-    assert!(rt; is_made);
 }

@@ -8,6 +8,8 @@ mod disk;
 #[cfg(test)]
 mod entries;
 #[cfg(test)]
+mod files;
+#[cfg(test)]
 mod journal;
 #[cfg(test)]
 mod model;

@@ -5,7 +5,7 @@ use Rattle.qz_types.specs.declared.stores.Store.TheVariants as store
 use Rattle.qz_disk.specs.declared.disk.Disk.{Ghosts}
 use Rattle.qz_journal.specs.declared.errors.MountError.{MountError}
 use Rattle.qz_journal.specs.declared.errors.MountError.TheVariants as mount
-use Rattle.qz_journal.specs.Through.{OnlyReads}
+use Rattle.qz_journal.specs.Through.{OnlyReadsUnless}
 use Rattle.qz_trigger_store.specs.Bytes.{Stands, MayBe}
 use Rattle.qz_trigger_store.specs.Opening.{IsRefused}
 use Rattle.qz_cluster.specs.Steps.{ClusterState}
@@ -89,13 +89,14 @@ RefusedBy status.DiskFault bytes = ⊤
 RefusedBy status.NoMemory bytes = ⊤
 RefusedBy s bytes = IsOfOpening s
 
--- No store was opened, and nothing was done: the disk was only read, so it is as it was, and so is what a crash leaves.
+-- No store was opened, and nothing was done: the disk was only read, so unless it failed it is as it was, and a crash
+-- leaves only what it could have left before.
 pub record NotOpened {D : Type 0} {g : Ghosts D} (triggers : D) (e : Ended D g)
     (left left' held held' : Option (List ℕ)) (clock clock' : Option (List ℤ)) : Type 0 where
   pub called : IsOfOpening e.status
   pub none : trail_of e.trail ≡ []
   pub refused : g.honest → RefusedBy e.status (g.state triggers).content
-  pub reads : g.honest → OnlyReads (g.state triggers) (g.state e.triggers)
+  pub reads : g.honest → OnlyReadsUnless (e.status ≡ status.DiskFault) (g.state triggers) (g.state e.triggers)
   pub abstained : Abstained left left' held held' clock clock'
 
 -- the status of a trigger store that wasn't opened

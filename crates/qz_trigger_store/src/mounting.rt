@@ -3,7 +3,7 @@ ghost use Rattle.std.specs.Prelude.{◌≡◌, ◌⊎◌, ◌^◌, ◌<◌, ◌�
 ghost use Rattle.qz_civil.specs.Causes.{Rose};
 ghost use Rattle.qz_journal.specs.Layout.{end_of};
 ghost use Rattle.qz_journal.specs.declared.layout.TheConstants.{TRIGGERS as OF_TRIGGERS};
-ghost use Rattle.qz_journal.specs.Through.{OnlyReads};
+ghost use Rattle.qz_journal.specs.Through.{OnlyReads, OnlyReadsUnless};
 ghost use Rattle.qz_model.specs.History.{History};
 ghost use Rattle.qz_trigger_store.specs.Bytes.{history_of, records, Stands, IsHistory};
 ghost use Rattle.qz_trigger_store.specs.Opening.{IsRefused, IsFirstBad};
@@ -26,7 +26,7 @@ impl<D: Disk> TriggerStore<D> {
         ensures opened { IfOk result (λ store. (store.is_open ≡ true) × (store.undecided ≡ None) × (store.accepted.entries ≡ [])) }
         ensures stands { D.honest → IfOk result (λ store. Stands (D.state disk).content (seen store).history) }
         ensures reads { D.honest → IfOk result (λ store. OnlyReads (D.state disk) (disk_of store)) }
-        ensures reads_err { D.honest → IfErr result (λ e. OnlyReads (D.state disk) (D.state e.1)) }
+        ensures reads_err { D.honest → IfErr result (λ e. OnlyReadsUnless (e.0 ≡ MountError.Fault) (D.state disk) (D.state e.1)) }
         ensures refused { D.honest → IfErr result (λ e. IsRefused (D.state disk).content e.0) }
         // Where the bytes stand for a history, it comes to that history, or memory or the disk fails.
         ensures whole { D.honest → (h : History) → IsHistory h → Stands (D.state disk).content h

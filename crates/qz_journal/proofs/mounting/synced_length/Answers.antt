@@ -1,13 +1,16 @@
-use Rattle.std.proofs.Common.{sym}
-use Rattle.qz_journal.proofs.Calls.{sync_leaves, synced_length_leaves, synced_length_durable}
+use Rattle.std.proofs.Common.{refl}
+use Rattle.qz_journal.proofs.Calls.{sync_leaves, synced_length_leaves, synced_length_durable, synced_length_content}
 use Rattle.qz_journal.proofs.mounting.synced_length.Goals as goal
 
-pub returns-then-is_err-clause-any_moment : goal.returns-then-is_err-clause-any_moment
-returns-then-is_err-clause-any_moment g c h = sync_leaves _ _ _ (g.met.D.Disk.lawful h c.args.disk.now) (c.sync.ensures.told h)
+pub returns-in_err-sync-clause-any_moment : goal.returns-in_err-sync-clause-any_moment
+returns-in_err-sync-clause-any_moment g c h = sync_leaves _ _ _ (g.met.D.Disk.lawful h c.args.disk.now) (c.in_err-sync.ensures.told h)
 
 pub returns-clause-any_moment : goal.returns-clause-any_moment
 returns-clause-any_moment g c h =
-    synced_length_leaves _ _ _ _ (g.met.D.Disk.lawful h c.args.disk.now) (g.met.D.Disk.lawful h c.sync.new.self) (c.sync.ensures.told h) (c.len.ensures.told h)
+    synced_length_leaves _ _ _ _ (g.met.D.Disk.lawful h c.args.disk.now) (g.met.D.Disk.lawful h c.sync.new.self) (c.in_ok-sync.ensures.told h) (c.len.ensures.told h)
 
 pub returns-clause-durable : goal.returns-clause-durable
-returns-clause-durable g c h = synced_length_durable _ _ _ _ _ (sym c.if-is_err.ensures.value) (c.sync.ensures.told h) (c.len.ensures.told h)
+returns-clause-durable g c h = synced_length_durable _ _ _ _ _ refl (c.in_ok-sync.ensures.told h) (c.len.ensures.told h)
+
+pub returns-clause-content : goal.returns-clause-content
+returns-clause-content g c h = synced_length_content _ _ _ _ _ refl (c.in_ok-sync.ensures.told h) (c.len.ensures.told h)
