@@ -1,1 +1,4 @@
-mod Unaccepted
+pub mod Cases
+pub mod Held
+pub mod Sound
+pub mod Unaccepted

@@ -5,9 +5,11 @@ mod clusters;
 mod entries;
 mod errors;
 mod held;
+mod laws;
 mod opening;
 mod steps;
 
 pub use clusters::Cluster;
 pub use errors::StepEnd;
+pub use laws::steps_keep_stores_sound;
 pub use qz_trigger_store::MountError;

@@ -1,71 +1,67 @@
 //! One step.
-ghost use Rattle.std.specs.Prelude.{◌≡◌, ◌<◌, None, IsTrue, IfOk, IfErr, OnErr, vec_len, vec_capacity};
+ghost use Rattle.std.specs.Prelude.{◌≡◌, ◌<◌, true, false, IsTrue, IfOk, IfErr, OnErr, vec_len, vec_capacity};
+ghost use Rattle.qz_types.specs.Entries.{is_command, is_of_node};
 ghost use Rattle.qz_types.specs.Rows.{is_node};
 ghost use Rattle.qz_types.specs.Steps.{is_step};
-ghost use Rattle.qz_types.specs.Entries.{is_command, is_of_node};
+ghost use Rattle.qz_types.specs.Words.{member_of, without_member};
 ghost use Rattle.qz_types.specs.declared.commands.Actor.TheVariants as actor;
 ghost use Rattle.qz_types.specs.declared.commands.Command.TheVariants as command_is;
 ghost use Rattle.qz_types.specs.declared.steps.Step.TheVariants as step_is;
-ghost use Rattle.qz_model.specs.Words.{without_member};
+ghost use Rattle.qz_types.specs.declared.steps.StepReply.TheVariants as reply_is;
 ghost use Rattle.qz_model.specs.Script.{entry_of};
-ghost use Rattle.qz_trigger_store.specs.Seen.{seen, IsAsBefore, LeavesEither};
-ghost use Rattle.qz_cluster.specs.Steps.{Answered, Submitted, Refrained, unaccepted, held_behind_join, IsStep, IsCutShort};
-ghost use Rattle.qz_cluster.specs.Seen.{state_of, Leaves};
+ghost use Rattle.qz_cluster.specs.Steps.{StepCase, EndCase, IsStep, IsCutShort};
+ghost use Rattle.qz_cluster.specs.Submitting.{Submitted, Unsubmitted, unaccepted, held_after_answer};
+ghost use Rattle.qz_cluster.specs.View.{view, KeepsStores, KeepsUnlessDone, EachLeavesEither};
 
 use crate::entries::{client_entry, node_entry};
-use crate::held::{member_of, others, put_reserved};
+use crate::held::{epoch_of, put_reserved, room_for_one};
 use crate::{Cluster, StepEnd};
 use qz_disk::Disk;
-use qz_trigger_store::SubmitError;
-use qz_types::{Command, Entry, MemberRow, NoMemory, Reply, Step, StepReply, Text};
+use qz_types::{Command, Entry, MemberRow, NoMemory, Reply, Step, StepReply, SubmitError, Text};
 
 impl<D: Disk> Cluster<D> {
-    /// Does one step at this reading of the clock, in ms since 1970-01-01T00:00:00Z. But for an accepted transaction and
-    /// for a fault, the store and its disk stay as they were.
+    /// Does one step at this reading of the clock, in ms since 1970-01-01T00:00:00Z. The store and its disk stay as they
+    /// were, except for an accepted transaction and for a fault. `JournalFull` and `NoMemory` are answered only where the
+    /// step's transaction would be accepted.
     pub fn step(&mut self, step: Step, at: i64) -> Result<StepReply, StepEnd>
         requires { IsTrue (is_step step) }
-        ensures ok { IfOk result (λ r. IsStep (record { step = step; at = at }) r (state_of self.old) (state_of self.new)) }
-        ensures err { IfErr result (λ e. IsCutShort (record { step = step; at = at }) e (state_of self.old) (state_of self.new)) }
-        ensures leaves { IfOk result (λ r. Leaves r self.old.triggers self.new.triggers) }
-        ensures unchanged { OnErr result (IsAsBefore self.old.triggers self.new.triggers) }
-        ensures any_moment { D.honest → LeavesEither self.old.triggers self.new.triggers }
+        ensures ok { IfOk result (λ r. IsStep (record { step = step; at = at }) r (view self.old) (view self.new)) }
+        ensures err { IfErr result (λ e. IsCutShort (record { step = step; at = at }) e (view self.old) (view self.new)) }
+        ensures keeps { IfOk result (λ r. KeepsUnlessDone r self.old self.new) }
+        ensures unchanged { OnErr result (KeepsStores self.old self.new) }
+        ensures any_moment { D.honest → EachLeavesEither self.old self.new }
     {
         match step {
             Step::Client(command) => self.submit(client_entry(command, at)),
             Step::Join { node, interval: _ } => self.join(node, at),
-            Step::Node { node, command } => self.node(&node, command, at),
+            Step::Node { node, command } => self.node(node, command, at),
         }
     }
 
     // What a node does under the epoch that it holds.
-    fn node(&mut self, node: &Text, command: Command, at: i64) -> Result<StepReply, StepEnd>
+    fn node(&mut self, node: Text, command: Command, at: i64) -> Result<StepReply, StepEnd>
         requires valid { IsTrue (is_command command) }
         requires node { IsTrue (is_of_node command) }
-        ensures ok { IfOk result (λ r. IsStep (record { step = step_is.Node node.now command; at = at }) r (state_of self.old) (state_of self.new)) }
-        ensures err { IfErr result (λ e. IsCutShort (record { step = step_is.Node node.now command; at = at }) e (state_of self.old) (state_of self.new)) }
-        ensures leaves { IfOk result (λ r. Leaves r self.old.triggers self.new.triggers) }
-        ensures unchanged { OnErr result (IsAsBefore self.old.triggers self.new.triggers) }
-        ensures any_moment { D.honest → LeavesEither self.old.triggers self.new.triggers }
+        requires name { IsTrue (is_node node) }
+        ensures ok { IfOk result (λ r. StepCase (record { step = step_is.Node node command; at = at }) r (view self.old) (view self.new)) }
+        ensures err { IfErr result (λ e. EndCase (record { step = step_is.Node node command; at = at }) e (view self.old) (view self.new)) }
+        ensures keeps { IfOk result (λ r. KeepsUnlessDone r self.old self.new) }
+        ensures unchanged { OnErr result (KeepsStores self.old self.new) }
+        ensures any_moment { D.honest → EachLeavesEither self.old self.new }
     {
-        match member_of(&self.held, node) {
+        match epoch_of(&self.held, &node) {
+            Some(epoch) => self.submit(node_entry(MemberRow { node, epoch }, command, at)),
             None => {
                 drop(command);
                 Ok(self.unheld())
             }
-            Some(member) => match member.copy() {
-                Ok(me) => self.submit(node_entry(me, command, at)),
-                Err(_) => {
-                    drop(command);
-                    Err(StepEnd::NoMemory)
-                }
-            },
         }
     }
 
-    // What a node that holds no epoch is told.
+    // The answer to a node that holds no epoch.
     fn unheld(&self) -> StepReply
-        ensures told { Answered None result (seen self.now.triggers) (seen self.now.triggers) }
-        ensures leaves { Leaves result self.now.triggers self.now.triggers }
+        ensures closed { (view self.now).triggers.is_open ≡ false → result ≡ reply_is.Closed }
+        ensures stopped { (view self.now).triggers.is_open ≡ true → result ≡ reply_is.Stopped }
     {
         if self.triggers.closed() {
             StepReply::Closed
@@ -77,30 +73,52 @@ impl<D: Disk> Cluster<D> {
     // A node becomes a member. The memory for its epoch is taken first.
     fn join(&mut self, node: Text, at: i64) -> Result<StepReply, StepEnd>
         requires { IsTrue (is_node node) }
-        ensures ok { IfOk result (λ r. Submitted (entry_of actor.Client (command_is.Join node) at) r (seen self.old.triggers) (seen self.new.triggers)) }
-        ensures held { IfOk result (λ r. self.new.held.items ≡ held_behind_join node self.old.held.items r) }
-        ensures err { IfErr result (λ e. Refrained (entry_of actor.Client (command_is.Join node) at) e (seen self.old.triggers) (seen self.new.triggers)) }
-        ensures held_stays { OnErr result (self.new.held ≡ self.old.held) }
-        ensures leaves { IfOk result (λ r. Leaves r self.old.triggers self.new.triggers) }
-        ensures unchanged { OnErr result (IsAsBefore self.old.triggers self.new.triggers) }
-        ensures any_moment { D.honest → LeavesEither self.old.triggers self.new.triggers }
+        ensures ok { IfOk result (λ r. Submitted (entry_of actor.Client (command_is.Join node) at) r (view self.old).triggers (view self.new).triggers) }
+        ensures held { IfOk result (λ r. (view self.new).held ≡ held_after_answer node (view self.old).held r) }
+        ensures err { IfErr result (λ e. Unsubmitted (entry_of actor.Client (command_is.Join node) at) e (view self.old).triggers (view self.new).triggers) }
+        ensures held_stays { OnErr result ((view self.new).held ≡ (view self.old).held) }
+        ensures keeps { IfOk result (λ r. KeepsUnlessDone r self.old self.new) }
+        ensures unchanged { OnErr result (KeepsStores self.old self.new) }
+        ensures any_moment { D.honest → EachLeavesEither self.old self.new }
     {
-        let rows = others(self.alloc, &self.held, &node)?;
-        let command = Command::Join {
-            node: node.clone()?,
-        };
-        let reply = self.submit(client_entry(command, at))?;
-        self.hold(node, rows, &reply);
+        match room_for_one(self.alloc, &self.held, &node) {
+            Ok((rows, name)) => self.join_with(node, at, rows, name),
+            Err(NoMemory) => self.decide(client_entry(Command::Join { node }, at)),
+        }
+    }
+
+    // The same, with the rows of the other nodes, which have room for one more, and the node's name once more.
+    fn join_with(
+        &mut self,
+        node: Text,
+        at: i64,
+        rows: Vec<MemberRow>,
+        name: Text,
+    ) -> Result<StepReply, StepEnd>
+        requires node { IsTrue (is_node node) }
+        requires rows { rows.items ≡ without_member node (view self.old).held }
+        requires room { vec_len rows < vec_capacity rows }
+        requires name { name ≡ node }
+        ensures ok { IfOk result (λ r. Submitted (entry_of actor.Client (command_is.Join node) at) r (view self.old).triggers (view self.new).triggers) }
+        ensures held { IfOk result (λ r. (view self.new).held ≡ held_after_answer node (view self.old).held r) }
+        ensures err { IfErr result (λ e. Unsubmitted (entry_of actor.Client (command_is.Join node) at) e (view self.old).triggers (view self.new).triggers) }
+        ensures held_stays { OnErr result ((view self.new).held ≡ (view self.old).held) }
+        ensures keeps { IfOk result (λ r. KeepsUnlessDone r self.old self.new) }
+        ensures unchanged { OnErr result (KeepsStores self.old self.new) }
+        ensures any_moment { D.honest → EachLeavesEither self.old self.new }
+    {
+        let reply = self.submit(client_entry(Command::Join { node }, at))?;
+        self.hold(name, rows, &reply);
         Ok(reply)
     }
 
-    // The epochs behind a join that was answered so, where these are the rows of the other nodes.
+    // The epochs after a join that was answered so, where these are the rows of the other nodes.
     #[tactic(auto, unfolding(qz_model::specs::Script::hold))]
     fn hold(&mut self, node: Text, mut rows: Vec<MemberRow>, reply: &StepReply)
         requires node { IsTrue (is_node node) }
-        requires rows { rows.items ≡ without_member node self.old.held.items }
+        requires rows { rows.items ≡ without_member node (view self.old).held }
         requires room { vec_len rows < vec_capacity rows }
-        ensures held { self.new.held.items ≡ held_behind_join node self.old.held.items reply.now }
+        ensures held { (view self.new).held ≡ held_after_answer node (view self.old).held reply.now }
         ensures triggers { self.new.triggers ≡ self.old.triggers }
     {
         match reply {
@@ -126,17 +144,32 @@ impl<D: Disk> Cluster<D> {
     }
 
     // One transaction.
-    #[tactic(auto, using(crate::proofs::Unaccepted::replies, crate::proofs::Unaccepted::refrains, crate::proofs::Unaccepted::leaves, crate::proofs::Unaccepted::stays))]
+    #[tactic(auto, using(crate::proofs::Unaccepted::replies, crate::proofs::Unaccepted::ends, crate::proofs::Unaccepted::keeps, crate::proofs::Unaccepted::stays))]
     fn submit(&mut self, entry: Entry) -> Result<StepReply, StepEnd>
-        ensures ok { IfOk result (λ r. Submitted entry r (seen self.old.triggers) (seen self.new.triggers)) }
-        ensures err { IfErr result (λ e. Refrained entry e (seen self.old.triggers) (seen self.new.triggers)) }
+        ensures ok { IfOk result (λ r. Submitted entry r (view self.old).triggers (view self.new).triggers) }
+        ensures err { IfErr result (λ e. Unsubmitted entry e (view self.old).triggers (view self.new).triggers) }
         ensures held { self.new.held ≡ self.old.held }
-        ensures leaves { IfOk result (λ r. Leaves r self.old.triggers self.new.triggers) }
-        ensures unchanged { OnErr result (IsAsBefore self.old.triggers self.new.triggers) }
-        ensures any_moment { D.honest → LeavesEither self.old.triggers self.new.triggers }
+        ensures keeps { IfOk result (λ r. KeepsUnlessDone r self.old self.new) }
+        ensures unchanged { OnErr result (KeepsStores self.old self.new) }
+        ensures any_moment { D.honest → EachLeavesEither self.old self.new }
     {
         match self.triggers.submit(entry) {
             Ok(reply) => Ok(StepReply::Ok(reply)),
+            Err(error) => unaccepted(error),
+        }
+    }
+
+    // What a transaction comes to for which there is no memory.
+    #[tactic(auto, using(crate::proofs::Unaccepted::replies, crate::proofs::Unaccepted::ends, crate::proofs::Unaccepted::changes_nothing, crate::proofs::Unaccepted::starves_here))]
+    fn decide(&self, entry: Entry) -> Result<StepReply, StepEnd>
+        ensures ok { IfOk result (λ r. Submitted entry r (view self.now).triggers (view self.now).triggers) }
+        ensures err { IfErr result (λ e. Unsubmitted entry e (view self.now).triggers (view self.now).triggers) }
+        ensures keeps { IfOk result (λ r. KeepsUnlessDone r self.now self.now) }
+    {
+        let decided = self.triggers.check(&entry);
+        drop(entry);
+        match decided {
+            Ok(()) => Err(StepEnd::NoMemory),
             Err(error) => unaccepted(error),
         }
     }

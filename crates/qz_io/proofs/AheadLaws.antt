@@ -6,38 +6,38 @@ use Rattle.std.proofs.lemmas.List.Elements.{All-head, All-tail}
 use Rattle.std.proofs.lemmas.Bool.Decides.{nat_tests}
 use Rattle.qz_io.specs.Ahead.{Ahead, BeginsWith, BeginsSome, BeginsLong}
 use Rattle.qz_io.specs.Lines.{IsOneLine, lines_of, onto, with_feed}
-use Rattle.qz_io.specs.Reading.{ReaderData, BeginsTooLong, SeesLine, SeesRest, SeesTooLong, SeesEnd}
+use Rattle.qz_io.specs.Reading.{ReaderData, BeginsTooLong, FindsLine, FindsLastLine, FindsTooLong, FindsEnd}
 use Rattle.qz_io.proofs.Cut.{lines_of-line, lines_of-rest}
 
 -- a told end leaves nothing
-pub at_end : (left : Option (List ℕ)) (rest : List ℕ) → IsAtEnd left → left ≡ Some rest → rest ≡ []
+pub at_end : (old : Option (List ℕ)) (rest : List ℕ) → IsAtEnd old → old ≡ Some rest → rest ≡ []
 at_end None rest e s = absurd cc
 at_end (Some xs) rest e s = let same : xs ≡ rest = cc in sym same ∙ e
 
 -- a line with its feed was seen
-pub ahead-line : (left left' : Option (List ℕ)) (pending : List ℕ) (now : ReaderData) → SeesLine left left' pending now → Ahead left left' pending (BeginsWith now.line)
-ahead-line left left' pending now sees = record {
-  got = sees.hands.got;
-  taken = sees.hands.taken;
+pub ahead-line : (old new : Option (List ℕ)) (pending : List ℕ) (now : ReaderData) → FindsLine old new pending now → Ahead old new pending (BeginsWith now.line)
+ahead-line old new pending now finds = record {
+  got = finds.hands.got;
+  taken = finds.hands.taken;
   ahead = λ rest told. record {
     more = lines_of (now.pending ++ rest);
-    lines = ap (λ bytes. lines_of (bytes ++ rest)) sees.hands.kept ∙ ap lines_of (append_assoc (with_feed now.line) now.pending rest ∙ append_assoc now.line (10 ∷ []) (now.pending ++ rest))
-        ∙ lines_of-line now.line (now.pending ++ rest) sees.line.one_line;
+    lines = ap (λ bytes. lines_of (bytes ++ rest)) finds.hands.kept ∙ ap lines_of (append_assoc (with_feed now.line) now.pending rest ∙ append_assoc now.line (10 ∷ []) (now.pending ++ rest))
+        ∙ lines_of-line now.line (now.pending ++ rest) finds.line.one_line;
   };
 }
 
 -- the bytes of a last line, and nothing behind them
-pub rest_bytes : (left left' : Option (List ℕ)) (pending : List ℕ) (now : ReaderData) → (sees : SeesRest left left' pending now) → pending ++ sees.hands.got ≡ now.line
-rest_bytes left left' pending now sees = sees.hands.kept ∙ ap (λ p. now.line ++ p) sees.all ∙ append-nil now.line
+pub rest_bytes : (old new : Option (List ℕ)) (pending : List ℕ) (now : ReaderData) → (finds : FindsLastLine old new pending now) → pending ++ finds.hands.got ≡ now.line
+rest_bytes old new pending now finds = finds.hands.kept ∙ ap (λ p. now.line ++ p) finds.all ∙ append-nil now.line
 
-pub ahead-rest : (left left' : Option (List ℕ)) (pending : List ℕ) (now : ReaderData) → SeesRest left left' pending now → Ahead left left' pending (BeginsWith now.line)
-ahead-rest left left' pending now sees = record {
-  got = sees.hands.got;
-  taken = sees.hands.taken;
+pub ahead-rest : (old new : Option (List ℕ)) (pending : List ℕ) (now : ReaderData) → FindsLastLine old new pending now → Ahead old new pending (BeginsWith now.line)
+ahead-rest old new pending now finds = record {
+  got = finds.hands.got;
+  taken = finds.hands.taken;
   ahead = λ rest told. record {
     more = [];
-    lines = ap (λ bytes. lines_of ((pending ++ sees.hands.got) ++ bytes)) (at_end left' rest sees.ended told) ∙ ap lines_of (append-nil (pending ++ sees.hands.got) ∙ rest_bytes left left' pending now sees)
-        ∙ lines_of-rest now.line sees.some sees.line.one_line;
+    lines = ap (λ bytes. lines_of ((pending ++ finds.hands.got) ++ bytes)) (at_end new rest finds.ended told) ∙ ap lines_of (append-nil (pending ++ finds.hands.got) ∙ rest_bytes old new pending now finds)
+        ∙ lines_of-rest now.line finds.some finds.line.one_line;
   };
 }
 
@@ -72,30 +72,30 @@ begins_long pending rest long =
     }
 
 -- bytes that begin too long were seen
-pub ahead-long : (left left' : Option (List ℕ)) (pending : List ℕ) (now : ReaderData) → SeesTooLong left left' pending now → Ahead left left' pending BeginsLong
-ahead-long left left' pending now sees = record {
-  got = sees.waits.hands.got;
-  taken = sees.waits.hands.taken;
-  ahead = λ rest told. subst (λ bytes. BeginsLong (bytes ++ rest)) (sym sees.waits.hands.kept) (begins_long now.pending rest sees.too_long);
+pub ahead-long : (old new : Option (List ℕ)) (pending : List ℕ) (now : ReaderData) → FindsTooLong old new pending now → Ahead old new pending BeginsLong
+ahead-long old new pending now finds = record {
+  got = finds.hands_nothing.hands.got;
+  taken = finds.hands_nothing.hands.taken;
+  ahead = λ rest told. subst (λ bytes. BeginsLong (bytes ++ rest)) (sym finds.hands_nothing.hands.kept) (begins_long now.pending rest finds.too_long);
 }
 
 -- what is known of all that may be ahead
-pub ahead-map : (left left' : Option (List ℕ)) (pending : List ℕ) (P Q : List ℕ → Type 0) → ((bytes : List ℕ) → P bytes → Q bytes) → Ahead left left' pending P → Ahead left left' pending Q
-ahead-map left left' pending P Q f ahead = record { got = ahead.got; taken = ahead.taken; ahead = λ rest told. f _ (ahead.ahead rest told) }
+pub ahead-map : (old new : Option (List ℕ)) (pending : List ℕ) (P Q : List ℕ → Type 0) → ((bytes : List ℕ) → P bytes → Q bytes) → Ahead old new pending P → Ahead old new pending Q
+ahead-map old new pending P Q f ahead = record { got = ahead.got; taken = ahead.taken; ahead = λ rest told. f _ (ahead.ahead rest told) }
 
-pub some_ahead : (left left' : Option (List ℕ)) (pending line : List ℕ) → Ahead left left' pending (BeginsWith line) → Ahead left left' pending BeginsSome
-some_ahead left left' pending line ahead = ahead-map left left' pending (BeginsWith line) BeginsSome (λ bytes begins. record { line = line; begins = begins }) ahead
+pub some_ahead : (old new : Option (List ℕ)) (pending line : List ℕ) → Ahead old new pending (BeginsWith line) → Ahead old new pending BeginsSome
+some_ahead old new pending line ahead = ahead-map old new pending (BeginsWith line) BeginsSome (λ bytes begins. record { line = line; begins = begins }) ahead
 
-pub some_long : (left left' : Option (List ℕ)) (pending : List ℕ) (now : ReaderData) → SeesTooLong left left' pending now → Ahead left left' pending BeginsSome
-some_long left left' pending now sees =
-    ahead-map left left' pending BeginsLong BeginsSome (λ bytes begins. record { line = begins.line; begins = begins.begins }) (ahead-long left left' pending now sees)
+pub some_long : (old new : Option (List ℕ)) (pending : List ℕ) (now : ReaderData) → FindsTooLong old new pending now → Ahead old new pending BeginsSome
+some_long old new pending now finds =
+    ahead-map old new pending BeginsLong BeginsSome (λ bytes begins. record { line = begins.line; begins = begins.begins }) (ahead-long old new pending now finds)
 
 nothing : (xs ys : List ℕ) → xs ++ ys ≡ [] → (xs ≡ []) × (ys ≡ [])
 nothing [] ys e = (refl, e)
 nothing (x ∷ xs) ys e = absurd cc
 
 -- nothing was pending and nothing came
-pub end_ahead : (left left' : Option (List ℕ)) (pending : List ℕ) (now : ReaderData) → SeesEnd left left' pending now → Consumes left left' [] × (pending ≡ []) × IsAtEnd left'
-end_ahead left left' pending now sees =
-    let both = nothing pending sees.waits.hands.got (sees.waits.hands.kept ∙ sees.all) in
-    (subst (Consumes left left') both.1 sees.waits.hands.taken, both.0, sees.ended)
+pub end_ahead : (old new : Option (List ℕ)) (pending : List ℕ) (now : ReaderData) → FindsEnd old new pending now → Consumes old new [] × (pending ≡ []) × IsAtEnd new
+end_ahead old new pending now finds =
+    let both = nothing pending finds.hands_nothing.hands.got (finds.hands_nothing.hands.kept ∙ finds.all) in
+    (subst (Consumes old new) both.1 finds.hands_nothing.hands.taken, both.0, finds.ended)

@@ -3,12 +3,12 @@ use Rattle.std.proofs.Common.{◌≡◌, ◌∙◌, ℕ, List, [], ◌∷◌, �
 use Rattle.std.specs.Io.KnownBytes.{Consumes, Keeps}
 use Rattle.std.proofs.KnownBytes.{Consumes-nil, Consumes-trans, Consumes-kept}
 use Rattle.qz_io.specs.Lines.{lines_of, with_feed}
-use Rattle.qz_io.specs.Reading.{ReaderData, Hands, SeesLine, SeesRest, SeesEnd, ahead}
+use Rattle.qz_io.specs.Reading.{ReaderData, Hands, FindsLine, FindsLastLine, FindsEnd, ahead}
 use Rattle.qz_io.proofs.Cut.{lines_of-line, lines_of-rest}
 
 -- before the first step nothing was taken
-pub Hands-none : (left : Option (List ℕ)) (pending : List ℕ) → Hands left left pending pending []
-Hands-none left pending = record { got = []; taken = Consumes-nil left; kept = append-nil pending }
+pub Hands-none : (old : Option (List ℕ)) (pending : List ℕ) → Hands old old pending pending []
+Hands-none old pending = record { got = []; taken = Consumes-nil old; kept = append-nil pending }
 
 -- a step that only takes
 pub Hands-more : (a b c : Option (List ℕ)) (p q r got : List ℕ) → Hands a b p q [] → Consumes b c got → r ≡ q ++ got
@@ -37,25 +37,25 @@ Hands-ahead (Some x) (Some y) p q out hands =
     ap (λ bs. p ++ bs) hands.taken ∙ sym (append_assoc p hands.got y) ∙ ap (λ bs. bs ++ y) hands.kept ∙ append_assoc out q y
 
 -- a line that was handed out was the first of the lines ahead
-pub SeesLine-lines : (x y p : List ℕ) (now : ReaderData) → SeesLine (Some x) (Some y) p now
+pub FindsLine-lines : (x y p : List ℕ) (now : ReaderData) → FindsLine (Some x) (Some y) p now
     → lines_of (p ++ x) ≡ now.line ∷ lines_of (now.pending ++ y)
-SeesLine-lines x y p now sees =
-    ap lines_of (Hands-ahead (Some x) (Some y) p now.pending (with_feed now.line) sees.hands ∙ append_assoc now.line (10 ∷ []) (now.pending ++ y))
-    ∙ lines_of-line now.line (now.pending ++ y) sees.line.one_line
+FindsLine-lines x y p now finds =
+    ap lines_of (Hands-ahead (Some x) (Some y) p now.pending (with_feed now.line) finds.hands ∙ append_assoc now.line (10 ∷ []) (now.pending ++ y))
+    ∙ lines_of-line now.line (now.pending ++ y) finds.line.one_line
 
 -- the last line was the only one ahead
-pub SeesRest-lines : (x y p : List ℕ) (now : ReaderData) → SeesRest (Some x) (Some y) p now
+pub FindsLastLine-lines : (x y p : List ℕ) (now : ReaderData) → FindsLastLine (Some x) (Some y) p now
     → lines_of (p ++ x) ≡ now.line ∷ []
-SeesRest-lines x y p now sees =
-    let nothing : now.pending ++ y ≡ [] = ap (λ bs. bs ++ y) sees.all ∙ sees.ended in
+FindsLastLine-lines x y p now finds =
+    let nothing : now.pending ++ y ≡ [] = ap (λ bs. bs ++ y) finds.all ∙ finds.ended in
     ap lines_of (
-    Hands-ahead (Some x) (Some y) p now.pending now.line sees.hands ∙ ap (λ bs. now.line ++ bs) nothing ∙ append-nil now.line
+    Hands-ahead (Some x) (Some y) p now.pending now.line finds.hands ∙ ap (λ bs. now.line ++ bs) nothing ∙ append-nil now.line
     )
-    ∙ lines_of-rest now.line sees.some sees.line.one_line
+    ∙ lines_of-rest now.line finds.some finds.line.one_line
 
 -- at the end no line was ahead
-pub SeesEnd-lines : (x y p : List ℕ) (now : ReaderData) → SeesEnd (Some x) (Some y) p now → lines_of (p ++ x) ≡ []
-SeesEnd-lines x y p now sees =
+pub FindsEnd-lines : (x y p : List ℕ) (now : ReaderData) → FindsEnd (Some x) (Some y) p now → lines_of (p ++ x) ≡ []
+FindsEnd-lines x y p now finds =
     ap lines_of (
-    Hands-ahead (Some x) (Some y) p now.pending [] sees.waits.hands ∙ ap (λ bs. bs ++ y) sees.all ∙ sees.ended
+    Hands-ahead (Some x) (Some y) p now.pending [] finds.hands_nothing.hands ∙ ap (λ bs. bs ++ y) finds.all ∙ finds.ended
     )

@@ -3,7 +3,8 @@ use Rattle.std.proofs.Common.{◌≡◌, ◌≢◌, ◌∙◌, ℕ, ◌+◌, ◌
 use Rattle.std.proofs.lemmas.List.{get_or-take, get_or-drop, take-take}
 use Rattle.std.proofs.lemmas.List.Elements.{All-append, All-take}
 use Rattle.qz_io.specs.Lines.{IsOneLine, IsBeforeFeed, with_feed}
-use Rattle.qz_io.specs.declared.readers.TheConstants.{LINE_LIMIT, BLOCK}
+use Rattle.qz_io.specs.declared.limits.TheConstants.{LINE_LIMIT}
+use Rattle.qz_io.specs.declared.readers.TheConstants.{BLOCK}
 use Rattle.qz_io.specs.Reading.{IsBuffer, IsShortLine, BeginsTooLong}
 use Rattle.qz_io.proofs.Slices.{slice_range-join, slice_range-one, slice_range-front, take-slice_range, length-slice_range}
 

@@ -1,14 +1,14 @@
 -- The bytes that are ahead of a line reader, and the lines that they begin with.
 use Rattle.std.specs.Prelude.{◌≡◌, ◌<◌, ℕ, List, ◌∷◌, ◌++◌, length, Option, Some}
 use Rattle.std.specs.Io.KnownBytes.{Consumes}
-use Rattle.qz_io.specs.declared.readers.TheConstants.{LINE_LIMIT}
+use Rattle.qz_io.specs.declared.limits.TheConstants.{LINE_LIMIT}
 use Rattle.qz_io.specs.Lines.{lines_of}
 
 -- The bytes of the source that were taken, and all that are told of it: these bytes are ahead.
-pub record Ahead (left left' : Option (List ℕ)) (pending : List ℕ) (P : List ℕ → Type 0) : Type 0 where
+pub record Ahead (old new : Option (List ℕ)) (pending : List ℕ) (P : List ℕ → Type 0) : Type 0 where
   pub got : List ℕ
-  pub taken : Consumes left left' got
-  pub ahead : (rest : List ℕ) → left' ≡ Some rest → P ((pending ++ got) ++ rest)
+  pub taken : Consumes old new got
+  pub ahead : (rest : List ℕ) → new ≡ Some rest → P ((pending ++ got) ++ rest)
 
 -- these bytes begin with this line
 pub record BeginsWith (line bytes : List ℕ) : Type 0 where

@@ -1,5 +1,10 @@
 pub mod Ahead
+pub mod Around
 pub mod Clocks
+pub mod Handlers
+pub mod LineStates
 pub mod Lines
 pub mod Memory
+pub mod Outside
 pub mod Reading
+pub mod Turns

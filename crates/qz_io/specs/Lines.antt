@@ -32,7 +32,7 @@ pub record IsBeforeFeed (bytes : List ℕ) (n : ℕ) : Type 0 where
   pub stops : n < length bytes → slice_index bytes n ≡ 10
 
 -- these many bytes went from a source to a place of a buffer: none only at the end
-pub record GetsAt (left left' : Option (List ℕ)) (buffer : List ℕ) (at count : ℕ) : Type 0 where
+pub record GetsAt (old new : Option (List ℕ)) (buffer : List ℕ) (at count : ℕ) : Type 0 where
   pub within : at + count ≤ length buffer
-  pub taken : Consumes left left' (slice_range buffer at (at + count))
-  pub ended : count ≡ 0 → IsAtEnd left'
+  pub taken : Consumes old new (slice_range buffer at (at + count))
+  pub ended : count ≡ 0 → IsAtEnd new

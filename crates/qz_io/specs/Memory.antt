@@ -6,9 +6,10 @@ use Rattle.std.specs.List.{list_any}
 abbrev pub counted : ℕ → ℕ
 counted n = min (n + 1) (2 ^ 64 - 1)
 
--- a sink in memory: the bytes that it holds, and how often it found no memory
+-- a sink in memory: the bytes that it holds, those that it handed on, and how often it found no memory
 pub record MemSinkData : Type 0 where
   pub bytes : List ℕ
+  pub handed : List ℕ
   pub starved : ℕ
 
 -- whether the call that follows these many calls is planned to fail: calls are numbered from 1
@@ -30,10 +31,11 @@ pub record SourceFollowsPlan (old new : FaultSourceData) (failed : Bool) : Type 
   pub failing : new.failing ≡ old.failing
   pub faults : new.faults ≡ (if failed then counted old.faults else old.faults)
 
--- a sink with planned failures: the bytes that it holds, the numbers of the calls that fail, how many calls there
--- were, how many of them failed, and how often it found no memory
+-- a sink with planned failures: the bytes that it holds, those that it handed on, the numbers of the calls that fail,
+-- how many calls there were, how many of them failed, and how often it found no memory
 pub record FaultSinkData : Type 0 where
   pub bytes : List ℕ
+  pub handed : List ℕ
   pub failing : List ℕ
   pub calls : ℕ
   pub faults : ℕ

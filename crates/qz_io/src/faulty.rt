@@ -1,9 +1,10 @@
 //! A source and a sink in memory with planned failures.
-ghost use Rattle.std.specs.Prelude.{◌≡◌, ◌<◌, ◌≤◌, Some, IfOk, is_err, [], length, if◌then◌else◌};
+ghost use Rattle.std.specs.Prelude.{◌≡◌, ◌<◌, ◌≤◌, Some, IfOk, OnOk, OnErr, is_err, [], length, if◌then◌else◌};
 ghost use Rattle.std.specs.Io.{ReadsAtMost};
 ghost use Rattle.std.specs.Io.KnownBytes.{ReadConsumes, WriteAppends, Keeps};
 ghost use Rattle.qz_civil.specs.Causes.{HasCause};
 ghost use Rattle.qz_io.specs.Memory.{counted, fails_next, SourceFollowsPlan, SinkFollowsPlan};
+ghost use Rattle.qz_io.specs.Outside.{IsHandedOn};
 
 use crate::{MemSink, MemSource, Sink, Source};
 use qz_civil::{Failed, List};
@@ -108,8 +109,9 @@ impl Source for FaultSource {
     }
 }
 
-/// A sink that keeps what is written, but whose planned calls fail. Writes and flushes are counted together from 1, and
-/// a planned call takes nothing. It fails too where no memory is found.
+/// A sink that keeps what is written and hands it on at a flush, but whose planned calls fail. Writes and flushes are
+/// counted together from 1, so a flush alone can fail, and a planned call does nothing. It fails too where no memory is
+/// found.
 #[derive(Drop)]
 pub struct FaultSink {
     inner: MemSink,
@@ -123,6 +125,7 @@ impl Model for FaultSink {
 
     ghost view = { λ a. record {
       bytes = a.inner.bytes;
+      handed = a.inner.handed;
       failing = a.plan.failing;
       calls = a.plan.calls;
       faults = a.plan.faults;
@@ -133,7 +136,7 @@ impl Model for FaultSink {
 impl FaultSink {
     /// A sink that holds nothing, and whose calls with these numbers fail. It grows by this allocator. No memory.
     pub fn new(alloc: Global, failing: List<u64>) -> FaultSink
-        ensures { result ≡ record { bytes = []; failing = failing; calls = 0; faults = 0; starved = 0 } }
+        ensures { result ≡ record { bytes = []; handed = []; failing = failing; calls = 0; faults = 0; starved = 0 } }
     {
         FaultSink {
             inner: MemSink::new(alloc),
@@ -148,6 +151,13 @@ impl FaultSink {
         self.inner.bytes()
     }
 
+    /// Those of them that a flush has handed on.
+    pub fn handed(&self) -> &[u8]
+        ensures { result.now ≡ self.now.handed }
+    {
+        self.inner.handed()
+    }
+
     /// How often it found no memory. The count stops at its type's end.
     pub fn starved(&self) -> u64
         ensures { result ≡ self.now.starved }
@@ -159,6 +169,8 @@ impl FaultSink {
 impl Sink for FaultSink {
     ghost held = { λ s. Some s.bytes };
 
+    ghost handed = { λ s. Some s.handed };
+
     ghost faults = { λ s. s.faults };
 
     fn write(&mut self, from: &[u8]) -> Result<usize, Failed>
@@ -167,6 +179,7 @@ impl Sink for FaultSink {
         ensures bytes { WriteAppends (Some self.old.bytes) (Some self.new.bytes) result from.now }
         ensures cause { HasCause self.old.faults self.new.faults result }
         ensures plan { SinkFollowsPlan self.old self.new (is_err result) }
+        ensures handed { self.new.handed ≡ self.old.handed }
     {
         if self.plan.call() {
             return Err(Failed);
@@ -182,11 +195,13 @@ impl Sink for FaultSink {
         ensures bytes { Keeps (Some self.old.bytes) (Some self.new.bytes) }
         ensures cause { HasCause self.old.faults self.new.faults result }
         ensures plan { SinkFollowsPlan self.old self.new (is_err result) }
+        ensures handed { OnOk result (IsHandedOn (Some self.new.bytes) (Some self.new.handed)) }
+        ensures not_handed { OnErr result (self.new.handed ≡ self.old.handed) }
         ensures exact { is_err result ≡ fails_next self.old.failing self.old.calls }
     {
         if self.plan.call() {
             return Err(Failed);
         }
-        Ok(())
+        self.inner.flush()
     }
 }

@@ -4,6 +4,8 @@
 
 mod clocks;
 mod faulty;
+mod handlers;
+mod limits;
 mod logs;
 mod memory;
 mod pieces;
@@ -13,9 +15,11 @@ mod traits;
 
 pub use clocks::ListClock;
 pub use faulty::{FaultSink, FaultSource};
+pub use handlers::{LineHandler, LinesEnd, handle_lines};
+pub use limits::{LINE_COUNT_LIMIT, LINE_LIMIT, limits_are};
 pub use memory::{MemSink, MemSource};
 pub use pieces::write_all;
 pub use qz_civil::Failed;
-pub use readers::{LINE_COUNT_LIMIT, LINE_LIMIT, LineReader, Seen};
+pub use readers::{Found, LineReader};
 pub use system::{RealClock, StdSink, StdSource};
 pub use traits::{Clock, Sink, Source};

@@ -1,8 +1,9 @@
 //! A source and a sink in memory.
-ghost use Rattle.std.specs.Prelude.{◌≡◌, ◌<◌, ◌≤◌, if◌then◌else◌, Some, IsOk, IfOk, is_err, length};
+ghost use Rattle.std.specs.Prelude.{◌≡◌, ◌<◌, ◌≤◌, if◌then◌else◌, Some, IsOk, IfOk, OnOk, is_err, length};
 ghost use Rattle.std.specs.Io.KnownBytes.{WriteAppends, Keeps};
 ghost use Rattle.qz_civil.specs.Causes.{HasCause};
 ghost use Rattle.qz_io.specs.Memory.{counted};
+ghost use Rattle.qz_io.specs.Outside.{IsHandedOn};
 
 use crate::{Sink, Source};
 use qz_civil::{Failed, List};
@@ -49,19 +50,25 @@ impl Source for MemSource {
     }
 }
 
-/// A sink that keeps what is written. It fails where no memory is found, and counts that.
+/// A sink that keeps what is written, and hands it on at a flush alone. It fails where no memory is found, and counts
+/// that.
 #[derive(Drop)]
 pub struct MemSink {
     bytes: Vec<u8>,
+    /// So many of the bytes were handed on.
+    handed: usize,
     starved: u64,
 }
 
 impl Model for MemSink {
+    ghost use Rattle.std.specs.Prelude.{◌≤◌, take, length};
     ghost use Rattle.qz_io.specs.Memory.{MemSinkData};
 
     ghost Value = { MemSinkData };
 
-    ghost view = { λ a. record { bytes = a.bytes.items; starved = a.starved } };
+    ghost view = { λ a. record { bytes = a.bytes.items; handed = take a.handed a.bytes.items; starved = a.starved } };
+
+    ghost invariant = { λ a. a.handed ≤ length a.bytes.items };
 }
 
 impl MemSink {
@@ -69,10 +76,11 @@ impl MemSink {
 
     /// A sink that holds nothing. It grows by this allocator. No memory.
     pub fn new(alloc: Global) -> MemSink
-        ensures { result ≡ record { bytes = []; starved = 0 } }
+        ensures { result ≡ record { bytes = []; handed = []; starved = 0 } }
     {
         MemSink {
             bytes: Vec::new(alloc),
+            handed: 0,
             starved: 0,
         }
     }
@@ -82,6 +90,13 @@ impl MemSink {
         ensures { result.now ≡ self.now.bytes }
     {
         &self.bytes
+    }
+
+    /// Those of them that a flush has handed on.
+    pub fn handed(&self) -> &[u8]
+        ensures { result.now ≡ self.now.handed }
+    {
+        &self.bytes[..self.handed]
     }
 
     /// How often it found no memory. The count stops at its type's end.
@@ -95,6 +110,8 @@ impl MemSink {
 impl Sink for MemSink {
     ghost held = { λ s. Some s.bytes };
 
+    ghost handed = { λ s. Some s.handed };
+
     ghost faults = { λ s. s.starved };
 
     fn write(&mut self, from: &[u8]) -> Result<usize, Failed>
@@ -103,6 +120,7 @@ impl Sink for MemSink {
         ensures bytes { WriteAppends (Some self.old.bytes) (Some self.new.bytes) result from.now }
         ensures cause { HasCause self.old.starved self.new.starved result }
         ensures starved { self.new.starved ≡ (if is_err result then counted self.old.starved else self.old.starved) }
+        ensures handed { self.new.handed ≡ self.old.handed }
     {
         match self.bytes.extend_from_slice(from) {
             Ok(()) => Ok(from.len()),
@@ -116,9 +134,11 @@ impl Sink for MemSink {
     fn flush(&mut self) -> Result<(), Failed>
         ensures bytes { Keeps (Some self.old.bytes) (Some self.new.bytes) }
         ensures cause { HasCause self.old.starved self.new.starved result }
+        ensures handed { OnOk result (IsHandedOn (Some self.new.bytes) (Some self.new.handed)) }
         ensures ok { IsOk result }
-        ensures kept { self.new ≡ self.old }
+        ensures exact { self.new ≡ record self.old { handed = self.old.bytes } }
     {
+        self.handed = self.bytes.len();
         Ok(())
     }
 }

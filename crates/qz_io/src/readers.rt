@@ -4,28 +4,22 @@ ghost use Rattle.std.specs.Io.KnownBytes.{Keeps};
 ghost use Rattle.qz_civil.specs.Causes.{HasCause};
 ghost use Rattle.qz_io.specs.Lines.{IsBeforeFeed, GetsAt};
 
-use crate::Source;
+use crate::{LINE_LIMIT, Source};
 use memchr::memchr;
 use qz_civil::{Failed, NoMemory};
 use std::alloc::Global;
 use std::marker::Model;
 
-/// The greatest number of bytes of a line, without its line feed.
-pub const LINE_LIMIT: usize = 65536;
-
-/// The greatest number of lines of an input that is answered line by line.
-pub const LINE_COUNT_LIMIT: u64 = 1048576;
-
 /// The size of a reader's buffer in bytes. A read asks for at least half of it.
 const BLOCK: usize = 131072;
 
-/// What a line reader met.
+/// What a line reader found next.
 #[derive(Clone, Copy, PartialEq, Eq, Debug)]
-pub enum Seen {
+pub enum Found {
     /// A line, whose line feed was taken too.
     Line,
-    /// The last line, which isn't empty and has no line feed behind it.
-    Rest,
+    /// The last line, which isn't empty and has no line feed after it.
+    LastLine,
     /// More than `LINE_LIMIT` bytes without a line feed. They stay where they are.
     TooLong,
     /// The end of the source.
@@ -33,7 +27,7 @@ pub enum Seen {
 }
 
 /// Hands out the lines of a source. It reads in blocks into one buffer of 128 KiB, which is all the memory
-/// that it takes, looks at each byte once, and hands a line out where it stands.
+/// that it takes, looks at each byte once, and lends a line out of the buffer.
 ///
 /// Contracts see it as the line that it handed out last, and the bytes that it took from the source and hasn't handed
 /// out. Whoever reads on from the source itself has to begin with these.
@@ -101,8 +95,8 @@ fn read_behind<S: Source>(source: &mut S, buffer: &mut Vec<u8>, at: usize) -> Re
 }
 
 impl LineReader {
-    ghost use Rattle.qz_io.specs.declared.readers.TheConstants.{LINE_LIMIT};
-    ghost use Rattle.qz_io.specs.Reading.{Sees, SeesFault, Cuts, Fills, Finishes};
+    ghost use Rattle.qz_io.specs.declared.limits.TheConstants.{LINE_LIMIT};
+    ghost use Rattle.qz_io.specs.Reading.{Finds, FindsNone, Cuts, Fills, Finishes};
 
     /// A reader that has taken nothing yet. It takes all its memory here.
     pub fn new(alloc: Global) -> Result<LineReader, NoMemory>
@@ -128,14 +122,14 @@ impl LineReader {
     /// Looks for the next line, and reads from the source where the bytes that were taken hold none. A read that
     /// gives nothing is the end, and no call reads on behind it. `Failed` is only answered where a read failed; the
     /// next call goes on where this one stopped.
-    pub fn next<S: Source>(&mut self, source: &mut S) -> Result<Seen, Failed>
-        ensures seen { IfOk result (λ seen. Sees seen (S.left source.old) (S.left source.new) self.old.pending self.new) }
-        ensures failed { OnErr result (SeesFault (S.left source.old) (S.left source.new) self.old.pending self.new) }
+    pub fn next<S: Source>(&mut self, source: &mut S) -> Result<Found, Failed>
+        ensures found { IfOk result (λ found. Finds found (S.left source.old) (S.left source.new) self.old.pending self.new) }
+        ensures failed { OnErr result (FindsNone (S.left source.old) (S.left source.new) self.old.pending self.new) }
         ensures cause { HasCause (S.faults source.old) (S.faults source.new) result }
     {
         loop {
-            if let Some(seen) = self.cut() {
-                return Ok(seen);
+            if let Some(found) = self.cut() {
+                return Ok(found);
             }
             if self.fill(source)? == 0 {
                 return Ok(self.finish());
@@ -144,7 +138,7 @@ impl LineReader {
     }
 
     /// Hands out the first line of the pending bytes, where a whole one stands there that isn't too long.
-    fn cut(&mut self) -> Option<Seen>
+    fn cut(&mut self) -> Option<Found>
         ensures { Cuts result self.old.pending self.new }
     {
         let stop = self.scanned + before_feed(&self.buffer[self.scanned..self.end]);
@@ -152,7 +146,7 @@ impl LineReader {
         self.line_end = self.start;
         self.scanned = stop;
         if stop - self.start > LINE_LIMIT {
-            return Some(Seen::TooLong);
+            return Some(Found::TooLong);
         }
         if stop == self.end {
             return None;
@@ -160,7 +154,7 @@ impl LineReader {
         self.line_end = stop;
         self.start = stop + 1;
         self.scanned = stop + 1;
-        Some(Seen::Line)
+        Some(Found::Line)
     }
 
     /// Puts bytes of the source behind the pending ones, and answers how many.
@@ -182,7 +176,7 @@ impl LineReader {
     }
 
     /// Hands out what is pending at the end of the source.
-    fn finish(&mut self) -> Seen
+    fn finish(&mut self) -> Found
         ensures { Finishes result self.old.pending self.new }
     {
         self.line_start = self.start;
@@ -190,9 +184,9 @@ impl LineReader {
         self.start = self.end;
         self.scanned = self.end;
         if self.line_start == self.line_end {
-            Seen::End
+            Found::End
         } else {
-            Seen::Rest
+            Found::LastLine
         }
     }
 }

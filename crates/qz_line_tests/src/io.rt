@@ -4,8 +4,8 @@ ghost use Rattle.std.specs.Prelude.{Some};
 use crate::rows::{Row, check};
 use qz_civil::{Failed, List, beside};
 use qz_io::{
-    Clock, FaultSink, FaultSource, LINE_LIMIT, LineReader, ListClock, MemSink, MemSource,
-    RealClock, Seen, Sink, Source, StdSink, StdSource, write_all,
+    Clock, FaultSink, FaultSource, Found, LINE_LIMIT, LineReader, ListClock, MemSink, MemSource,
+    RealClock, Sink, Source, StdSink, StdSource, write_all,
 };
 use std::alloc::{AllocError, Global};
 
@@ -23,12 +23,12 @@ fn put(out: &mut Vec<u8>, open: u8, line: &[u8], close: u8) -> Result<(), AllocE
 }
 
 // What a reader met, each line in brackets.
-fn tell(out: &mut Vec<u8>, seen: Result<Seen, Failed>, line: &[u8]) -> Result<(), AllocError> {
+fn tell(out: &mut Vec<u8>, seen: Result<Found, Failed>, line: &[u8]) -> Result<(), AllocError> {
     match seen {
-        Ok(Seen::Line) => put(out, b'[', line, b']'),
-        Ok(Seen::Rest) => put(out, b'<', line, b'>'),
-        Ok(Seen::TooLong) => Ok(out.push(b'!')?),
-        Ok(Seen::End) => Ok(out.push(b'.')?),
+        Ok(Found::Line) => put(out, b'[', line, b']'),
+        Ok(Found::LastLine) => put(out, b'<', line, b'>'),
+        Ok(Found::TooLong) => Ok(out.push(b'!')?),
+        Ok(Found::End) => Ok(out.push(b'.')?),
         Err(_) => Ok(out.push(b'?')?),
     }
 }
@@ -41,7 +41,7 @@ fn tell_all<S: Source>(
     for _ in 0..9u8 {
         let seen = reader.next(source);
         tell(out, seen, reader.line())?;
-        if matches!(seen, Ok(Seen::TooLong | Seen::End)) {
+        if matches!(seen, Ok(Found::TooLong | Found::End)) {
             break;
         }
     }
@@ -85,7 +85,7 @@ fn lines_of_a_source(rt: HostRuntime) -> Result<(), AllocError> {
 // The length of the line that the reader hands out next, if it does.
 fn length<S: Source>(reader: &mut LineReader, source: &mut S) -> Option<usize> {
     match reader.next(source) {
-        Ok(Seen::Line | Seen::Rest) => Some(reader.line().len()),
+        Ok(Found::Line | Found::LastLine) => Some(reader.line().len()),
         _ => None,
     }
 }
@@ -173,7 +173,7 @@ fn block_source(alloc: Global, count: u8) -> Result<MemSource, AllocError> {
 fn count_blocks<S: Source>(reader: &mut LineReader, source: &mut S) -> u8 {
     for at in 0..250u8 {
         let seen = reader.next(source);
-        if seen != Ok(Seen::Line) || reader.line().len() != 4999 {
+        if seen != Ok(Found::Line) || reader.line().len() != 4999 {
             return at;
         }
     }
@@ -186,7 +186,7 @@ fn lines_come_whole_across_blocks(rt: HostRuntime) -> Result<(), AllocError> {
     let reader = LineReader::new(rt.alloc()).map_err(|_| AllocError);
     let (mut source, mut reader) = beside(source, reader)?;
     assert!(rt; count_blocks(&mut reader, &mut source) == 200);
-    assert!(rt; reader.next(&mut source) == Ok(Seen::End));
+    assert!(rt; reader.next(&mut source) == Ok(Found::End));
     Ok(())
 }
 
@@ -217,10 +217,11 @@ fn a_fault_loses_nothing(rt: HostRuntime) -> Result<(), AllocError> {
     Ok(())
 }
 
-// Whether two writes and a flush go through, and the sink has both.
+// Whether two writes and a flush go through, and the flush alone hands both on.
 fn takes_both(sink: &mut MemSink) -> bool {
     let is_written = write_all(sink, b"ab").is_ok() && write_all(sink, b"c").is_ok();
-    is_written && sink.flush().is_ok() && sink.bytes() == b"abc".as_slice() && sink.starved() == 0
+    let is_held = is_written && sink.handed().is_empty() && sink.flush().is_ok();
+    is_held && sink.bytes() == b"abc".as_slice() && sink.handed() == b"abc".as_slice()
 }
 
 #[test]
@@ -241,7 +242,9 @@ fn failing<K: Sink>(sink: &mut K) -> [bool; 4] {
 // Whether the second write and the second flush fail, and the sink has the first.
 fn loses_the_second(sink: &mut FaultSink) -> bool {
     let failed = failing(sink);
-    failed == [false, true, false, true] && sink.bytes() == b"ab".as_slice() && sink.starved() == 0
+    failed == [false, true, false, true]
+        && sink.bytes() == b"ab".as_slice()
+        && sink.handed() == b"ab".as_slice()
 }
 
 #[test]

@@ -11,7 +11,7 @@ fn bytes_of(alloc: Global, text: &str) -> Result<List<u8>, AllocError> {
     Ok(List::from_vec(Vec::from_slice(alloc, text.as_bytes())?))
 }
 
-// How a run on these lines ends, where it writes these replies.
+// How a run on these lines ends, where it writes these replies and hands them on.
 fn end_of(alloc: Global, lines: List<u8>, replies: &str, query: Query) -> Option<TimesEnd> {
     if query.after < 0 || query.after > LAST {
         return None;
@@ -19,7 +19,8 @@ fn end_of(alloc: Global, lines: List<u8>, replies: &str, query: Query) -> Option
     let mut input = MemSource::new(lines);
     let mut out = MemSink::new(alloc);
     let end = run_times(alloc, &mut input, &mut out, query);
-    if out.bytes() == replies.as_bytes() {
+    let is_handed = end != TimesEnd::Done || out.handed() == out.bytes();
+    if out.bytes() == replies.as_bytes() && is_handed {
         Some(end)
     } else {
         None
@@ -161,9 +162,9 @@ fn inputs_end_in_their_ways(rt: HostRuntime) -> Result<(), AllocError> {
 
 const FIRST: Query = Query { after: 0, count: 1 };
 
-// The plan of failures in which the first call fails.
-fn first_fails(alloc: Global) -> Result<List<u64>, AllocError> {
-    Ok(List::from_vec(Vec::from_slice(alloc, &[1])?))
+// The plan of failures in which this call fails.
+fn call_fails(alloc: Global, number: u64) -> Result<List<u64>, AllocError> {
+    Ok(List::from_vec(Vec::from_slice(alloc, &[number])?))
 }
 
 // How a run ends that reads the zone.
@@ -177,14 +178,14 @@ fn end_of_zone<S: Source + Drop, K: Sink + Drop>(
 
 // How it ends where the first read fails.
 fn end_unread(alloc: Global) -> Result<TimesEnd, AllocError> {
-    let (failing, lines) = beside(first_fails(alloc)?, bytes_of(alloc, CET))?;
+    let (failing, lines) = beside(call_fails(alloc, 1)?, bytes_of(alloc, CET))?;
     let input = FaultSource::new(lines, failing);
     Ok(end_of_zone(alloc, input, MemSink::new(alloc)))
 }
 
-// How it ends where the first write fails.
-fn end_unwritten(alloc: Global) -> Result<TimesEnd, AllocError> {
-    let (failing, lines) = beside(first_fails(alloc)?, bytes_of(alloc, CET))?;
+// How it ends where this write or flush fails.
+fn end_unwritten(alloc: Global, number: u64) -> Result<TimesEnd, AllocError> {
+    let (failing, lines) = beside(call_fails(alloc, number)?, bytes_of(alloc, CET))?;
     let out = FaultSink::new(alloc, failing);
     Ok(end_of_zone(alloc, MemSource::new(lines), out))
 }
@@ -192,6 +193,9 @@ fn end_unwritten(alloc: Global) -> Result<TimesEnd, AllocError> {
 #[test]
 fn a_failure_ends_it(rt: HostRuntime) -> Result<(), AllocError> {
     assert!(rt; end_unread(rt.alloc())? == TimesEnd::ReadFault);
-    assert!(rt; end_unwritten(rt.alloc())? == TimesEnd::WriteFault);
+    assert!(rt; end_unwritten(rt.alloc(), 1)? == TimesEnd::WriteFault);
+    // the flush after the one reply
+    assert!(rt; end_unwritten(rt.alloc(), 2)? == TimesEnd::WriteFault);
+    assert!(rt; end_unwritten(rt.alloc(), 3)? == TimesEnd::Done);
     Ok(())
 }

@@ -1,19 +1,20 @@
 -- Changes of the tables: what each needs to keep them valid. Here are the cases of an outcome, and the moment.
-use Rattle.std.proofs.Common.{◌≡◌, ℕ, ◌<◌, ◌≤◌, ℤ, Bool, true, false, List, Option, Some, None, IsSome, IsSomeAnd, count_by, refl, sym, subst, arith, if◌then◌else◌}
+use Rattle.std.proofs.Common.{◌≡◌, ℕ, ◌<◌, ◌≤◌, ℤ, Bool, true, false, List, Option, Some, None, IsSome, IfSome, IsSomeAnd, IsTrue, count_by, refl, sym, subst, arith, if◌then◌else◌}
 use Rattle.std.specs.List.{AllByRecursion}
 use Rattle.std.proofs.lemmas.Int.{ints, clamps}
-use Rattle.qz_types.specs.Rows.{JobData, TriggerData, FiredData}
+use Rattle.qz_types.specs.Rows.{JobData, TriggerData, CalendarData, ZoneData, MemberData, FiredData}
 use Rattle.qz_types.specs.declared.keys.Key.{Key}
 use Rattle.qz_types.specs.declared.triggers.TriggerState.TheVariants as state
 use Rattle.qz_types.specs.declared.replies.Reply.{Reply}
 use Rattle.qz_types.specs.declared.replies.Refusal.{Refusal}
-use Rattle.qz_model.specs.Tables.{SchedulerTables, IsMoment, recorded_moment}
-use Rattle.qz_model.specs.Outcomes.{Outcome, accepted, unless}
-use Rattle.qz_model.specs.Words.{job_of, trigger_of, fired_of}
+use Rattle.qz_types.specs.Tables.{SchedulerTables, IsMoment, recorded_moment}
+use Rattle.qz_types.specs.Outcomes.{Outcome, accepted, unless}
+use Rattle.qz_types.specs.Words.{job_of, trigger_of, calendar_of, member_of, fired_of}
 use Rattle.qz_model.specs.Scheduling.{is_reserved}
-use Rattle.qz_model.specs.Firing.{is_acquired}
-use Rattle.qz_model.specs.Invariant.{IsRowOf, is_acquired_for, is_live_state, EndsIn, IsNumbered, HasTimes, TablesValid}
-use Rattle.qz_model.proofs.RowPoints.{All-weaker}
+use Rattle.qz_model.specs.Executions.{is_acquired, is_exclusive_of, is_busy}
+use Rattle.qz_model.specs.Invariant.{zone_named_by, is_known_zone, IsRowOf, is_acquired_for, HasFlag, is_blocked_or_done, is_blocked, is_live_state, EndsIn, IsNumbered, HasTimes, TablesValid}
+use Rattle.qz_model.proofs.RowPoints.{All-weaker, any_from_counts}
+use Rattle.qz_model.proofs.References.{references-moment}
 
 -- an accepted outcome had no refusal
 pub record Passes (x : Option Refusal) (o : Outcome) (T : SchedulerTables) (r : Reply) : Type 0 where
@@ -59,6 +60,35 @@ HasNextTime horizon t = is_live_state t.state ≡ true → IsSomeAnd t.next (IsM
 abbrev pub HasRowTimes : ℤ → FiredData → Type 0
 HasRowTimes horizon f = HasTimes horizon f f.state
 
+-- what a trigger names besides its job is stored
+abbrev pub HasCalendar : List CalendarData → TriggerData → Type 0
+HasCalendar calendars t = IfSome t.spec.calendar (λ name. IsSome (calendar_of name calendars))
+
+abbrev pub HasZone : List ZoneData → TriggerData → Type 0
+HasZone zones t = IfSome (zone_named_by t.spec.timing.kind) (λ name. IsTrue (is_known_zone zones name))
+
+-- an execution agrees with all others of its job
+abbrev pub AgreesWithRows : List FiredData → FiredData → Type 0
+AgreesWithRows fired f = is_acquired f.state ≡ false → AllByRecursion (HasFlag f.job f.no_concurrent) fired
+
+abbrev pub AgreesWithJob : List FiredData → JobData → Type 0
+AgreesWithJob fired j = AllByRecursion (HasFlag j.key j.no_concurrent) fired
+
+-- its state fits what goes on of its job
+abbrev pub StaysBlocked : List FiredData → TriggerData → Type 0
+StaysBlocked fired t = is_busy t.spec.job fired ≡ true → is_blocked_or_done t.state ≡ true
+
+abbrev pub IsBlockedBy : List FiredData → TriggerData → Type 0
+IsBlockedBy fired t = is_blocked t.state ≡ true → is_busy t.spec.job fired ≡ true
+
+abbrev pub HasMember : List MemberData → FiredData → Type 0
+HasMember members f = IsSomeAnd (member_of f.node members) (λ m. m.epoch ≡ f.epoch)
+
+-- the points that speak of fired rows, jobs and triggers together stay where the rows' counts and flags do
+pub busy-same : (key : Key) (old new : List FiredData) → count_by (is_exclusive_of key) new ≡ count_by (is_exclusive_of key) old → is_busy key new ≡ is_busy key old
+unfolding is_busy
+busy-same key old new same = any_from_counts (is_exclusive_of key) new old same
+
 -- a trigger that the scheduler added has a number of its own
 abbrev pub HasNumber : SchedulerTables → TriggerData → Type 0
 HasNumber T t = is_reserved t.spec.key.group ≡ true → (number : ℕ) × IsNumbered T t number
@@ -94,23 +124,17 @@ HasNumber-alike T t u same has reserved =
 -- the moment of the transaction
 pub valid-moment : (T : SchedulerTables) (m : ℤ) → TablesValid T → IsMoment T.horizon m → TablesValid (record T { last_moment = m })
 valid-moment T m valid is = record {
-  ordered = record { jobs = valid.ordered.jobs; triggers = valid.ordered.triggers; members = valid.ordered.members; fired = valid.ordered.fired };
-  limits = record {
-    stored = valid.limits.stored;
-    jobs = valid.limits.jobs;
-    triggers = valid.limits.triggers;
-    members = valid.limits.members;
-    fired = valid.limits.fired;
-    next_entry = valid.limits.next_entry;
-    next_epoch = valid.limits.next_epoch;
-    threshold = valid.limits.threshold;
-  };
-  acquired = record { one_row = valid.acquired.one_row; a_trigger = valid.acquired.a_trigger };
-  next_times = record { next = valid.next_times.next; last_moment = is };
+  references_and_limits = references-moment T valid.references_and_limits m;
+  acquired_match = valid.acquired_match;
+  concurrency_agrees = valid.concurrency_agrees;
+  one_exclusive = valid.one_exclusive;
+  blocked_are_busy = valid.blocked_are_busy;
+  rows_of_members = valid.rows_of_members;
+  next_times = record { next = valid.next_times.next; moment = is };
   fresh = record {
     fired = valid.fresh.fired;
     added = All-weaker (HasNumber T) (HasNumber (record T { last_moment = m })) T.triggers
         (λ t has. HasNumber-kept T (record T { last_moment = m }) t (omega arith) (λ n below none. none) (λ n all. all) has) valid.fresh.added;
   };
-  row_times = record { rows = valid.row_times.rows };
+  row_times = valid.row_times;
 }

@@ -1,5 +1,5 @@
 -- The tables are valid after every transaction.
-use Rattle.std.proofs.Common.{◌≡◌, ℕ, ℤ, IsTrue, arith}
+use Rattle.std.proofs.Common.{◌≡◌, ℕ, ℤ, None, IsTrue, refl, arith}
 use Rattle.std.proofs.lemmas.Bool.{and_parts}
 use Rattle.qz_types.specs.Entries.{EntryData, is_command, is_of_node, has_actor, is_entry}
 use Rattle.qz_types.specs.declared.commands.Command.{Command}
@@ -7,10 +7,12 @@ use Rattle.qz_types.specs.declared.commands.Command.TheVariants.{AddJob, DeleteJ
 use Rattle.qz_types.specs.declared.commands.Actor.{Actor}
 use Rattle.qz_types.specs.declared.commands.Actor.TheVariants.{Client, Node}
 use Rattle.qz_types.specs.declared.replies.Reply.{Reply}
-use Rattle.qz_model.specs.Tables.{SchedulerTables, IsMoment, empty, recorded_moment}
-use Rattle.qz_types.specs.declared.replies.Refusal.TheVariants.{Unbuilt}
-use Rattle.qz_model.specs.Outcomes.{accepted, refused}
+use Rattle.qz_types.specs.Tables.{SchedulerTables, IsMoment, empty, new_tables, recorded_moment}
+use Rattle.qz_types.specs.declared.replies.Refusal.{Refusal}
+use Rattle.qz_types.specs.declared.replies.Refusal.TheVariants.{Unbuilt, Fenced}
+use Rattle.qz_types.specs.Outcomes.{accepted, refused}
 use Rattle.qz_model.specs.Transaction.{by_command, transaction}
+use Rattle.qz_model.specs.Executions.{is_busy}
 use Rattle.qz_model.specs.Invariant.{TablesValid}
 use Rattle.qz_model.proofs.Changes.{moment_within}
 use Rattle.qz_model.proofs.KeptScheduling.{kept-add_job, kept-add_trigger}
@@ -19,36 +21,36 @@ use Rattle.qz_model.proofs.KeptAcquiring.{kept-acquire}
 use Rattle.qz_model.proofs.KeptFiring.{kept-fire}
 use Rattle.qz_model.proofs.KeptCompletion.{kept-complete}
 
--- what isn't built is refused
-unbuilt-keeps : (T' : SchedulerTables) (r : Reply) → refused Unbuilt ≡ accepted T' r → TablesValid T'
-unbuilt-keeps T' r e = absurd (cc)
+-- what is refused leaves no other tables
+refused-keeps : (T' : SchedulerTables) (r : Reply) (x : Refusal) → refused x ≡ accepted T' r → TablesValid T'
+refused-keeps T' r x e = absurd (cc)
 
 kept-by_command : (T T' : SchedulerTables) (m : ℤ) (actor : Actor) (c : Command) (r : Reply) → IsTrue (is_command c) → TablesValid T → IsMoment T.horizon m → by_command T m actor c ≡ accepted T' r → TablesValid T'
 kept-by_command T T' m actor (AddJob job replace) r good valid is e = kept-add_job T T' m job replace r valid is e
 kept-by_command T T' m actor (AddTrigger spec replace) r good valid is e = kept-add_trigger T T' m spec replace r good valid is e
 kept-by_command T T' m actor (Join node) r good valid is e = kept-join T T' m node r valid is e
-kept-by_command T T' m Client (Acquire no_later window max) r good valid is e = unbuilt-keeps T' r e
+kept-by_command T T' m Client (Acquire no_later window max) r good valid is e = refused-keeps T' r (Fenced None) e
 kept-by_command T T' m (Node me) (Acquire no_later window max) r good valid is e = kept-acquire T T' m me no_later window max r valid is e
-kept-by_command T T' m Client (Fire entry) r good valid is e = unbuilt-keeps T' r e
+kept-by_command T T' m Client (Fire entry) r good valid is e = refused-keeps T' r (Fenced None) e
 kept-by_command T T' m (Node me) (Fire entry) r good valid is e = kept-fire T T' m me entry r valid is e
-kept-by_command T T' m Client (Complete entry code) r good valid is e = unbuilt-keeps T' r e
+kept-by_command T T' m Client (Complete entry code) r good valid is e = refused-keeps T' r (Fenced None) e
 kept-by_command T T' m (Node me) (Complete entry code) r good valid is e = kept-complete T T' m me entry code r valid is e
-kept-by_command T T' m actor (DeleteJob key) r good valid is e = unbuilt-keeps T' r e
-kept-by_command T T' m actor (DeleteTrigger key) r good valid is e = unbuilt-keeps T' r e
-kept-by_command T T' m actor (PauseTrigger key) r good valid is e = unbuilt-keeps T' r e
-kept-by_command T T' m actor (ResumeTrigger key) r good valid is e = unbuilt-keeps T' r e
-kept-by_command T T' m actor (PauseGroup group) r good valid is e = unbuilt-keeps T' r e
-kept-by_command T T' m actor (ResumeGroup group) r good valid is e = unbuilt-keeps T' r e
-kept-by_command T T' m actor (AddCalendar calendar replace) r good valid is e = unbuilt-keeps T' r e
-kept-by_command T T' m actor (DeleteCalendar name) r good valid is e = unbuilt-keeps T' r e
-kept-by_command T T' m actor (AddZone zone) r good valid is e = unbuilt-keeps T' r e
-kept-by_command T T' m actor (DeleteZone name) r good valid is e = unbuilt-keeps T' r e
-kept-by_command T T' m actor (TriggerNow job) r good valid is e = unbuilt-keeps T' r e
-kept-by_command T T' m actor (Threshold ms) r good valid is e = unbuilt-keeps T' r e
-kept-by_command T T' m actor Leave r good valid is e = unbuilt-keeps T' r e
-kept-by_command T T' m actor (Release entry) r good valid is e = unbuilt-keeps T' r e
-kept-by_command T T' m actor Misfires r good valid is e = unbuilt-keeps T' r e
-kept-by_command T T' m actor (Recover node) r good valid is e = unbuilt-keeps T' r e
+kept-by_command T T' m actor (DeleteJob key) r good valid is e = refused-keeps T' r Unbuilt e
+kept-by_command T T' m actor (DeleteTrigger key) r good valid is e = refused-keeps T' r Unbuilt e
+kept-by_command T T' m actor (PauseTrigger key) r good valid is e = refused-keeps T' r Unbuilt e
+kept-by_command T T' m actor (ResumeTrigger key) r good valid is e = refused-keeps T' r Unbuilt e
+kept-by_command T T' m actor (PauseGroup group) r good valid is e = refused-keeps T' r Unbuilt e
+kept-by_command T T' m actor (ResumeGroup group) r good valid is e = refused-keeps T' r Unbuilt e
+kept-by_command T T' m actor (AddCalendar calendar replace) r good valid is e = refused-keeps T' r Unbuilt e
+kept-by_command T T' m actor (DeleteCalendar name) r good valid is e = refused-keeps T' r Unbuilt e
+kept-by_command T T' m actor (AddZone zone) r good valid is e = refused-keeps T' r Unbuilt e
+kept-by_command T T' m actor (DeleteZone name) r good valid is e = refused-keeps T' r Unbuilt e
+kept-by_command T T' m actor (TriggerNow job) r good valid is e = refused-keeps T' r Unbuilt e
+kept-by_command T T' m actor (Threshold ms) r good valid is e = refused-keeps T' r Unbuilt e
+kept-by_command T T' m actor Leave r good valid is e = refused-keeps T' r Unbuilt e
+kept-by_command T T' m actor (Release entry) r good valid is e = refused-keeps T' r Unbuilt e
+kept-by_command T T' m actor Misfires r good valid is e = refused-keeps T' r Unbuilt e
+kept-by_command T T' m actor (Recover node) r good valid is e = refused-keeps T' r Unbuilt e
 
 command_of : (e : EntryData) → IsTrue (is_entry e) → IsTrue (is_command e.command)
 unfolding is_entry
@@ -56,27 +58,38 @@ command_of e is = (and_parts (is_command e.command) (has_actor (is_of_node e.com
 
 -- An accepted transaction of a valid entry keeps the tables valid.
 pub kept : (T T' : SchedulerTables) (e : EntryData) (r : Reply) → IsTrue (is_entry e) → TablesValid T → transaction T e ≡ accepted T' r → TablesValid T'
-kept T T' e r good valid way = kept-by_command T T' (recorded_moment T e.at) e.actor e.command r (command_of e good) valid (moment_within T e.at valid.next_times.last_moment) way
+kept T T' e r good valid way = kept-by_command T T' (recorded_moment T e.at) e.actor e.command r (command_of e good) valid (moment_within T e.at valid.next_times.moment) way
 
 -- The tables of a new store are valid.
-pub valid-new : (version : ℕ) → TablesValid (empty version)
-valid-new version = record {
-  ordered = record { jobs = tt; triggers = tt; members = tt; fired = tt };
-  limits = record {
-    stored = tt;
-    jobs = omega arith;
-    triggers = omega arith;
-    members = omega arith;
-    fired = omega arith;
-    next_entry = omega arith;
-    next_epoch = omega arith;
-    threshold = record { low = omega arith; high = omega arith };
+pub valid-empty : (version : ℕ) → TablesValid (empty version)
+unfolding is_busy
+valid-empty version = record {
+  references_and_limits = record {
+    ordered = record { jobs = tt; triggers = tt; calendars = tt; zones = tt; paused_groups = tt; members = tt; fired = tt };
+    stored = record { trigger_jobs = tt; trigger_calendars = tt; trigger_zones = tt; bases = tt; calendar_zones = tt; chains = tt };
+    limits = record {
+      jobs = omega arith;
+      triggers = omega arith;
+      calendars = omega arith;
+      zones = omega arith;
+      paused_groups = omega arith;
+      members = omega arith;
+      fired = omega arith;
+      next_entry = omega arith;
+      next_epoch = omega arith;
+      threshold = refl;
+    };
   };
-  acquired = record { one_row = tt; a_trigger = tt };
-  next_times = record { next = tt; last_moment = record { low = omega arith; high = omega arith } };
+  acquired_match = record { one_row = tt; a_trigger = tt };
+  concurrency_agrees = record { with_rows = tt; with_jobs = tt };
+  one_exclusive = record { one = λ key. omega arith; blocked = tt };
+  blocked_are_busy = record { busy = tt };
+  rows_of_members = record { given = tt; distinct = tt; rows = tt };
+  next_times = record { next = tt; moment = record { low = omega arith; high = omega arith } };
   fresh = record { fired = tt; added = tt };
   row_times = record { rows = tt };
 }
 
-pub valid-empty : TablesValid (empty 1)
-valid-empty = valid-new 1
+pub valid-new_tables : TablesValid new_tables
+unfolding new_tables
+valid-new_tables = valid-empty 1

@@ -2,7 +2,7 @@ pub mod Changes
 mod Counts
 mod DueFirst
 pub mod DueLaws
-pub mod Found
+mod DueOrder
 pub mod Histories
 pub mod Kept
 pub mod KeptAcquiring
@@ -11,6 +11,8 @@ pub mod KeptFiring
 pub mod KeptMembership
 pub mod KeptScheduling
 pub mod LookUps
+pub mod References
+mod Refused
 pub mod RowLaws
 pub mod RowPoints
 pub mod Scripts

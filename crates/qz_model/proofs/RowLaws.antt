@@ -2,7 +2,10 @@
 use Rattle.std.proofs.Common.{◌≡◌, ℕ, ◌+◌, ◌<◌, ◌≤◌, ◌==◌, Bool, true, false, not, cond, List, length, count_by, Option, Some, None, IsSome, is_some, is_none, option_map, refl, sym, ap, ◌∙◌, arith, if◌then◌else◌}
 use Rattle.std.specs.List.{AllByRecursion}
 use Rattle.std.specs.Cmp.{IsTotalOrder, IsEquivalence}
-use Rattle.std.specs.Ordering.{nat_cmp, is_eq}
+use Rattle.std.specs.Ordering.{nat_cmp, is_eq, ordering_then}
+use Rattle.std.specs.declared.cmp.Ordering.{Ordering}
+use Rattle.std.specs.declared.cmp.Ordering.TheVariants.{Less, Equal, Greater}
+use Rattle.std.proofs.lemmas.Map.Lookups.{exact_bytes}
 use Rattle.std.proofs.lemmas.Bool.{eqb-true, ne_eqb}
 use Rattle.std.proofs.lemmas.Bool.Decides.{nat_tests}
 use Rattle.std.proofs.lemmas.Cmp.{nat_cmp_total, nat_list_cmp_total, then_total, on_total, eq_by_cmp_equiv}
@@ -11,7 +14,7 @@ use Rattle.qz_types.specs.Sorted.{IsAscending}
 use Rattle.qz_types.specs.Rows.{JobData, TriggerData, MemberData, FiredData}
 use Rattle.qz_types.specs.declared.keys.Key.{Key}
 use Rattle.qz_types.proofs.Ascending.{IsAscending-put}
-use Rattle.qz_model.specs.Words.{text_cmp, key_cmp, same_key, job_of, put_job, without_job, trigger_of, put_trigger, with_trigger, without_trigger, member_of, put_member, fired_of, put_fired, with_fired, without_fired}
+use Rattle.qz_types.specs.Words.{text_cmp, key_cmp, same_key, job_of, put_job, without_job, trigger_of, put_trigger, with_trigger, without_trigger, member_of, put_member, fired_of, put_fired, with_fired, without_fired}
 use Rattle.qz_model.proofs.RowPoints.{All-from, All-weaker, All-put, All-changed, All-left, changed_keeps, count_by-put, count_by-changed, count_by-left, length-put, length-filter_le}
 use Rattle.qz_model.proofs.LookUps.{All-row_of, row_of-id, row_of_none, row_of-map, row_of-put, row_of-put_new, row_of-filter, row_of-filter_none, one_found, each_found, only_found, row_of-alike, equal_from, IsAscending-map, IsAscending-filter}
 
@@ -21,6 +24,26 @@ key_total = then_total (on_total (λ k. k.group) nat_list_cmp_total) (on_total (
 pub same_key_laws : IsEquivalence same_key
 unfolding same_key
 same_key_laws = eq_by_cmp_equiv key_total
+
+then_equal : (a b : Ordering) → ordering_then a b ≡ Equal → (a ≡ Equal) × (b ≡ Equal)
+then_equal Less b e = absurd (cc)
+then_equal Equal b e = (refl, e)
+then_equal Greater b e = absurd (cc)
+
+abbrev key_with : List ℕ → List ℕ → Key
+key_with group name = record { group = group; name = name }
+
+key_alike : (g h n m : List ℕ) → g ≡ h → n ≡ m → key_with g n ≡ key_with h m
+key_alike g h n m group name = ap (λ (x : List ℕ). key_with x n) group ∙ ap (λ (y : List ℕ). key_with h y) name
+
+-- keys that the order doesn't tell apart are equal
+pub same_key-exact : (a b : Key) → same_key a b ≡ true → a ≡ b
+unfolding same_key
+same_key-exact a b same =
+    let parts = then_equal (text_cmp a.group b.group) (text_cmp a.name b.name) (equal_from (key_cmp a b) same) in
+    let group : a.group ≡ b.group = exact_bytes a.group b.group parts.0 in
+    let name : a.name ≡ b.name = exact_bytes a.name b.name parts.1 in
+    key_alike a.group b.group a.name b.name group name
 
 -- a key that is one of two that differ isn't the other
 pub other_key : (j k l : Key) → same_key j k ≡ false → same_key k l ≡ true → same_key j l ≡ false
@@ -49,6 +72,26 @@ ordered-put_job row rows ordered absent = IsAscending-put key_cmp (λ r. r.key) 
 pub ordered-without_job : (k : Key) (rows : List JobData) → IsAscending key_cmp (λ r. r.key) rows → IsAscending key_cmp (λ r. r.key) (without_job k rows)
 unfolding without_job
 ordered-without_job k rows ordered = IsAscending-filter key_cmp (λ r. r.key) key_total (λ r. not (same_key k r.key)) rows ordered
+
+pub All-job_of : (P : JobData → Type 0) (k : Key) (j : JobData) (rows : List JobData) → AllByRecursion P rows → job_of k rows ≡ Some j → P j
+unfolding job_of
+All-job_of P k j rows all found = All-row_of key_cmp (λ r. r.key) P k j rows all found
+
+pub job_of-key : (k : Key) (j : JobData) (rows : List JobData) → job_of k rows ≡ Some j → same_key k j.key ≡ true
+unfolding job_of same_key
+job_of-key k j rows found = row_of-id key_cmp (λ r. r.key) k j rows found
+
+pub only_job : (k : Key) (j : JobData) (rows : List JobData) → IsAscending key_cmp (λ r. r.key) rows → job_of k rows ≡ Some j → AllByRecursion (λ i. same_key k i.key ≡ true → i ≡ j) rows
+unfolding job_of same_key
+only_job k j rows ordered found = only_found key_cmp (λ r. r.key) key_total k j rows ordered found
+
+pub All-put_job : (P : JobData → Type 0) (row : JobData) (rows : List JobData) → P row → AllByRecursion P rows → AllByRecursion P (put_job row rows)
+unfolding put_job
+All-put_job P row rows new all = All-put key_cmp (λ r. r.key) P row rows new all
+
+pub All-without_job : (P Q : JobData → Type 0) (k : Key) (rows : List JobData) → AllByRecursion P rows → ((j : JobData) → same_key k j.key ≡ false → P j → Q j) → AllByRecursion Q (without_job k rows)
+unfolding without_job
+All-without_job P Q k rows all left = All-left P Q (λ r. same_key k r.key) rows all left
 
 -- a stored job is still stored where a new one is put
 pub job_of-put_job : (k : Key) (row : JobData) (rows : List JobData) → job_of row.key rows ≡ None → IsSome (job_of k rows) → IsSome (job_of k (put_job row rows))
@@ -155,6 +198,14 @@ length-without_trigger k rows = length-filter_le (λ r. not (same_key k r.spec.k
 pub ordered-put_member : (row : MemberData) (rows : List MemberData) → IsAscending text_cmp (λ r. r.node) rows → member_of row.node rows ≡ None → IsAscending text_cmp (λ r. r.node) (put_member row rows)
 unfolding member_of put_member
 ordered-put_member row rows ordered absent = IsAscending-put text_cmp (λ r. r.node) nat_list_cmp_total row rows ordered absent
+
+pub All-put_member : (P : MemberData → Type 0) (row : MemberData) (rows : List MemberData) → P row → AllByRecursion P rows → AllByRecursion P (put_member row rows)
+unfolding put_member
+All-put_member P row rows new all = All-put text_cmp (λ r. r.node) P row rows new all
+
+pub member_of-put_member : (node : List ℕ) (row m : MemberData) (rows : List MemberData) → member_of row.node rows ≡ None → member_of node rows ≡ Some m → member_of node (put_member row rows) ≡ Some m
+unfolding member_of put_member
+member_of-put_member node row m rows absent found = row_of-put_new text_cmp (λ r. r.node) nat_list_cmp_total node row m rows absent found
 
 pub length-put_member : (row : MemberData) (rows : List MemberData) → length (put_member row rows) ≡ length rows + 1
 unfolding put_member

@@ -1,9 +1,10 @@
 -- What edits make of what holds of each row, of counts and of lengths.
-use Rattle.std.proofs.Common.{◌≡◌, ◌+◌, ◌≤◌, Bool, true, false, not, cond, ◌||◌, List, [], ◌∷◌, length, map, filter, count_by, refl, sym, ◌∙◌, arith, if◌then◌else◌}
+use Rattle.std.proofs.Common.{◌≡◌, ◌+◌, ◌≤◌, Bool, true, false, not, cond, ◌||◌, List, [], ◌∷◌, length, map, filter, count_by, nat_lt, refl, sym, ap, ◌∙◌, arith, if◌then◌else◌}
 use Rattle.std.specs.List.{AllByRecursion, list_any}
 use Rattle.std.specs.Ordering.{is_gt}
 use Rattle.std.specs.declared.cmp.Ordering.{Ordering}
 use Rattle.std.proofs.lemmas.Bool.{not-true, not-false}
+use Rattle.std.proofs.lemmas.Bool.Decides.{nat_tests}
 use Rattle.std.proofs.lemmas.List.Sums.{sum_by-cons}
 use Rattle.qz_types.specs.Sorted.{put}
 
@@ -46,6 +47,18 @@ module _ {R : Type 0} where
   pub count_by-none : (p : R → Bool) (xs : List R) → AllByRecursion (λ x. p x ≡ false) xs → count_by p xs ≡ 0
   count_by-none p [] none = refl
   count_by-none p (x ∷ xs) none = rw (count_by-cons p x xs, none.0) (omega (arith, count_by-none p xs none.1))
+
+  -- some row passes where the count isn't 0
+  any_is_count : (p : R → Bool) (xs : List R) → list_any p xs ≡ nat_lt 0 (count_by p xs)
+  any_is_count p [] = refl
+  any_is_count p (x ∷ xs) = rw (count_by-cons p x xs) (elim (p x) as (λ b. (b || list_any p xs) ≡ nat_lt 0 (cond b 1 0 + count_by p xs)) [
+    | true ↦ grind (arith, nat_tests)
+    | false ↦ any_is_count p xs ∙ ap (nat_lt 0) (omega arith)
+  ])
+
+  -- so equal counts give one answer
+  pub any_from_counts : (p : R → Bool) (xs ys : List R) → count_by p xs ≡ count_by p ys → list_any p xs ≡ list_any p ys
+  any_from_counts p xs ys same = any_is_count p xs ∙ ap (nat_lt 0) same ∙ sym (any_is_count p ys)
 
   -- a count of 0 is of a test that none passes
   pub none_from_count : (p : R → Bool) (xs : List R) → count_by p xs ≡ 0 → AllByRecursion (λ x. p x ≡ false) xs

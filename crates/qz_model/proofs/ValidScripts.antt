@@ -12,12 +12,12 @@ use Rattle.qz_types.specs.declared.commands.Actor.TheVariants as actor
 use Rattle.qz_types.specs.declared.replies.Reply.{Reply}
 use Rattle.qz_types.specs.declared.steps.Step.{Step}
 use Rattle.qz_types.specs.declared.steps.Step.TheVariants.{Client, Join, Node}
-use Rattle.qz_model.specs.Tables.{SchedulerTables}
-use Rattle.qz_model.specs.Outcomes.{Outcome, accepted, refused}
+use Rattle.qz_types.specs.Tables.{SchedulerTables}
+use Rattle.qz_types.specs.Outcomes.{Outcome, accepted, refused}
 use Rattle.qz_model.specs.Transaction.{transaction}
 use Rattle.qz_model.specs.History.{History, replay}
 use Rattle.qz_model.specs.Invariant.{TablesValid}
-use Rattle.qz_model.specs.Words.{member_of}
+use Rattle.qz_types.specs.Words.{member_of}
 use Rattle.qz_model.specs.Script.{ScriptState, TimedStep, held_after_join, entry_of, effect_of, submit, effect_of_node, step_effect, with_optional, tables_after, effect_in, after_step, state_after}
 use Rattle.qz_model.proofs.Histories.{valid-left}
 use Rattle.qz_model.proofs.Scripts.{replay-with_optional}

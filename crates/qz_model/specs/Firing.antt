@@ -1,6 +1,6 @@
 -- The transactions of nodes: a trigger is acquired, fired and completed, as Quartz's JobStoreTX does it in a cluster. No job has
 -- a flag yet, so none excludes another execution, and each trigger fires once.
-use Rattle.std.specs.Prelude.{ℕ, min, ◌+◌, ℤ, pos, ◌+ℤ◌, List, [], ◌∷◌, Bool, true, false, not, ◌&&◌, ◌||◌, ◌==◌, length, nat_lt, if◌then◌else◌, Option, Some, None, is_none}
+use Rattle.std.specs.Prelude.{ℕ, min, ◌+◌, ℤ, pos, ◌+ℤ◌, List, [], ◌∷◌, Bool, true, false, not, ◌&&◌, ◌||◌, ◌==◌, length, nat_lt, if◌then◌else◌, Option, Some, None, is_none, unwrap_or, option_and_then}
 use Rattle.std.specs.List.{list_any}
 use Rattle.std.specs.Ordering.{int_eq}
 use Rattle.qz_types.specs.Rows.{JobData, TriggerData, MemberData, FiredData}
@@ -8,7 +8,6 @@ use Rattle.qz_types.specs.declared.limits.TheConstants.{FIRED_LIMIT, NUMBER_LIMI
 use Rattle.qz_types.specs.declared.keys.Key.{Key}
 use Rattle.qz_types.specs.declared.triggers.TriggerState.{TriggerState}
 use Rattle.qz_types.specs.declared.triggers.TriggerState.TheVariants as state
-use Rattle.qz_types.specs.declared.fired.FiredState.{FiredState}
 use Rattle.qz_types.specs.declared.fired.FiredState.TheVariants as row
 use Rattle.qz_types.specs.declared.commands.Code.{Code}
 use Rattle.qz_types.specs.declared.commands.Code.TheVariants.{Noop}
@@ -16,10 +15,11 @@ use Rattle.qz_types.specs.declared.replies.Reply.{Reply}
 use Rattle.qz_types.specs.declared.replies.Reply.TheVariants as reply
 use Rattle.qz_types.specs.declared.replies.Refusal.{Refusal}
 use Rattle.qz_types.specs.declared.replies.Refusal.TheVariants.{Unbuilt, UnknownEntry, Early}
-use Rattle.qz_model.specs.Tables.{SchedulerTables}
-use Rattle.qz_model.specs.Outcomes.{Outcome, accepted, refused, unless}
-use Rattle.qz_model.specs.Words.{same_text, same_key, job_of, without_job, trigger_of, with_trigger, without_trigger, fired_of, put_fired, with_fired, without_fired}
+use Rattle.qz_types.specs.Tables.{SchedulerTables}
+use Rattle.qz_types.specs.Outcomes.{Outcome, accepted, refused, unless}
+use Rattle.qz_types.specs.Words.{same_text, same_key, job_of, without_job, trigger_of, with_trigger, without_trigger, fired_of, put_fired, with_fired, without_fired}
 use Rattle.qz_model.specs.Due.{due_triggers, is_before}
+use Rattle.qz_model.specs.Executions.{is_acquired}
 use Rattle.qz_model.specs.Membership.{node_refusal}
 
 -- Acquire. Not built are a window, more than one trigger, and fired rows or entry numbers beyond their limits.
@@ -29,6 +29,11 @@ acquire_refusal T window max =
     else if nat_lt FIRED_LIMIT (length T.fired + max) then Some Unbuilt
     else if nat_lt NUMBER_LIMIT (T.next_entry + max) then Some Unbuilt
     else None
+
+-- the job of this key, which valid tables have for each trigger and each acquired row
+unfoldable pub stored_job : Key → List JobData → JobData
+stored_job key jobs = unwrap_or (job_of key jobs)
+    (record { key = key; class = []; durable = false; no_concurrent = false; requests_recovery = false; payload = [] })
 
 -- the trigger waits no more
 unfoldable pub acquired : TriggerData → TriggerData
@@ -50,21 +55,19 @@ acquired_row entry me t next job = record {
   requests_recovery = job.requests_recovery;
 }
 
--- The trigger is acquired with the next entry number. Tables that are valid have its next time and its job.
-abbrev pub acquire_for : SchedulerTables → ℤ → MemberData → TriggerData → Option ℤ → Option JobData → Outcome
-acquire_for T m me t None job = refused Unbuilt
-acquire_for T m me t (Some next) None = refused Unbuilt
-acquire_for T m me t (Some next) (Some job) =
+-- its next time, which valid tables have for each trigger that may fire
+unfoldable pub next_time : TriggerData → ℤ
+next_time t = unwrap_or t.next (pos 0)
+
+-- the trigger is acquired with the next entry number
+unfoldable pub acquire_one : SchedulerTables → ℤ → MemberData → TriggerData → Outcome
+acquire_one T m me t =
     accepted (record T {
       triggers = with_trigger t.spec.key acquired T.triggers;
-      fired = put_fired (acquired_row T.next_entry me t next job) T.fired;
+      fired = put_fired (acquired_row T.next_entry me t (next_time t) (stored_job t.spec.job T.jobs)) T.fired;
       next_entry = T.next_entry + 1;
       last_moment = m;
-    }) (reply.Acquired (record { entry = T.next_entry; trigger = t.spec.key; next = next } ∷ []))
-
--- the same, for the trigger's own next time and job
-unfoldable pub acquire_one : SchedulerTables → ℤ → MemberData → TriggerData → Outcome
-acquire_one T m me t = acquire_for T m me t t.next (job_of t.spec.job T.jobs)
+    }) (reply.Acquired (record { entry = T.next_entry; trigger = t.spec.key; next = next_time t } ∷ []))
 
 -- the first of the due triggers, if there is one
 abbrev pub acquire_first : SchedulerTables → ℤ → MemberData → List TriggerData → Outcome
@@ -75,11 +78,6 @@ acquire_first T m me (t ∷ ts) = acquire_one T m me t
 abbrev pub acquire : SchedulerTables → ℤ → MemberData → ℤ → ℤ → ℕ → Outcome
 acquire T m me no_later window max =
     unless (node_refusal T me) (unless (acquire_refusal T window max) (acquire_first T m me (due_triggers T m (no_later +ℤ window))))
-
--- its execution hasn't begun
-abbrev pub is_acquired : FiredState → Bool
-is_acquired row.Acquired = true
-is_acquired row.Executing = false
 
 -- the row is this member's
 unfoldable pub is_of : MemberData → FiredData → Bool
@@ -103,24 +101,26 @@ abbrev pub early : ℤ → Option ℤ → Option Refusal
 early m None = None
 early m (Some next) = if is_before next (Some m) then Some (Early next) else None
 
+-- the next time of the trigger of this key, if it has one
+unfoldable pub next_of : Key → List TriggerData → Option ℤ
+next_of key triggers = option_and_then (λ t. t.next) (trigger_of key triggers)
+
+-- Not built are jobs whose executions exclude each other.
+unfoldable pub fire_refusal : SchedulerTables → ℤ → FiredData → Option Refusal
+fire_refusal T m f = if (stored_job f.job T.jobs).no_concurrent then Some Unbuilt else early m (next_of f.trigger T.triggers)
+
 -- what the node has to run, and that the trigger doesn't fire again
-unfoldable pub fired_reply : ℤ → FiredData → TriggerData → JobData → Reply
-fired_reply m f t job = reply.Fired f.entry f.scheduled m None t.spec.key job
+unfoldable pub fired_reply : ℤ → FiredData → JobData → Reply
+fired_reply m f job = reply.Fired f.entry f.scheduled m None f.trigger job
 
--- The execution of an acquired row begins. Tables that are valid have its trigger and its job.
-abbrev pub fire_for : SchedulerTables → ℤ → FiredData → Option TriggerData → Option JobData → Outcome
-fire_for T m f None job = refused Unbuilt
-fire_for T m f (Some t) None = refused Unbuilt
-fire_for T m f (Some t) (Some job) = unless (early m t.next)
-    (accepted (record T {
-      triggers = with_trigger t.spec.key spent T.triggers;
-      fired = with_fired f.entry (executing m job) T.fired;
-      last_moment = m;
-    }) (fired_reply m f t job))
-
--- the same, for the row's own trigger and job
+-- the execution of an acquired row begins
 unfoldable pub fire_one : SchedulerTables → ℤ → FiredData → Outcome
-fire_one T m f = fire_for T m f (trigger_of f.trigger T.triggers) (job_of f.job T.jobs)
+fire_one T m f = unless (fire_refusal T m f)
+    (accepted (record T {
+      triggers = with_trigger f.trigger spent T.triggers;
+      fired = with_fired f.entry (executing m (stored_job f.job T.jobs)) T.fired;
+      last_moment = m;
+    }) (fired_reply m f (stored_job f.job T.jobs)))
 
 -- the row has to be the member's own, and acquired
 abbrev pub fire_row : SchedulerTables → ℤ → MemberData → Option FiredData → Outcome
@@ -131,7 +131,7 @@ fire_row T m me (Some f) = if is_of me f && is_acquired f.state then fire_one T 
 abbrev pub fire : SchedulerTables → ℤ → MemberData → ℕ → Outcome
 fire T m me entry = unless (node_refusal T me) (fire_row T m me (fired_of entry T.fired))
 
--- Complete. NOOP is the only code that is built.
+-- Complete. NOOP is the only code that is built, and rows of executions that exclude others aren't.
 abbrev pub is_noop : Code → Bool
 is_noop Noop = true
 is_noop code = false
@@ -178,7 +178,7 @@ completed T m f =
 abbrev pub complete_row : SchedulerTables → ℤ → MemberData → Option FiredData → Code → Outcome
 complete_row T m me None code = refused UnknownEntry
 complete_row T m me (Some f) code =
-    if is_of me f && not (is_acquired f.state) && is_noop code
+    if is_of me f && not (is_acquired f.state) && not f.no_concurrent && is_noop code
     then accepted (completed T m f) (reply.Completed f.entry)
     else refused Unbuilt
 

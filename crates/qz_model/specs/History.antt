@@ -2,8 +2,8 @@
 use Rattle.std.specs.Prelude.{⊤, ℕ, ℤ, List, [], ◌∷◌, ◌++◌}
 use Rattle.qz_types.specs.Entries.{EntryData}
 use Rattle.qz_types.specs.declared.replies.Reply.{Reply}
-use Rattle.qz_model.specs.Tables.{SchedulerTables, empty, recorded_moment}
-use Rattle.qz_model.specs.Outcomes.{Outcome, accepted, refused}
+use Rattle.qz_types.specs.Tables.{SchedulerTables, new_tables, recorded_moment}
+use Rattle.qz_types.specs.Outcomes.{Outcome, accepted, refused, IsAccepted}
 use Rattle.qz_model.specs.Transaction.{transaction}
 
 -- A history begins with a base: how many entries came before those that it lists, and the tables that they left.
@@ -12,9 +12,9 @@ pub record History : Type 0 where
   pub base : SchedulerTables
   pub entries : List EntryData
 
--- the history of a new store of this format version
-abbrev pub new_history : ℕ → History
-new_history version = record { base_count = 0; base = empty version; entries = [] }
+-- the history of a new store
+abbrev pub new_history : History
+new_history = record { base_count = 0; base = new_tables; entries = [] }
 
 abbrev pub with_entry : EntryData → History → History
 with_entry e h = record h { entries = h.entries ++ e ∷ [] }
@@ -28,10 +28,6 @@ tables_left T (refused refusal) = T
 abbrev pub onto_replies : Outcome → List Reply → List Reply
 onto_replies (accepted next reply) replies = reply ∷ replies
 onto_replies (refused refusal) replies = replies
-
-abbrev pub IsAccepted : Outcome → Type 0
-IsAccepted (accepted next reply) = ⊤
-IsAccepted (refused refusal) = ⊥
 
 -- each entry is accepted at the tables that those before it leave
 abbrev pub IsLegalFrom : SchedulerTables → List EntryData → Type 0

@@ -1,12 +1,10 @@
 pub mod Causes
 pub mod Due
+pub mod Executions
 pub mod Firing
 pub mod History
 pub mod Invariant
 pub mod Membership
-pub mod Outcomes
 pub mod Scheduling
 pub mod Script
-pub mod Tables
 pub mod Transaction
-pub mod Words

@@ -5,9 +5,9 @@ use Rattle.qz_types.specs.declared.limits.TheConstants.{MEMBER_LIMIT, NUMBER_LIM
 use Rattle.qz_types.specs.declared.replies.Reply.TheVariants.{Joined}
 use Rattle.qz_types.specs.declared.replies.Refusal.{Refusal}
 use Rattle.qz_types.specs.declared.replies.Refusal.TheVariants.{Unbuilt, Fenced}
-use Rattle.qz_model.specs.Tables.{SchedulerTables}
-use Rattle.qz_model.specs.Outcomes.{Outcome, accepted, unless}
-use Rattle.qz_model.specs.Words.{member_of, put_member}
+use Rattle.qz_types.specs.Tables.{SchedulerTables}
+use Rattle.qz_types.specs.Outcomes.{Outcome, accepted, unless}
+use Rattle.qz_types.specs.Words.{member_of, put_member}
 
 -- the epoch of the member of this name, if there is one
 unfoldable pub live_epoch : SchedulerTables → List ℕ → Option ℕ

@@ -4,15 +4,16 @@ use Rattle.std.specs.Ordering.{int_eq}
 use Rattle.qz_types.specs.Rows.{JobData, TriggerData}
 use Rattle.qz_types.specs.declared.limits.TheConstants.{JOB_LIMIT, TRIGGER_LIMIT}
 use Rattle.qz_civil.specs.declared.timings.Kind.{Kind}
-use Rattle.qz_civil.specs.declared.timings.Kind.TheVariants.{Simple, Cron, Interval, Daily}
+use Rattle.qz_civil.specs.declared.timings.Kind.TheVariants.{Simple}
 use Rattle.qz_types.specs.declared.triggers.TriggerSpec.{TriggerSpec}
 use Rattle.qz_types.specs.declared.triggers.TriggerState.TheVariants.{Waiting}
 use Rattle.qz_types.specs.declared.replies.Reply.TheVariants.{Done, Added}
 use Rattle.qz_types.specs.declared.replies.Refusal.{Refusal}
 use Rattle.qz_types.specs.declared.replies.Refusal.TheVariants.{Unbuilt, UnknownJob}
-use Rattle.qz_model.specs.Tables.{SchedulerTables}
-use Rattle.qz_model.specs.Outcomes.{Outcome, accepted, unless}
-use Rattle.qz_model.specs.Words.{same_text, job_of, put_job, trigger_of, put_trigger}
+use Rattle.qz_types.specs.Tables.{SchedulerTables}
+use Rattle.qz_types.specs.Outcomes.{Outcome, accepted, unless}
+use Rattle.qz_types.specs.Words.{same_text, job_of, put_job, trigger_of, put_trigger, is_paused}
+use Rattle.qz_model.specs.Executions.{is_busy}
 
 -- a job whose flags and payload are at their defaults, the only one that is built
 unfoldable pub is_plain_job : JobData → Bool
@@ -21,7 +22,7 @@ is_plain_job j = not j.durable && not j.no_concurrent && not j.requests_recovery
 -- Add a job.
 unfoldable pub add_job_refusal : SchedulerTables → JobData → Bool → Option Refusal
 add_job_refusal T job replace =
-    if replace || not (is_plain_job job) then Some Unbuilt
+    if replace || not (is_plain_job job) || is_busy job.key T.fired then Some Unbuilt
     else if is_some (job_of job.key T.jobs) then Some Unbuilt
     else if nat_le JOB_LIMIT (length T.jobs) then Some Unbuilt
     else None
@@ -54,7 +55,7 @@ new_trigger s = record { spec = s; next = Some s.timing.start; prev = None; time
 unfoldable pub add_trigger_refusal : SchedulerTables → TriggerSpec → Bool → Option Refusal
 add_trigger_refusal T s replace =
     if is_none (job_of s.job T.jobs) then Some UnknownJob
-    else if replace || not (is_plain_trigger s) then Some Unbuilt
+    else if replace || not (is_plain_trigger s) || is_paused s.key.group T.paused_groups || is_busy s.job T.fired then Some Unbuilt
     else if is_reserved s.key.group then Some Unbuilt
     else if is_some (trigger_of s.key T.triggers) then Some Unbuilt
     else if not (int_le s.timing.start T.horizon) then Some Unbuilt

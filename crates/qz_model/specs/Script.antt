@@ -12,20 +12,20 @@ use Rattle.qz_types.specs.declared.steps.Step.{Step}
 use Rattle.qz_types.specs.declared.steps.Step.TheVariants.{Client, Join, Node}
 use Rattle.qz_types.specs.declared.steps.StepReply.{StepReply}
 use Rattle.qz_types.specs.declared.steps.StepReply.TheVariants as step_reply
-use Rattle.qz_model.specs.Tables.{SchedulerTables}
-use Rattle.qz_model.specs.Outcomes.{Outcome, accepted, refused}
+use Rattle.qz_types.specs.Tables.{SchedulerTables}
+use Rattle.qz_types.specs.Outcomes.{Outcome, accepted, refused}
 use Rattle.qz_model.specs.Transaction.{transaction}
 use Rattle.qz_model.specs.History.{History, new_history, with_entry, replay, tables_left}
-use Rattle.qz_model.specs.Words.{member_of, put_member, without_member}
+use Rattle.qz_types.specs.Words.{member_of, put_member, without_member}
 
 -- the history so far, and under which epoch each node that joined in this script works
 pub record ScriptState : Type 0 where
   pub history : History
   pub held : List MemberData
 
--- a script on a new store of this format version
-abbrev pub new_script : ℕ → ScriptState
-new_script version = record { history = new_history version; held = [] }
+-- a script on a new store
+abbrev pub new_script : ScriptState
+new_script = record { history = new_history; held = [] }
 
 -- a step with the reading of the clock that it is done at
 pub record TimedStep : Type 0 where
@@ -46,11 +46,7 @@ hold node epoch held = put_member (record { node = node; epoch = epoch }) (witho
 -- which epochs are held after a join was answered so
 abbrev pub held_after_join : List ℕ → List MemberData → Reply → List MemberData
 held_after_join node held (reply.Joined epoch executions triggers) = hold node epoch held
-held_after_join node held reply.Done = held
-held_after_join node held (reply.Added next) = held
-held_after_join node held (reply.Acquired taken) = held
-held_after_join node held (reply.Fired entry scheduled fired next trigger job) = held
-held_after_join node held (reply.Completed entry) = held
+held_after_join node held r = held
 
 -- the entry that a script makes of a command
 abbrev pub entry_of : Actor → Command → ℤ → EntryData

@@ -1,21 +1,21 @@
 -- One transaction of the trigger store, by cases on its command.
-use Rattle.std.specs.Prelude.{ℤ}
+use Rattle.std.specs.Prelude.{ℤ, None}
 use Rattle.qz_types.specs.Rows.{MemberData}
 use Rattle.qz_types.specs.Entries.{EntryData}
 use Rattle.qz_types.specs.declared.commands.Command.{Command}
 use Rattle.qz_types.specs.declared.commands.Command.TheVariants.{AddJob, DeleteJob, AddTrigger, DeleteTrigger, PauseTrigger, ResumeTrigger, PauseGroup, ResumeGroup, AddCalendar, DeleteCalendar, AddZone, DeleteZone, TriggerNow, Threshold, Join, Leave, Acquire, Release, Fire, Complete, Misfires, Recover}
 use Rattle.qz_types.specs.declared.commands.Actor.{Actor}
 use Rattle.qz_types.specs.declared.commands.Actor.TheVariants.{Client, Node}
-use Rattle.qz_types.specs.declared.replies.Refusal.TheVariants.{Unbuilt}
-use Rattle.qz_model.specs.Tables.{SchedulerTables, recorded_moment}
-use Rattle.qz_model.specs.Outcomes.{Outcome, refused}
+use Rattle.qz_types.specs.declared.replies.Refusal.TheVariants.{Unbuilt, Fenced}
+use Rattle.qz_types.specs.Tables.{SchedulerTables, recorded_moment}
+use Rattle.qz_types.specs.Outcomes.{Outcome, refused}
 use Rattle.qz_model.specs.Scheduling.{add_job, add_trigger}
 use Rattle.qz_model.specs.Membership.{join}
 use Rattle.qz_model.specs.Firing.{acquire, fire, complete}
 
--- what a node does under its epoch; a valid entry with such a command has a node as actor
+-- what a node does under its epoch; a client is no member
 abbrev pub as_node : Actor → (MemberData → Outcome) → Outcome
-as_node Client does = refused Unbuilt
+as_node Client does = refused (Fenced None)
 as_node (Node me) does = does me
 
 -- The transaction at the recorded moment m. Whatever isn't built is refused before anything else is looked at.

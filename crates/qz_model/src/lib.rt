@@ -2,7 +2,11 @@
 //! runs, as definitions in `specs/`; and the plain store, which computes them with the least of code.
 #![tactic(auto)]
 
+mod laws;
 mod plain;
 mod rows;
 
-pub use plain::{PlainStore, StepRefused, Worked};
+pub use laws::{
+    due_order_is_sorted, legal_histories_leave_valid_tables, scripts_keep_legal_histories,
+};
+pub use plain::{PlainStore, Worked};

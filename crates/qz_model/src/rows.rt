@@ -1,7 +1,8 @@
 //! Rows of each kind by their ids: the look-ups, insertions, changes and filters that the transactions name.
 ghost use Rattle.std.specs.Prelude.{◌≡◌, ◌==◌, OnOk, option_copied, if◌then◌else◌};
-ghost use Rattle.qz_model.specs.Words.{same_text, same_key, job_of, put_job, without_job, trigger_of, put_trigger, with_trigger, without_trigger, member_of, put_member, fired_of, put_fired, with_fired, without_fired};
-ghost use Rattle.qz_model.specs.Firing.{acquired, spent, executing};
+ghost use Rattle.qz_types.specs.Words.{same_text, same_key, job_of, put_job, without_job, trigger_of, put_trigger, with_trigger, without_trigger, member_of, put_member, fired_of, put_fired, with_fired, without_fired, is_paused};
+ghost use Rattle.qz_model.specs.Executions.{is_acquired, is_exclusive_of, is_busy};
+ghost use Rattle.qz_model.specs.Firing.{acquired, spent, executing, stored_job};
 
 use qz_types::{
     FiredRow, FiredState, JobRow, Key, MemberRow, TIMES_LIMIT, Text, TriggerRow, TriggerState,
@@ -9,49 +10,49 @@ use qz_types::{
 use std::alloc::AllocFailed;
 use std::cmp::Ordering;
 
-#[tactic(auto, unfolding(crate::specs::Words::same_text))]
+#[tactic(auto, unfolding(qz_types::specs::Words::same_text))]
 pub fn same_text(a: &str, b: &str) -> bool
     ensures { result ≡ same_text a.now b.now }
 {
     a.cmp(b) == Ordering::Equal
 }
 
-#[tactic(auto, unfolding(crate::specs::Words::same_key))]
+#[tactic(auto, unfolding(qz_types::specs::Words::same_key))]
 pub fn same_key(a: &Key, b: &Key) -> bool
     ensures { result ≡ same_key a.now b.now }
 {
     a.cmp(b) == Ordering::Equal
 }
 
-#[tactic(auto, unfolding(crate::specs::Words::job_of))]
+#[tactic(auto, unfolding(qz_types::specs::Words::job_of))]
 pub fn job_of<'a>(rows: &'a [JobRow], key: &Key) -> Option<&'a JobRow>
     ensures { option_copied result ≡ job_of key.now rows.now }
 {
     qz_types::find(rows, key)
 }
 
-#[tactic(auto, unfolding(crate::specs::Words::put_job))]
+#[tactic(auto, unfolding(qz_types::specs::Words::put_job))]
 pub fn put_job(rows: &mut Vec<JobRow>, row: JobRow) -> Result<(), AllocFailed<JobRow>>
     ensures { OnOk result (rows.new.items ≡ put_job row rows.old.items) }
 {
     qz_types::insert(rows, row)
 }
 
-#[tactic(auto, unfolding(crate::specs::Words::without_job))]
+#[tactic(auto, unfolding(qz_types::specs::Words::without_job))]
 pub fn remove_job(rows: &mut Vec<JobRow>, key: &Key)
     ensures { rows.new.items ≡ without_job key.now rows.old.items }
 {
     rows.retain(|row| !same_key(key, &row.key));
 }
 
-#[tactic(auto, unfolding(crate::specs::Words::trigger_of))]
+#[tactic(auto, unfolding(qz_types::specs::Words::trigger_of))]
 pub fn trigger_of<'a>(rows: &'a [TriggerRow], key: &Key) -> Option<&'a TriggerRow>
     ensures { option_copied result ≡ trigger_of key.now rows.now }
 {
     qz_types::find(rows, key)
 }
 
-#[tactic(auto, unfolding(crate::specs::Words::put_trigger))]
+#[tactic(auto, unfolding(qz_types::specs::Words::put_trigger))]
 pub fn put_trigger(
     rows: &mut Vec<TriggerRow>,
     row: TriggerRow,
@@ -61,15 +62,22 @@ pub fn put_trigger(
     qz_types::insert(rows, row)
 }
 
-#[tactic(auto, unfolding(crate::specs::Words::without_trigger))]
+#[tactic(auto, unfolding(qz_types::specs::Words::without_trigger))]
 pub fn remove_trigger(rows: &mut Vec<TriggerRow>, key: &Key)
     ensures { rows.new.items ≡ without_trigger key.now rows.old.items }
 {
     rows.retain(|row| !same_key(key, &row.spec.key));
 }
 
+#[tactic(auto, unfolding(qz_types::specs::Words::group_of))]
+pub fn is_paused(group: &Text, groups: &[Text]) -> bool
+    ensures { result ≡ is_paused group.now groups.now }
+{
+    qz_types::find(groups, group).is_some()
+}
+
 /// The trigger of this key is acquired.
-#[tactic(auto, unfolding(crate::specs::Words::with_trigger))]
+#[tactic(auto, unfolding(qz_types::specs::Words::with_trigger))]
 pub fn acquire_trigger(rows: &mut Vec<TriggerRow>, key: &Key)
     ensures { rows.new.items ≡ with_trigger key.now acquired rows.old.items }
 {
@@ -88,7 +96,7 @@ fn acquire_if(row: &mut TriggerRow, key: &Key)
 }
 
 /// The trigger of this key has fired for the last time.
-#[tactic(auto, unfolding(crate::specs::Words::with_trigger))]
+#[tactic(auto, unfolding(qz_types::specs::Words::with_trigger))]
 pub fn spend_trigger(rows: &mut Vec<TriggerRow>, key: &Key)
     ensures { rows.new.items ≡ with_trigger key.now spent rows.old.items }
 {
@@ -115,43 +123,86 @@ fn spend(row: &mut TriggerRow)
     row.state = TriggerState::Complete;
 }
 
-#[tactic(auto, unfolding(crate::specs::Words::member_of))]
+#[tactic(auto, unfolding(qz_types::specs::Words::member_of))]
 pub fn member_of<'a>(rows: &'a [MemberRow], node: &Text) -> Option<&'a MemberRow>
     ensures { option_copied result ≡ member_of node.now rows.now }
 {
     qz_types::find(rows, node)
 }
 
-#[tactic(auto, unfolding(crate::specs::Words::put_member))]
+#[tactic(auto, unfolding(qz_types::specs::Words::put_member))]
 pub fn put_member(rows: &mut Vec<MemberRow>, row: MemberRow) -> Result<(), AllocFailed<MemberRow>>
     ensures { OnOk result (rows.new.items ≡ put_member row rows.old.items) }
 {
     qz_types::insert(rows, row)
 }
 
-#[tactic(auto, unfolding(crate::specs::Words::fired_of))]
+#[tactic(auto, unfolding(qz_types::specs::Words::fired_of))]
 pub fn fired_of(rows: &[FiredRow], entry: u64) -> Option<&FiredRow>
     ensures { option_copied result ≡ fired_of entry rows.now }
 {
     qz_types::find(rows, &entry)
 }
 
-#[tactic(auto, unfolding(crate::specs::Words::put_fired))]
+#[tactic(auto, unfolding(qz_types::specs::Words::put_fired))]
 pub fn put_fired(rows: &mut Vec<FiredRow>, row: FiredRow) -> Result<(), AllocFailed<FiredRow>>
     ensures { OnOk result (rows.new.items ≡ put_fired row rows.old.items) }
 {
     qz_types::insert(rows, row)
 }
 
-#[tactic(auto, unfolding(crate::specs::Words::without_fired))]
+#[tactic(auto, unfolding(qz_types::specs::Words::without_fired))]
 pub fn remove_fired(rows: &mut Vec<FiredRow>, entry: u64)
     ensures { rows.new.items ≡ without_fired entry rows.old.items }
 {
     rows.retain(|row| entry != row.entry);
 }
 
+pub fn is_acquired(state: FiredState) -> bool
+    ensures { result ≡ is_acquired state }
+{
+    state == FiredState::Acquired
+}
+
+#[tactic(auto, unfolding(crate::specs::Executions::is_exclusive_of))]
+fn is_exclusive_of(key: &Key, row: &FiredRow) -> bool
+    ensures { result ≡ is_exclusive_of key.now row.now }
+{
+    !is_acquired(row.state) && row.no_concurrent && same_key(key, &row.job)
+}
+
+/// Whether an execution that excludes all others of this job goes on.
+#[tactic(auto, unfolding(crate::specs::Executions::is_busy))]
+pub fn is_busy(key: &Key, fired: &[FiredRow]) -> bool
+    ensures { result ≡ is_busy key.now fired.now }
+{
+    fired.iter().any(|row| is_exclusive_of(key, row))
+}
+
+/// Whether the executions of this job exclude each other; none where it isn't stored.
+#[tactic(auto, unfolding(crate::specs::Firing::stored_job))]
+pub fn is_exclusive(jobs: &[JobRow], key: &Key) -> bool
+    ensures { result ≡ (stored_job key.now jobs.now).no_concurrent }
+{
+    match job_of(jobs, key) {
+        Some(job) => job.no_concurrent,
+        None => false,
+    }
+}
+
+/// Whether a lost execution of this job yields a recovery trigger; none where it isn't stored.
+#[tactic(auto, unfolding(crate::specs::Firing::stored_job))]
+pub fn is_recovered(jobs: &[JobRow], key: &Key) -> bool
+    ensures { result ≡ (stored_job key.now jobs.now).requests_recovery }
+{
+    match job_of(jobs, key) {
+        Some(job) => job.requests_recovery,
+        None => false,
+    }
+}
+
 /// The execution of this entry number's row begins.
-#[tactic(auto, unfolding(crate::specs::Words::with_fired))]
+#[tactic(auto, unfolding(qz_types::specs::Words::with_fired))]
 pub fn execute_fired(rows: &mut Vec<FiredRow>, entry: u64, moment: i64, job: &JobRow)
     ensures { rows.new.items ≡ with_fired entry (executing moment job.now) rows.old.items }
 {

@@ -1,1 +1,2 @@
+pub mod FireLaws
 pub mod NextLaws

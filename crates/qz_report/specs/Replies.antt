@@ -3,14 +3,17 @@ use Rattle.std.specs.Prelude.{ℕ, ℤ, List, [], ◌∷◌, ◌++◌, Option, S
 use Rattle.std.specs.List.{flat_map}
 use Rattle.std.specs.Fmt.{decimal, signed_decimal}
 use Rattle.qz_types.specs.Refusals.{number_of}
+use Rattle.qz_types.specs.Rows.{MemberData}
 use Rattle.qz_types.specs.declared.replies.Taken.{Taken}
+use Rattle.qz_types.specs.declared.replies.MovedRow.{MovedRow}
+use Rattle.qz_types.specs.declared.keys.Key.{Key}
 use Rattle.qz_types.specs.declared.replies.Refusal.{Refusal}
-use Rattle.qz_types.specs.declared.replies.Refusal.TheVariants.{Unbuilt, Fenced, UnknownJob, UnknownCalendar, UnknownZone, ZoneExists, UnknownEntry, Early, TooMany}
+use Rattle.qz_types.specs.declared.replies.Refusal.TheVariants.{Fenced, InUse, Circle, FlagInUse, NotYours, Early, StillFresh, TooMany, Renewed}
 use Rattle.qz_types.specs.declared.replies.Reply.{Reply}
-use Rattle.qz_types.specs.declared.replies.Reply.TheVariants.{Done, Added, Joined, Acquired, Fired, Completed}
+use Rattle.qz_types.specs.declared.replies.Reply.TheVariants.{Done, Added, Deleted, Triggered, Joined, Acquired, Fired, Completed, Again, Misfired, Recovered}
 use Rattle.qz_types.specs.declared.steps.StepReply.{StepReply}
 use Rattle.qz_types.specs.declared.steps.StepReply.TheVariants.{Ok, Refused, Fault, Closed, Stopped}
-use Rattle.qz_report.specs.Names.{key_text}
+use Rattle.qz_report.specs.Names.{escaped, key_text}
 
 -- a next time, if there is one
 abbrev pub next_text : Option ℤ → List ℕ
@@ -30,6 +33,15 @@ abbrev pub all_taken_text : List Taken → List ℕ
 all_taken_text [] = codes " none"
 all_taken_text (t ∷ ts) = flat_map taken_text (t ∷ ts)
 
+-- a trigger that was moved, with its next time
+abbrev pub moved_text : MovedRow → List ℕ
+moved_text row = 32 ∷ key_text row.trigger ++ 32 ∷ next_text row.next
+
+-- all that were moved, in their order
+abbrev pub all_moved_text : List MovedRow → List ℕ
+all_moved_text [] = codes " none"
+all_moved_text (row ∷ rows) = flat_map moved_text (row ∷ rows)
+
 -- the executions that were ended with their node, and the recovery triggers added for them
 abbrev pub recovery_text : ℕ → ℕ → List ℕ
 recovery_text executions triggers =
@@ -37,6 +49,9 @@ recovery_text executions triggers =
 
 abbrev pub joined_text : ℕ → ℕ → ℕ → List ℕ
 joined_text epoch executions triggers = codes "joined " ++ decimal epoch ++ recovery_text executions triggers
+
+abbrev pub triggered_text : Key → ℤ → List ℕ
+triggered_text trigger next = codes "triggered " ++ key_text trigger ++ 32 ∷ signed_decimal next
 
 abbrev pub fired_text : ℕ → ℤ → ℤ → Option ℤ → List ℕ
 fired_text entry scheduled fired next =
@@ -50,18 +65,28 @@ ok_text (Joined epoch executions triggers) = joined_text epoch executions trigge
 ok_text (Acquired taken) = codes "acquired" ++ all_taken_text taken
 ok_text (Fired entry scheduled fired next trigger job) = fired_text entry scheduled fired next
 ok_text (Completed entry) = codes "completed " ++ decimal entry
+ok_text (Deleted triggers) = codes "deleted " ++ decimal triggers
+ok_text (Triggered trigger next) = triggered_text trigger next
+ok_text (Again entry) = codes "again " ++ decimal entry
+ok_text (Misfired rows) = codes "misfired" ++ all_moved_text rows
+ok_text (Recovered executions triggers) = codes "recovered" ++ recovery_text executions triggers
+
+-- the member whose row it is
+abbrev pub owner_text : MemberData → List ℕ
+owner_text m = codes " owner " ++ escaped m.node ++ 32 ∷ decimal m.epoch
 
 -- what a refusal has beside its number
 abbrev pub refusal_field : Refusal → List ℕ
-refusal_field Unbuilt = []
 refusal_field (Fenced live) = codes " live " ++ live_text live
-refusal_field UnknownJob = []
-refusal_field UnknownCalendar = []
-refusal_field UnknownZone = []
-refusal_field ZoneExists = []
-refusal_field UnknownEntry = []
+refusal_field (InUse by) = codes " by " ++ decimal by
+refusal_field (Circle at) = codes " at " ++ decimal at
+refusal_field (FlagInUse entry) = codes " entry " ++ decimal entry
+refusal_field (NotYours owner) = owner_text owner
 refusal_field (Early next) = codes " next " ++ signed_decimal next
+refusal_field (StillFresh until) = codes " until " ++ signed_decimal until
 refusal_field (TooMany count) = codes " count " ++ decimal count
+refusal_field (Renewed last) = codes " last " ++ signed_decimal last
+refusal_field refusal = []
 
 abbrev pub refusal_text : Refusal → List ℕ
 refusal_text refusal = codes "refused " ++ decimal (number_of refusal) ++ refusal_field refusal

@@ -14,7 +14,7 @@ fn escaped_bytes() -> AsciiSet
     CONTROLS.add(b' ').add(b'/').add(b'%')
 }
 
-fn push_name(text: &mut String, name: &str) -> Result<(), AllocError>
+pub(crate) fn push_name(text: &mut String, name: &str) -> Result<(), AllocError>
     ensures { OnOk result (string_bytes text.new ≡ string_bytes text.old ++ escaped name.now) }
 {
     utf8_percent_encode(name, escaped_bytes()).append_to(text)

@@ -2,10 +2,10 @@
 ghost use Rattle.std.specs.Prelude.{◌≡◌, ◌++◌, IfOk, OnOk, Some, codes, string_bytes};
 ghost use Rattle.std.specs.Fmt.{signed_decimal};
 ghost use Rattle.std.specs.List.{flat_map};
-ghost use Rattle.qz_report.specs.Replies.{next_text, taken_text, all_taken_text, ok_text, joined_text, recovery_text, fired_text, refusal_field, refusal_text, step_text, reply_text};
+ghost use Rattle.qz_report.specs.Replies.{next_text, taken_text, all_taken_text, triggered_text, moved_text, all_moved_text, owner_text, ok_text, joined_text, recovery_text, fired_text, refusal_field, refusal_text, step_text, reply_text};
 
-use crate::names::push_key;
-use qz_types::{NoMemory, Refusal, Reply, StepReply, Taken, Text};
+use crate::names::{push_key, push_name};
+use qz_types::{Key, MemberRow, MovedRow, NoMemory, Refusal, Reply, StepReply, Taken, Text};
 use std::alloc::{AllocError, Global};
 use std::fmt;
 use std::fmt::Write;
@@ -59,6 +59,20 @@ fn push_ok(text: &mut String, reply: &Reply) -> Result<(), AllocError>
             job: _,
         } => push_fired(text, *entry, *scheduled, *fired, *next),
         Reply::Completed { entry } => write!(text, "completed {entry}"),
+        Reply::Deleted { triggers } => write!(text, "deleted {triggers}"),
+        Reply::Triggered { trigger, next } => push_triggered(text, trigger, *next),
+        Reply::Again { entry } => write!(text, "again {entry}"),
+        Reply::Misfired(rows) => {
+            text.push_str("misfired")?;
+            push_all_moved(text, rows.as_slice())
+        }
+        Reply::Recovered {
+            executions,
+            triggers,
+        } => {
+            text.push_str("recovered")?;
+            push_recovery(text, *executions, *triggers)
+        }
     }
 }
 
@@ -105,6 +119,42 @@ fn push_all_taken(text: &mut String, taken: &[Taken]) -> Result<(), AllocError>
         text.push_str(" none")
     } else {
         push_each_taken(text, taken)
+    }
+}
+
+fn push_triggered(text: &mut String, trigger: &Key, next: i64) -> Result<(), AllocError>
+    ensures { OnOk result (string_bytes text.new ≡ string_bytes text.old ++ triggered_text trigger.now next) }
+{
+    text.push_str("triggered ")?;
+    push_key(text, trigger)?;
+    write!(text, " {next}")
+}
+
+fn push_moved(text: &mut String, row: &MovedRow) -> Result<(), AllocError>
+    ensures { OnOk result (string_bytes text.new ≡ string_bytes text.old ++ moved_text row.now) }
+{
+    text.push(' ')?;
+    push_key(text, &row.trigger)?;
+    let next = Next(row.next);
+    write!(text, " {next}")
+}
+
+fn push_each_moved(text: &mut String, rows: &[MovedRow]) -> Result<(), AllocError>
+    ensures { OnOk result (string_bytes text.new ≡ string_bytes text.old ++ flat_map moved_text rows.now) }
+{
+    for row in rows {
+        push_moved(text, row)?;
+    }
+    Ok(())
+}
+
+fn push_all_moved(text: &mut String, rows: &[MovedRow]) -> Result<(), AllocError>
+    ensures { OnOk result (string_bytes text.new ≡ string_bytes text.old ++ all_moved_text rows.now) }
+{
+    if rows.is_empty() {
+        text.push_str(" none")
+    } else {
+        push_each_moved(text, rows)
     }
 }
 
@@ -158,13 +208,23 @@ fn push_field(text: &mut String, refusal: &Refusal) -> Result<(), AllocError>
     match refusal {
         Refusal::Fenced { live: Some(epoch) } => write!(text, " live {epoch}"),
         Refusal::Fenced { live: None } => text.push_str(" live none"),
+        Refusal::InUse { by } => write!(text, " by {by}"),
+        Refusal::Circle { at } => write!(text, " at {at}"),
+        Refusal::FlagInUse { entry } => write!(text, " entry {entry}"),
+        Refusal::NotYours { owner } => push_owner(text, owner),
         Refusal::Early { next } => write!(text, " next {next}"),
+        Refusal::StillFresh { until } => write!(text, " until {until}"),
         Refusal::TooMany { count } => write!(text, " count {count}"),
-        Refusal::Unbuilt
-        | Refusal::UnknownJob
-        | Refusal::UnknownCalendar
-        | Refusal::UnknownZone
-        | Refusal::ZoneExists
-        | Refusal::UnknownEntry => Ok(()),
+        Refusal::Renewed { last } => write!(text, " last {last}"),
+        _ => Ok(()),
     }
+}
+
+/// The member whose row it is.
+fn push_owner(text: &mut String, owner: &MemberRow) -> Result<(), AllocError>
+    ensures { OnOk result (string_bytes text.new ≡ string_bytes text.old ++ owner_text owner.now) }
+{
+    text.push_str(" owner ")?;
+    push_name(text, owner.node.as_str())?;
+    write!(text, " {}", owner.epoch)
 }

@@ -1,5 +1,5 @@
 //! Entries of the worked examples, by a client and by the member A of epoch 1.
-ghost use Rattle.std.specs.Prelude.{IsTrue, IfOk};
+ghost use Rattle.std.specs.Prelude.{◌<◌, ◌≤◌, IsTrue, IfOk};
 ghost use Rattle.qz_civil.specs.Timings.{is_name};
 ghost use Rattle.qz_types.specs.Rows.{is_key};
 
@@ -32,22 +32,38 @@ pub(super) fn job(alloc: Global, name: &str) -> Result<JobRow, AllocError>
 }
 
 #[tactic(auto, unfolding(qz_types::specs::Entries::is_entry))]
-pub(super) fn add_job(alloc: Global, at: i64) -> Result<Entry, AllocError> {
+fn put_job(alloc: Global, at: i64, replace: bool) -> Result<Entry, AllocError> {
     let job = job(alloc, "report")?;
     Ok(Entry {
         at,
         actor: Actor::Client,
         seat: 0,
-        command: Command::AddJob {
-            job,
-            replace: false,
-        },
+        command: Command::AddJob { job, replace },
+    })
+}
+
+pub(super) fn add_job(alloc: Global, at: i64) -> Result<Entry, AllocError> {
+    put_job(alloc, at, false)
+}
+
+pub(super) fn replace_job(alloc: Global, at: i64) -> Result<Entry, AllocError> {
+    put_job(alloc, at, true)
+}
+
+#[tactic(auto, unfolding(qz_types::specs::Entries::is_entry))]
+pub(super) fn delete_job(alloc: Global, at: i64) -> Result<Entry, AllocError> {
+    let key = key(alloc, "report")?;
+    Ok(Entry {
+        at,
+        actor: Actor::Client,
+        seat: 0,
+        command: Command::DeleteJob { key },
     })
 }
 
 // A trigger of the job that fires once, at T0.
 #[tactic(auto, unfolding(qz_types::specs::Entries::is_entry))]
-pub(super) fn add_trigger(alloc: Global, at: i64) -> Result<Entry, AllocError> {
+fn put_trigger(alloc: Global, at: i64, replace: bool) -> Result<Entry, AllocError> {
     let spec = TriggerSpec {
         key: key(alloc, "t1")?,
         job: key(alloc, "report")?,
@@ -67,11 +83,16 @@ pub(super) fn add_trigger(alloc: Global, at: i64) -> Result<Entry, AllocError> {
         at,
         actor: Actor::Client,
         seat: 0,
-        command: Command::AddTrigger {
-            spec,
-            replace: false,
-        },
+        command: Command::AddTrigger { spec, replace },
     })
+}
+
+pub(super) fn add_trigger(alloc: Global, at: i64) -> Result<Entry, AllocError> {
+    put_trigger(alloc, at, false)
+}
+
+pub(super) fn replace_trigger(alloc: Global, at: i64) -> Result<Entry, AllocError> {
+    put_trigger(alloc, at, true)
 }
 
 #[tactic(auto, unfolding(qz_types::specs::Entries::is_entry))]
@@ -91,7 +112,9 @@ pub(super) fn node_a(alloc: Global) -> Result<MemberRow, AllocError> {
 }
 
 #[tactic(auto, unfolding(qz_types::specs::Entries::is_entry))]
-pub(super) fn acquire(alloc: Global, at: i64) -> Result<Entry, AllocError> {
+fn acquire_up_to(alloc: Global, at: i64, max: u32) -> Result<Entry, AllocError>
+    requires { (0 < max) × (max ≤ 64) }
+{
     let me = node_a(alloc)?;
     Ok(Entry {
         at,
@@ -100,8 +123,38 @@ pub(super) fn acquire(alloc: Global, at: i64) -> Result<Entry, AllocError> {
         command: Command::Acquire {
             no_later: T0,
             window: 0,
-            max: 1,
+            max,
         },
+    })
+}
+
+pub(super) fn acquire(alloc: Global, at: i64) -> Result<Entry, AllocError> {
+    acquire_up_to(alloc, at, 1)
+}
+
+pub(super) fn acquire_two(alloc: Global, at: i64) -> Result<Entry, AllocError> {
+    acquire_up_to(alloc, at, 2)
+}
+
+#[tactic(auto, unfolding(qz_types::specs::Entries::is_entry))]
+pub(super) fn leave(alloc: Global, at: i64) -> Result<Entry, AllocError> {
+    let me = node_a(alloc)?;
+    Ok(Entry {
+        at,
+        actor: Actor::Node(me),
+        seat: 0,
+        command: Command::Leave,
+    })
+}
+
+#[tactic(auto, unfolding(qz_types::specs::Entries::is_entry))]
+pub(super) fn misfires(alloc: Global, at: i64) -> Result<Entry, AllocError> {
+    let me = node_a(alloc)?;
+    Ok(Entry {
+        at,
+        actor: Actor::Node(me),
+        seat: 0,
+        command: Command::Misfires,
     })
 }
 

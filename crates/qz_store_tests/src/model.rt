@@ -3,8 +3,8 @@ ghost use Rattle.std.specs.Prelude.{IsTrue};
 ghost use Rattle.qz_civil.specs.Timings.{is_name};
 
 use crate::entries::{T0, acquire, add_job, add_trigger, complete, fire, job, join, key};
-use qz_model::{PlainStore, StepRefused};
-use qz_types::{Entry, JobRow, Reply, find, insert};
+use qz_model::PlainStore;
+use qz_types::{Entry, JobRow, Reply, StepRefused, find, insert};
 use std::alloc::{AllocError, Global};
 
 // What the store answers to what is asked. None is a refusal, or want of memory.

@@ -96,7 +96,7 @@ fn goes_on<D: Disk>(alloc: Global, disk: D) -> bool {
             let found = store.history_len() == 3 && store.added().is_empty();
             let taken = takes_two(alloc, &mut store);
             let is_right = store.history_len() == 5 && store.replies().len() == 2;
-            let moments = store.moments().as_slice() == [T0, T0 + 1].as_slice();
+            let moments = store.moments() == [T0, T0 + 1].as_slice();
             drop(store);
             found && taken && is_right && moments
         }

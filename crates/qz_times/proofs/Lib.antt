@@ -1,4 +1,3 @@
-pub mod AnswerLaws
 pub mod ChainLaws
 pub mod SaidLaws
 pub mod RunLaws

@@ -1,214 +1,263 @@
--- Lines that were answered, and how the loop over them ends.
-use Rattle.std.proofs.Common.{◌≡◌, ◌≤◌, ℕ, ◌+◌, List, [], ◌∷◌, ◌++◌, length, Option, Some, refl, sym, ap, ◌∙◌, subst, arith, append_assoc, length-append}
-use Rattle.std.specs.Prelude.{Err}
-use Rattle.std.specs.Io.KnownBytes.{Consumes, Appends, IsAtEnd}
-use Rattle.std.proofs.KnownBytes.{Appends-nil, Appends-trans, Consumes-nil}
+-- Lines that were answered, and how they end.
+use Rattle.std.proofs.Common.{◌≡◌, ◌≤◌, ◌<◌, ℕ, List, [], ◌∷◌, ◌++◌, length, true, take, Option, None, refl, sym, ap, ◌∙◌, subst, arith, append_assoc}
+use Rattle.std.specs.Prelude.{Ok, Err, nat_lt}
+use Rattle.std.specs.Io.KnownBytes.{Consumes, Appends}
+use Rattle.std.proofs.KnownBytes.{Appends-nil, Appends-trans}
 use Rattle.std.proofs.lemmas.List.{append-nil}
-use Rattle.qz_io.specs.declared.readers.TheConstants.{LINE_COUNT_LIMIT}
-use Rattle.qz_io.specs.Ahead.{Ahead, BeginsSome}
-use Rattle.qz_io.specs.Lines.{IsOneLine, lines_of, with_feed}
-use Rattle.qz_io.proofs.TakenLaws.{AllByRecursion-append, taken_more, feeds_more, told_ahead, begins_part, begins_some, whole_end}
+use Rattle.std.proofs.lemmas.Bool.Decides.{nat_tests}
+use Rattle.qz_civil.specs.Causes.{Rose}
+use Rattle.qz_io.specs.declared.handlers.LinesEnd.{LinesEnd}
+use Rattle.qz_io.specs.declared.handlers.LinesEnd.TheVariants as lines_end
+use Rattle.qz_io.specs.declared.traits.Sink as sink
+use Rattle.qz_io.specs.Ahead.{BeginWith}
+use Rattle.qz_io.specs.Around.{output_alone}
+use Rattle.qz_io.specs.Handlers.{AllHandled, HandlesLines}
+use Rattle.qz_io.specs.LineStates.{LineState}
+use Rattle.qz_io.specs.Lines.{lines_of}
+use Rattle.qz_io.specs.Outside.{Outside}
+use Rattle.qz_job_json.specs.declared.lines.LineFault.TheVariants as fault
+use Rattle.qz_times.specs.declared.answers.Answering.{Answering}
+use Rattle.qz_times.specs.declared.ends.LineEnd.{LineEnd}
+use Rattle.qz_times.specs.declared.ends.LineEnd.TheVariants as ends
 use Rattle.qz_times.specs.declared.ends.TimesEnd.{TimesEnd}
 use Rattle.qz_times.specs.declared.ends.TimesEnd.TheVariants as times
-use Rattle.qz_times.specs.declared.queries.Query.{Query}
-use Rattle.qz_times.specs.declared.answers.LineEnd.{LineEnd}
-use Rattle.qz_times.specs.declared.answers.LineEnd.TheVariants as ends
 use Rattle.qz_times.specs.Runs.{IsRun}
-use Rattle.qz_times.specs.Said.{Zones}
-use Rattle.qz_times.specs.Answers.{BeginsBad, WentOn, WentToEnd, NextDone, Upto, BeyondDone, Finishes, end_at}
-use Rattle.qz_times.proofs.SaidLaws.{AllSaid-none, AllSaid-one, AllSaid-append}
+use Rattle.qz_times.specs.Said.{line_meaning, AllSaid}
+use Rattle.qz_times.specs.Answers.{Answers, Finishes, end_of}
+use Rattle.qz_times.proofs.SaidLaws.{AllSaid-none, AllSaid-one}
 
-pub Upto-none : (q : Query) (left held : Option (List ℕ)) → Upto q [] [] left left [] held held
-Upto-none q left held = record { taken = Consumes-nil left; one_line = tt; text = []; said = AllSaid-none q []; written = Appends-nil held }
-
--- one line more
-pub Upto-more : (q : Query) (zs zs' : Zones) (lines : List (List ℕ)) (i j k : Option (List ℕ)) (pending pending' : List ℕ) (x y z : Option (List ℕ))
-    → Upto q zs lines i j pending x y → (went : WentOn q zs zs' j k pending pending' y z) → Upto q zs' (lines ++ went.line ∷ []) i k pending' x z
-Upto-more q zs zs' lines i j k pending pending' x y z upto went = record {
-  taken = subst (Consumes i k) (feeds_more lines went.line pending') (taken_more i j k lines pending went.hands.got (with_feed went.line) pending' upto.taken went.hands.taken went.hands.kept);
-  one_line = AllByRecursion-append IsOneLine lines (went.line ∷ []) upto.one_line (went.one_line, tt);
-  text = upto.text ++ went.text;
-  said = AllSaid-append q lines (went.line ∷ []) [] zs zs' upto.text went.text upto.said (AllSaid-one q zs went.line went.text zs' went.said);
-  written = Appends-trans x y z upto.text went.text upto.written went.written;
-}
-
--- a source that tells its bytes, and what was taken of them
-told : (i j : Option (List ℕ)) (bytes taken : List ℕ) → i ≡ Some bytes → Consumes i j taken → Consumes (Some bytes) j taken
-told i j bytes taken is consumes = subst (λ l. Consumes l j taken) is consumes
+too_long : (line : List ℕ) → 65536 < length line → line_meaning line ≡ Err fault.TooLong
+unfolding line_meaning
+too_long line long = let past : nat_lt 65536 (length line) ≡ true = grind (arith, nat_tests) in rw past refl
 
 -- an output to which nothing more was written
 wrote_nothing : (x y z : Option (List ℕ)) (text : List ℕ) → Appends x y text → Appends y z [] → Appends x z text
 wrote_nothing x y z text p q = subst (Appends x z) (append-nil text) (Appends-trans x y z text [] p q)
 
--- nothing was done
-pub IsRun-nothing : (q : Query) (left held : Option (List ℕ)) → IsRun times.NoMemory q left left held held
-IsRun-nothing q left held = record {
-  lines = [];
-  text = [];
-  zones = [];
-  said = AllSaid-none q [];
-  ends = record { begins = λ bytes is. record { rest = lines_of bytes; all = refl }; written = Appends-nil held };
-}
+-- lines that come first come before none
+begins_all : (bytes : List ℕ) (lines : List (List ℕ)) → lines_of bytes ≡ lines → BeginWith lines (lines_of bytes)
+begins_all bytes lines all = record { rest = []; all = all ∙ sym (append-nil lines) }
 
--- nothing is ahead, and the output was flushed, or that failed
-pub IsRun-finished : (e : TimesEnd) (q : Query) (zs zs' : Zones) (lines : List (List ℕ)) (i j k : Option (List ℕ)) (pending : List ℕ) (x y z w : Option (List ℕ)) (m n : ℕ)
-    → Upto q zs lines i j pending x y → (went : WentToEnd q zs zs' j k pending y z) → length lines + length went.lines ≤ LINE_COUNT_LIMIT → Finishes e z w m n → IsRun e q i k x w
-IsRun-finished times.Done q zs zs' lines i j k pending x y z w m n upto went low flushed = record {
-  lines = lines ++ went.lines;
-  text = upto.text ++ went.text;
-  zones = zs';
-  said = AllSaid-append q lines went.lines [] zs zs' upto.text went.text upto.said went.said;
-  ends = record {
-    all = λ bytes is. whole_end bytes j k lines went.lines pending went.got upto.one_line (told i j bytes _ is upto.taken) went.taken went.ended went.all;
-    ended = went.ended;
-    within = simp length-append low;
-    written = wrote_nothing x z w _ (Appends-trans x y z upto.text went.text upto.written went.written) flushed;
-  };
-}
-IsRun-finished times.WriteFault q zs zs' lines i j k pending x y z w m n upto went low flushed = record {
-  lines = lines ++ went.lines;
-  text = upto.text ++ went.text;
-  zones = zs';
-  said = AllSaid-append q lines went.lines [] zs zs' upto.text went.text upto.said went.said;
-  ends = record {
-    last = [];
-    one = omega arith;
-    its = [];
-    behind = zs';
-    said = AllSaid-none q zs';
-    begins = λ bytes is. record {
-      rest = [];
-      all = whole_end bytes j k lines went.lines pending went.got upto.one_line (told i j bytes _ is upto.taken) went.taken went.ended went.all
-          ∙ sym (append-nil (lines ++ went.lines)) ∙ sym (append-nil ((lines ++ went.lines) ++ []));
-    };
-    count = 0;
-    written = subst (Appends x w) (sym (append-nil (upto.text ++ went.text))) (wrote_nothing x z w _ (Appends-trans x y z upto.text went.text upto.written went.written) flushed.0);
-  };
-}
-IsRun-finished (times.Bad number fault) q zs zs' lines i j k pending x y z w m n upto went low flushed = absurd flushed
-IsRun-finished times.TooManyLines q zs zs' lines i j k pending x y z w m n upto went low flushed = absurd flushed
-IsRun-finished times.ReadFault q zs zs' lines i j k pending x y z w m n upto went low flushed = absurd flushed
-IsRun-finished times.NoMemory q zs zs' lines i j k pending x y z w m n upto went low flushed = absurd flushed
+begins_more : (bytes line : List ℕ) (lines : List (List ℕ)) → BeginWith (lines ++ line ∷ []) (lines_of bytes) → BeginWith lines (lines_of bytes)
+begins_more bytes line lines next = record { rest = line ∷ next.rest; all = next.all ∙ append_assoc lines (line ∷ []) next.rest }
 
--- the loop ended at a line
-pub IsRun-at : (e : LineEnd) (q : Query) (zs zs' : Zones) (lines : List (List ℕ)) (i j k : Option (List ℕ)) (pending pending' : List ℕ) (x y z : Option (List ℕ)) (number : ℕ)
-    → Upto q zs lines i j pending x y → NextDone (Err e) q zs zs' j k pending pending' y z → number ≡ length lines + 1 → number ≤ LINE_COUNT_LIMIT → IsRun (end_at e number) q i k x z
-IsRun-at (ends.Bad fault) q zs zs' lines i j k pending pending' x y z number upto (ahead, wrote) is low = record {
-  lines = lines;
-  text = upto.text;
-  zones = zs;
-  said = upto.said;
-  ends = record {
-    number_is = is;
-    within = low;
-    bad = λ bytes known.
-        let behind = told_ahead bytes j k lines pending (BeginsBad fault) upto.one_line (told i j bytes _ known upto.taken) ahead in
-        record {
-          line = behind.is.line;
-          next = record { rest = behind.is.begins.more; all = behind.all ∙ ap (λ l. lines ++ l) behind.is.begins.lines ∙ sym (append_assoc lines (behind.is.line ∷ []) behind.is.begins.more) };
-          bad = behind.is.bad;
-        };
-    written = wrote_nothing x y z upto.text upto.written wrote;
-  };
-}
-IsRun-at ends.ReadFault q zs zs' lines i j k pending pending' x y z number upto (hands, one, wrote) is low = record {
-  lines = lines;
-  text = upto.text;
-  zones = zs;
-  said = upto.said;
-  ends = record {
-    rest = pending';
-    taken = taken_more i j k lines pending hands.got [] pending' upto.taken hands.taken hands.kept;
-    no_feed = one;
-    written = wrote_nothing x y z upto.text upto.written wrote;
-  };
-}
-IsRun-at ends.WriteFault q zs zs' lines i j k pending pending' x y z number upto part is low = record {
-  lines = lines;
-  text = upto.text;
-  zones = zs;
-  said = upto.said;
-  ends = record {
-    last = part.line ∷ [];
-    one = omega arith;
-    its = part.part.text;
-    behind = part.part.behind;
-    said = AllSaid-one q zs part.line part.part.text part.part.behind part.part.said;
-    begins = λ bytes known. begins_part bytes j k lines pending part.line upto.one_line (told i j bytes _ known upto.taken) part.ahead;
-    count = part.part.count;
-    written = Appends-trans x y z _ _ upto.written part.part.written;
-  };
-}
-IsRun-at ends.NoMemory q zs zs' lines i j k pending pending' x y z number upto (got, taken, wrote) is low = record {
-  lines = lines;
-  text = upto.text;
-  zones = zs;
-  said = upto.said;
-  ends = record {
-    begins = λ bytes known. begins_some bytes j k lines pending got upto.one_line (told i j bytes _ known upto.taken) taken;
-    written = wrote_nothing x y z upto.text upto.written wrote;
-  };
-}
+module _ {K : Type 0} (k : sink.Ghosts K) where
+  abbrev State : Type 0
+  State = LineState Answering K (Unit {0})
 
--- as many lines as an input may have were answered, and a further one begins
-pub IsRun-many : (q : Query) (zs : Zones) (lines : List (List ℕ)) (i j k : Option (List ℕ)) (pending : List ℕ) (x y : Option (List ℕ))
-    → Upto q zs lines i j pending x y → Ahead j k pending BeginsSome → length lines ≡ LINE_COUNT_LIMIT → IsRun times.TooManyLines q i k x y
-IsRun-many q zs lines i j k pending x y upto ahead full = record {
-  lines = lines;
-  text = upto.text;
-  zones = zs;
-  said = upto.said;
-  ends = record {
-    full = full;
-    more = λ bytes known.
-        let behind = told_ahead bytes j k lines pending BeginsSome upto.one_line (told i j bytes _ known upto.taken) ahead in
-        record {
-          line = behind.is.line;
-          next = record { rest = behind.is.begins.more; all = behind.all ∙ ap (λ l. lines ++ l) behind.is.begins.lines ∙ sym (append_assoc lines (behind.is.line ∷ []) behind.is.begins.more) };
-        };
-    written = upto.written;
-  };
-}
+  -- what was said to lines that were answered
+  pub record AllAnswered (lines : List (List ℕ)) (old new : State) : Type 0 where
+    pub query : new.handler.query ≡ old.handler.query
+    pub text : List ℕ
+    pub said : AllSaid old.handler.query old.handler.zones.entries lines text new.handler.zones.entries
+    pub written : Appends (k.held old.out) (k.held new.out) text
+    pub later : k.faults old.out ≤ k.faults new.out
 
-nothing_ahead : (q : Query) (zs : Zones) (j k : Option (List ℕ)) (pending : List ℕ) (x : Option (List ℕ)) → Consumes j k [] → pending ≡ [] → IsAtEnd k
-    → record { went : WentToEnd q zs zs j k pending x x; none : went.lines ≡ [] }
-nothing_ahead q zs j k pending x taken none ended = record {
-  went = record {
-    got = [];
-    taken = taken;
-    ended = ended;
-    lines = [];
-    all = ap lines_of (append-nil pending ∙ none);
-    one = omega arith;
+  pub all_answered : (lines : List (List ℕ)) (old new : State) → AllHandled (Answers k) lines old new → AllAnswered lines old new
+  all_answered [] old new same = subst (AllAnswered [] old) (sym same) (record {
+    query = refl;
     text = [];
-    said = AllSaid-none q zs;
-    written = Appends-nil x;
-  };
-  none = refl;
-}
+    said = AllSaid-none old.handler.query old.handler.zones.entries;
+    written = Appends-nil (k.held old.out);
+    later = omega arith;
+  })
+  all_answered (line ∷ lines) old new (between, one, others) =
+      let more = all_answered lines between new others in
+      record {
+        query = more.query ∙ one.query;
+        text = one.done.0 ++ more.text;
+        said = (
+          one.done.0,
+          more.text,
+          between.handler.zones.entries,
+          one.done.1,
+          subst (λ q. AllSaid q between.handler.zones.entries lines more.text new.handler.zones.entries) one.query more.said,
+          refl,
+        );
+        written = Appends-trans (k.held old.out) (k.held between.out) (k.held new.out) one.done.0 more.text one.done.2 more.written;
+        later = omega (arith, one.later, more.later);
+      }
 
--- as many lines as an input may have were answered, and nothing is ahead
-pub IsRun-full : (e : TimesEnd) (q : Query) (zs : Zones) (lines : List (List ℕ)) (i j k : Option (List ℕ)) (pending : List ℕ) (x y z : Option (List ℕ)) (m n : ℕ)
-    → Upto q zs lines i j pending x y → Consumes j k [] × (pending ≡ []) × IsAtEnd k → length lines ≡ LINE_COUNT_LIMIT → Finishes e y z m n → IsRun e q i k x z
-IsRun-full e q zs lines i j k pending x y z m n upto (taken, none, ended) full flushed =
-    let end = nothing_ahead q zs j k pending y taken none ended in
-    IsRun-finished e q zs zs lines i j k pending x y y z m n upto end.went (rw end.none (omega (arith, full))) flushed
+  -- what is known of an input and this output
+  abbrev at : Option (List ℕ) → K → Outside
+  at left out = record { left = left; held = k.held out; handed = k.handed out; readings = None }
 
--- as many lines as an input may have were answered, and then the source failed
-pub IsRun-beyond : (e : LineEnd) (q : Query) (zs : Zones) (lines : List (List ℕ)) (i j k : Option (List ℕ)) (pending pending' : List ℕ) (x y : Option (List ℕ)) (number : ℕ)
-    → Upto q zs lines i j pending x y → BeyondDone (Err e) j k pending pending' → IsRun (end_at e number) q i k x y
-IsRun-beyond ends.ReadFault q zs lines i j k pending pending' x y number upto (hands, one) = record {
-  lines = lines;
-  text = upto.text;
-  zones = zs;
-  said = upto.said;
-  ends = record {
-    rest = pending';
-    taken = taken_more i j k lines pending hands.got [] pending' upto.taken hands.taken hands.kept;
-    no_feed = one;
-    written = upto.written;
-  };
-}
-IsRun-beyond (ends.Bad fault) q zs lines i j k pending pending' x y number upto done = absurd done
-IsRun-beyond ends.WriteFault q zs lines i j k pending pending' x y number upto done = absurd done
-IsRun-beyond ends.NoMemory q zs lines i j k pending pending' x y number upto done = absurd done
+  -- what was said to the lines, where the first of them found no zone
+  said_first : (lines : List (List ℕ)) (a s : State) (answered : AllAnswered lines a s) → a.handler.zones.entries ≡ [] → AllSaid a.handler.query [] lines answered.text s.handler.zones.entries
+  said_first lines a s answered empty = subst (λ zs. AllSaid a.handler.query zs lines answered.text s.handler.zones.entries) empty answered.said
+
+  -- All lines were answered, and then all that the output holds was handed on, or that failed.
+  pub IsRun-whole : (e : TimesEnd) (i j : Option (List ℕ)) (a b : State) (out : K) (m n : ℕ) → a.handler.zones.entries ≡ [] → HandlesLines (Answers k) (Ok tt) i j a b
+      → Finishes e (output_alone k b.out) (output_alone k out) m n → IsRun e a.handler.query (at i a.out) (at j out)
+  IsRun-whole times.Done i j a b out m n empty lines finishes =
+      let answered = all_answered lines.lines a lines.state lines.handled in
+      record {
+        lines = lines.lines;
+        text = answered.text;
+        zones = lines.state.handler.zones.entries;
+        said = said_first lines.lines a lines.state answered empty;
+        ends = record {
+          all = lines.ends.all;
+          ended = lines.ends.ended;
+          within = lines.ends.within;
+          written = wrote_nothing (k.held a.out) (k.held lines.state.out) (k.held out) answered.text answered.written (subst (λ s. Appends (k.held s.out) (k.held out) []) lines.ends.state_is finishes.0);
+          handed_on = finishes.1;
+        };
+      }
+  IsRun-whole times.WriteFault i j a b out m n empty lines finishes =
+      let answered = all_answered lines.lines a lines.state lines.handled in
+      record {
+        lines = lines.lines;
+        text = answered.text;
+        zones = lines.state.handler.zones.entries;
+        said = said_first lines.lines a lines.state answered empty;
+        ends = record {
+          last = [];
+          one = omega arith;
+          its = [];
+          after = lines.state.handler.zones.entries;
+          said = AllSaid-none a.handler.query lines.state.handler.zones.entries;
+          begins = λ bytes is. record { rest = []; all = lines.ends.all bytes is ∙ sym (append-nil lines.lines) ∙ sym (append-nil (lines.lines ++ [])) };
+          count = 0;
+          written = subst (Appends (k.held a.out) (k.held out)) (sym (append-nil answered.text))
+              (wrote_nothing (k.held a.out) (k.held lines.state.out) (k.held out) answered.text answered.written (subst (λ s. Appends (k.held s.out) (k.held out) []) lines.ends.state_is finishes.0));
+        };
+      }
+  IsRun-whole (times.Bad number fault) i j a b out m n empty lines finishes = absurd finishes
+  IsRun-whole times.TooManyLines i j a b out m n empty lines finishes = absurd finishes
+  IsRun-whole times.ReadFault i j a b out m n empty lines finishes = absurd finishes
+  IsRun-whole times.NoMemory i j a b out m n empty lines finishes = absurd finishes
+
+  -- nothing more was written by what ended the lines
+  same_out : (i : Option (List ℕ)) (s b : State) (text : List ℕ) → b ≡ s → Appends i (k.held s.out) text → Appends i (k.held b.out) text
+  same_out i s b text same written = subst (λ z. Appends i (k.held z.out) text) (sym same) written
+
+  -- The lines ended before the input's end.
+  pub IsRun-stopped : (e : LinesEnd LineEnd) (i j : Option (List ℕ)) (a b : State) → a.handler.zones.entries ≡ [] → HandlesLines (Answers k) (Err e) i j a b
+      → IsRun (end_of e) a.handler.query (at i a.out) (at j b.out)
+  IsRun-stopped (lines_end.Refused number (ends.Bad f)) i j a b empty lines =
+      let answered = all_answered lines.lines a lines.state lines.handled in
+      record {
+        lines = lines.lines;
+        text = answered.text;
+        zones = lines.state.handler.zones.entries;
+        said = said_first lines.lines a lines.state answered empty;
+        ends = record {
+          number_is = lines.ends.number_is;
+          bad = λ bytes is. record { line = lines.ends.line; next = lines.ends.next bytes is; bad = lines.ends.refused.done.0 };
+          written = wrote_nothing (k.held a.out) (k.held lines.state.out) (k.held b.out) answered.text answered.written lines.ends.refused.done.1;
+        };
+      }
+  IsRun-stopped (lines_end.Refused number ends.WriteFault) i j a b empty lines =
+      let answered = all_answered lines.lines a lines.state lines.handled in
+      let part = lines.ends.refused.done in
+      record {
+        lines = lines.lines;
+        text = answered.text;
+        zones = lines.state.handler.zones.entries;
+        said = said_first lines.lines a lines.state answered empty;
+        ends = record {
+          last = lines.ends.line ∷ [];
+          one = omega arith;
+          its = part.text;
+          after = part.after;
+          said = subst (λ q. AllSaid q lines.state.handler.zones.entries (lines.ends.line ∷ []) part.text part.after) answered.query
+              (AllSaid-one lines.state.handler.query lines.state.handler.zones.entries lines.ends.line part.text part.after part.said);
+          begins = lines.ends.next;
+          count = part.count;
+          written = Appends-trans (k.held a.out) (k.held lines.state.out) (k.held b.out) answered.text (take part.count part.text) answered.written part.written;
+        };
+      }
+  IsRun-stopped (lines_end.Refused number ends.NoMemory) i j a b empty lines =
+      let answered = all_answered lines.lines a lines.state lines.handled in
+      record {
+        lines = lines.lines;
+        text = answered.text;
+        zones = lines.state.handler.zones.entries;
+        said = said_first lines.lines a lines.state answered empty;
+        ends = record {
+          begins = λ bytes is. begins_more bytes lines.ends.line lines.lines (lines.ends.next bytes is);
+          written = wrote_nothing (k.held a.out) (k.held lines.state.out) (k.held b.out) answered.text answered.written lines.ends.refused.done;
+        };
+      }
+  IsRun-stopped (lines_end.TooLong number) i j a b empty lines =
+      let answered = all_answered lines.lines a lines.state lines.handled in
+      record {
+        lines = lines.lines;
+        text = answered.text;
+        zones = lines.state.handler.zones.entries;
+        said = said_first lines.lines a lines.state answered empty;
+        ends = record {
+          number_is = lines.ends.number_is;
+          bad = λ bytes is. let long = lines.ends.next bytes is in record { line = long.line; next = long.next; bad = too_long long.line long.long };
+          written = same_out (k.held a.out) lines.state b answered.text lines.ends.state_is answered.written;
+        };
+      }
+  IsRun-stopped lines_end.TooMany i j a b empty lines =
+      let answered = all_answered lines.lines a lines.state lines.handled in
+      record {
+        lines = lines.lines;
+        text = answered.text;
+        zones = lines.state.handler.zones.entries;
+        said = said_first lines.lines a lines.state answered empty;
+        ends = record {
+          full = lines.ends.full;
+          more = lines.ends.next;
+          written = same_out (k.held a.out) lines.state b answered.text lines.ends.state_is answered.written;
+        };
+      }
+  IsRun-stopped lines_end.ReadFault i j a b empty lines =
+      let answered = all_answered lines.lines a lines.state lines.handled in
+      record {
+        lines = lines.lines;
+        text = answered.text;
+        zones = lines.state.handler.zones.entries;
+        said = said_first lines.lines a lines.state answered empty;
+        ends = record {
+          part = lines.ends.part;
+          taken = subst (Consumes i j) lines.ends.got_is lines.taken;
+          no_feed = lines.ends.no_feed;
+          written = same_out (k.held a.out) lines.state b answered.text lines.ends.state_is answered.written;
+        };
+      }
+  IsRun-stopped lines_end.NoMemory i j a b empty lines =
+      let answered = all_answered lines.lines a lines.state lines.handled in
+      record {
+        lines = lines.lines;
+        text = answered.text;
+        zones = lines.state.handler.zones.entries;
+        said = said_first lines.lines a lines.state answered empty;
+        ends = record {
+          begins = λ bytes is. record { rest = lines_of bytes; all = sym (ap (λ l. l ++ lines_of bytes) lines.ends.no_line) };
+          written = same_out (k.held a.out) lines.state b answered.text lines.ends.state_is answered.written;
+        };
+      }
+
+  -- the count of faults of the output while lines are answered
+  pub faults_later : (i j : Option (List ℕ)) (a b : State) → HandlesLines (Answers k) (Ok tt) i j a b → k.faults a.out ≤ k.faults b.out
+  faults_later i j a b lines =
+      let answered = all_answered lines.lines a lines.state lines.handled in
+      subst (λ s. k.faults a.out ≤ k.faults s.out) (sym lines.ends.state_is) answered.later
+
+  rose_later : (x y z : ℕ) → x ≤ y → Rose y z → Rose x z
+  rose_later x y z later rose = omega (arith, later, rose)
+
+  pub stopped_rose : (e : LinesEnd LineEnd) (i j : Option (List ℕ)) (a b : State) → HandlesLines (Answers k) (Err e) i j a b → end_of e ≡ times.WriteFault → Rose (k.faults a.out) (k.faults b.out)
+  stopped_rose (lines_end.Refused number ends.WriteFault) i j a b lines is =
+      let answered = all_answered lines.lines a lines.state lines.handled in
+      rose_later _ _ _ answered.later (lines.ends.refused.rose refl)
+  stopped_rose (lines_end.Refused number (ends.Bad f)) i j a b lines is = absurd cc
+  stopped_rose (lines_end.Refused number ends.NoMemory) i j a b lines is = absurd cc
+  stopped_rose (lines_end.TooLong number) i j a b lines is = absurd cc
+  stopped_rose lines_end.TooMany i j a b lines is = absurd cc
+  stopped_rose lines_end.ReadFault i j a b lines is = absurd cc
+  stopped_rose lines_end.NoMemory i j a b lines is = absurd cc
+
+  pub finish_rose : (e : TimesEnd) (i j : Option (List ℕ)) (a b : State) (old new : Outside) (n : ℕ) → HandlesLines (Answers k) (Ok tt) i j a b → Finishes e old new (k.faults b.out) n
+      → e ≡ times.WriteFault → Rose (k.faults a.out) n
+  finish_rose times.WriteFault i j a b old new n lines finishes is = rose_later _ _ _ (faults_later i j a b lines) finishes.1
+  finish_rose times.Done i j a b old new n lines finishes is = absurd cc
+  finish_rose (times.Bad number f) i j a b old new n lines finishes is = absurd cc
+  finish_rose times.TooManyLines i j a b old new n lines finishes is = absurd cc
+  finish_rose times.ReadFault i j a b old new n lines finishes is = absurd cc
+  finish_rose times.NoMemory i j a b old new n lines finishes is = absurd cc

@@ -5,6 +5,7 @@ mod answers;
 mod ends;
 mod queries;
 mod runs;
+mod said;
 mod telling;
 mod zones;
 

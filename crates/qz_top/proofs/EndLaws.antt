@@ -1,24 +1,44 @@
--- How a script ends behind its last line: the run that its lines make, by the status.
-use Rattle.std.proofs.Common.{◌≡◌, ◌≤◌, ℕ, ◌+◌, ℤ, Bool, true, false, not, List, [], ◌++◌, length, Option, Some, None, refl, sym, ap, ◌∙◌, subst, arith, length-append}
+-- How a script ends: the run that its lines make, by what ended them.
+use Rattle.std.proofs.Common.{◌≡◌, ◌≤◌, ◌<◌, ℕ, ◌+◌, ℤ, Bool, true, false, not, List, [], ◌∷◌, ◌++◌, length, take, drop, Option, Some, None, refl, sym, ap, ◌∙◌, subst, arith, append_assoc}
+use Rattle.std.specs.Prelude.{Ok, Err, nat_lt}
 use Rattle.std.specs.List.{AllByRecursion}
-use Rattle.std.specs.Io.KnownBytes.{Consumes, Appends, IsAtEnd}
+use Rattle.std.specs.Io.KnownBytes.{Appends}
 use Rattle.std.proofs.KnownBytes.{Appends-trans}
-use Rattle.std.proofs.lemmas.List.{append-nil}
+use Rattle.std.proofs.lemmas.Bool.Decides.{nat_tests}
+use Rattle.std.proofs.lemmas.List.{append-nil, take-append-drop}
+use Rattle.qz_civil.specs.Causes.{Rose}
+use Rattle.qz_disk.specs.declared.disk.Disk.{Ghosts}
 use Rattle.qz_types.specs.declared.steps.StepReply.{StepReply}
+use Rattle.qz_io.specs.declared.limits.TheConstants.{LINE_COUNT_LIMIT}
+use Rattle.qz_io.specs.declared.traits.Clock as clock
+use Rattle.qz_io.specs.declared.traits.Sink as sink
+use Rattle.qz_io.specs.Ahead.{BeginWith}
+use Rattle.qz_io.specs.Around.{without_input, output_alone}
 use Rattle.qz_io.specs.Clocks.{Tells}
-use Rattle.qz_io.proofs.TakenLaws.{whole_end}
-use Rattle.qz_io.specs.Lines.{IsOneLine, lines_of, with_feeds}
-use Rattle.qz_io.specs.declared.readers.TheConstants.{LINE_COUNT_LIMIT}
+use Rattle.qz_io.specs.Handlers.{AllHandled, IsNextLine, HandlesLines}
+use Rattle.qz_io.specs.LineStates.{LineState}
+use Rattle.qz_io.specs.Lines.{lines_of}
+use Rattle.qz_io.specs.Outside.{Outside}
+use Rattle.qz_io.proofs.Readings.{Tells-trans}
+use Rattle.qz_job_json.specs.declared.lines.LineFault.TheVariants as line_fault
+use Rattle.qz_top.specs.declared.runs.Run.{Run}
+use Rattle.qz_top.specs.declared.statuses.BadKind.{BadKind}
+use Rattle.qz_top.specs.declared.statuses.BadKind.TheVariants as bad
+use Rattle.qz_cluster.specs.Steps.{is_closed}
 use Rattle.qz_top.specs.declared.statuses.Status.{Status}
 use Rattle.qz_top.specs.declared.statuses.Status.TheVariants as status
-use Rattle.qz_top.specs.Lines.{IsGood, readings_of, first_bad, first_bad_from}
+use Rattle.qz_top.specs.Handling.{Does}
+use Rattle.qz_top.specs.Lines.{line_meaning, IsGood, readings_of, first_bad, first_bad_from}
+use Rattle.qz_top.specs.Runs.{ReadToBad, WrotePart, Clocked, IsOfScript, IsRun}
+use Rattle.qz_top.specs.Seen.{run_of}
 use Rattle.qz_top.specs.Statuses.{Finishes}
 use Rattle.qz_top.specs.Trails.{texts, RunState}
-use Rattle.qz_top.specs.Inputs.{WentToEnd, Upto}
-use Rattle.qz_top.specs.Runs.{Reads, WrotePart, Clocked, IsRun}
-use Rattle.qz_top.proofs.LineLaws.{first_bad_from-append}
+use Rattle.qz_top.specs.Turns.{Ran, RanPart, IsBad, Idles, LineFull}
+use Rattle.qz_top.proofs.LineLaws.{first_bad_from-append, first_bad_from-bad, first_bad_from-many}
 use Rattle.qz_top.proofs.TrailLaws.{Idles-none}
-use Rattle.qz_top.proofs.TurnLaws.{Tells-trans, Ran-none, Ran-more}
+use Rattle.qz_top.proofs.TurnLaws.{Ran-none, Ran-more}
+
+-- Readings and replies.
 
 -- the readings of the lines, and no more
 pub exact_readings : (s : Status) (a b : Option (List ℤ)) (lines : List (List ℕ)) (readings : List ℤ) → length readings ≡ readings_of lines → Tells a b readings → Clocked s a b lines readings
@@ -30,44 +50,13 @@ exact_readings s a b lines readings count told = record {
   one = omega arith;
 }
 
--- a clock that told nothing more
+-- a clock that gave no more readings
 pub told_nothing : (a b c : Option (List ℤ)) (readings : List ℤ) → Tells a b readings → Tells b c [] → Tells a c readings
 told_nothing a b c readings p q = subst (Tells a c) (append-nil readings) (Tells-trans a b c readings [] p q)
 
 -- an output to which nothing more was written
 pub wrote_nothing : (x y z : Option (List ℕ)) (text : List ℕ) → Appends x y text → Appends y z [] → Appends x z text
 wrote_nothing x y z text p q = subst (Appends x z) (append-nil text) (Appends-trans x y z text [] p q)
-
--- good lines within the limit have no bad one among them
-none_bad : (lines : List (List ℕ)) → AllByRecursion IsGood lines → length lines ≤ LINE_COUNT_LIMIT → first_bad lines ≡ None
-none_bad lines good low = ap (first_bad_from 1) (sym (append-nil lines)) ∙ first_bad_from-append 1 lines [] good (omega arith)
-
-stands_open : (closed now : Bool) → closed ≡ not now → closed ≡ false → now ≡ true
-stands_open closed true tells isnt = refl
-stands_open closed false tells isnt = let bad : true ≡ false = sym tells ∙ isnt in absurd cc
-
-stands_closed : (closed now : Bool) → closed ≡ not now → closed ≡ true → now ≡ false
-stands_closed closed false tells is = refl
-stands_closed closed true tells is = let bad : false ≡ true = sym tells ∙ is in absurd cc
-
--- all lines were read
-pub record AllRead (left left' : Option (List ℕ)) (lines : List (List ℕ)) : Type 0 where
-  pub ok : Reads status.Ok left left' lines
-  pub closed : Reads status.DiskFault left left' lines
-  pub written : Reads status.WriteFault left left' lines
-
-reads_all : (i j k : Option (List ℕ)) (lines : List (List ℕ)) (pending : List ℕ) (R R' : RunState) (y z : Option (List ℕ)) (b c : Option (List ℤ))
-    → AllByRecursion IsOneLine lines → Consumes i j (with_feeds lines ++ pending) → (went : WentToEnd j k pending R R' y z b c)
-    → AllByRecursion IsGood (lines ++ went.lines) → length (lines ++ went.lines) ≤ LINE_COUNT_LIMIT → AllRead i k (lines ++ went.lines)
-reads_all None j k lines pending R R' y z b c one taken went good low = record { ok = tt; closed = tt; written = tt }
-reads_all (Some bytes) j k lines pending R R' y z b c one taken went good low =
-    let all = whole_end bytes j k lines went.lines pending went.got one taken went.taken went.ended went.all in
-    let no_bad = ap first_bad all ∙ none_bad (lines ++ went.lines) good low in
-    record {
-      ok = record { all = all; no_bad = no_bad; ended = went.ended };
-      closed = record { all = all; no_bad = no_bad; ended = went.ended };
-      written = record { rest = []; all = all ∙ sym (append-nil (lines ++ went.lines)) };
-    }
 
 -- all replies were written
 pub wrote_whole : (x z : Option (List ℕ)) (replies : List StepReply) → Appends x z (texts replies) → WrotePart x z replies
@@ -82,92 +71,199 @@ wrote_whole x z replies written = record {
   written = subst (Appends x z) (sym (append-nil _)) written;
 }
 
--- Nothing is ahead, and the output was flushed, or that failed.
-pub IsRun-finished : (s : Status) (closed : Bool) (lines : List (List ℕ)) (readings : List ℤ) (i j k : Option (List ℕ)) (pending : List ℕ) (R S S' : RunState) (x y z w : Option (List ℕ)) (a b c : Option (List ℤ)) (m n : ℕ)
-    → Upto lines readings i j pending R S x y a b → (went : WentToEnd j k pending S S' y z b c) → length lines + length went.lines ≤ LINE_COUNT_LIMIT
-    → closed ≡ not S'.cluster.triggers.is_open → Finishes s closed z w m n
-    → (replies : List StepReply) × IsRun s R S' i k x w a c (lines ++ went.lines) (readings ++ went.readings) replies
-IsRun-finished status.Ok closed lines readings i j k pending R S S' x y z w a b c m n upto went low tells flushed =
-    let ran = Ran-more lines went.lines readings went.readings R S S' x y z a b c upto.ran went.ran in (
-      ran.did.replies,
-      record {
-        called = tt;
-        good = ran.did.good;
-        behind = S';
-        went = ran.did.went;
-        idles = Idles-none S';
-        full = tt;
-        closed = stands_open closed S'.cluster.triggers.is_open tells flushed.0;
-        reads = (reads_all i j k lines pending S S' y z b c upto.one_line upto.taken went ran.did.good (simp length-append low)).ok;
-        clocked = exact_readings status.Ok a c _ _ ran.did.count ran.did.told;
-        writes = wrote_nothing x z w _ ran.written flushed.1;
-      },
-    )
-IsRun-finished status.DiskFault closed lines readings i j k pending R S S' x y z w a b c m n upto went low tells flushed =
-    let ran = Ran-more lines went.lines readings went.readings R S S' x y z a b c upto.ran went.ran in (
-      ran.did.replies,
-      record {
-        called = tt;
-        good = ran.did.good;
-        behind = S';
-        went = ran.did.went;
-        idles = Idles-none S';
-        full = tt;
-        closed = stands_closed closed S'.cluster.triggers.is_open tells flushed.0;
-        reads = (reads_all i j k lines pending S S' y z b c upto.one_line upto.taken went ran.did.good (simp length-append low)).closed;
-        clocked = exact_readings status.DiskFault a c _ _ ran.did.count ran.did.told;
-        writes = wrote_nothing x z w _ ran.written flushed.1;
-      },
-    )
-IsRun-finished status.WriteFault closed lines readings i j k pending R S S' x y z w a b c m n upto went low tells flushed =
-    let ran = Ran-more lines went.lines readings went.readings R S S' x y z a b c upto.ran went.ran in (
-      ran.did.replies,
-      record {
-        called = tt;
-        good = ran.did.good;
-        behind = S';
-        went = ran.did.went;
-        idles = Idles-none S';
-        full = tt;
-        closed = tt;
-        reads = (reads_all i j k lines pending S S' y z b c upto.one_line upto.taken went ran.did.good (simp length-append low)).written;
-        clocked = exact_readings status.WriteFault a c _ _ ran.did.count ran.did.told;
-        writes = wrote_whole x w _ (wrote_nothing x z w _ ran.written flushed.0);
-      },
-    )
-IsRun-finished (status.BadWords fault) closed lines readings i j k pending R S S' x y z w a b c m n upto went low tells flushed = absurd flushed
-IsRun-finished (status.BadLine line fault) closed lines readings i j k pending R S S' x y z w a b c m n upto went low tells flushed = absurd flushed
-IsRun-finished status.ReadFault closed lines readings i j k pending R S S' x y z w a b c m n upto went low tells flushed = absurd flushed
-IsRun-finished (status.NotAStore store) closed lines readings i j k pending R S S' x y z w a b c m n upto went low tells flushed = absurd flushed
-IsRun-finished (status.Damaged store at) closed lines readings i j k pending R S S' x y z w a b c m n upto went low tells flushed = absurd flushed
-IsRun-finished (status.JournalFull need room) closed lines readings i j k pending R S S' x y z w a b c m n upto went low tells flushed = absurd flushed
-IsRun-finished status.NoMemory closed lines readings i j k pending R S S' x y z w a b c m n upto went low tells flushed = absurd flushed
-IsRun-finished status.Exists closed lines readings i j k pending R S S' x y z w a b c m n upto went low tells flushed = absurd flushed
+-- all replies except the last were written, and a part of that
+pub wrote_part : (a b c : Outside) (lines : List (List ℕ)) (readings : List ℤ) (line : List ℕ) (R S T : RunState)
+    → (ran : Ran lines readings R S a b) → (part : RanPart line S T b c) → WrotePart a.held c.held (ran.did.replies ++ part.did.replies)
+wrote_part a b c lines readings line R S T ran part =
+    let text = texts part.did.replies in
+    record {
+      kept = ran.did.replies;
+      last = part.did.replies;
+      cut = refl;
+      one = part.one;
+      part = take part.count text;
+      rest = drop part.count text;
+      text = sym (take-append-drop part.count text);
+      written = Appends-trans a.held b.held c.held _ _ ran.written part.written;
+    }
 
--- nothing was ahead
-nothing_ahead : (j k : Option (List ℕ)) (pending : List ℕ) (R : RunState) (x : Option (List ℕ)) (a : Option (List ℤ))
-    → Consumes j k [] → pending ≡ [] → IsAtEnd k → record { went : WentToEnd j k pending R R x x a a; none : went.lines ≡ [] }
-nothing_ahead j k pending R x a taken none ended = record {
-  went = record {
-    got = [];
-    taken = taken;
-    ended = ended;
-    lines = [];
-    all = ap lines_of (append-nil pending ∙ none);
-    one = omega arith;
-    readings = [];
-    ran = Ran-none R x a;
-  };
-  none = refl;
+-- The first bad line.
+
+-- good lines within the limit have no bad one among them
+none_bad : (lines : List (List ℕ)) → AllByRecursion IsGood lines → length lines ≤ LINE_COUNT_LIMIT → first_bad lines ≡ None
+none_bad lines good low = ap (first_bad_from 1) (sym (append-nil lines)) ∙ first_bad_from-append 1 lines [] good (omega arith)
+
+-- the line after these lines, and what follows it
+next_all : (bytes line : List ℕ) (lines : List (List ℕ)) → (next : IsNextLine lines line bytes) → lines_of bytes ≡ lines ++ line ∷ next.rest
+next_all bytes line lines next = next.all ∙ append_assoc lines (line ∷ []) next.rest
+
+pub begins_before : (bytes line : List ℕ) (lines : List (List ℕ)) → IsNextLine lines line bytes → BeginWith lines (lines_of bytes)
+begins_before bytes line lines next = record { rest = line ∷ next.rest; all = next_all bytes line lines next }
+
+-- the first bad line comes after these lines
+pub reads_bad : (bytes line : List ℕ) (lines : List (List ℕ)) (kind : BadKind) (number : ℕ) → IsNextLine lines line bytes → AllByRecursion IsGood lines
+    → number ≡ length lines + 1 → number ≤ LINE_COUNT_LIMIT → IsBad line kind → ReadToBad lines number kind bytes
+reads_bad bytes line lines kind number next good is low is_bad =
+    let all = next_all bytes line lines next in
+    let found = first_bad_from-bad (1 + length lines) line next.rest is_bad.fault (omega arith) is_bad.meaning in
+    let same : 1 + length lines ≡ number = omega arith in
+    record {
+      begins = begins_before bytes line lines next;
+      number = is;
+      bad = ap first_bad all ∙ first_bad_from-append 1 lines (line ∷ next.rest) good (omega arith) ∙ found
+          ∙ ap (λ k. Some (status.BadLine (1 + length lines) k)) (sym is_bad.kind_is) ∙ ap (λ n. Some (status.BadLine n kind)) same;
+    }
+
+pub too_long : (line : List ℕ) → 65536 < length line → line_meaning line ≡ Err line_fault.TooLong
+unfolding line_meaning
+too_long line long = let past : nat_lt 65536 (length line) ≡ true = grind (arith, nat_tests) in rw past refl
+
+-- one line more than an input may have is the first bad one
+pub reads_many : (bytes line : List ℕ) (lines : List (List ℕ)) → IsNextLine lines line bytes → AllByRecursion IsGood lines → length lines ≡ LINE_COUNT_LIMIT
+    → ReadToBad lines (LINE_COUNT_LIMIT + 1) bad.TooManyLines bytes
+reads_many bytes line lines next good full =
+    let same : 1 + length lines ≡ LINE_COUNT_LIMIT + 1 = omega arith in
+    record {
+      begins = begins_before bytes line lines next;
+      number = omega arith;
+      bad = ap first_bad (next_all bytes line lines next) ∙ first_bad_from-append 1 lines (line ∷ next.rest) good (omega arith)
+          ∙ first_bad_from-many (1 + length lines) line next.rest (omega arith) ∙ ap (λ n. Some (status.BadLine n bad.TooManyLines)) same;
+    }
+
+-- a step that finds no room changes nothing
+pub full_idles : (line : List ℕ) (need room : ℕ) (R S : RunState) (a b : Outside) → LineFull line need room R S a b → Idles R S
+full_idles line need room R S a b full = record {
+  trail = full.full.trail;
+  own = full.full.is_own;
+  stays = λ not_own. record { triggers = full.full.full.full.same; held = full.full.full.held };
 }
 
--- As many lines as a script may have were done, and nothing is ahead.
-pub IsRun-full : (s : Status) (closed : Bool) (lines : List (List ℕ)) (readings : List ℤ) (i j k : Option (List ℕ)) (pending : List ℕ) (R S : RunState) (x y z : Option (List ℕ)) (a b : Option (List ℤ)) (m n : ℕ)
-    → Upto lines readings i j pending R S x y a b → Consumes j k [] × (pending ≡ []) × IsAtEnd k → length lines ≡ LINE_COUNT_LIMIT
-    → closed ≡ not S.cluster.triggers.is_open → Finishes s closed y z m n
-    → (all : List (List ℕ)) × (taken : List ℤ) × (replies : List StepReply) × IsRun s R S i k x z a b all taken replies
-IsRun-full s closed lines readings i j k pending R S x y z a b m n upto nothing full tells flushed =
-    let end = nothing_ahead j k pending S y b nothing.0 nothing.1 nothing.2 in
-    let low : length lines + length end.went.lines ≤ LINE_COUNT_LIMIT = rw end.none (omega (arith, full)) in
-    let run = IsRun-finished s closed lines readings i j k pending R S S x y y z a b b m n upto end.went low tells flushed in
-    (lines ++ end.went.lines, readings ++ end.went.readings, run.0, run.1)
+pub rose_later : (x y z : ℕ) → x ≤ y → Rose y z → Rose x z
+rose_later x y z later rose = omega (arith, later, rose)
+
+module _ {D K C : Type 0} (g : Ghosts D) (k : sink.Ghosts K) (c : clock.Ghosts C) where
+  abbrev pub State : Type 0
+  State = LineState (Run D g) K C
+
+  -- what is known of the outside with so much left of the input
+  abbrev pub around : Option (List ℕ) → K → C → Outside
+  around left out at = record { left = left; held = k.held out; handed = k.handed out; readings = c.readings at }
+
+  abbrev pub beside : State → Outside
+  beside s = without_input k c s.out s.rest
+
+  -- some run of lines
+  abbrev pub SomeRun : Status → RunState → RunState → Outside → Outside → Type 0
+  SomeRun s R S old new = (lines : List (List ℕ)) × (readings : List ℤ) × (replies : List StepReply) × IsRun s R S old new lines readings replies
+
+  -- lines that were done and answered
+  pub record AllRan (lines : List (List ℕ)) (a b : State) : Type 0 where
+    pub readings : List ℤ
+    pub ran : Ran lines readings (run_of a.handler) (run_of b.handler) (beside a) (beside b)
+    pub later : k.faults a.out ≤ k.faults b.out
+
+  pub all_ran : (lines : List (List ℕ)) (a b : State) → AllHandled (Does {g = g} k c) lines a b → AllRan lines a b
+  all_ran [] a b same = subst (AllRan [] a) (sym same) (record { readings = []; ran = Ran-none (run_of a.handler) (beside a); later = omega arith })
+  all_ran (line ∷ lines) a b (between, one, others) =
+      let more = all_ran lines between b others in
+      record {
+        readings = one.done.0 ++ more.readings;
+        ran = Ran-more (line ∷ []) lines one.done.0 more.readings (run_of a.handler) (run_of between.handler) (run_of b.handler) (beside a) (beside between) (beside b) one.done.1 more.ran;
+        later = omega (arith, one.later, more.later);
+      }
+
+  -- lines that were done, before nothing else was
+  pub ran_to : (lines : List (List ℕ)) (a s b : State) → b ≡ s → AllHandled (Does {g = g} k c) lines a s → AllRan lines a b
+  ran_to lines a s b same handled = subst (AllRan lines a) (sym same) (all_ran lines a s handled)
+
+  -- All lines were done, and then the output was flushed, or that failed.
+  pub IsRun-whole : (s : Status) (closed : Bool) (i j : Option (List ℕ)) (a b : State) (out : K) (m n : ℕ) → HandlesLines (Does {g = g} k c) (Ok tt) i j a b
+      → closed ≡ is_closed (run_of b.handler).cluster → Finishes s closed (output_alone k b.out) (output_alone k out) m n
+      → SomeRun s (run_of a.handler) (run_of b.handler) (around i a.out a.rest) (around j out b.rest)
+  IsRun-whole status.Ok closed i j a b out m n lines tells finishes =
+      let all = ran_to lines.lines a lines.state b lines.ends.state_is lines.handled in (
+        lines.lines,
+        all.readings,
+        all.ran.did.replies,
+        record {
+          called = tt;
+          good = all.ran.did.good;
+          behind = run_of b.handler;
+          went = all.ran.did.went;
+          idles = Idles-none (run_of b.handler);
+          full = tt;
+          closed = sym tells ∙ finishes.0;
+          reads = λ bytes is. let whole = lines.ends.all bytes is in record { all = whole; no_bad = ap first_bad whole ∙ none_bad lines.lines all.ran.did.good lines.ends.within; ended = lines.ends.ended };
+          clocked = exact_readings status.Ok _ _ lines.lines all.readings all.ran.did.count all.ran.did.told;
+          writes = wrote_nothing (k.held a.out) (k.held b.out) (k.held out) _ all.ran.written finishes.1.0;
+          hands_on = finishes.1.1;
+        },
+      )
+  IsRun-whole status.DiskFault closed i j a b out m n lines tells finishes =
+      let all = ran_to lines.lines a lines.state b lines.ends.state_is lines.handled in (
+        lines.lines,
+        all.readings,
+        all.ran.did.replies,
+        record {
+          called = tt;
+          good = all.ran.did.good;
+          behind = run_of b.handler;
+          went = all.ran.did.went;
+          idles = Idles-none (run_of b.handler);
+          full = tt;
+          closed = sym tells ∙ finishes.0;
+          reads = λ bytes is. let whole = lines.ends.all bytes is in record { all = whole; no_bad = ap first_bad whole ∙ none_bad lines.lines all.ran.did.good lines.ends.within; ended = lines.ends.ended };
+          clocked = exact_readings status.DiskFault _ _ lines.lines all.readings all.ran.did.count all.ran.did.told;
+          writes = wrote_nothing (k.held a.out) (k.held b.out) (k.held out) _ all.ran.written finishes.1.0;
+          hands_on = finishes.1.1;
+        },
+      )
+  IsRun-whole status.WriteFault closed i j a b out m n lines tells finishes =
+      let all = ran_to lines.lines a lines.state b lines.ends.state_is lines.handled in (
+        lines.lines,
+        all.readings,
+        all.ran.did.replies,
+        record {
+          called = tt;
+          good = all.ran.did.good;
+          behind = run_of b.handler;
+          went = all.ran.did.went;
+          idles = Idles-none (run_of b.handler);
+          full = tt;
+          closed = tt;
+          reads = λ bytes is. record { rest = []; all = lines.ends.all bytes is ∙ sym (append-nil lines.lines) };
+          clocked = exact_readings status.WriteFault _ _ lines.lines all.readings all.ran.did.count all.ran.did.told;
+          writes = wrote_whole (k.held a.out) (k.held out) _ (wrote_nothing (k.held a.out) (k.held b.out) (k.held out) _ all.ran.written finishes.0);
+          hands_on = tt;
+        },
+      )
+  IsRun-whole (status.BadWords fault) closed i j a b out m n lines tells finishes = absurd finishes
+  IsRun-whole (status.BadLine line fault) closed i j a b out m n lines tells finishes = absurd finishes
+  IsRun-whole status.ReadFault closed i j a b out m n lines tells finishes = absurd finishes
+  IsRun-whole (status.NotAStore store) closed i j a b out m n lines tells finishes = absurd finishes
+  IsRun-whole (status.Damaged store at) closed i j a b out m n lines tells finishes = absurd finishes
+  IsRun-whole (status.JournalFull need room) closed i j a b out m n lines tells finishes = absurd finishes
+  IsRun-whole status.NoMemory closed i j a b out m n lines tells finishes = absurd finishes
+  IsRun-whole status.Exists closed i j a b out m n lines tells finishes = absurd finishes
+
+  -- the output's count of faults while lines are done
+  pub faults_later : (i j : Option (List ℕ)) (a b : State) → HandlesLines (Does {g = g} k c) (Ok tt) i j a b → k.faults a.out ≤ k.faults b.out
+  faults_later i j a b lines = (ran_to lines.lines a lines.state b lines.ends.state_is lines.handled).later
+
+  pub finish_rose : (s : Status) (closed : Bool) (i j : Option (List ℕ)) (a b : State) (old new : Outside) (n : ℕ) → HandlesLines (Does {g = g} k c) (Ok tt) i j a b → Finishes s closed old new (k.faults b.out) n
+      → s ≡ status.WriteFault → Rose (k.faults a.out) n
+  finish_rose s closed i j a b old new n lines finishes is =
+      rose_later _ _ _ (faults_later i j a b lines) (subst (λ t. Finishes t closed old new (k.faults b.out) n) is finishes).1
+
+pub finish_called : (s : Status) (closed : Bool) (old new : Outside) (m n : ℕ) → Finishes s closed old new m n → IsOfScript s
+finish_called status.Ok closed old new m n finishes = tt
+finish_called status.DiskFault closed old new m n finishes = tt
+finish_called status.WriteFault closed old new m n finishes = tt
+finish_called (status.BadWords fault) closed old new m n finishes = absurd finishes
+finish_called (status.BadLine line fault) closed old new m n finishes = absurd finishes
+finish_called status.ReadFault closed old new m n finishes = absurd finishes
+finish_called (status.NotAStore store) closed old new m n finishes = absurd finishes
+finish_called (status.Damaged store at) closed old new m n finishes = absurd finishes
+finish_called (status.JournalFull need room) closed old new m n finishes = absurd finishes
+finish_called status.NoMemory closed old new m n finishes = absurd finishes
+finish_called status.Exists closed old new m n finishes = absurd finishes

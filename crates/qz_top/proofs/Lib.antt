@@ -1,5 +1,4 @@
 pub mod EndLaws
-pub mod InputLaws
 pub mod LineLaws
 pub mod OpenedLaws
 pub mod Pieces
@@ -8,5 +7,4 @@ pub mod ShownLaws
 pub mod StopLaws
 pub mod TrailLaws
 pub mod TurnLaws
-pub mod UptoLaws
 pub mod WorkLaws

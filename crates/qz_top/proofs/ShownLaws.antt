@@ -5,7 +5,7 @@ use Rattle.std.proofs.lemmas.List.{map-append}
 use Rattle.std.specs.declared.snapshot.Snapshot.{Snapshot}
 use Rattle.qz_disk.specs.declared.disk.Disk.{Ghosts}
 use Rattle.qz_cluster.specs.declared.clusters.Cluster.{Cluster}
-use Rattle.qz_cluster.specs.Seen.{state_of}
+use Rattle.qz_cluster.specs.View.{view as state_of}
 
 -- one state more was shown
 pub shown-push : {D : Type 0} {g : Ghosts D} (xs ys : List (Snapshot (Cluster D g))) (s : Snapshot (Cluster D g)) → ys ≡ xs ++ s ∷ []

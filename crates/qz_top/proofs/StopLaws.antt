@@ -1,316 +1,246 @@
--- How a script stops before the end of its input: the run that its lines make, by what stopped it.
-use Rattle.std.proofs.Common.{◌≡◌, ◌⊎◌, inl, inr, ◌≤◌, ℕ, ◌+◌, ℤ, List, [], ◌∷◌, ◌++◌, length, take, drop, Option, Some, None, refl, sym, ap, ◌∙◌, subst, arith}
+-- How a script stops before the end of its input.
+use Rattle.std.proofs.Common.{◌≡◌, ℕ, List, [], ◌∷◌, ◌++◌, Option, refl, sym, ap, subst}
 use Rattle.std.specs.Prelude.{Err}
-use Rattle.std.specs.List.{AllByRecursion}
 use Rattle.std.specs.Io.KnownBytes.{Consumes}
-use Rattle.std.proofs.KnownBytes.{Appends-nil, Appends-trans}
-use Rattle.std.proofs.lemmas.List.{take-append-drop}
-use Rattle.qz_io.specs.Lines.{IsOneLine, lines_of, with_feeds}
-use Rattle.qz_io.specs.Ahead.{Ahead, BeginsWith, BeginsSome}
-use Rattle.qz_io.specs.Reading.{Hands}
-use Rattle.qz_io.proofs.TakenLaws.{taken_more, told_ahead, begins_part, begins_some}
-use Rattle.qz_io.specs.declared.readers.TheConstants.{LINE_COUNT_LIMIT}
-use Rattle.qz_top.specs.declared.statuses.BadKind.{BadKind}
+use Rattle.qz_civil.specs.Causes.{Rose}
+use Rattle.qz_disk.specs.declared.disk.Disk.{Ghosts}
+use Rattle.qz_io.specs.declared.handlers.LinesEnd.{LinesEnd}
+use Rattle.qz_io.specs.declared.handlers.LinesEnd.TheVariants as lines_end
+use Rattle.qz_io.specs.declared.traits.Clock as clock
+use Rattle.qz_io.specs.declared.traits.Sink as sink
+use Rattle.qz_io.specs.Handlers.{HandlesLines, IfKnown, IsNextLine, IsNextNumber}
+use Rattle.qz_io.specs.Lines.{lines_of}
+use Rattle.qz_io.proofs.Readings.{Tells-trans}
+use Rattle.qz_job_json.specs.declared.lines.LineFault.TheVariants as line_fault
 use Rattle.qz_top.specs.declared.statuses.BadKind.TheVariants as bad
 use Rattle.qz_top.specs.declared.statuses.Status.TheVariants as status
 use Rattle.qz_top.specs.declared.turns.LineEnd.{LineEnd}
 use Rattle.qz_top.specs.declared.turns.LineEnd.TheVariants as ends
-use Rattle.qz_top.specs.Statuses.{status_at}
-use Rattle.qz_top.specs.Lines.{IsGood, first_bad}
-use Rattle.qz_types.specs.declared.steps.StepReply.{StepReply}
-use Rattle.qz_top.specs.Trails.{texts, RunState}
-use Rattle.qz_top.specs.Turns.{taken_reading, Ran, RanPart, IsBad, Idles, LineFull}
-use Rattle.qz_top.specs.Inputs.{BeginsBad, WrotePartOf, TurnDone, Upto, BeyondDone}
-use Rattle.qz_top.specs.Runs.{ReadToBad, Reads, IsNext, WrotePart, IsRun}
-use Rattle.qz_top.proofs.LineLaws.{first_bad_from-append, first_bad_from-bad, first_bad_from-many}
-use Rattle.qz_top.proofs.TurnLaws.{at_most_one, Tells-nil, Tells-trans, Did-more}
-use Rattle.qz_top.proofs.EndLaws.{exact_readings, told_nothing, wrote_nothing, wrote_whole}
-use Rattle.qz_top.proofs.TrailLaws.{Idles-none, Went-none}
+use Rattle.qz_top.specs.Handling.{Does}
+use Rattle.qz_top.specs.Seen.{run_of}
+use Rattle.qz_top.specs.Statuses.{status_at, status_of}
+use Rattle.qz_top.specs.Turns.{taken_reading, Idles, LineDone}
+use Rattle.qz_top.proofs.EndLaws.{exact_readings, told_nothing, wrote_nothing, wrote_whole, wrote_part, begins_before, reads_bad, reads_many, too_long, full_idles, rose_later, State, around, beside, SomeRun, AllRan, all_ran, ran_to}
+use Rattle.qz_top.proofs.TrailLaws.{Idles-none}
+use Rattle.qz_top.proofs.TurnLaws.{at_most_one, Did-more}
 
--- the first bad line stands behind these lines
-bad_behind : (bytes : List ℕ) (lines more : List (List ℕ)) (line : List ℕ) (kind : BadKind) → lines_of bytes ≡ lines ++ line ∷ more → AllByRecursion IsGood lines
-    → length lines + 1 ≤ LINE_COUNT_LIMIT → IsBad line kind → ReadToBad bytes lines (length lines + 1) kind
-bad_behind bytes lines more line kind all good low is_bad =
-    let found = first_bad_from-bad (1 + length lines) line more is_bad.fault (omega arith) is_bad.meaning in
-    let number : 1 + length lines ≡ length lines + 1 = omega arith in
+at_write : (number : ℕ) (e : LineEnd) → status_at number e ≡ status.WriteFault → e ≡ ends.WriteFault
+at_write number ends.WriteFault is = refl
+at_write number (ends.Bad kind) is = absurd cc
+at_write number ends.Unanswered is = absurd cc
+at_write number ends.NoMemory is = absurd cc
+at_write number (ends.JournalFull need room) is = absurd cc
+
+module _ {D K C : Type 0} (g : Ghosts D) (k : sink.Ghosts K) (c : clock.Ghosts C) where
+  -- The handler refused the next line.
+  refused_run : (e : LineEnd) (number : ℕ) (i j : Option (List ℕ)) (lines : List (List ℕ)) (line : List ℕ) (a m b : State g k c) → AllRan g k c lines a m
+      → IfKnown i (IsNextLine lines line) → IsNextNumber lines number → LineDone (Err e) line (run_of m.handler) (run_of b.handler) (beside g k c m) (beside g k c b)
+      → SomeRun g k c (status_at number e) (run_of a.handler) (run_of b.handler) (around g k c i a.out a.rest) (around g k c j b.out b.rest)
+  unfolding Did-more
+  refused_run (ends.Bad kind) number i j lines line a m b all next at done = (
+    lines,
+    all.readings,
+    all.ran.did.replies,
     record {
-      begins = record { rest = line ∷ more; all = all };
-      number = refl;
-      bad = ap first_bad all ∙ first_bad_from-append 1 lines (line ∷ more) good (omega arith) ∙ found
-          ∙ ap (λ k. Some (status.BadLine (1 + length lines) k)) (sym is_bad.kind_is) ∙ ap (λ n. Some (status.BadLine n kind)) number;
-    }
-
-reads_bad : (i j k : Option (List ℕ)) (lines : List (List ℕ)) (pending : List ℕ) (kind : BadKind) → AllByRecursion IsOneLine lines → AllByRecursion IsGood lines → length lines + 1 ≤ LINE_COUNT_LIMIT
-    → Consumes i j (with_feeds lines ++ pending) → Ahead j k pending (BeginsBad kind) → Reads (status.BadLine (length lines + 1) kind) i k lines
-reads_bad None j k lines pending kind one good low taken ahead = tt
-reads_bad (Some bytes) j k lines pending kind one good low taken ahead =
-    let told = told_ahead bytes j k lines pending (BeginsBad kind) one taken ahead in
-    bad_behind bytes lines told.is.begins.more told.is.line kind (told.all ∙ ap (λ l. lines ++ l) told.is.begins.lines) good low told.is.bad
-
-reads_fault : (i j k : Option (List ℕ)) (lines : List (List ℕ)) (pending pending' : List ℕ) → Consumes i j (with_feeds lines ++ pending) → Hands j k pending pending' [] → IsOneLine pending' → Reads status.ReadFault i k lines
-reads_fault None j k lines pending pending' taken hands one = tt
-reads_fault (Some bytes) j k lines pending pending' taken hands one = record {
-  rest = pending';
-  taken = taken_more (Some bytes) j k lines pending hands.got [] pending' taken hands.taken hands.kept;
-  no_feed = one;
-}
-
--- a step that finds no room changes nothing
-full_idles : (line : List ℕ) (need room : ℕ) (R R' : RunState) (x y : Option (List ℕ)) (a b : Option (List ℤ)) → LineFull line need room R R' x y a b → Idles R R'
-full_idles line need room R R' x y a b full = record {
-  trail = full.full.trail;
-  own = full.full.is_own;
-  stays = λ not_own. record { triggers = full.full.full.full.same; held = full.full.full.held };
-}
-
-reads_part : (i j k : Option (List ℕ)) (lines : List (List ℕ)) (pending line : List ℕ) → AllByRecursion IsOneLine lines → Consumes i j (with_feeds lines ++ pending)
-    → Ahead j k pending (BeginsWith line) → Reads status.WriteFault i k (lines ++ line ∷ [])
-reads_part None j k lines pending line one taken ahead = tt
-reads_part (Some bytes) j k lines pending line one taken ahead = begins_part bytes j k lines pending line one taken ahead
-
--- the same, where there was no memory for the reply
-reads_unanswered : (i j k : Option (List ℕ)) (lines : List (List ℕ)) (pending line : List ℕ) → AllByRecursion IsOneLine lines → Consumes i j (with_feeds lines ++ pending)
-    → Ahead j k pending (BeginsWith line) → Reads status.NoMemory i k (lines ++ line ∷ [])
-reads_unanswered None j k lines pending line one taken ahead = tt
-reads_unanswered (Some bytes) j k lines pending line one taken ahead = begins_part bytes j k lines pending line one taken ahead
-
-is_next : (i j k : Option (List ℕ)) (lines : List (List ℕ)) (pending line : List ℕ) → AllByRecursion IsOneLine lines → Consumes i j (with_feeds lines ++ pending)
-    → Ahead j k pending (BeginsWith line) → IsNext i lines line
-is_next None j k lines pending line one taken ahead = tt
-is_next (Some bytes) j k lines pending line one taken ahead = begins_part bytes j k lines pending line one taken ahead
-
-reads_some : (i j k : Option (List ℕ)) (lines : List (List ℕ)) (pending got : List ℕ) → AllByRecursion IsOneLine lines → Consumes i j (with_feeds lines ++ pending) → Consumes j k got
-    → Reads status.NoMemory i k lines
-reads_some None j k lines pending got one taken more = tt
-reads_some (Some bytes) j k lines pending got one taken more = begins_some bytes j k lines pending got one taken more
-
-reads_full : (need room : ℕ) (i j k : Option (List ℕ)) (lines : List (List ℕ)) (pending got : List ℕ) → AllByRecursion IsOneLine lines → Consumes i j (with_feeds lines ++ pending) → Consumes j k got
-    → Reads (status.JournalFull need room) i k lines
-reads_full need room None j k lines pending got one taken more = tt
-reads_full need room (Some bytes) j k lines pending got one taken more = begins_some bytes j k lines pending got one taken more
-
--- all replies but the last were written, and a part of that
-wrote_part : (x y z : Option (List ℕ)) (a b c : Option (List ℤ)) (lines : List (List ℕ)) (readings : List ℤ) (line : List ℕ) (R S S' : RunState)
-    → (ran : Ran lines readings R S x y a b) → (part : RanPart line S S' y z b c) → WrotePart x z (ran.did.replies ++ part.did.replies)
-wrote_part x y z a b c lines readings line R S S' ran part =
-    let text = texts part.did.replies in
+      called = tt;
+      good = all.ran.did.good;
+      behind = run_of m.handler;
+      went = all.ran.did.went;
+      idles = subst (Idles (run_of m.handler)) (sym done.1.same) (Idles-none (run_of m.handler));
+      full = tt;
+      closed = tt;
+      reads = λ bytes is. reads_bad bytes line lines kind number (next bytes is) all.ran.did.good at.is at.within done.0;
+      clocked = exact_readings _ _ _ lines all.readings all.ran.did.count (told_nothing (c.readings a.rest) (c.readings m.rest) (c.readings b.rest) all.readings all.ran.did.told done.1.told);
+      writes = wrote_nothing (k.held a.out) (k.held m.out) (k.held b.out) _ all.ran.written done.1.kept;
+      hands_on = tt;
+    },
+  )
+  refused_run ends.WriteFault number i j lines line a m b all next at part =
+      let did = Did-more lines (line ∷ []) all.readings part.readings (run_of a.handler) (run_of m.handler) (run_of b.handler) (beside g k c a) (beside g k c m) (beside g k c b) all.ran.did part.did in (
+        lines ++ line ∷ [],
+        all.readings ++ part.readings,
+        did.replies,
+        record {
+          called = tt;
+          good = did.good;
+          behind = run_of b.handler;
+          went = did.went;
+          idles = Idles-none (run_of b.handler);
+          full = tt;
+          closed = tt;
+          reads = next;
+          clocked = exact_readings _ _ _ _ _ did.count did.told;
+          writes = wrote_part (beside g k c a) (beside g k c m) (beside g k c b) lines all.readings line (run_of a.handler) (run_of m.handler) (run_of b.handler) all.ran part;
+          hands_on = tt;
+        },
+      )
+  refused_run ends.Unanswered number i j lines line a m b all next at part =
+      let did = Did-more lines (line ∷ []) all.readings part.readings (run_of a.handler) (run_of m.handler) (run_of b.handler) (beside g k c a) (beside g k c m) (beside g k c b) all.ran.did part.did in (
+        lines ++ line ∷ [],
+        all.readings ++ part.readings,
+        did.replies,
+        record {
+          called = tt;
+          good = did.good;
+          behind = run_of b.handler;
+          went = did.went;
+          idles = Idles-none (run_of b.handler);
+          full = tt;
+          closed = tt;
+          reads = next;
+          clocked = exact_readings _ _ _ _ _ did.count did.told;
+          writes = wrote_part (beside g k c a) (beside g k c m) (beside g k c b) lines all.readings line (run_of a.handler) (run_of m.handler) (run_of b.handler) all.ran part;
+          hands_on = tt;
+        },
+      )
+  refused_run ends.NoMemory number i j lines line a m b all next at gave_up = (
+    lines,
+    all.readings,
+    all.ran.did.replies,
     record {
-      kept = ran.did.replies;
-      last = part.did.replies;
-      cut = refl;
-      one = part.one;
-      part = take part.count text;
-      rest = drop part.count text;
-      text = sym (take-append-drop part.count text);
-      written = Appends-trans x y z _ _ ran.written part.written;
-    }
-
--- the last line was done, and a part of its reply written
-ran_part : (e : LineEnd) (number : ℕ) (lines : List (List ℕ)) (readings : List ℤ) (i j k : Option (List ℕ)) (pending : List ℕ) (R S S' : RunState) (x y z : Option (List ℕ)) (a b c : Option (List ℤ))
-    → (e ≡ ends.WriteFault) ⊎ (e ≡ ends.Unanswered) → Upto lines readings i j pending R S x y a b → WrotePartOf j k pending S S' y z b c
-    → (all : List (List ℕ)) × (taken : List ℤ) × (replies : List StepReply) × IsRun (status_at e number) R S' i k x z a c all taken replies
-unfolding Did-more
-ran_part e number lines readings i j k pending R S S' x y z a b c (inl is) upto done = subst (λ f. (all : List (List ℕ)) × (taken : List ℤ) × (replies : List StepReply) × IsRun (status_at f number) R S' i k x z a c all taken replies) (sym is)
-    (let did = Did-more lines (done.line ∷ []) readings done.part.readings R S S' a b c upto.ran.did done.part.did in (
-      lines ++ done.line ∷ [],
-      readings ++ done.part.readings,
-      did.replies,
-      record {
-        called = tt;
-        good = did.good;
-        behind = S';
-        went = did.went;
-        idles = Idles-none S';
-        full = tt;
-        closed = tt;
-        reads = reads_part i j k lines pending done.line upto.one_line upto.taken done.ahead;
-        clocked = exact_readings _ a c _ _ did.count did.told;
-        writes = wrote_part x y z a b c lines readings done.line R S S' upto.ran done.part;
-      },
-    ))
-ran_part e number lines readings i j k pending R S S' x y z a b c (inr is) upto done = subst (λ f. (all : List (List ℕ)) × (taken : List ℤ) × (replies : List StepReply) × IsRun (status_at f number) R S' i k x z a c all taken replies) (sym is)
-    (let did = Did-more lines (done.line ∷ []) readings done.part.readings R S S' a b c upto.ran.did done.part.did in (
-      lines ++ done.line ∷ [],
-      readings ++ done.part.readings,
-      did.replies,
-      record {
-        called = tt;
-        good = did.good;
-        behind = S';
-        went = did.went;
-        idles = Idles-none S';
-        full = tt;
-        closed = tt;
-        reads = reads_unanswered i j k lines pending done.line upto.one_line upto.taken done.ahead;
-        clocked = exact_readings _ a c _ _ did.count did.told;
-        writes = wrote_part x y z a b c lines readings done.line R S S' upto.ran done.part;
-      },
-    ))
-
--- A turn ended the script.
-pub IsRun-at : (e : LineEnd) (lines : List (List ℕ)) (readings : List ℤ) (i j k : Option (List ℕ)) (pending pending' : List ℕ) (R S S' : RunState) (x y z : Option (List ℕ)) (a b c : Option (List ℤ))
-    → Upto lines readings i j pending R S x y a b → TurnDone (Err e) j k pending pending' S S' y z b c → length lines + 1 ≤ LINE_COUNT_LIMIT
-    → (all : List (List ℕ)) × (taken : List ℤ) × (replies : List StepReply) × IsRun (status_at e (length lines + 1)) R S' i k x z a c all taken replies
-IsRun-at (ends.Bad kind) lines readings i j k pending pending' R S S' x y z a b c upto done low = (
-  lines,
-  readings,
-  upto.ran.did.replies,
-  record {
-    called = tt;
-    good = upto.ran.did.good;
-    behind = S;
-    went = upto.ran.did.went;
-    idles = subst (Idles S) (sym done.untouched.same) (Idles-none S);
-    full = tt;
-    closed = tt;
-    reads = reads_bad i j k lines pending kind upto.one_line upto.ran.did.good low upto.taken done.ahead;
-    clocked = exact_readings _ a c lines readings upto.ran.did.count (told_nothing a b c readings upto.ran.did.told done.untouched.told);
-    writes = wrote_nothing x y z _ upto.ran.written done.untouched.kept;
-  },
-)
-IsRun-at ends.ReadFault lines readings i j k pending pending' R S S' x y z a b c upto done low = (
-  lines,
-  readings,
-  upto.ran.did.replies,
-  record {
-    called = tt;
-    good = upto.ran.did.good;
-    behind = S;
-    went = upto.ran.did.went;
-    idles = subst (Idles S) (sym done.untouched.same) (Idles-none S);
-    full = tt;
-    closed = tt;
-    reads = reads_fault i j k lines pending pending' upto.taken done.hands done.one_line;
-    clocked = exact_readings _ a c lines readings upto.ran.did.count (told_nothing a b c readings upto.ran.did.told done.untouched.told);
-    writes = wrote_nothing x y z _ upto.ran.written done.untouched.kept;
-  },
-)
-IsRun-at ends.WriteFault lines readings i j k pending pending' R S S' x y z a b c upto done low =
-    ran_part ends.WriteFault (length lines + 1) lines readings i j k pending R S S' x y z a b c (inl refl) upto done
-IsRun-at ends.Unanswered lines readings i j k pending pending' R S S' x y z a b c upto done low =
-    ran_part ends.Unanswered (length lines + 1) lines readings i j k pending R S S' x y z a b c (inr refl) upto done
-IsRun-at ends.NoMemory lines readings i j k pending pending' R S S' x y z a b c upto done low = (
-  lines,
-  readings,
-  upto.ran.did.replies,
-  record {
-    called = tt;
-    good = upto.ran.did.good;
-    behind = S;
-    went = upto.ran.did.went;
-    idles = done.gave_up.idles;
-    full = tt;
-    closed = tt;
-    reads = reads_some i j k lines pending done.got upto.one_line upto.taken done.taken;
-    clocked = record {
-      count = upto.ran.did.count;
-      more = done.gave_up.readings;
-      told = Tells-trans a b c readings done.gave_up.readings upto.ran.did.told done.gave_up.told;
-      none = λ other. absurd (other tt);
-      one = done.gave_up.one;
-    };
-    writes = wrote_whole x z _ (wrote_nothing x y z _ upto.ran.written done.gave_up.kept);
-  },
-)
-IsRun-at (ends.JournalFull need room) lines readings i j k pending pending' R S S' x y z a b c upto done low = (
-  lines,
-  readings,
-  upto.ran.did.replies,
-  record {
-    called = tt;
-    good = upto.ran.did.good;
-    behind = S;
-    went = upto.ran.did.went;
-    idles = full_idles done.line need room S S' y z b c done.full;
-    full = record {
-      line = done.line;
-      next = is_next i j k lines pending done.line upto.one_line upto.taken done.ahead;
-      given = done.full.given;
-      meaning = done.full.meaning;
-      at = done.full.full.at;
-      own = done.full.full.own;
-      full = done.full.full.full;
-    };
-    closed = tt;
-    reads = reads_full need room i j k lines pending done.ahead.got upto.one_line upto.taken done.ahead.taken;
-    clocked = record {
-      count = upto.ran.did.count;
-      more = taken_reading done.full.given.at done.full.full.at;
-      told = Tells-trans a b c readings _ upto.ran.did.told done.full.full.told;
-      none = λ other. absurd (other tt);
-      one = at_most_one done.full.given.at done.full.full.at;
-    };
-    writes = wrote_nothing x y z _ upto.ran.written done.full.full.kept;
-  },
-)
-
-reads_many : (i j k : Option (List ℕ)) (lines : List (List ℕ)) (pending : List ℕ) → AllByRecursion IsOneLine lines → AllByRecursion IsGood lines → length lines ≡ LINE_COUNT_LIMIT
-    → Consumes i j (with_feeds lines ++ pending) → Ahead j k pending BeginsSome → Reads (status.BadLine (LINE_COUNT_LIMIT + 1) bad.TooManyLines) i k lines
-reads_many None j k lines pending one good full taken ahead = tt
-reads_many (Some bytes) j k lines pending one good full taken ahead =
-    let told = told_ahead bytes j k lines pending BeginsSome one taken ahead in
-    let all = told.all ∙ ap (λ l. lines ++ l) told.is.begins.lines in
-    let number : 1 + length lines ≡ LINE_COUNT_LIMIT + 1 = omega arith in
+      called = tt;
+      good = all.ran.did.good;
+      behind = run_of m.handler;
+      went = all.ran.did.went;
+      idles = gave_up.idles;
+      full = tt;
+      closed = tt;
+      reads = λ bytes is. begins_before bytes line lines (next bytes is);
+      clocked = record {
+        count = all.ran.did.count;
+        more = gave_up.readings;
+        told = Tells-trans (c.readings a.rest) (c.readings m.rest) (c.readings b.rest) all.readings gave_up.readings all.ran.did.told gave_up.told;
+        none = λ other. absurd (other tt);
+        one = gave_up.one;
+      };
+      writes = wrote_whole (k.held a.out) (k.held b.out) _ (wrote_nothing (k.held a.out) (k.held m.out) (k.held b.out) _ all.ran.written gave_up.kept);
+      hands_on = tt;
+    },
+  )
+  refused_run (ends.JournalFull need room) number i j lines line a m b all next at done = (
+    lines,
+    all.readings,
+    all.ran.did.replies,
     record {
-      begins = record { rest = told.is.line ∷ told.is.begins.more; all = all };
-      number = omega arith;
-      bad = ap first_bad all ∙ first_bad_from-append 1 lines (told.is.line ∷ told.is.begins.more) good (omega arith)
-          ∙ first_bad_from-many (1 + length lines) told.is.line told.is.begins.more (omega arith) ∙ ap (λ n. Some (status.BadLine n bad.TooManyLines)) number;
-    }
+      called = tt;
+      good = all.ran.did.good;
+      behind = run_of m.handler;
+      went = all.ran.did.went;
+      idles = full_idles line need room (run_of m.handler) (run_of b.handler) (beside g k c m) (beside g k c b) done;
+      full = record {
+        line = line;
+        next = next;
+        given = done.given;
+        meaning = done.meaning;
+        at = done.full.at;
+        own = done.full.own;
+        full = done.full.full;
+      };
+      closed = tt;
+      reads = λ bytes is. begins_before bytes line lines (next bytes is);
+      clocked = record {
+        count = all.ran.did.count;
+        more = taken_reading done.given.at done.full.at;
+        told = Tells-trans (c.readings a.rest) (c.readings m.rest) (c.readings b.rest) all.readings _ all.ran.did.told done.full.told;
+        none = λ other. absurd (other tt);
+        one = at_most_one done.given.at done.full.at;
+      };
+      writes = wrote_nothing (k.held a.out) (k.held m.out) (k.held b.out) _ all.ran.written done.full.kept;
+      hands_on = tt;
+    },
+  )
 
--- One line too many begins.
-pub IsRun-many : (lines : List (List ℕ)) (readings : List ℤ) (i j k : Option (List ℕ)) (pending : List ℕ) (R S : RunState) (x y : Option (List ℕ)) (a b : Option (List ℤ))
-    → (upto : Upto lines readings i j pending R S x y a b) → Ahead j k pending BeginsSome → length lines ≡ LINE_COUNT_LIMIT
-    → IsRun (status.BadLine (LINE_COUNT_LIMIT + 1) bad.TooManyLines) R S i k x y a b lines readings upto.ran.did.replies
-IsRun-many lines readings i j k pending R S x y a b upto ahead full = record {
-  called = tt;
-  good = upto.ran.did.good;
-  behind = S;
-  went = upto.ran.did.went;
-  idles = Idles-none S;
-  full = tt;
-  closed = tt;
-  reads = reads_many i j k lines pending upto.one_line upto.ran.did.good full upto.taken ahead;
-  clocked = exact_readings _ a b lines readings upto.ran.did.count upto.ran.did.told;
-  writes = upto.ran.written;
-}
+  -- The lines ended before the input's end.
+  pub IsRun-stopped : (e : LinesEnd LineEnd) (i j : Option (List ℕ)) (a b : State g k c) → HandlesLines (Does {g = g} k c) (Err e) i j a b
+      → SomeRun g k c (status_of e) (run_of a.handler) (run_of b.handler) (around g k c i a.out a.rest) (around g k c j b.out b.rest)
+  IsRun-stopped (lines_end.Refused number e) i j a b lines =
+      refused_run e number i j lines.lines lines.ends.line a lines.state b (all_ran g k c lines.lines a lines.state lines.handled) lines.ends.next lines.ends.number_is lines.ends.refused.done
+  IsRun-stopped (lines_end.TooLong number) i j a b lines =
+      let all = ran_to g k c lines.lines a lines.state b lines.ends.state_is lines.handled in (
+        lines.lines,
+        all.readings,
+        all.ran.did.replies,
+        record {
+          called = tt;
+          good = all.ran.did.good;
+          behind = run_of b.handler;
+          went = all.ran.did.went;
+          idles = Idles-none (run_of b.handler);
+          full = tt;
+          closed = tt;
+          reads = λ bytes is.
+              let long = lines.ends.next bytes is in
+              reads_bad bytes long.line lines.lines bad.TooLong number long.next all.ran.did.good lines.ends.number_is.is lines.ends.number_is.within
+              (record { fault = line_fault.TooLong; meaning = too_long long.line long.long; kind_is = refl });
+          clocked = exact_readings _ _ _ lines.lines all.readings all.ran.did.count all.ran.did.told;
+          writes = all.ran.written;
+          hands_on = tt;
+        },
+      )
+  IsRun-stopped lines_end.TooMany i j a b lines =
+      let all = ran_to g k c lines.lines a lines.state b lines.ends.state_is lines.handled in (
+        lines.lines,
+        all.readings,
+        all.ran.did.replies,
+        record {
+          called = tt;
+          good = all.ran.did.good;
+          behind = run_of b.handler;
+          went = all.ran.did.went;
+          idles = Idles-none (run_of b.handler);
+          full = tt;
+          closed = tt;
+          reads = λ bytes is. let more = lines.ends.next bytes is in reads_many bytes more.line lines.lines more.next all.ran.did.good lines.ends.full;
+          clocked = exact_readings _ _ _ lines.lines all.readings all.ran.did.count all.ran.did.told;
+          writes = all.ran.written;
+          hands_on = tt;
+        },
+      )
+  IsRun-stopped lines_end.ReadFault i j a b lines =
+      let all = ran_to g k c lines.lines a lines.state b lines.ends.state_is lines.handled in (
+        lines.lines,
+        all.readings,
+        all.ran.did.replies,
+        record {
+          called = tt;
+          good = all.ran.did.good;
+          behind = run_of b.handler;
+          went = all.ran.did.went;
+          idles = Idles-none (run_of b.handler);
+          full = tt;
+          closed = tt;
+          reads = record { part = lines.ends.part; taken = subst (Consumes i j) lines.ends.got_is lines.taken; no_feed = lines.ends.no_feed };
+          clocked = exact_readings _ _ _ lines.lines all.readings all.ran.did.count all.ran.did.told;
+          writes = all.ran.written;
+          hands_on = tt;
+        },
+      )
+  IsRun-stopped lines_end.NoMemory i j a b lines =
+      let all = ran_to g k c lines.lines a lines.state b lines.ends.state_is lines.handled in (
+        lines.lines,
+        all.readings,
+        all.ran.did.replies,
+        record {
+          called = tt;
+          good = all.ran.did.good;
+          behind = run_of b.handler;
+          went = all.ran.did.went;
+          idles = Idles-none (run_of b.handler);
+          full = tt;
+          closed = tt;
+          reads = λ bytes is. record { rest = lines_of bytes; all = sym (ap (λ l. l ++ lines_of bytes) lines.ends.no_line) };
+          clocked = exact_readings _ _ _ lines.lines all.readings all.ran.did.count all.ran.did.told;
+          writes = wrote_whole (k.held a.out) (k.held b.out) _ all.ran.written;
+          hands_on = tt;
+        },
+      )
 
--- The source failed behind the last line that a script may have.
-pub IsRun-beyond : (e : LineEnd) (lines : List (List ℕ)) (readings : List ℤ) (i j k : Option (List ℕ)) (pending pending' : List ℕ) (R S : RunState) (x y : Option (List ℕ)) (a b : Option (List ℤ)) (n : ℕ)
-    → (upto : Upto lines readings i j pending R S x y a b) → BeyondDone (Err e) j k pending pending' → IsRun (status_at e n) R S i k x y a b lines readings upto.ran.did.replies
-IsRun-beyond ends.ReadFault lines readings i j k pending pending' R S x y a b n upto done = record {
-  called = tt;
-  good = upto.ran.did.good;
-  behind = S;
-  went = upto.ran.did.went;
-  idles = Idles-none S;
-  full = tt;
-  closed = tt;
-  reads = reads_fault i j k lines pending pending' upto.taken done.0 done.1;
-  clocked = exact_readings _ a b lines readings upto.ran.did.count upto.ran.did.told;
-  writes = upto.ran.written;
-}
-IsRun-beyond (ends.Bad kind) lines readings i j k pending pending' R S x y a b n upto done = absurd done
-IsRun-beyond ends.WriteFault lines readings i j k pending pending' R S x y a b n upto done = absurd done
-IsRun-beyond ends.Unanswered lines readings i j k pending pending' R S x y a b n upto done = absurd done
-IsRun-beyond ends.NoMemory lines readings i j k pending pending' R S x y a b n upto done = absurd done
-IsRun-beyond (ends.JournalFull need room) lines readings i j k pending pending' R S x y a b n upto done = absurd done
-
-reads_nothing : (i : Option (List ℕ)) → Reads status.NoMemory i i []
-reads_nothing None = tt
-reads_nothing (Some bytes) = record { rest = lines_of bytes; all = refl }
-
--- memory ran out before anything was read
-pub IsRun-nothing : (R : RunState) (i x : Option (List ℕ)) (a : Option (List ℤ)) → IsRun status.NoMemory R R i i x x a a [] [] []
-IsRun-nothing R i x a = record {
-  called = tt;
-  good = tt;
-  behind = R;
-  went = Went-none R;
-  idles = Idles-none R;
-  full = tt;
-  closed = tt;
-  reads = reads_nothing i;
-  clocked = exact_readings status.NoMemory a a [] [] refl (Tells-nil a);
-  writes = wrote_whole x x [] (Appends-nil x);
-}
+  -- the output's count of faults
+  pub stopped_rose : (e : LinesEnd LineEnd) (i j : Option (List ℕ)) (a b : State g k c) → HandlesLines (Does {g = g} k c) (Err e) i j a b → status_of e ≡ status.WriteFault → Rose (k.faults a.out) (k.faults b.out)
+  stopped_rose (lines_end.Refused number e) i j a b lines is =
+      let all = all_ran g k c lines.lines a lines.state lines.handled in
+      rose_later _ _ _ all.later (lines.ends.refused.rose (ap Err (at_write number e is)))
+  stopped_rose (lines_end.TooLong number) i j a b lines is = absurd cc
+  stopped_rose lines_end.TooMany i j a b lines is = absurd cc
+  stopped_rose lines_end.ReadFault i j a b lines is = absurd cc
+  stopped_rose lines_end.NoMemory i j a b lines is = absurd cc

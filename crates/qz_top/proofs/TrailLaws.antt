@@ -1,10 +1,13 @@
 -- Runs of steps that go on, and what their replies tell.
-use Rattle.std.proofs.Common.{◌≡◌, List, [], ◌∷◌, ◌++◌, true, false, refl, sym, ap, ◌∙◌, subst, append_assoc, arith}
+use Rattle.std.proofs.Common.{◌≡◌, ℕ, List, [], ◌∷◌, ◌++◌, length, true, false, refl, sym, ap, ◌∙◌, subst, append_assoc, arith}
 use Rattle.std.proofs.lemmas.List.{append-nil}
 use Rattle.qz_types.specs.declared.steps.StepReply.{StepReply}
-use Rattle.std.specs.Prelude.{None}
-use Rattle.qz_model.specs.History.{new_history}
+use Rattle.qz_types.specs.Entries.{EntryData}
+use Rattle.qz_model.specs.History.{History, new_history}
 use Rattle.qz_model.specs.Script.{TimedStep}
+use Rattle.qz_journal.specs.Layout.{end_of}
+use Rattle.qz_trigger_store.specs.Bytes.{Encode}
+use Rattle.qz_trigger_store.specs.Opening.{IsOpened}
 use Rattle.qz_cluster.specs.Steps.{ClusterState, IsStep, Stays}
 use Rattle.qz_io.proofs.TakenLaws.{AllByRecursion-append}
 use Rattle.qz_top.specs.Trails.{StepsDone, last_of, is_fault, IsNoFault, RunState, Went, new_cluster}
@@ -37,18 +40,30 @@ Went-more ts us rs qs R S T p q = record {
 }
 
 -- one step, whose state was shown
-pub Went-one : (t : TimedStep) (r : StepReply) (R R' : RunState) → IsStep t r R.cluster R'.cluster → R'.trail ≡ R.trail ++ R'.cluster ∷ []
-    → R'.is_own ≡ R.is_own → (R.is_own ≡ true → is_fault r ≡ false) → Went (t ∷ []) (r ∷ []) R R'
-Went-one t r R R' step trail own no_fault =
-    record { states = R'.cluster ∷ []; done = (step, tt); last = refl; trail = trail; own = own; no_fault = λ is_own. (no_fault is_own, tt) }
+pub Went-one : (t : TimedStep) (r : StepReply) (R S : RunState) → IsStep t r R.cluster S.cluster → S.trail ≡ R.trail ++ S.cluster ∷ []
+    → S.is_own ≡ R.is_own → (R.is_own ≡ true → is_fault r ≡ false) → Went (t ∷ []) (r ∷ []) R S
+Went-one t r R S step trail own no_fault =
+    record { states = S.cluster ∷ []; done = (step, tt); last = refl; trail = trail; own = own; no_fault = λ is_own. (no_fault is_own, tt) }
 
 -- a cluster on a new store
-pub new_state : (S : ClusterState) → S.triggers.history ≡ new_history 1 → S.triggers.is_open ≡ true → S.triggers.undecided ≡ None → S.held ≡ [] → S ≡ new_cluster S.triggers.faults
-new_state S history is_open undecided held =
-    λ i. record { triggers = record { history = history i; is_open = is_open i; undecided = undecided i; faults = S.triggers.faults }; held = held i }
+none_encoded : (ps : List (List ℕ)) (es : List EntryData) → es ≡ [] → Encode ps es → ps ≡ []
+none_encoded [] es none encode = refl
+none_encoded (p ∷ ps) [] none encode = absurd encode
+none_encoded (p ∷ ps) (e ∷ es) none encode = absurd cc
+
+pub new_state : (S : ClusterState) → S.triggers.history ≡ new_history → IsOpened S.triggers → S.held ≡ [] → S ≡ new_cluster S.triggers.faults
+new_state S history opened held =
+    let placed = opened.sound.placed in
+    let none = none_encoded placed.payloads S.triggers.history.entries (ap (λ (h : History). h.entries) history) placed.encode in
+    let gate : S.triggers.gate ≡ 16 = placed.gate ∙ ap end_of none in
+    let payloads : S.triggers.payloads ≡ 0 = placed.count ∙ ap (λ (ps : List (List ℕ)). length ps) none in
+    λ i. record {
+      triggers = record { history = history i; gate = gate i; payloads = payloads i; is_open = opened.is_open i; undecided = opened.settled i; faults = S.triggers.faults };
+      held = held i;
+    }
 
 pub Stays-none : (S : ClusterState) → Stays S S
-Stays-none S = record { triggers = record { history = refl; is_open = refl; undecided = refl; later = omega arith }; held = refl }
+Stays-none S = record { triggers = record { history = refl; gate = refl; payloads = refl; is_open = refl; undecided = refl; later = omega arith }; held = refl }
 
 pub Idles-none : (R : RunState) → Idles R R
 Idles-none R = record { trail = refl; own = refl; stays = λ not_own. Stays-none R.cluster }

@@ -1,10 +1,12 @@
 -- Runs of lines that go on.
-use Rattle.std.proofs.Common.{◌≡◌, ◌⊎◌, inl, inr, ◌≤◌, take, ℕ, ◌+◌, ℤ, List, [], ◌∷◌, ◌++◌, length, Option, Some, None, refl, sym, ap, ◌∙◌, subst, append_assoc, arith, length-append}
+use Rattle.std.proofs.Common.{◌≡◌, ◌⊎◌, inl, inr, ◌≤◌, take, ℕ, ◌+◌, ℤ, List, [], ◌∷◌, ◌++◌, length, Option, Some, None, refl, sym, ap, subst, arith, length-append}
 use Rattle.std.proofs.lemmas.List.{append-nil}
 use Rattle.std.proofs.lemmas.Grind.{flat_map-append}
 use Rattle.std.specs.Io.KnownBytes.{Appends}
 use Rattle.std.proofs.KnownBytes.{Appends-nil, Appends-trans}
 use Rattle.qz_io.specs.Clocks.{Tells}
+use Rattle.qz_io.specs.Outside.{Outside}
+use Rattle.qz_io.proofs.Readings.{Tells-nil, Tells-trans}
 use Rattle.std.specs.Prelude.{Result, Ok, Err}
 use Rattle.qz_types.specs.declared.steps.Step.{Step}
 use Rattle.qz_job_json.specs.declared.lines.Given.{Given}
@@ -21,41 +23,31 @@ use Rattle.qz_top.proofs.LineLaws.{steps_of-append, readings_of-append}
 use Rattle.qz_io.proofs.TakenLaws.{AllByRecursion-append}
 use Rattle.qz_top.proofs.TrailLaws.{Went-none, Went-more, Idles-none}
 
-pub Tells-nil : (a : Option (List ℤ)) → Tells a a []
-Tells-nil None = tt
-Tells-nil (Some xs) = sym (append-nil xs)
+pub Did-none : (R : RunState) (o : Outside) → Did [] [] R R o o
+Did-none R o = record { good = tt; count = refl; told = Tells-nil o.readings; replies = []; went = Went-none R }
 
-pub Tells-trans : (a b c : Option (List ℤ)) (rs qs : List ℤ) → Tells a b rs → Tells b c qs → Tells a c (rs ++ qs)
-Tells-trans None b c rs qs p q = tt
-Tells-trans (Some x) None c rs qs p q = absurd p
-Tells-trans (Some x) (Some y) None rs qs p q = absurd q
-Tells-trans (Some x) (Some y) (Some z) rs qs p q = q ∙ ap (λ l. l ++ qs) p ∙ append_assoc x rs qs
-
-pub Did-none : (R : RunState) (clock : Option (List ℤ)) → Did [] [] R R clock clock
-Did-none R clock = record { good = tt; count = refl; told = Tells-nil clock; replies = []; went = Went-none R }
-
-pub Ran-none : (R : RunState) (held : Option (List ℕ)) (clock : Option (List ℤ)) → Ran [] [] R R held held clock clock
+pub Ran-none : (R : RunState) (o : Outside) → Ran [] [] R R o o
 unfolding Did-none
-Ran-none R held clock = record { did = Did-none R clock; written = Appends-nil held }
+Ran-none R o = record { did = Did-none R o; written = Appends-nil o.held }
 
 -- lines are done behind others
-unfoldable pub Did-more : (xs ys : List (List ℕ)) (rs qs : List ℤ) (R S T : RunState) (a b c : Option (List ℤ))
+unfoldable pub Did-more : (xs ys : List (List ℕ)) (rs qs : List ℤ) (R S T : RunState) (a b c : Outside)
     → Did xs rs R S a b → Did ys qs S T b c → Did (xs ++ ys) (rs ++ qs) R T a c
 Did-more xs ys rs qs R S T a b c p q = record {
   good = AllByRecursion-append _ xs ys p.good q.good;
   count = simp length-append (rw readings_of-append (omega (arith, p.count, q.count)));
-  told = Tells-trans a b c rs qs p.told q.told;
+  told = Tells-trans a.readings b.readings c.readings rs qs p.told q.told;
   replies = p.replies ++ q.replies;
   went = subst (λ ts. Went ts (p.replies ++ q.replies) R T) (sym (steps_of-append xs ys rs qs p.good p.count))
       (Went-more (steps_of xs rs) (steps_of ys qs) p.replies q.replies R S T p.went q.went);
 }
 
-pub Ran-more : (xs ys : List (List ℕ)) (rs qs : List ℤ) (R S T : RunState) (x y z : Option (List ℕ)) (a b c : Option (List ℤ))
-    → Ran xs rs R S x y a b → Ran ys qs S T y z b c → Ran (xs ++ ys) (rs ++ qs) R T x z a c
+pub Ran-more : (xs ys : List (List ℕ)) (rs qs : List ℤ) (R S T : RunState) (a b c : Outside)
+    → Ran xs rs R S a b → Ran ys qs S T b c → Ran (xs ++ ys) (rs ++ qs) R T a c
 unfolding Did-more
-Ran-more xs ys rs qs R S T x y z a b c p q = record {
+Ran-more xs ys rs qs R S T a b c p q = record {
   did = Did-more xs ys rs qs R S T a b c p.did q.did;
-  written = subst (Appends x z) (sym (flat_map-append reply_text p.did.replies q.did.replies)) (Appends-trans x y z _ _ p.written q.written);
+  written = subst (Appends a.held c.held) (sym (flat_map-append reply_text p.did.replies q.did.replies)) (Appends-trans a.held b.held c.held _ _ p.written q.written);
 }
 
 -- the one step of a line
@@ -82,14 +74,14 @@ pub steps_of-one : (line : List ℕ) (given : Given) (t : ℤ) → line_meaning 
 steps_of-one line given t e own = by_meaning (line_meaning line) given t e own
 
 -- a line's step was done
-pub Did-one : (line : List ℕ) (given : Given) (t : ℤ) (R R' : RunState) (a b : Option (List ℤ)) → line_meaning line ≡ Ok (Some given)
-    → DidStep given t R R' a b → Did (line ∷ []) (taken_reading given.at t) R R' a b
-Did-one line given t R R' a b e did = record {
+pub Did-one : (line : List ℕ) (given : Given) (t : ℤ) (before after : RunState) (a b : Outside) → line_meaning line ≡ Ok (Some given)
+    → DidStep given t before after a b → Did (line ∷ []) (taken_reading given.at t) before after a b
+Did-one line given t before after a b e did = record {
   good = (good_by (line_meaning line) (Some given) e, tt);
   count = count_by_meaning (line_meaning line) given t e;
   told = did.told;
   replies = did.reply ∷ [];
-  went = subst (λ ts. Went ts (did.reply ∷ []) R R') (sym (steps_of-one line given t e did.own)) did.went;
+  went = subst (λ ts. Went ts (did.reply ∷ []) before after) (sym (steps_of-one line given t e did.own)) did.went;
 }
 
 -- the text of one reply
@@ -103,17 +95,17 @@ blank_count : (m : Meaning) → m ≡ Ok None → 0 ≡ readings_of_meaning m + 
 blank_count m e = rw e (omega arith)
 
 -- a blank line does nothing
-pub Ran-blank : (line : List ℕ) (R : RunState) (held : Option (List ℕ)) (clock : Option (List ℤ)) → line_meaning line ≡ Ok None
-    → Ran (line ∷ []) [] R R held held clock clock
-Ran-blank line R held clock e = record {
+pub Ran-blank : (line : List ℕ) (R : RunState) (o : Outside) → line_meaning line ≡ Ok None
+    → Ran (line ∷ []) [] R R o o
+Ran-blank line R o e = record {
   did = record {
     good = (good_by (line_meaning line) None e, tt);
     count = blank_count (line_meaning line) e;
-    told = Tells-nil clock;
+    told = Tells-nil o.readings;
     replies = [];
     went = subst (λ ts. Went ts [] R R) (sym (blank_steps (line_meaning line) e)) (Went-none R);
   };
-  written = Appends-nil held;
+  written = Appends-nil o.held;
 }
 
 -- what was read is the line's meaning, if it isn't want of memory
@@ -121,20 +113,20 @@ read_meaning : (given : Option Given) (m : Meaning) → (Ok given ≡ Err line_f
 read_meaning given m (inl e) = absurd cc
 read_meaning given m (inr e) = sym e
 
-gave_up : (R : RunState) (held : Option (List ℕ)) (clock : Option (List ℤ)) → GaveUp R R held held clock clock
-gave_up R held clock = record { idles = Idles-none R; readings = []; one = omega arith; told = Tells-nil clock; kept = Appends-nil held }
+gave_up : (R : RunState) (o : Outside) → GaveUp R R o o
+gave_up R o = record { idles = Idles-none R; readings = []; one = omega arith; told = Tells-nil o.readings; kept = Appends-nil o.held }
 
 -- a part of the reply of a line's step was written
-part_of : (line : List ℕ) (given : Given) (R R' : RunState) (x y : Option (List ℕ)) (a b : Option (List ℤ)) → line_meaning line ≡ Ok (Some given)
-    → StepPart given R R' x y a b → RanPart line R R' x y a b
+part_of : (line : List ℕ) (given : Given) (before after : RunState) (a b : Outside) → line_meaning line ≡ Ok (Some given)
+    → StepPart given before after a b → RanPart line before after a b
 unfolding Did-one
-part_of line given R R' x y a b e p = record {
+part_of line given before after a b e p = record {
   readings = taken_reading given.at p.at;
-  did = Did-one line given p.at R R' a b e p.did;
+  did = Did-one line given p.at before after a b e p.did;
   one = omega arith;
   count = p.count;
   part = subst (λ t. p.count ≤ length t) (sym (one_text p.did.reply)) p.part;
-  written = subst (λ t. Appends x y (take p.count t)) (sym (one_text p.did.reply)) p.written;
+  written = subst (λ t. Appends a.held b.held (take p.count t)) (sym (one_text p.did.reply)) p.written;
 }
 
 pub at_most_one : (own : Option ℤ) (at : ℤ) → length (taken_reading own at) ≤ 1
@@ -142,60 +134,58 @@ at_most_one None at = omega arith
 at_most_one (Some t) at = omega arith
 
 -- a step without a reply line
-pub StepDone-err : (e : LineEnd) (given : Given) (at : ℤ) (R R' : RunState) (x : Option (List ℕ)) (a b : Option (List ℤ)) → IsOwn given.at at → Tells a b (taken_reading given.at at)
-    → NotAnswered e (step_at given at) R R' → StepDone (Err e) given R R' x x a b
-StepDone-err ends.Unanswered given at R R' x a b own told left = record {
+pub StepDone-err : (e : LineEnd) (given : Given) (at : ℤ) (before after : RunState) (a b : Outside) → IsOwn given.at at → Tells a.readings b.readings (taken_reading given.at at)
+    → Appends a.held b.held [] → NotAnswered e (step_at given at) before after → StepDone (Err e) given before after a b
+StepDone-err ends.Unanswered given at before after a b own told kept left = record {
   at = at;
   did = record { own = own; told = told; reply = left.0; went = left.1 };
   count = 0;
   part = omega arith;
-  written = Appends-nil x;
+  written = kept;
 }
-StepDone-err ends.NoMemory given at R R' x a b own told left =
-    record { idles = left; readings = taken_reading given.at at; one = at_most_one given.at at; told = told; kept = Appends-nil x }
-StepDone-err (ends.JournalFull need room) given at R R' x a b own told left =
-    record { at = at; own = own; told = told; kept = Appends-nil x; full = left.0; trail = left.1; is_own = left.2 }
-StepDone-err (ends.Bad kind) given at R R' x a b own told left = absurd left
-StepDone-err ends.ReadFault given at R R' x a b own told left = absurd left
-StepDone-err ends.WriteFault given at R R' x a b own told left = absurd left
+StepDone-err ends.NoMemory given at before after a b own told kept left =
+    record { idles = left; readings = taken_reading given.at at; one = at_most_one given.at at; told = told; kept = kept }
+StepDone-err (ends.JournalFull need room) given at before after a b own told kept left =
+    record { at = at; own = own; told = told; kept = kept; full = left.0; trail = left.1; is_own = left.2 }
+StepDone-err (ends.Bad kind) given at before after a b own told kept left = absurd left
+StepDone-err ends.WriteFault given at before after a b own told kept left = absurd left
 
 -- a step whose reply line was written
-pub StepDone-ok : (given : Given) (at : ℤ) (R R' : RunState) (x y : Option (List ℕ)) (a b : Option (List ℤ)) (text : List ℕ) → IsOwn given.at at → Tells a b (taken_reading given.at at)
-    → (reply : StepReply) × Went (step_at given at ∷ []) (reply ∷ []) R R' × (text ≡ reply_text reply) → Appends x y text
-    → (at : ℤ) × (did : DidStep given at R R' a b) × Appends x y (reply_text did.reply)
-StepDone-ok given at R R' x y a b text own told went written =
-    (at, record { own = own; told = told; reply = went.0; went = went.1 }, subst (Appends x y) went.2 written)
+pub StepDone-ok : (given : Given) (at : ℤ) (before after : RunState) (a b : Outside) (text : List ℕ) → IsOwn given.at at → Tells a.readings b.readings (taken_reading given.at at)
+    → (reply : StepReply) × Went (step_at given at ∷ []) (reply ∷ []) before after × (text ≡ reply_text reply) → Appends a.held b.held text
+    → (at : ℤ) × (did : DidStep given at before after a b) × Appends a.held b.held (reply_text did.reply)
+StepDone-ok given at before after a b text own told went written =
+    (at, record { own = own; told = told; reply = went.0; went = went.1 }, subst (Appends a.held b.held) went.2 written)
 
 -- a step of whose reply line a part was written
-pub StepDone-part : (given : Given) (at : ℤ) (R R' : RunState) (x y : Option (List ℕ)) (a b : Option (List ℤ)) (text : List ℕ) → IsOwn given.at at → Tells a b (taken_reading given.at at)
-    → (reply : StepReply) × Went (step_at given at ∷ []) (reply ∷ []) R R' × (text ≡ reply_text reply) → (n : ℕ) × (n ≤ length text) × Appends x y (take n text)
-    → StepPart given R R' x y a b
-StepDone-part given at R R' x y a b text own told went written = record {
+pub StepDone-part : (given : Given) (at : ℤ) (before after : RunState) (a b : Outside) (text : List ℕ) → IsOwn given.at at → Tells a.readings b.readings (taken_reading given.at at)
+    → (reply : StepReply) × Went (step_at given at ∷ []) (reply ∷ []) before after × (text ≡ reply_text reply) → (n : ℕ) × (n ≤ length text) × Appends a.held b.held (take n text)
+    → StepPart given before after a b
+StepDone-part given at before after a b text own told went written = record {
   at = at;
   did = record { own = own; told = told; reply = went.0; went = went.1 };
   count = written.0;
   part = subst (λ t. written.0 ≤ length t) went.2 written.1;
-  written = subst (λ t. Appends x y (take written.0 t)) went.2 written.2;
+  written = subst (λ t. Appends a.held b.held (take written.0 t)) went.2 written.2;
 }
 
 -- what became of a line's step became of the line
-pub LineDone-step : (r : Result (Unit {0}) LineEnd) (line : List ℕ) (given : Given) (R R' : RunState) (x y : Option (List ℕ)) (a b : Option (List ℤ))
-    → (Ok (Some given) ≡ Err line_fault.NoMemory) ⊎ (Ok (Some given) ≡ line_meaning line) → StepDone r given R R' x y a b → LineDone r line R R' x y a b
+pub LineDone-step : (r : Result (Unit {0}) LineEnd) (line : List ℕ) (given : Given) (before after : RunState) (a b : Outside)
+    → (Ok (Some given) ≡ Err line_fault.NoMemory) ⊎ (Ok (Some given) ≡ line_meaning line) → StepDone r given before after a b → LineDone r line before after a b
 unfolding Did-one
-LineDone-step (Ok u) line given R R' x y a b read done =
+LineDone-step (Ok u) line given before after a b read done =
     let e = read_meaning (Some given) (line_meaning line) read in (
       taken_reading given.at done.0,
       record {
-        did = Did-one line given done.0 R R' a b e done.1;
-        written = subst (Appends x y) (sym (one_text done.1.reply)) done.2;
+        did = Did-one line given done.0 before after a b e done.1;
+        written = subst (Appends a.held b.held) (sym (one_text done.1.reply)) done.2;
       },
     )
-LineDone-step (Err (ends.Bad kind)) line given R R' x y a b read done = absurd done
-LineDone-step (Err ends.ReadFault) line given R R' x y a b read done = done
-LineDone-step (Err ends.WriteFault) line given R R' x y a b read done = part_of line given R R' x y a b (read_meaning (Some given) (line_meaning line) read) done
-LineDone-step (Err ends.Unanswered) line given R R' x y a b read done = part_of line given R R' x y a b (read_meaning (Some given) (line_meaning line) read) done
-LineDone-step (Err ends.NoMemory) line given R R' x y a b read done = done
-LineDone-step (Err (ends.JournalFull need room)) line given R R' x y a b read done =
+LineDone-step (Err (ends.Bad kind)) line given before after a b read done = absurd done
+LineDone-step (Err ends.WriteFault) line given before after a b read done = part_of line given before after a b (read_meaning (Some given) (line_meaning line) read) done
+LineDone-step (Err ends.Unanswered) line given before after a b read done = part_of line given before after a b (read_meaning (Some given) (line_meaning line) read) done
+LineDone-step (Err ends.NoMemory) line given before after a b read done = done
+LineDone-step (Err (ends.JournalFull need room)) line given before after a b read done =
     record { given = given; meaning = read_meaning (Some given) (line_meaning line) read; full = done }
 
 -- a fault is the line's meaning, if it isn't want of memory
@@ -203,27 +193,27 @@ fault_meaning : (fault : LineFault) (m : Meaning) → (fault ≡ line_fault.NoMe
 fault_meaning fault m other (inl e) = absurd (other cc)
 fault_meaning fault m other (inr e) = sym e
 
-pub untouched : (R : RunState) (held : Option (List ℕ)) (clock : Option (List ℤ)) → Untouched R R held held clock clock
-untouched R held clock = record { same = refl; kept = Appends-nil held; told = Tells-nil clock }
+untouched : (R : RunState) (o : Outside) → Untouched R R o o
+untouched R o = record { same = refl; kept = Appends-nil o.held; told = Tells-nil o.readings }
 
-bad_done : (fault : LineFault) (line : List ℕ) (R : RunState) (held : Option (List ℕ)) (clock : Option (List ℤ)) → line_meaning line ≡ Err fault
-    → IsBad line (kind_of fault) × Untouched R R held held clock clock
-bad_done fault line R held clock e = (record { fault = fault; meaning = e; kind_is = refl }, untouched R held clock)
+bad_done : (fault : LineFault) (line : List ℕ) (R : RunState) (o : Outside) → line_meaning line ≡ Err fault
+    → IsBad line (kind_of fault) × Untouched R R o o
+bad_done fault line R o e = (record { fault = fault; meaning = e; kind_is = refl }, untouched R o)
 
 -- a blank line was read
-pub LineDone-blank : (line : List ℕ) (R : RunState) (held : Option (List ℕ)) (clock : Option (List ℤ))
-    → (◌≡◌ {A = Meaning} (Ok None) (Err line_fault.NoMemory)) ⊎ (Ok None ≡ line_meaning line) → (readings : List ℤ) × Ran (line ∷ []) readings R R held held clock clock
-LineDone-blank line R held clock read = ([], Ran-blank line R held clock (read_meaning None (line_meaning line) read))
+pub LineDone-blank : (line : List ℕ) (R : RunState) (o : Outside)
+    → (◌≡◌ {A = Meaning} (Ok None) (Err line_fault.NoMemory)) ⊎ (Ok None ≡ line_meaning line) → (readings : List ℤ) × Ran (line ∷ []) readings R R o o
+LineDone-blank line R o read = ([], Ran-blank line R o (read_meaning None (line_meaning line) read))
 
 -- a line with a fault did nothing
-pub LineDone-fault : (fault : LineFault) (line : List ℕ) (R : RunState) (held : Option (List ℕ)) (clock : Option (List ℤ))
-    → (◌≡◌ {A = Meaning} (Err fault) (Err line_fault.NoMemory)) ⊎ (Err fault ≡ line_meaning line) → LineDone (Err (line_end fault)) line R R held held clock clock
-LineDone-fault line_fault.NoMemory line R held clock read = gave_up R held clock
-LineDone-fault line_fault.TooLong line R held clock read = bad_done line_fault.TooLong line R held clock (fault_meaning line_fault.TooLong (line_meaning line) (λ e. cc) read)
-LineDone-fault line_fault.NotJson line R held clock read = bad_done line_fault.NotJson line R held clock (fault_meaning line_fault.NotJson (line_meaning line) (λ e. cc) read)
-LineDone-fault line_fault.NotHere line R held clock read = bad_done line_fault.NotHere line R held clock (fault_meaning line_fault.NotHere (line_meaning line) (λ e. cc) read)
-LineDone-fault (line_fault.Cron error) line R held clock read = bad_done (line_fault.Cron error) line R held clock (fault_meaning (line_fault.Cron error) (line_meaning line) (λ e. cc) read)
-LineDone-fault line_fault.Shape line R held clock read = bad_done line_fault.Shape line R held clock (fault_meaning line_fault.Shape (line_meaning line) (λ e. cc) read)
+pub LineDone-fault : (fault : LineFault) (line : List ℕ) (R : RunState) (o : Outside)
+    → (◌≡◌ {A = Meaning} (Err fault) (Err line_fault.NoMemory)) ⊎ (Err fault ≡ line_meaning line) → LineDone (Err (line_end fault)) line R R o o
+LineDone-fault line_fault.NoMemory line R o read = gave_up R o
+LineDone-fault line_fault.TooLong line R o read = bad_done line_fault.TooLong line R o (fault_meaning line_fault.TooLong (line_meaning line) (λ e. cc) read)
+LineDone-fault line_fault.NotJson line R o read = bad_done line_fault.NotJson line R o (fault_meaning line_fault.NotJson (line_meaning line) (λ e. cc) read)
+LineDone-fault line_fault.NotHere line R o read = bad_done line_fault.NotHere line R o (fault_meaning line_fault.NotHere (line_meaning line) (λ e. cc) read)
+LineDone-fault (line_fault.Cron error) line R o read = bad_done (line_fault.Cron error) line R o (fault_meaning (line_fault.Cron error) (line_meaning line) (λ e. cc) read)
+LineDone-fault line_fault.Shape line R o read = bad_done line_fault.Shape line R o (fault_meaning line_fault.Shape (line_meaning line) (λ e. cc) read)
 
 pub not_write : (fault : LineFault) → line_end fault ≡ ends.WriteFault → ⊥
 not_write line_fault.NoMemory e = cc

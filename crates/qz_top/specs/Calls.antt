@@ -1,13 +1,14 @@
 -- What the calls that run scripts did.
-use Rattle.std.specs.Prelude.{⊤, ◌≡◌, ◌⊎◌, ◌≤◌, ℕ, ℤ, true, false, Bool, List, [], ◌∷◌, ◌++◌, Option, None}
+use Rattle.std.specs.Prelude.{⊤, ◌≡◌, ◌⊎◌, ◌≤◌, ℕ, ℤ, true, false, Bool, List, [], ◌∷◌, ◌++◌, None}
 use Rattle.qz_types.specs.declared.steps.StepReply.{StepReply}
 use Rattle.qz_types.specs.declared.stores.Store.TheVariants as store
 use Rattle.qz_disk.specs.declared.disk.Disk.{Ghosts}
+use Rattle.qz_io.specs.Outside.{Outside}
 use Rattle.qz_journal.specs.declared.errors.MountError.{MountError}
 use Rattle.qz_journal.specs.declared.errors.MountError.TheVariants as mount
 use Rattle.qz_journal.specs.Through.{OnlyReadsUnless}
 use Rattle.qz_trigger_store.specs.Bytes.{Stands, MayBe}
-use Rattle.qz_trigger_store.specs.Opening.{IsRefused}
+use Rattle.qz_trigger_store.specs.Opening.{IsOpened, IsRefused}
 use Rattle.qz_cluster.specs.Steps.{ClusterState}
 use Rattle.qz_model.specs.Script.{new_script, step_replies}
 use Rattle.qz_top.specs.Lines.{steps_of}
@@ -29,36 +30,28 @@ begun is_own S = record { cluster = S; trail = S ∷ []; is_own = is_own }
 
 -- A script on a new store in memory was run. Its replies are those of a plain scheduler that is new and empty.
 pub record RanInMemory (s : Status) (trail : List ClusterState)
-    (left left' held held' : Option (List ℕ)) (clock clock' : Option (List ℤ)) : Type 0 where
+    (old new : Outside) : Type 0 where
   pub faults : ℕ
   pub behind : RunState
   pub lines : List (List ℕ)
   pub readings : List ℤ
   pub replies : List StepReply
-  pub run : IsRun s (begun true (new_cluster faults)) behind left left' held held' clock clock' lines readings replies
-  pub plain : replies ≡ step_replies (new_script 1) (steps_of lines readings)
+  pub run : IsRun s (begun true (new_cluster faults)) behind old new lines readings replies
+  pub plain : replies ≡ step_replies (new_script) (steps_of lines readings)
   pub trail_is : trail ≡ behind.trail
   pub no_fault : s ≡ status.DiskFault → ⊥
 
--- nothing was read, written or asked of the clock
-pub record Abstained (left left' held held' : Option (List ℕ)) (clock clock' : Option (List ℤ)) : Type 0 where
-  pub read : left' ≡ left
-  pub written : held' ≡ held
-  pub asked : clock' ≡ clock
-
 -- A script on a new store in memory was run, or there was no memory for the store.
-abbrev pub OwnDone : Status → List ClusterState
-    → Option (List ℕ) → Option (List ℕ) → Option (List ℕ) → Option (List ℕ) → Option (List ℤ) → Option (List ℤ) → Type 0
-OwnDone s trail left left' held held' clock clock' =
-    RanInMemory s trail left left' held held' clock clock'
-    ⊎ ((s ≡ status.NoMemory) × (trail ≡ []) × Abstained left left' held held' clock clock')
+abbrev pub OwnDone : Status → List ClusterState → Outside → Outside → Type 0
+OwnDone s trail old new =
+    RanInMemory s trail old new
+    ⊎ ((s ≡ status.NoMemory) × (trail ≡ []) × (new ≡ old))
 
 -- The store that stands on the disk was opened, and a script was run on it.
 pub record RanOnDisk {D : Type 0} {g : Ghosts D} (triggers : D) (e : Ended D g)
-    (left left' held held' : Option (List ℕ)) (clock clock' : Option (List ℤ)) : Type 0 where
+    (old new : Outside) : Type 0 where
   pub opened : ClusterState
-  pub is_open : opened.triggers.is_open ≡ true
-  pub settled : opened.triggers.undecided ≡ None
+  pub is_opened : IsOpened opened.triggers
   pub nothing_held : opened.held ≡ []
   pub stands : g.honest → Stands (g.state triggers).content opened.triggers.history
   pub no_earlier : g.faults triggers ≤ opened.triggers.faults
@@ -66,10 +59,10 @@ pub record RanOnDisk {D : Type 0} {g : Ghosts D} (triggers : D) (e : Ended D g)
   pub lines : List (List ℕ)
   pub readings : List ℤ
   pub replies : List StepReply
-  pub run : IsRun e.status (begun false opened) behind left left' held held' clock clock' lines readings replies
+  pub run : IsRun e.status (begun false opened) behind old new lines readings replies
   pub trail_is : trail_of e.trail ≡ behind.trail
   pub faults : g.faults e.triggers ≡ behind.cluster.triggers.faults
-  -- what a crash leaves stands for the history, or for it with the undecided entry
+  -- what a crash leaves are the bytes of the history, or of it with the undecided entry
   pub images : g.honest → (b : List ℕ) → (g.state e.triggers).IsImage b
       → MayBe behind.cluster.triggers.history behind.cluster.triggers.undecided b
 
@@ -92,12 +85,12 @@ RefusedBy s bytes = IsOfOpening s
 -- No store was opened, and nothing was done: the disk was only read, so unless it failed it is as it was, and a crash
 -- leaves only what it could have left before.
 pub record NotOpened {D : Type 0} {g : Ghosts D} (triggers : D) (e : Ended D g)
-    (left left' held held' : Option (List ℕ)) (clock clock' : Option (List ℤ)) : Type 0 where
+    (old new : Outside) : Type 0 where
   pub called : IsOfOpening e.status
   pub none : trail_of e.trail ≡ []
   pub refused : g.honest → RefusedBy e.status (g.state triggers).content
   pub reads : g.honest → OnlyReadsUnless (e.status ≡ status.DiskFault) (g.state triggers) (g.state e.triggers)
-  pub abstained : Abstained left left' held held' clock clock'
+  pub untouched : new ≡ old
 
 -- the status of a trigger store that wasn't opened
 abbrev pub refusal_of : MountError → Status

@@ -1,5 +1,5 @@
 pub mod Calls
-pub mod Inputs
+pub mod Handling
 pub mod Lines
 pub mod Making
 pub mod Runs

@@ -6,7 +6,7 @@ use Rattle.qz_job_json.specs.declared.lines.Given.{Given}
 use Rattle.qz_job_json.specs.declared.lines.LineFault.{LineFault}
 use Rattle.qz_job_json.specs.declared.lines.LineFault.TheVariants as line_fault
 use Rattle.qz_job_json.specs.Lines.{meaning_of}
-use Rattle.qz_io.specs.declared.readers.TheConstants.{LINE_COUNT_LIMIT}
+use Rattle.qz_io.specs.declared.limits.TheConstants.{LINE_COUNT_LIMIT}
 use Rattle.qz_top.specs.declared.statuses.BadKind.{BadKind}
 use Rattle.qz_top.specs.declared.statuses.BadKind.TheVariants as bad
 use Rattle.qz_top.specs.declared.statuses.Status.{Status}

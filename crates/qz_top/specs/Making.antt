@@ -1,7 +1,8 @@
 -- What `init` makes of the two disks.
-use Rattle.std.specs.Prelude.{⊤, ◌≡◌, ◌⊎◌, ◌≤◌, ℕ, List, [], take, drop, Bool, true, false, Option, codes, Result, Ok, Err}
+use Rattle.std.specs.Prelude.{⊤, ◌≡◌, ◌⊎◌, ◌≤◌, ℕ, [], take, drop, Bool, true, false, codes, Result, Ok, Err}
 use Rattle.std.specs.Io.KnownBytes.{Appends}
 use Rattle.qz_disk.specs.Disk.{DiskState, Only, Stays}
+use Rattle.qz_io.specs.Outside.{Outside, IsHandedOn}
 use Rattle.qz_journal.specs.Layout.{IsHeader, HasHeader, Holds, other_kind}
 use Rattle.qz_journal.specs.Through.{IsKept}
 use Rattle.qz_journal.specs.declared.layout.TheConstants.{TRIGGERS, STATES}
@@ -69,8 +70,8 @@ IsOfInit (status.NotAStore store) = ⊤
 IsOfInit status.Exists = ⊤
 IsOfInit s = ⊥
 
--- `created`, or a part of it where the output failed
-abbrev pub SaysMade : Status → Option (List ℕ) → Option (List ℕ) → Type 0
-SaysMade status.Ok held held' = Appends held held' (codes "created\n")
-SaysMade status.WriteFault held held' = (n : ℕ) × (n ≤ 8) × Appends held held' (take n (codes "created\n"))
-SaysMade s held held' = Appends held held' []
+-- `created`, which was handed on, or a part of it where the output failed; else the output wasn't touched
+abbrev pub SaysMade : Status → Outside → Outside → Type 0
+SaysMade status.Ok old new = Appends old.held new.held (codes "created\n") × IsHandedOn new.held new.handed
+SaysMade status.WriteFault old new = (n : ℕ) × (n ≤ 8) × Appends old.held new.held (take n (codes "created\n"))
+SaysMade s old new = new ≡ old

@@ -1,12 +1,14 @@
 -- What a script run did, when it ended with a status.
-use Rattle.std.specs.Prelude.{◌≡◌, ⊤, ℕ, ◌+◌, ◌≤◌, ℤ, true, false, List, [], ◌∷◌, ◌++◌, length, Option, Some, None, Ok}
+use Rattle.std.specs.Prelude.{◌≡◌, ⊤, ℕ, ◌+◌, ◌≤◌, ℤ, true, false, List, [], ◌++◌, length, Option, Some, None, Ok}
 use Rattle.std.specs.List.{AllByRecursion}
 use Rattle.std.specs.Io.KnownBytes.{Consumes, Appends, IsAtEnd}
 use Rattle.qz_io.specs.Ahead.{BeginWith}
 use Rattle.qz_io.specs.Clocks.{Tells}
+use Rattle.qz_io.specs.Handlers.{IfKnown, IsNextLine}
 use Rattle.qz_io.specs.Lines.{IsOneLine, lines_of, with_feeds}
+use Rattle.qz_io.specs.Outside.{Outside, IsHandedOn}
 use Rattle.qz_types.specs.declared.steps.StepReply.{StepReply}
-use Rattle.qz_cluster.specs.Steps.{ClusterState, FindsNoRoom}
+use Rattle.qz_cluster.specs.Steps.{ClusterState, OverflowedStep, is_closed}
 use Rattle.qz_job_json.specs.declared.lines.Given.{Given}
 use Rattle.qz_top.specs.Lines.{line_meaning, IsGood, readings_of, steps_of, first_bad}
 use Rattle.qz_top.specs.Trails.{texts, RunState, Went}
@@ -16,65 +18,63 @@ use Rattle.qz_top.specs.declared.statuses.Status.{Status}
 use Rattle.qz_top.specs.declared.statuses.Status.TheVariants as status
 
 -- All lines were done, none is bad, and nothing is left.
-pub record ReadAll (bytes : List ℕ) (left' : Option (List ℕ)) (lines : List (List ℕ)) : Type 0 where
+pub record ReadAll (left_now : Option (List ℕ)) (lines : List (List ℕ)) (bytes : List ℕ) : Type 0 where
   pub all : lines_of bytes ≡ lines
   pub no_bad : first_bad (lines_of bytes) ≡ None
-  pub ended : IsAtEnd left'
+  pub ended : IsAtEnd left_now
 
 -- The lines before the first bad one were done.
-pub record ReadToBad (bytes : List ℕ) (lines : List (List ℕ)) (line : ℕ) (kind : BadKind) : Type 0 where
+pub record ReadToBad (lines : List (List ℕ)) (line : ℕ) (kind : BadKind) (bytes : List ℕ) : Type 0 where
   pub begins : BeginWith lines (lines_of bytes)
   pub number : line ≡ length lines + 1
   pub bad : first_bad (lines_of bytes) ≡ Some (status.BadLine line kind)
 
--- Every line whose line feed was taken from the source was done.
-pub record ReadToFault (bytes : List ℕ) (left' : Option (List ℕ)) (lines : List (List ℕ)) : Type 0 where
-  pub rest : List ℕ
-  pub taken : Consumes (Some bytes) left' (with_feeds lines ++ rest)
-  pub no_feed : IsOneLine rest
+-- Every line whose line feed was taken from the input was done.
+pub record ReadToFault (left left_now : Option (List ℕ)) (lines : List (List ℕ)) : Type 0 where
+  pub part : List ℕ
+  pub taken : Consumes left left_now (with_feeds lines ++ part)
+  pub no_feed : IsOneLine part
 
--- Which lines of the input were done, by the status; they are told where the source tells its bytes.
+-- the lines are the first of the input
+abbrev pub ReadFirst : Option (List ℕ) → List (List ℕ) → Type 0
+ReadFirst left lines = IfKnown left (λ bytes. BeginWith lines (lines_of bytes))
+
+-- Which lines of the input were done, by the status, where the input's bytes are known.
 abbrev pub Reads : Status → Option (List ℕ) → Option (List ℕ) → List (List ℕ) → Type 0
-Reads s None left' lines = ⊤
-Reads status.Ok (Some bytes) left' lines = ReadAll bytes left' lines
-Reads (status.BadWords fault) (Some bytes) left' lines = ⊥
-Reads (status.BadLine line kind) (Some bytes) left' lines = ReadToBad bytes lines line kind
-Reads status.ReadFault (Some bytes) left' lines = ReadToFault bytes left' lines
-Reads status.WriteFault (Some bytes) left' lines = BeginWith lines (lines_of bytes)
-Reads status.DiskFault (Some bytes) left' lines = ReadAll bytes left' lines
-Reads (status.NotAStore store) (Some bytes) left' lines = ⊥
-Reads (status.Damaged store at) (Some bytes) left' lines = ⊥
-Reads (status.JournalFull need room) (Some bytes) left' lines = BeginWith lines (lines_of bytes)
-Reads status.NoMemory (Some bytes) left' lines = BeginWith lines (lines_of bytes)
-Reads status.Exists (Some bytes) left' lines = ⊥
+Reads status.Ok left left_now lines = IfKnown left (ReadAll left_now lines)
+Reads (status.BadWords fault) left left_now lines = ⊥
+Reads (status.BadLine line kind) left left_now lines = IfKnown left (ReadToBad lines line kind)
+Reads status.ReadFault left left_now lines = ReadToFault left left_now lines
+Reads status.WriteFault left left_now lines = ReadFirst left lines
+Reads status.DiskFault left left_now lines = IfKnown left (ReadAll left_now lines)
+Reads (status.NotAStore store) left left_now lines = ⊥
+Reads (status.Damaged store at) left left_now lines = ⊥
+Reads (status.JournalFull need room) left left_now lines = ReadFirst left lines
+Reads status.NoMemory left left_now lines = ReadFirst left lines
+Reads status.Exists left left_now lines = ⊥
 
--- this is the line behind these, where the source tells its bytes
-abbrev pub IsNext : Option (List ℕ) → List (List ℕ) → List ℕ → Type 0
-IsNext None lines line = ⊤
-IsNext (Some bytes) lines line = BeginWith (lines ++ line ∷ []) (lines_of bytes)
-
--- The line behind those that were done asks for a step that would be accepted, and its record finds no room.
-pub record EndsFull (need room : ℕ) (left : Option (List ℕ)) (lines : List (List ℕ)) (S S' : ClusterState) : Type 0 where
+-- The line after those that were done asks for a step that would be accepted, and its record finds no room.
+pub record EndsFull (need room : ℕ) (left : Option (List ℕ)) (lines : List (List ℕ)) (S T : ClusterState) : Type 0 where
   pub line : List ℕ
-  pub next : IsNext left lines line
+  pub next : IfKnown left (IsNextLine lines line)
   pub given : Given
   pub meaning : line_meaning line ≡ Ok (Some given)
   pub at : ℤ
   pub own : IsOwn given.at at
-  pub full : FindsNoRoom (step_at given at) need room S S'
+  pub full : OverflowedStep (step_at given at) need room S T
 
 abbrev pub Overflowed : Status → Option (List ℕ) → List (List ℕ) → ClusterState → ClusterState → Type 0
-Overflowed (status.JournalFull need room) left lines S S' = EndsFull need room left lines S S'
-Overflowed s left lines S S' = ⊤
+Overflowed (status.JournalFull need room) left lines S T = EndsFull need room left lines S T
+Overflowed s left lines S T = ⊤
 
--- Behind the last line the status tells whether the store is closed.
+-- After the last line the status says whether the store is closed.
 abbrev pub TellsClosed : Status → ClusterState → Type 0
-TellsClosed status.Ok S = S.triggers.is_open ≡ true
-TellsClosed status.DiskFault S = S.triggers.is_open ≡ false
+TellsClosed status.Ok S = is_closed S ≡ false
+TellsClosed status.DiskFault S = is_closed S ≡ true
 TellsClosed s S = ⊤
 
--- All replies were written but for the last one, of which a part was written, none of it or all of it.
-pub record WrotePart (held held' : Option (List ℕ)) (replies : List StepReply) : Type 0 where
+-- All replies were written except the last one, of which a part was written, none of it or all of it.
+pub record WrotePart (old new : Option (List ℕ)) (replies : List StepReply) : Type 0 where
   pub kept : List StepReply
   pub last : List StepReply
   pub cut : replies ≡ kept ++ last
@@ -82,13 +82,19 @@ pub record WrotePart (held held' : Option (List ℕ)) (replies : List StepReply)
   pub part : List ℕ
   pub rest : List ℕ
   pub text : texts last ≡ part ++ rest
-  pub written : Appends held held' (texts kept ++ part)
+  pub written : Appends old new (texts kept ++ part)
 
 -- What was written, by the status: the replies, where nothing kept a reply from being written.
 abbrev pub Writes : Status → Option (List ℕ) → Option (List ℕ) → List StepReply → Type 0
-Writes status.WriteFault held held' replies = WrotePart held held' replies
-Writes status.NoMemory held held' replies = WrotePart held held' replies
-Writes s held held' replies = Appends held held' (texts replies)
+Writes status.WriteFault old new replies = WrotePart old new replies
+Writes status.NoMemory old new replies = WrotePart old new replies
+Writes s old new replies = Appends old new (texts replies)
+
+-- Where all lines were done and answered, all that the output holds was handed on.
+abbrev pub HandsOn : Status → Outside → Type 0
+HandsOn status.Ok o = IsHandedOn o.held o.handed
+HandsOn status.DiskFault o = IsHandedOn o.held o.handed
+HandsOn s o = ⊤
 
 -- it ended before a step that isn't among those that were done
 abbrev pub IsShort : Status → Type 0
@@ -98,10 +104,10 @@ IsShort s = ⊥
 
 -- Which readings of the clock were taken: one for each step without a reading of its own, and maybe one more for a
 -- step that wasn't done.
-pub record Clocked (s : Status) (clock clock' : Option (List ℤ)) (lines : List (List ℕ)) (readings : List ℤ) : Type 0 where
+pub record Clocked (s : Status) (old new : Option (List ℤ)) (lines : List (List ℕ)) (readings : List ℤ) : Type 0 where
   pub count : length readings ≡ readings_of lines
   pub more : List ℤ
-  pub told : Tells clock clock' (readings ++ more)
+  pub told : Tells old new (readings ++ more)
   pub none : (IsShort s → ⊥) → more ≡ []
   pub one : length more ≤ 1
 
@@ -113,17 +119,18 @@ IsOfScript (status.Damaged store at) = ⊥
 IsOfScript status.Exists = ⊥
 IsOfScript s = ⊤
 
--- A run of these lines from the first state on, with these readings of the clock, these replies, and the state behind
+-- A run of these lines from the first state on, with these readings of the clock, these replies, and the state after
 -- the last reply.
-pub record IsRun (s : Status) (R R' : RunState) (left left' held held' : Option (List ℕ)) (clock clock' : Option (List ℤ))
+pub record IsRun (s : Status) (before after : RunState) (old new : Outside)
     (lines : List (List ℕ)) (readings : List ℤ) (replies : List StepReply) : Type 0 where
   pub called : IsOfScript s
   pub good : AllByRecursion IsGood lines
   pub behind : RunState
-  pub went : Went (steps_of lines readings) replies R behind
-  pub idles : Idles behind R'
-  pub full : Overflowed s left lines behind.cluster R'.cluster
+  pub went : Went (steps_of lines readings) replies before behind
+  pub idles : Idles behind after
+  pub full : Overflowed s old.left lines behind.cluster after.cluster
   pub closed : TellsClosed s behind.cluster
-  pub reads : Reads s left left' lines
-  pub clocked : Clocked s clock clock' lines readings
-  pub writes : Writes s held held' replies
+  pub reads : Reads s old.left new.left lines
+  pub clocked : Clocked s old.readings new.readings lines readings
+  pub writes : Writes s old.held new.held replies
+  pub hands_on : HandsOn s new

@@ -5,7 +5,7 @@ use Rattle.std.specs.declared.alloc.Global.{Global}
 use Rattle.qz_disk.specs.declared.disk.Disk.{Ghosts}
 use Rattle.qz_cluster.specs.declared.clusters.Cluster.{Cluster}
 use Rattle.qz_cluster.specs.Steps.{ClusterState}
-use Rattle.qz_cluster.specs.Seen.{state_of}
+use Rattle.qz_cluster.specs.View.{view as state_of}
 use Rattle.qz_top.specs.Trails.{RunState}
 use Rattle.qz_top.specs.declared.runs.Run.{Run}
 

@@ -1,9 +1,13 @@
 -- The exit status of the program, and the text on standard error, for each status.
-use Rattle.std.specs.Prelude.{◌≡◌, ◌⊎◌, ℕ, Bool, true, false, List, [], ◌++◌, codes, Option}
+use Rattle.std.specs.Prelude.{◌≡◌, ◌⊎◌, ℕ, ◌+◌, Bool, true, false, List, [], ◌++◌, codes, Option}
 use Rattle.std.specs.Io.KnownBytes.{Appends}
 use Rattle.qz_civil.specs.Causes.{Rose}
 use Rattle.std.specs.Fmt.{decimal}
 use Rattle.qz_cron_text.specs.Errors.{error_number}
+use Rattle.qz_io.specs.declared.limits.TheConstants.{LINE_COUNT_LIMIT}
+use Rattle.qz_io.specs.declared.handlers.LinesEnd.{LinesEnd}
+use Rattle.qz_io.specs.declared.handlers.LinesEnd.TheVariants as lines
+use Rattle.qz_io.specs.Outside.{Outside, IsHandedOn}
 use Rattle.qz_types.specs.declared.stores.Store.{Store}
 use Rattle.qz_types.specs.declared.stores.Store.TheVariants.{Triggers, States}
 use Rattle.qz_top.specs.declared.statuses.BadKind.{BadKind}
@@ -58,22 +62,33 @@ error_text (status.JournalFull need room) = need_text need ++ room_text room
 error_text status.NoMemory = codes "qz: no memory\n"
 error_text status.Exists = codes "qz: store exists\n"
 
--- how a script ends that ended so at the line of this number
-abbrev pub status_at : LineEnd → ℕ → Status
-status_at (ends.Bad kind) number = status.BadLine number kind
-status_at ends.ReadFault number = status.ReadFault
-status_at ends.WriteFault number = status.WriteFault
-status_at ends.Unanswered number = status.NoMemory
-status_at ends.NoMemory number = status.NoMemory
-status_at (ends.JournalFull need room) number = status.JournalFull need room
+-- how a script ends whose line of this number ended so
+abbrev pub status_at : ℕ → LineEnd → Status
+status_at number (ends.Bad kind) = status.BadLine number kind
+status_at number ends.WriteFault = status.WriteFault
+status_at number ends.Unanswered = status.NoMemory
+status_at number ends.NoMemory = status.NoMemory
+status_at number (ends.JournalFull need room) = status.JournalFull need room
+
+-- how a script ends whose lines weren't handled to the end of the input
+abbrev pub status_of : LinesEnd LineEnd → Status
+status_of (lines.Refused number end) = status_at number end
+status_of (lines.TooLong number) = status.BadLine number TooLong
+status_of lines.TooMany = status.BadLine (LINE_COUNT_LIMIT + 1) TooManyLines
+status_of lines.ReadFault = status.ReadFault
+status_of lines.NoMemory = status.NoMemory
 
 -- the text was written, or the output failed
 abbrev pub Reported : List ℕ → Option (List ℕ) → Option (List ℕ) → ℕ → ℕ → Type 0
-Reported text held held' faults faults' = Appends held held' text ⊎ Rose faults faults'
+Reported text old new faults faults_now = Appends old new text ⊎ Rose faults faults_now
 
--- Behind the last line the output was flushed, and it is told whether the store is closed; or the flush failed.
-abbrev pub Finishes : Status → Bool → Option (List ℕ) → Option (List ℕ) → ℕ → ℕ → Type 0
-Finishes status.Ok closed held held' faults faults' = (closed ≡ false) × Appends held held' []
-Finishes status.DiskFault closed held held' faults faults' = (closed ≡ true) × Appends held held' []
-Finishes status.WriteFault closed held held' faults faults' = Appends held held' [] × Rose faults faults'
-Finishes s closed held held' faults faults' = ⊥
+-- nothing more was written, and all that the output holds was handed on
+abbrev pub Flushed : Outside → Outside → Type 0
+Flushed old new = Appends old.held new.held [] × IsHandedOn new.held new.handed
+
+-- After the last line the output was flushed, and the status says whether the store is closed; or the flush failed.
+abbrev pub Finishes : Status → Bool → Outside → Outside → ℕ → ℕ → Type 0
+Finishes status.Ok closed old new faults faults_now = (closed ≡ false) × Flushed old new
+Finishes status.DiskFault closed old new faults faults_now = (closed ≡ true) × Flushed old new
+Finishes status.WriteFault closed old new faults faults_now = Appends old.held new.held [] × Rose faults faults_now
+Finishes s closed old new faults faults_now = ⊥

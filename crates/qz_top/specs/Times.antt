@@ -1,6 +1,7 @@
 -- How a call of `times` ends.
-use Rattle.std.specs.Prelude.{⊤, ◌≡◌, ◌+◌, ℕ, List, Option}
-use Rattle.qz_io.specs.declared.readers.TheConstants.{LINE_COUNT_LIMIT}
+use Rattle.std.specs.Prelude.{⊤, ◌≡◌, ◌+◌}
+use Rattle.qz_io.specs.declared.limits.TheConstants.{LINE_COUNT_LIMIT}
+use Rattle.qz_io.specs.Outside.{Outside}
 use Rattle.qz_times.specs.declared.ends.TimesEnd.{TimesEnd}
 use Rattle.qz_times.specs.declared.ends.TimesEnd.TheVariants as ends
 use Rattle.qz_times.specs.declared.queries.Query.{Query}
@@ -19,10 +20,10 @@ status_of ends.WriteFault = status.WriteFault
 status_of ends.NoMemory = status.NoMemory
 
 -- the lines of the input were answered until it ended so
-pub record TimesDone (s : Status) (q : Query) (left left' held held' : Option (List ℕ)) : Type 0 where
+pub record TimesDone (s : Status) (q : Query) (old new : Outside) : Type 0 where
   pub end : TimesEnd
   pub status_is : s ≡ status_of end
-  pub run : IsRun end q left left' held held'
+  pub run : IsRun end q old new
 
 -- how a call of `times` may end
 abbrev pub IsOfTimes : Status → Type 0

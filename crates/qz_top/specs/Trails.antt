@@ -42,17 +42,17 @@ pub record RunState : Type 0 where
 
 -- These steps led from one state of a script to the other, with these replies. On a disk of its own it goes on behind
 -- no fault.
-pub record Went (steps : List TimedStep) (replies : List StepReply) (R R' : RunState) : Type 0 where
+pub record Went (steps : List TimedStep) (replies : List StepReply) (before after : RunState) : Type 0 where
   pub states : List ClusterState
-  pub done : StepsDone R.cluster steps replies states
-  pub last : R'.cluster ≡ last_of R.cluster states
-  pub trail : R'.trail ≡ R.trail ++ states
-  pub own : R'.is_own ≡ R.is_own
-  pub no_fault : R.is_own ≡ true → AllByRecursion IsNoFault replies
+  pub done : StepsDone before.cluster steps replies states
+  pub last : after.cluster ≡ last_of before.cluster states
+  pub trail : after.trail ≡ before.trail ++ states
+  pub own : after.is_own ≡ before.is_own
+  pub no_fault : before.is_own ≡ true → AllByRecursion IsNoFault replies
 
 -- a cluster on a new store
 abbrev pub new_cluster : ℕ → ClusterState
 new_cluster faults = record {
-  triggers = record { history = new_history 1; is_open = true; undecided = None; faults = faults };
+  triggers = record { history = new_history; gate = 16; payloads = 0; is_open = true; undecided = None; faults = faults };
   held = [];
 }

@@ -1,6 +1,6 @@
 //! How a script begins.
 ghost use Rattle.std.specs.Prelude.{◌≡◌, IfOk, IfErr};
-ghost use Rattle.qz_cluster.specs.Seen.{state_of};
+ghost use Rattle.qz_cluster.specs.View.{view as state_of};
 ghost use Rattle.qz_top.specs.Calls.{begun};
 ghost use Rattle.qz_top.specs.Seen.{run_of};
 
@@ -26,6 +26,7 @@ impl<D: Disk> Run<D> {
         }
         trail.push_reserved(Snapshot::of(&cluster));
         Ok(Run {
+            alloc,
             cluster,
             trail,
             is_own,

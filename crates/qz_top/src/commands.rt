@@ -1,7 +1,8 @@
 //! The top call.
 ghost use Rattle.std.specs.Prelude.{◌≡◌, ◌⊎◌, ℕ, ℤ, [], Ok, Err};
 ghost use Rattle.qz_civil.specs.Causes.{Rose};
-ghost use Rattle.qz_top.specs.Calls.{OwnDone, RanOnDisk, NotOpened, Abstained, trail_of};
+ghost use Rattle.qz_io.specs.Around.{outside, without_clock, output_alone};
+ghost use Rattle.qz_top.specs.Calls.{OwnDone, RanOnDisk, NotOpened, trail_of};
 ghost use Rattle.qz_top.specs.Making.{IsInit, IsOfInit, SaysMade};
 ghost use Rattle.qz_top.specs.Statuses.{error_text, Reported};
 ghost use Rattle.qz_top.specs.Times.{TimesDone};
@@ -47,26 +48,26 @@ pub fn command<S: Source, K: Sink, E: Sink, D: Disk, C: Clock>(
     ensures bad_words { (fault : Fault) → wish_of words.now ≡ Err fault → result.status ≡ Status.BadWords fault }
     ensures bad_words_only { (fault : Fault) → result.status ≡ Status.BadWords fault → wish_of words.now ≡ Err fault }
     ensures no_wish { (fault : Fault) → wish_of words.now ≡ Err fault
-        → Abstained (S.left input.old) (S.left input.new) (K.held out.old) (K.held out.new) (C.readings clock.old) (C.readings clock.new) }
+        → outside S.Source K.Sink C.Clock input.new out.new clock.new ≡ outside S.Source K.Sink C.Clock input.old out.old clock.old }
     ensures no_wish_disks { (fault : Fault) → wish_of words.now ≡ Err fault → (result.triggers ≡ triggers) × (result.states ≡ states) }
 
     // Without words out has grown by a plain scheduler's replies to the lines that the status tells were done.
     ensures own { wish_of words.now ≡ Ok wish.Own
-        → OwnDone result.status (trail_of result.trail) (S.left input.old) (S.left input.new) (K.held out.old) (K.held out.new) (C.readings clock.old) (C.readings clock.new) }
+        → OwnDone result.status (trail_of result.trail) (outside S.Source K.Sink C.Clock input.old out.old clock.old) (outside S.Source K.Sink C.Clock input.new out.new clock.new) }
     ensures own_disks { wish_of words.now ≡ Ok wish.Own → (result.triggers ≡ triggers) × (result.states ≡ states) }
 
     // `script` opens the store, if the bytes on the disk are one, and does the same along its history.
     ensures script { wish_of words.now ≡ Ok wish.Script
-        → RanOnDisk triggers result (S.left input.old) (S.left input.new) (K.held out.old) (K.held out.new) (C.readings clock.old) (C.readings clock.new)
-        ⊎ NotOpened triggers result (S.left input.old) (S.left input.new) (K.held out.old) (K.held out.new) (C.readings clock.old) (C.readings clock.new) }
+        → RanOnDisk triggers result (outside S.Source K.Sink C.Clock input.old out.old clock.old) (outside S.Source K.Sink C.Clock input.new out.new clock.new)
+        ⊎ NotOpened triggers result (outside S.Source K.Sink C.Clock input.old out.old clock.old) (outside S.Source K.Sink C.Clock input.new out.new clock.new) }
     ensures script_states { wish_of words.now ≡ Ok wish.Script → result.states ≡ states }
 
     ensures init { wish_of words.now ≡ Ok wish.Init → D.honest → IsInit result.status (D.state triggers) (D.state result.triggers) (D.state states) (D.state result.states) }
     ensures init_ends { wish_of words.now ≡ Ok wish.Init → IsOfInit result.status }
-    ensures init_says { wish_of words.now ≡ Ok wish.Init → SaysMade result.status (K.held out.old) (K.held out.new) }
+    ensures init_says { wish_of words.now ≡ Ok wish.Init → SaysMade result.status (output_alone K.Sink out.old) (output_alone K.Sink out.new) }
     ensures init_reads { wish_of words.now ≡ Ok wish.Init → (S.left input.new ≡ S.left input.old) × (C.readings clock.new ≡ C.readings clock.old) }
     ensures times { (after : ℤ) (count : ℕ) → wish_of words.now ≡ Ok (wish.Times after count)
-        → TimesDone result.status (record { after = after; count = count }) (S.left input.old) (S.left input.new) (K.held out.old) (K.held out.new) }
+        → TimesDone result.status (record { after = after; count = count }) (without_clock S.Source K.Sink input.old out.old) (without_clock S.Source K.Sink input.new out.new) }
     ensures times_rest { (after : ℤ) (count : ℕ) → wish_of words.now ≡ Ok (wish.Times after count)
         → (result.triggers ≡ triggers) × (result.states ≡ states) × (C.readings clock.new ≡ C.readings clock.old) }
     ensures no_script { (wish_of words.now ≡ Ok wish.Own → ⊥) → (wish_of words.now ≡ Ok wish.Script → ⊥) → trail_of result.trail ≡ [] }
@@ -93,7 +94,7 @@ fn work<S: Source, K: Sink, D: Disk, C: Clock>(
     states: D,
     clock: &mut C,
 ) -> Ended<D>
-    ensures worked { Worked (wish_of words.now) triggers states result (S.left input.old) (S.left input.new) (K.held out.old) (K.held out.new) (C.readings clock.old) (C.readings clock.new) }
+    ensures worked { Worked (wish_of words.now) triggers states result (outside S.Source K.Sink C.Clock input.old out.old clock.old) (outside S.Source K.Sink C.Clock input.new out.new clock.new) }
     ensures bad_words_only { (fault : Fault) → result.status ≡ Status.BadWords fault → wish_of words.now ≡ Err fault }
     ensures read { result.status ≡ Status.ReadFault → Rose (S.faults input.old) (S.faults input.new) }
     ensures write { result.status ≡ Status.WriteFault → Rose (K.faults out.old) (K.faults out.new) }

@@ -1,6 +1,7 @@
 //! `init`: new stores on the disks.
 ghost use Rattle.std.specs.Prelude.{◌≡◌, ◌⊎◌, ◌≤◌, [], Err};
 ghost use Rattle.qz_civil.specs.Causes.{Rose};
+ghost use Rattle.qz_io.specs.Around.{output_alone};
 ghost use Rattle.qz_top.specs.Calls.{trail_of};
 ghost use Rattle.qz_top.specs.Making.{Makes, IsInit, IsOfInit, SaysMade};
 
@@ -29,7 +30,7 @@ pub(crate) fn make_stores<K: Sink, D: Disk>(
 ) -> Ended<D>
     ensures told { D.honest → IsInit result.status (D.state triggers) (D.state result.triggers) (D.state states) (D.state result.states) }
     ensures called { IsOfInit result.status }
-    ensures written { SaysMade result.status (K.held out.old) (K.held out.new) }
+    ensures written { SaysMade result.status (output_alone K.Sink out.old) (output_alone K.Sink out.new) }
     ensures trail { trail_of result.trail ≡ [] }
     ensures disk { result.status ≡ Status.DiskFault → Rose (D.faults triggers) (D.faults result.triggers) ⊎ Rose (D.faults states) (D.faults result.states) }
     ensures write { result.status ≡ Status.WriteFault → Rose (K.faults out.old) (K.faults out.new) }
@@ -42,7 +43,7 @@ pub(crate) fn make_stores<K: Sink, D: Disk>(
 fn init<K: Sink, D: Disk>(out: &mut K, triggers: &mut D, states: &mut D) -> Status
     ensures told { D.honest → IsInit result (D.state triggers.old) (D.state triggers.new) (D.state states.old) (D.state states.new) }
     ensures called { IsOfInit result }
-    ensures written { SaysMade result (K.held out.old) (K.held out.new) }
+    ensures written { SaysMade result (output_alone K.Sink out.old) (output_alone K.Sink out.new) }
     ensures disk { result ≡ Status.DiskFault → Rose (D.faults triggers.old) (D.faults triggers.new) ⊎ Rose (D.faults states.old) (D.faults states.new) }
     ensures write { result ≡ Status.WriteFault → Rose (K.faults out.old) (K.faults out.new) }
 {
@@ -85,7 +86,7 @@ fn make<D: Disk>(disk: &mut D, kind: u8) -> Result<bool, Unmade>
 
 fn say_made<K: Sink>(out: &mut K) -> Status
     ensures status { (result ≡ Status.Ok) ⊎ (result ≡ Status.WriteFault) }
-    ensures written { SaysMade result (K.held out.old) (K.held out.new) }
+    ensures written { SaysMade result (output_alone K.Sink out.old) (output_alone K.Sink out.new) }
     ensures write { result ≡ Status.WriteFault → Rose (K.faults out.old) (K.faults out.new) }
 {
     if write_all(out, b"created\n").is_err() {

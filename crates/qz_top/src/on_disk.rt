@@ -1,7 +1,9 @@
 //! A script on the stores of two disks.
 ghost use Rattle.std.specs.Prelude.{◌≡◌, ◌⊎◌, ◌≤◌, true, false, None, []};
 ghost use Rattle.qz_civil.specs.Causes.{Rose};
+ghost use Rattle.qz_io.specs.Around.{outside};
 ghost use Rattle.qz_trigger_store.specs.Bytes.{Stands};
+ghost use Rattle.qz_trigger_store.specs.Opening.{IsOpened};
 ghost use Rattle.qz_cluster.specs.Steps.{ClusterState};
 ghost use Rattle.qz_top.specs.Calls.{begun, RanOnDisk, NotOpened, refusal_of};
 ghost use Rattle.qz_top.specs.Seen.{run_of};
@@ -26,8 +28,8 @@ pub(crate) fn script_on_disk<S: Source, K: Sink, D: Disk, C: Clock>(
     states: D,
     clock: &mut C,
 ) -> Ended<D>
-    ensures done { RanOnDisk triggers result (S.left input.old) (S.left input.new) (K.held out.old) (K.held out.new) (C.readings clock.old) (C.readings clock.new)
-        ⊎ NotOpened triggers result (S.left input.old) (S.left input.new) (K.held out.old) (K.held out.new) (C.readings clock.old) (C.readings clock.new) }
+    ensures done { RanOnDisk triggers result (outside S.Source K.Sink C.Clock input.old out.old clock.old) (outside S.Source K.Sink C.Clock input.new out.new clock.new)
+        ⊎ NotOpened triggers result (outside S.Source K.Sink C.Clock input.old out.old clock.old) (outside S.Source K.Sink C.Clock input.new out.new clock.new) }
     ensures states { result.states ≡ states }
     ensures disk { result.status ≡ Status.DiskFault → Rose (D.faults triggers) (D.faults result.triggers) }
     ensures read { result.status ≡ Status.ReadFault → Rose (S.faults input.old) (S.faults input.new) }
@@ -52,19 +54,20 @@ fn run_opened<S: Source, K: Sink, D: Disk, C: Clock>(
     clock: &mut C,
 ) -> Ended<D>
     // from this state on, and of a disk that it was mounted from
-    ensures done { (triggers : D) (B : ClusterState) → run_of run ≡ begun false B → B.triggers.is_open ≡ true → B.triggers.undecided ≡ None → B.held ≡ []
+    ensures done { (triggers : D) (B : ClusterState) → run_of run ≡ begun false B → IsOpened B.triggers → B.held ≡ []
         → (D.honest → Stands (D.state triggers).content B.triggers.history) → D.faults triggers ≤ B.triggers.faults
-        → RanOnDisk triggers result (S.left input.old) (S.left input.new) (K.held out.old) (K.held out.new) (C.readings clock.old) (C.readings clock.new) }
+        → RanOnDisk triggers result (outside S.Source K.Sink C.Clock input.old out.old clock.old) (outside S.Source K.Sink C.Clock input.new out.new clock.new) }
     ensures states { result.states ≡ states }
-    ensures disk { (triggers : D) (B : ClusterState) → run_of run ≡ begun false B → B.triggers.is_open ≡ true → D.faults triggers ≤ B.triggers.faults
+    ensures disk { (triggers : D) (B : ClusterState) → run_of run ≡ begun false B → IsOpened B.triggers → D.faults triggers ≤ B.triggers.faults
         → result.status ≡ Status.DiskFault → Rose (D.faults triggers) (D.faults result.triggers) }
     ensures read { result.status ≡ Status.ReadFault → Rose (S.faults input.old) (S.faults input.new) }
     ensures write { result.status ≡ Status.WriteFault → Rose (K.faults out.old) (K.faults out.new) }
 {
-    let status = run_lines(alloc, input, out, &mut run, clock);
+    let status = run_lines(input, out, &mut run, clock);
     let Run {
         cluster,
         trail,
+        alloc: _,
         is_own: _,
     } = run;
     Ended {

@@ -1,8 +1,9 @@
 //! A script on stores in memory.
 ghost use Rattle.std.specs.Prelude.{◌≡◌, IfSome, true, []};
 ghost use Rattle.qz_civil.specs.Causes.{Rose};
+ghost use Rattle.qz_io.specs.Around.{outside};
 ghost use Rattle.qz_journal.specs.Layout.{Holds};
-ghost use Rattle.qz_cluster.specs.Seen.{state_of};
+ghost use Rattle.qz_cluster.specs.View.{view as state_of};
 ghost use Rattle.qz_top.specs.Calls.{begun, trail_of, OwnDone};
 ghost use Rattle.qz_top.specs.Seen.{run_of, states_in};
 ghost use Rattle.qz_top.specs.Trails.{new_cluster};
@@ -34,7 +35,7 @@ pub(crate) fn own_script<S: Source, K: Sink, D: Disk, C: Clock>(
     states: D,
     clock: &mut C,
 ) -> Ended<D>
-    ensures done { OwnDone result.status (trail_of result.trail) (S.left input.old) (S.left input.new) (K.held out.old) (K.held out.new) (C.readings clock.old) (C.readings clock.new) }
+    ensures done { OwnDone result.status (trail_of result.trail) (outside S.Source K.Sink C.Clock input.old out.old clock.old) (outside S.Source K.Sink C.Clock input.new out.new clock.new) }
     ensures disks { (result.triggers ≡ triggers) × (result.states ≡ states) }
     ensures read { result.status ≡ Status.ReadFault → Rose (S.faults input.old) (S.faults input.new) }
     ensures write { result.status ≡ Status.WriteFault → Rose (K.faults out.old) (K.faults out.new) }
@@ -58,7 +59,7 @@ fn script_in_memory<S: Source, K: Sink, C: Clock>(
     out: &mut K,
     clock: &mut C,
 ) -> OwnEnded
-    ensures done { OwnDone result.status (states_in result.trail.value) (S.left input.old) (S.left input.new) (K.held out.old) (K.held out.new) (C.readings clock.old) (C.readings clock.new) }
+    ensures done { OwnDone result.status (states_in result.trail.value) (outside S.Source K.Sink C.Clock input.old out.old clock.old) (outside S.Source K.Sink C.Clock input.new out.new clock.new) }
     ensures read { result.status ≡ Status.ReadFault → Rose (S.faults input.old) (S.faults input.new) }
     ensures write { result.status ≡ Status.WriteFault → Rose (K.faults out.old) (K.faults out.new) }
 {
@@ -68,7 +69,7 @@ fn script_in_memory<S: Source, K: Sink, C: Clock>(
             trail: Snapshot::of(&Vec::new(alloc)),
         };
     };
-    let status = run_lines(alloc, input, out, &mut run, clock);
+    let status = run_lines(input, out, &mut run, clock);
     let trail = Snapshot::of(&run.trail);
     drop(run);
     OwnEnded { status, trail }

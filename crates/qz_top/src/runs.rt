@@ -1,12 +1,14 @@
 //! A script in progress.
 use qz_cluster::Cluster;
 use qz_disk::Disk;
+use std::alloc::Global;
 use std::snapshot::Snapshot;
 
 /// The cluster that a script works on, and the states that it went through, which contracts alone see and which take
-/// no bytes: the first as the store was opened, then one behind each step that was done.
+/// no bytes: the first as the store was opened, then one after each step that was done.
 #[derive(Drop)]
 pub(crate) struct Run<D: Disk> {
+    pub(crate) alloc: Global,
     pub(crate) cluster: Cluster<D>,
     pub(crate) trail: Vec<Snapshot<Cluster<D>>>,
     /// Whether the disk is the call's own. That it fails is then want of memory.

@@ -1,6 +1,7 @@
 //! `times`: the fire times of the triggers of an input.
 ghost use Rattle.std.specs.Prelude.{◌≡◌, [], negsuc, ◌≤ℤ◌};
 ghost use Rattle.qz_civil.specs.Causes.{Rose};
+ghost use Rattle.qz_io.specs.Around.{without_clock};
 ghost use Rattle.qz_top.specs.Calls.{trail_of};
 ghost use Rattle.qz_top.specs.Times.{IsOfTimes, TimesDone, status_of};
 
@@ -24,7 +25,7 @@ pub(crate) fn tell_times<S: Source, K: Sink, D: Disk>(
 ) -> Ended<D>
     requires low { negsuc 0 ≤ℤ query.after }
     requires high { query.after ≤ℤ LAST }
-    ensures done { TimesDone result.status query (S.left input.old) (S.left input.new) (K.held out.old) (K.held out.new) }
+    ensures done { TimesDone result.status query (without_clock S.Source K.Sink input.old out.old) (without_clock S.Source K.Sink input.new out.new) }
     ensures called { IsOfTimes result.status }
     ensures disks { (result.triggers ≡ triggers) × (result.states ≡ states) }
     ensures trail { trail_of result.trail ≡ [] }
@@ -39,7 +40,7 @@ pub(crate) fn tell_times<S: Source, K: Sink, D: Disk>(
 fn times<S: Source, K: Sink>(alloc: Global, input: &mut S, out: &mut K, query: Query) -> Status
     requires low { negsuc 0 ≤ℤ query.after }
     requires high { query.after ≤ℤ LAST }
-    ensures done { TimesDone result query (S.left input.old) (S.left input.new) (K.held out.old) (K.held out.new) }
+    ensures done { TimesDone result query (without_clock S.Source K.Sink input.old out.old) (without_clock S.Source K.Sink input.new out.new) }
     ensures called { IsOfTimes result }
     ensures read { result ≡ Status.ReadFault → Rose (S.faults input.old) (S.faults input.new) }
     ensures write { result ≡ Status.WriteFault → Rose (K.faults out.old) (K.faults out.new) }

@@ -1,12 +1,13 @@
-//! One line of a script: read, done and answered.
+//! The handler of a script's lines: each line is read, done and answered.
 ghost use Rattle.std.specs.Prelude.{◌≡◌, ◌⊎◌, ◌≤◌, ◌<◌, ◌∷◌, [], Err, IsTrue, IfOk, IfErr, IfSome, OnOk, vec_len, vec_capacity, true};
 ghost use Rattle.qz_civil.specs.Causes.{Rose};
+ghost use Rattle.qz_io.specs.Around.{without_input};
 ghost use Rattle.qz_io.specs.Clocks.{Tells};
 ghost use Rattle.qz_types.specs.Steps.{is_step};
 ghost use Rattle.qz_types.specs.declared.steps.StepReply.{StepReply as Reply};
 ghost use Rattle.qz_report.specs.Replies.{reply_text};
 ghost use Rattle.qz_cluster.specs.Steps.{IsStep, IsCutShort};
-ghost use Rattle.qz_cluster.specs.Seen.{state_of};
+ghost use Rattle.qz_cluster.specs.View.{view as state_of};
 ghost use Rattle.qz_top.specs.Lines.{line_meaning};
 ghost use Rattle.qz_top.specs.Seen.{run_of};
 ghost use Rattle.qz_top.specs.Trails.{Went, is_fault};
@@ -17,7 +18,7 @@ use crate::runs::Run;
 use crate::statuses::kind_of;
 use qz_cluster::StepEnd;
 use qz_disk::Disk;
-use qz_io::{Clock, Sink, write_all};
+use qz_io::{Clock, LineHandler, Sink, write_all};
 use qz_job_json::{Given, LineFault, read_step};
 use qz_report::reply_line;
 use qz_types::{NoMemory, Step, StepReply, Text};
@@ -29,8 +30,6 @@ use std::snapshot::Snapshot;
 pub(crate) enum LineEnd {
     /// The line is bad. It did nothing.
     Bad(BadKind),
-    /// The input failed before the line was whole.
-    ReadFault,
     /// The line's step was done, and the output failed before its reply was whole.
     WriteFault,
     /// The line's step was done, and there was no memory for its reply.
@@ -41,15 +40,27 @@ pub(crate) enum LineEnd {
     JournalFull { need: u64, room: u64 },
 }
 
+impl<D: Disk, K: Sink, C: Clock> LineHandler<K, C> for Run<D> {
+    ghost use Rattle.qz_top.specs.Handling.{Does};
+
+    type Error = LineEnd;
+
+    ghost handles = { Does K.Sink C.Clock };
+
+    fn handle(&mut self, line: &[u8], out: &mut K, clock: &mut C) -> Result<(), LineEnd> {
+        do_line(self.alloc, line, self, out, clock)
+    }
+}
+
 /// Does what a line asks for, and writes the reply. A blank line asks for nothing.
-pub(crate) fn do_line<K: Sink, D: Disk, C: Clock>(
+fn do_line<K: Sink, D: Disk, C: Clock>(
     alloc: Global,
     line: &[u8],
     run: &mut Run<D>,
     out: &mut K,
     clock: &mut C,
 ) -> Result<(), LineEnd>
-    ensures done { LineDone result line.now (run_of run.old) (run_of run.new) (K.held out.old) (K.held out.new) (C.readings clock.old) (C.readings clock.new) }
+    ensures done { LineDone result line.now (run_of run.old) (run_of run.new) (without_input K.Sink C.Clock out.old clock.old) (without_input K.Sink C.Clock out.new clock.new) }
     ensures later { K.faults out.old ≤ K.faults out.new }
     ensures write { result ≡ Err LineEnd.WriteFault → Rose (K.faults out.old) (K.faults out.new) }
 {
@@ -86,7 +97,7 @@ fn do_step<K: Sink, D: Disk, C: Clock>(
     clock: &mut C,
 ) -> Result<(), LineEnd>
     requires { IsTrue (is_step given.step) }
-    ensures done { StepDone result given (run_of run.old) (run_of run.new) (K.held out.old) (K.held out.new) (C.readings clock.old) (C.readings clock.new) }
+    ensures done { StepDone result given (run_of run.old) (run_of run.new) (without_input K.Sink C.Clock out.old clock.old) (without_input K.Sink C.Clock out.new clock.new) }
     ensures later { K.faults out.old ≤ K.faults out.new }
     ensures write { result ≡ Err LineEnd.WriteFault → Rose (K.faults out.old) (K.faults out.new) }
 {

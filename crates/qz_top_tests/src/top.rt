@@ -105,7 +105,9 @@ struct Wanted<'a> {
 
 impl<D: Disk> Called<D> {
     fn is(&self, wanted: &Wanted) -> bool {
-        self.out.bytes() == wanted.replies.as_bytes()
+        let is_handed = wanted.status != Status::Ok || self.out.handed() == self.out.bytes();
+        is_handed
+            && self.out.bytes() == wanted.replies.as_bytes()
             && self.err.bytes() == wanted.error.as_bytes()
             && self.ended.status == wanted.status
     }
@@ -364,8 +366,10 @@ const THREE: &str = r#"{"do":"add_job","job":{"name":"report","class":"ok"}}
 {"do":"join","node":"A"}
 "#;
 
+const THREE_REPLIES: &str = "ok\nok next 1704067200000\njoined 1 executions 0 triggers 0\n";
+
 const THREE_DONE: Wanted<'static> = Wanted {
-    replies: "ok\nok next 1704067200000\njoined 1 executions 0 triggers 0\n",
+    replies: THREE_REPLIES,
     error: "",
     status: Status::Ok,
 };
@@ -393,6 +397,57 @@ fn stores_are_made_once(rt: HostRuntime) {
 // The disks of stores that took three entries.
 fn filled(alloc: Global) -> Option<(MemDisk, MemDisk)> {
     left(alloc, made(alloc), &["script"], THREE, &THREE_DONE)
+}
+
+/// The words of a call, its input, what it writes, and the number of the flush among the calls on its output.
+type FlushRow = (&'static [&'static str], &'static str, &'static str, u64);
+
+const FLUSHES: [FlushRow; 4] = [
+    (&[], SIX, SIX_REPLIES, 7),
+    (&["script"], THREE, THREE_REPLIES, 4),
+    (&["init"], "", "created\n", 2),
+    (
+        &["times", "1704456000000", "1"],
+        WEEKDAYS,
+        "times DEFAULT/c 1704715200000\n",
+        2,
+    ),
+];
+
+// Whether a call whose flush alone fails has written all, and says that its output failed.
+fn fails_at_the_flush(alloc: Global, row: &FlushRow) -> Option<bool> {
+    let &(words, script, replies, at) = row;
+    let mut out = FaultSink::new(alloc, numbers(alloc, &[at]).ok()?);
+    let mut given = prepare(alloc, words, script).ok()?;
+    let mut err = MemSink::new(alloc);
+    let (triggers, states) = match words {
+        ["script"] => made(alloc)?,
+        _ => new_disks(alloc)?,
+    };
+    let ended = command(
+        alloc,
+        &given.words,
+        &mut given.input,
+        &mut out,
+        &mut err,
+        triggers,
+        states,
+        &mut given.clock,
+    );
+    let is_right = ended.status == Status::WriteFault && out.bytes() == replies.as_bytes();
+    drop((ended, given, out, err));
+    Some(is_right)
+}
+
+#[test]
+fn a_flush_that_fails_is_a_write_fault(rt: HostRuntime) {
+    for row in FLUSHES {
+        assert!(rt;
+            fails_at_the_flush(rt.alloc(), &row) == Some(true),
+            "at {}",
+            row.3
+        );
+    }
 }
 
 const FIRE_AND_ADD: &str = r#"{"do":"fire","node":"A","entry":1}

@@ -1,5 +1,6 @@
 pub mod Appending
-pub mod Damage
-pub mod Kept
 pub mod Moments
 pub mod Once
+pub mod Refused
+pub mod Replays
+pub mod Sound

@@ -12,12 +12,13 @@ use Rattle.qz_types.specs.declared.replies.Reply.{Reply}
 use Rattle.qz_types.specs.declared.replies.Reply.TheVariants.{Completed}
 use Rattle.qz_types.specs.declared.replies.Refusal.{Refusal}
 use Rattle.qz_types.specs.declared.replies.Refusal.TheVariants.{Unbuilt}
-use Rattle.qz_model.specs.Tables.{SchedulerTables, recorded_moment}
-use Rattle.qz_model.specs.Outcomes.{Outcome, accepted, refused, unless}
+use Rattle.qz_types.specs.Tables.{SchedulerTables, recorded_moment}
+use Rattle.qz_types.specs.Outcomes.{Outcome, accepted, refused, unless}
 use Rattle.qz_model.specs.Transaction.{by_command, transaction}
-use Rattle.qz_model.specs.Words.{fired_of, job_of, trigger_of}
+use Rattle.qz_types.specs.Words.{fired_of, job_of, trigger_of}
 use Rattle.qz_model.specs.Scheduling.{add_job_refusal, add_trigger_refusal}
 use Rattle.qz_model.specs.Membership.{node_refusal, join_refusal}
+use Rattle.qz_model.specs.Executions.{is_acquired}
 use Rattle.qz_model.specs.Firing
 
 -- if it is accepted, this is the last moment
@@ -29,29 +30,22 @@ unless-records : (m : ℤ) (x : Option Refusal) (o : Outcome) → Records m o �
 unless-records m None o is = is
 unless-records m (Some x) o is = tt
 
-acquire_for-records : (T : SchedulerTables) (m : ℤ) (me : MemberData) (t : TriggerData) (next : Option ℤ) (job : Option JobData) → Records m (Firing.acquire_for T m me t next job)
-acquire_for-records T m me t None job = tt
-acquire_for-records T m me t (Some next) None = tt
-acquire_for-records T m me t (Some next) (Some job) = refl
-
 acquire_first-records : (T : SchedulerTables) (m : ℤ) (me : MemberData) (ts : List TriggerData) → Records m (Firing.acquire_first T m me ts)
 unfolding Firing.acquire_one
 acquire_first-records T m me [] = refl
-acquire_first-records T m me (t ∷ ts) = acquire_for-records T m me t t.next (job_of t.spec.job T.jobs)
+acquire_first-records T m me (t ∷ ts) = refl
 
-fire_for-records : (T : SchedulerTables) (m : ℤ) (f : FiredData) (t : Option TriggerData) (job : Option JobData) → Records m (Firing.fire_for T m f t job)
-fire_for-records T m f None job = tt
-fire_for-records T m f (Some t) None = tt
-fire_for-records T m f (Some t) (Some job) = unless-records m (Firing.early m t.next) _ refl
+fire_one-records : (T : SchedulerTables) (m : ℤ) (f : FiredData) → Records m (Firing.fire_one T m f)
+unfolding Firing.fire_one
+fire_one-records T m f = unless-records m (Firing.fire_refusal T m f) _ refl
 
 either-records : (m : ℤ) (test : Bool) (o : Outcome) (x : Refusal) → Records m o → Records m (if test then o else refused x)
 either-records m true o x is = is
 either-records m false o x is = tt
 
 fire_row-records : (T : SchedulerTables) (m : ℤ) (me : MemberData) (f : Option FiredData) → Records m (Firing.fire_row T m me f)
-unfolding Firing.fire_one
 fire_row-records T m me None = tt
-fire_row-records T m me (Some f) = either-records m _ _ _ (fire_for-records T m f (trigger_of f.trigger T.triggers) (job_of f.job T.jobs))
+fire_row-records T m me (Some f) = either-records m (Firing.is_of me f && is_acquired f.state) (Firing.fire_one T m f) Unbuilt (fire_one-records T m f)
 
 one_moment : (T U : SchedulerTables) (test : Bool) → U.last_moment ≡ T.last_moment → (if test then U else T).last_moment ≡ T.last_moment
 one_moment T U true same = same
@@ -68,7 +62,7 @@ completed-moment T m f = without_finished-moment _ (trigger_of f.trigger T.trigg
 complete_row-records : (T : SchedulerTables) (m : ℤ) (me : MemberData) (f : Option FiredData) (code : Code) → Records m (Firing.complete_row T m me f code)
 complete_row-records T m me None code = tt
 complete_row-records T m me (Some f) code =
-    either-records m (Firing.is_of me f && not (Firing.is_acquired f.state) && Firing.is_noop code) (accepted (Firing.completed T m f) (Completed f.entry)) Unbuilt (completed-moment T m f)
+    either-records m (Firing.is_of me f && not (is_acquired f.state) && not f.no_concurrent && Firing.is_noop code) (accepted (Firing.completed T m f) (Completed f.entry)) Unbuilt (completed-moment T m f)
 
 by_command-records : (T : SchedulerTables) (m : ℤ) (actor : Actor) (c : Command) → Records m (by_command T m actor c)
 by_command-records T m actor (AddJob job replace) = unless-records m (add_job_refusal T job replace) _ refl

@@ -1,16 +1,21 @@
 -- Each of these facts has at most one proof, so that a store can keep it.
-use Rattle.std.proofs.Common.{◌≡◌, ◌⊎◌, ℕ, List, [], ◌∷◌, ◌++◌, refl, sym, ap, subst}
+use Rattle.std.proofs.Common.{◌≡◌, ◌⊎◌, inl, inr, ℕ, ◌+◌, List, [], ◌∷◌, ◌++◌, length, refl, sym, ◌∙◌, ap, subst, arith, length-append}
+use Rattle.std.proofs.Props.{props}
+use Rattle.std.proofs.Math.Path.{Σ_path}
+use mathlib.Core.HLevel.{is_prop→PathP}
 use Rattle.std.specs.Prelude.{Option, Some, None}
+use Rattle.std.specs.List.{AllZip}
 use Rattle.qz_types.specs.Entries.{EntryData}
-use Rattle.qz_model.specs.Tables.{SchedulerTables}
-use Rattle.qz_model.specs.Outcomes.{Outcome, accepted, refused}
+use Rattle.qz_types.specs.Tables.{SchedulerTables}
+use Rattle.qz_types.specs.Outcomes.{Outcome, accepted, refused, IsAccepted}
 use Rattle.qz_model.specs.Transaction.{transaction}
-use Rattle.qz_model.specs.History.{History, tables_left, IsAccepted, IsLegalFrom}
+use Rattle.qz_model.specs.History.{tables_left, IsLegalFrom}
 use Rattle.qz_journal.specs.Layout.{Holds}
-use Rattle.qz_journal.proofs.Undecided.{Holds-prop, IsBeforeOrAfter-prop}
+use Rattle.qz_journal.proofs.Once.{holds_once}
+use Rattle.qz_journal.proofs.Undecided.{Holds-prop}
 use Rattle.qz_journal.specs.declared.layout.TheConstants.{TRIGGERS}
 use Rattle.qz_codec.specs.Layout.{record_of}
-use Rattle.qz_trigger_store.specs.Bytes.{records, Stands, MayBe}
+use Rattle.qz_trigger_store.specs.Bytes.{Encodes, Encode, HoldEntries, MayHold}
 
 pub IsAccepted-prop : (o : Outcome) → IsProp (IsAccepted o)
 IsAccepted-prop (accepted T r) p q = refl
@@ -20,12 +25,45 @@ pub IsLegalFrom-prop : (T : SchedulerTables) (es : List EntryData) → IsProp (I
 IsLegalFrom-prop T [] p q = refl
 IsLegalFrom-prop T (e ∷ es) p q = λ i. (IsAccepted-prop (transaction T e) p.0 q.0 i, IsLegalFrom-prop (tables_left T (transaction T e)) es p.1 q.1 i)
 
--- the records of one entry more
-pub records-push : (es : List EntryData) (e : EntryData) → records (es ++ e ∷ []) ≡ records es ++ record_of e ∷ []
-records-push [] e = refl
-records-push (x ∷ es) e = ap (λ ps. record_of x ∷ ps) (records-push es e)
+Encodes-prop : (p : List ℕ) (e : EntryData) → IsProp (Encodes p e)
+Encodes-prop p e = hlevel props
 
-pub MayBe-prop : (h : History) (u : Option EntryData) (b : List ℕ) → IsProp (MayBe h u b)
-MayBe-prop h None b = Holds-prop b TRIGGERS (records h.entries)
-MayBe-prop h (Some e) b =
-    subst (λ (ps : List (List ℕ)). IsProp (Stands b h ⊎ Holds b TRIGGERS ps)) (sym (records-push h.entries e)) (IsBeforeOrAfter-prop TRIGGERS (records h.entries) (record_of e) b)
+Encode-prop : (ps : List (List ℕ)) (es : List EntryData) → IsProp (Encode ps es)
+Encode-prop [] [] p q = refl
+Encode-prop [] (e ∷ es) p q = absurd p
+Encode-prop (x ∷ ps) [] p q = absurd p
+Encode-prop (x ∷ ps) (e ∷ es) p q = λ i. (Encodes-prop x e p.0 q.0 i, Encode-prop ps es p.1 q.1 i)
+
+-- bytes hold one list of payloads at most
+store-prop : (b : List ℕ) → IsProp ((ps : List (List ℕ)) × Holds b TRIGGERS ps)
+store-prop b p q =
+    let same : p.0 ≡ q.0 = holds_once b TRIGGERS p.0 q.0 p.1 q.1 in
+    Σ_path same (is_prop→PathP (λ i. Holds b TRIGGERS (same i)) (λ i. Holds-prop b TRIGGERS (same i)) p.1 q.1)
+
+pub HoldEntries-prop : (b : List ℕ) (es : List EntryData) → IsProp (HoldEntries b es)
+HoldEntries-prop b es p q = λ i. record {
+  store = store-prop b p.store q.store i;
+  encode = λ ps holds. Encode-prop ps es (p.encode ps holds) (q.encode ps holds) i;
+}
+
+pub Encode-length : (ps : List (List ℕ)) (es : List EntryData) → Encode ps es → length ps ≡ length es
+Encode-length [] [] all = refl
+Encode-length [] (e ∷ es) all = absurd all
+Encode-length (p ∷ ps) [] all = absurd all
+Encode-length (p ∷ ps) (e ∷ es) all = omega (arith, Encode-length ps es all.1)
+
+-- no bytes hold a list of entries and the list with one more
+one_list : (b : List ℕ) (es : List EntryData) (e : EntryData) → HoldEntries b es → HoldEntries b (es ++ e ∷ []) → ⊥
+one_list b es e p q =
+    let ps = p.store.0 in
+    absurd (omega (arith, Encode-length ps es (p.encode ps p.store.1), Encode-length ps (es ++ e ∷ []) (q.encode ps p.store.1), length-append es (e ∷ [])))
+
+either-prop : (es : List EntryData) (e : EntryData) (b : List ℕ) (p q : HoldEntries b es ⊎ HoldEntries b (es ++ e ∷ [])) → p ≡ q
+either-prop es e b (inl x) (inl y) = ap inl (HoldEntries-prop b es x y)
+either-prop es e b (inl x) (inr y) = absurd (one_list b es e x y)
+either-prop es e b (inr x) (inl y) = absurd (one_list b es e y x)
+either-prop es e b (inr x) (inr y) = ap inr (HoldEntries-prop b (es ++ e ∷ []) x y)
+
+pub MayHold-prop : (es : List EntryData) (u : Option EntryData) (b : List ℕ) → IsProp (MayHold es u b)
+MayHold-prop es None b = HoldEntries-prop b es
+MayHold-prop es (Some e) b = either-prop es e b

@@ -1,5 +1,7 @@
+pub mod Accepted
 pub mod Bytes
+pub mod Entries
 pub mod Facts
 pub mod Opening
-pub mod Seen
-pub mod Steps
+pub mod Stores
+pub mod View

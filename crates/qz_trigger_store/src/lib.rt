@@ -2,13 +2,14 @@
 #![tactic(auto)]
 
 mod accepted;
-mod errors;
+mod laws;
 mod mounting;
 mod parts;
 mod replaying;
 mod stores;
 mod submitting;
 
-pub use errors::SubmitError;
+pub use laws::submitting_keeps_stores_sound;
 pub use qz_journal::MountError;
+pub use qz_types::SubmitError;
 pub use stores::TriggerStore;

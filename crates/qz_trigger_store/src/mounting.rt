@@ -1,13 +1,17 @@
-//! Opening what stands on a disk.
-ghost use Rattle.std.specs.Prelude.{◌≡◌, ◌⊎◌, ◌^◌, ◌<◌, ◌≤◌, [], length, None, true, IfOk, IfErr, MatchResult};
+//! Opening what is on a disk.
+ghost use Rattle.std.specs.Prelude.{◌≡◌, ◌⊎◌, ◌++◌, ◌^◌, ◌<◌, ◌≤◌, [], length, None, true, IfOk, IfErr, MatchResult};
 ghost use Rattle.qz_civil.specs.Causes.{Rose};
+ghost use Rattle.std.specs.List.{AllByRecursion};
+ghost use Rattle.qz_codec.specs.Values.{IsEntry};
 ghost use Rattle.qz_journal.specs.Layout.{end_of};
 ghost use Rattle.qz_journal.specs.declared.layout.TheConstants.{TRIGGERS as OF_TRIGGERS};
 ghost use Rattle.qz_journal.specs.Through.{OnlyReads, OnlyReadsUnless};
+ghost use Rattle.qz_journal.specs.View.{disk_of as journal_disk, kind_of, count_of, closed_at};
 ghost use Rattle.qz_model.specs.History.{History};
-ghost use Rattle.qz_trigger_store.specs.Bytes.{history_of, records, Stands, IsHistory};
-ghost use Rattle.qz_trigger_store.specs.Opening.{IsRefused, IsFirstBad};
-ghost use Rattle.qz_trigger_store.specs.Seen.{seen, disk_of};
+ghost use Rattle.qz_model.specs.Invariant.{TablesValid};
+ghost use Rattle.qz_trigger_store.specs.Bytes.{HoldEntries, Stands, IsHistory};
+ghost use Rattle.qz_trigger_store.specs.Opening.{IsOpened, IsRefused, IsFirstBad};
+ghost use Rattle.qz_trigger_store.specs.View.{view, added_of, disk_state};
 
 use crate::TriggerStore;
 use crate::accepted::Accepted;
@@ -18,20 +22,21 @@ use qz_journal::{Journal, MountError, TRIGGERS};
 use std::alloc::Global;
 
 impl<D: Disk> TriggerStore<D> {
-    /// Opens the store that stands on a disk, and replays its history. It syncs first, so that what it reads is what a
-    /// crash leaves, and writes nothing. An `Err` hands the disk back. `NotAStore` comes where the header isn't a trigger
-    /// store's, `Damaged` also at the gate of the first payload that is no record or whose command is refused, and
-    /// `Fault` only where the disk's count of faults rose.
+    /// Opens the store that is on a disk, and replays its history. It syncs first, so that what it reads is what a
+    /// crash leaves, and writes nothing. An `Err` hands the disk back. `NotAStore` is returned where the header isn't a
+    /// trigger store's, `Damaged` also at the gate of the first payload that is no record or whose command is refused,
+    /// and `Fault` only where the disk's count of faults rose.
     pub fn mount(alloc: Global, disk: D) -> Result<TriggerStore<D>, (MountError, D)>
-        ensures opened { IfOk result (λ store. (store.is_open ≡ true) × (store.undecided ≡ None) × (store.accepted.entries ≡ [])) }
-        ensures stands { D.honest → IfOk result (λ store. Stands (D.state disk).content (seen store).history) }
-        ensures reads { D.honest → IfOk result (λ store. OnlyReads (D.state disk) (disk_of store)) }
+        ensures opened { IfOk result (λ store. IsOpened (view store)) }
+        ensures nothing_added { IfOk result (λ store. added_of store ≡ []) }
+        ensures stands { D.honest → IfOk result (λ store. Stands (D.state disk).content (view store).history) }
+        ensures reads { D.honest → IfOk result (λ store. OnlyReads (D.state disk) (disk_state store)) }
         ensures reads_err { D.honest → IfErr result (λ e. OnlyReadsUnless (e.0 ≡ MountError.Fault) (D.state disk) (D.state e.1)) }
         ensures refused { D.honest → IfErr result (λ e. IsRefused (D.state disk).content e.0) }
-        // Where the bytes stand for a history, it comes to that history, or memory or the disk fails.
+        // Where the bytes are those of a history, it comes to that history, or memory or the disk fails.
         ensures whole { D.honest → (h : History) → IsHistory h → Stands (D.state disk).content h
-            → MatchResult result (λ store. (seen store).history ≡ h) (λ e. (e.0 ≡ MountError.Fault) ⊎ (e.0 ≡ MountError.NoMemory)) }
-        ensures later { IfOk result (λ store. D.faults disk ≤ (seen store).faults) }
+            → MatchResult result (λ store. (view store).history ≡ h) (λ e. (e.0 ≡ MountError.Fault) ⊎ (e.0 ≡ MountError.NoMemory)) }
+        ensures later { IfOk result (λ store. D.faults disk ≤ (view store).faults) }
         ensures fault { IfErr result (λ e. (D.faults disk ≤ D.faults e.1)
             × (e.0 ≡ MountError.Fault → Rose (D.faults disk) (D.faults e.1))) }
     {
@@ -50,14 +55,15 @@ impl<D: Disk> TriggerStore<D> {
 
 // An open store on a journal that holds the records of these entries.
 fn begin<D: Disk>(alloc: Global, journal: Journal<D>, replayed: Replayed) -> TriggerStore<D>
-    requires kind { journal.kind ≡ OF_TRIGGERS }
-    requires open { journal.closed ≡ None }
-    requires counted { journal.count ≡ length replayed.entries }
-    requires placed { journal.gate ≡ end_of (records replayed.entries) }
-    requires stands { D.honest → Stands (D.state journal.disk).content (history_of replayed.entries) }
+    requires kind { kind_of journal ≡ OF_TRIGGERS }
+    requires open { closed_at journal ≡ None }
+    requires counted { count_of journal ≡ length replayed.entries }
+    requires stands { D.honest → HoldEntries (D.state (journal_disk journal)).content replayed.entries }
+    requires valid { ∥ TablesValid replayed.tables ∥₁ }
+    requires recorded { ∥ AllByRecursion IsEntry replayed.entries ∥₁ }
     ensures journal { result.journal ≡ journal }
     ensures found { result.found ≡ replayed.entries }
-    ensures opened { (result.is_open ≡ true) × (result.undecided ≡ None) × (result.accepted.entries ≡ []) }
+    ensures opened { (result.is_open ≡ true) × (result.undecided ≡ None) × (added_of result ≡ []) }
 {
     let Replayed { entries, tables } = replayed;
     TriggerStore {
@@ -71,7 +77,7 @@ fn begin<D: Disk>(alloc: Global, journal: Journal<D>, replayed: Replayed) -> Tri
     }
 }
 
-// The first bad place of a journal that is damaged behind these payloads, at this offset.
+// The first bad place of a journal that is damaged after these payloads, at this offset.
 fn first_bad(alloc: Global, payloads: &List<List<u8>>, at: u64) -> MountError
     requires offsets { end_of payloads.now < 2 ^ 64 }
     ensures { IsFirstBad payloads.now at result }

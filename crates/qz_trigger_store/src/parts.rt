@@ -1,54 +1,54 @@
 //! What a store shows of itself.
 ghost use Rattle.std.specs.Prelude.{◌≡◌, ◌++◌, length, not};
-ghost use Rattle.qz_model.specs.Tables.{empty};
+ghost use Rattle.qz_types.specs.Tables.{new_tables};
 ghost use Rattle.qz_model.specs.History.{replay_from, replies_from, moments_from};
+ghost use Rattle.qz_trigger_store.specs.View.{view, found_of, added_of, moments_of, replies_of, disk_of};
 
 use crate::TriggerStore;
-use qz_civil::List;
 use qz_disk::Disk;
 use qz_types::{Entry, Reply};
 
 impl<D: Disk> TriggerStore<D> {
-    /// How many entries the history has. No memory.
+    /// How many entries the history has.
     pub fn history_len(&self) -> u64
-        ensures { result ≡ length (self.now.found ++ self.now.accepted.entries) }
+        ensures { result ≡ length (view self.now).history.entries }
     {
         self.journal.count()
     }
 
-    /// Whether a call of this store was answered `Fault`. No memory.
+    /// Whether a call of this store was answered `Fault`.
     pub fn closed(&self) -> bool
-        ensures { result ≡ not self.now.is_open }
+        ensures { result ≡ not (view self.now).is_open }
     {
         !self.is_open
     }
 
-    /// The entries accepted since the mount, in order. No memory.
-    pub fn added(&self) -> &List<Entry>
-        ensures { result.now ≡ self.now.accepted.entries }
+    /// The entries accepted since the mount, in order.
+    pub fn added(&self) -> &[Entry]
+        ensures { result.now ≡ added_of self.now }
     {
-        &self.accepted.entries
+        self.accepted.entries.as_slice()
     }
 
-    /// The recorded moments of the entries accepted since the mount, in ms since 1970-01-01T00:00:00Z. No memory.
-    pub fn moments(&self) -> &List<i64>
-        ensures kept { result.now ≡ self.now.accepted.moments }
-        ensures value { result.now ≡ moments_from (replay_from (empty 1) self.now.found) self.now.accepted.entries }
+    /// The recorded moments of the entries accepted since the mount, in ms since 1970-01-01T00:00:00Z.
+    pub fn moments(&self) -> &[i64]
+        ensures kept { result.now ≡ moments_of self.now }
+        ensures value { result.now ≡ moments_from (replay_from new_tables (found_of self.now)) (added_of self.now) }
     {
-        &self.accepted.moments
+        self.accepted.moments.as_slice()
     }
 
-    /// The replies to the entries accepted since the mount. No memory.
-    pub fn replies(&self) -> &List<Reply>
-        ensures kept { result.now ≡ self.now.accepted.replies }
-        ensures value { result.now ≡ replies_from (replay_from (empty 1) self.now.found) self.now.accepted.entries }
+    /// The replies to the entries accepted since the mount.
+    pub fn replies(&self) -> &[Reply]
+        ensures kept { result.now ≡ replies_of self.now }
+        ensures value { result.now ≡ replies_from (replay_from new_tables (found_of self.now)) (added_of self.now) }
     {
-        &self.accepted.replies
+        self.accepted.replies.as_slice()
     }
 
-    /// Gives the disk back. No memory.
+    /// Gives the disk back.
     pub fn into_disk(self) -> D
-        ensures { result ≡ self.journal.disk }
+        ensures { result ≡ disk_of self }
     {
         let TriggerStore {
             alloc: _,

@@ -1,21 +1,22 @@
 //! The payloads of a journal, read as a history.
 ghost use Rattle.std.specs.Prelude.{◌≡◌, ◌+◌, ◌^◌, ◌<◌, ◌++◌, ℕ, List as Items, [], IfOk, IfErr, OnOk, Err};
-ghost use Rattle.qz_journal.specs.Layout.{end_of};
-ghost use Rattle.qz_model.specs.Tables.{empty};
-ghost use Rattle.qz_model.specs.Transaction.{transaction};
-ghost use Rattle.qz_model.specs.History.{IsAccepted, IsLegalFrom, tables_left, replay_from};
-ghost use Rattle.qz_model.specs.Invariant.{TablesValid};
 ghost use Rattle.std.specs.List.{AllByRecursion};
+ghost use Rattle.qz_journal.specs.Layout.{end_of};
+ghost use Rattle.qz_types.specs.Tables.{new_tables};
+ghost use Rattle.qz_model.specs.Transaction.{transaction};
+ghost use Rattle.qz_model.specs.History.{IsLegalFrom, tables_left, replay_from};
+ghost use Rattle.qz_types.specs.Outcomes.{IsAccepted};
+ghost use Rattle.qz_model.specs.Invariant.{TablesValid};
 ghost use Rattle.qz_codec.specs.Values.{IsEntry};
-ghost use Rattle.qz_trigger_store.specs.Bytes.{IsRecord, records};
+ghost use Rattle.qz_trigger_store.specs.Bytes.{IsRecord};
 ghost use Rattle.qz_trigger_store.specs.Facts.{IsLegalFrom-prop};
-ghost use Rattle.qz_trigger_store.specs.Opening.{IsUnfit, IsStopped};
+ghost use Rattle.qz_trigger_store.specs.Opening.{IsUnfit, IsStopped, AreReplayed};
 
 use qz_civil::List;
 use qz_codec::{ReadError, get_command};
 use qz_journal::MountError;
-use qz_model::{PlainStore, StepRefused, Worked};
-use qz_types::Entry;
+use qz_model::{PlainStore, Worked};
+use qz_types::{Entry, StepRefused};
 use std::alloc::Global;
 
 /// A history from a new store on, and the tables that it leaves.
@@ -23,10 +24,8 @@ use std::alloc::Global;
 pub(crate) struct Replayed {
     pub(crate) entries: List<Entry>,
     pub(crate) tables: PlainStore,
-    ghost legal: { IsLegalFrom (empty 1) entries } by { IsLegalFrom-prop (empty 1) entries },
-    ghost replayed: { tables ≡ replay_from (empty 1) entries },
-    ghost valid: { ∥ TablesValid tables ∥₁ },
-    ghost recorded: { ∥ AllByRecursion IsEntry entries ∥₁ },
+    ghost legal: { IsLegalFrom new_tables entries } by { IsLegalFrom-prop new_tables entries },
+    ghost replayed: { tables ≡ replay_from new_tables entries },
 }
 
 // Why a payload wasn't taken into a history.
@@ -36,12 +35,12 @@ enum TakeError {
     NoMemory,
 }
 
-// The entry of a payload, at the tables before it; it leaves those behind it.
+// The entry of a payload, at the tables before it; it leaves those after it.
 fn take(alloc: Global, tables: &mut PlainStore, payload: &[u8]) -> Result<Entry, TakeError>
     ensures is_record { IfOk result (IsRecord payload.now) }
     ensures accepted { IfOk result (λ entry. IsAccepted (transaction tables.old entry)) }
     ensures tables { IfOk result (λ entry. tables.new ≡ tables_left tables.old (transaction tables.old entry)) }
-    ensures valid { TablesValid tables.old → OnOk result (TablesValid tables.new) }
+    ensures valid { OnOk result ∥ TablesValid tables.new ∥₁ }
     ensures unfit { result ≡ Err TakeError.Unfit → IsUnfit tables.old payload.now }
 {
     let entry = match get_command(alloc, payload) {
@@ -74,22 +73,20 @@ fn take(alloc: Global, tables: &mut PlainStore, payload: &[u8]) -> Result<Entry,
 /// The history whose records these payloads are. `Damaged` has the offset of the gate of the first one that is unfit.
 pub(crate) fn replay(alloc: Global, payloads: &List<List<u8>>) -> Result<Replayed, MountError>
     requires offsets { end_of payloads.now < 2 ^ 64 }
-    ensures records { IfOk result (λ found. payloads.now ≡ records found.entries) }
-    ensures recorded { IfOk result (λ found. AllByRecursion IsEntry found.entries) }
+    ensures replayed { IfOk result (λ found. AreReplayed payloads.now found.entries) }
+    ensures valid { IfOk result (λ found. ∥ TablesValid found.tables ∥₁) }
     ensures stopped { IfErr result (IsStopped payloads.now) }
 {
     let mut entries = List::new(alloc);
     let mut tables = PlainStore::new(alloc);
     let mut gate: u64 = 16;
-    let mut rest = payloads.as_slice();
-    'replay: while let Some((payload, behind)) = rest.split_first() {
+    for payload in payloads.as_slice() {
         match take(alloc, &mut tables, payload.as_slice()) {
             Ok(entry) => entries.push(entry)?,
             Err(TakeError::Unfit) => return Err(MountError::Damaged { at: gate }),
             Err(TakeError::NoMemory) => return Err(MountError::NoMemory),
         }
         gate += 5 + payload.len() as u64;
-        rest = behind;
     }
     Ok(Replayed { entries, tables })
 }

@@ -1,5 +1,10 @@
+pub mod Chains
 pub mod Entries
+pub mod Errors
+pub mod Outcomes
 pub mod Refusals
 pub mod Rows
 pub mod Sorted
 pub mod Steps
+pub mod Tables
+pub mod Words

@@ -66,6 +66,12 @@ pub record StateData : Type 0 where
   pub last : ℤ
   pub interval : ℤ
 
+-- Why a node is taken for failed: its last check-in, and until when it wasn't late.
+pub record EvidenceData : Type 0 where
+  pub node : List ℕ
+  pub last : ℤ
+  pub until : ℤ
+
 -- a node's name
 abbrev pub is_node : List ℕ → Bool
 is_node s = nat_lt 0 (length s) && nat_le (length s) NODE_LIMIT

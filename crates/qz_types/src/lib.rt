@@ -3,6 +3,7 @@
 
 mod calendars;
 mod commands;
+mod errors;
 mod fired;
 mod jobs;
 mod keys;
@@ -18,21 +19,23 @@ mod zones;
 
 pub use calendars::CalendarRow;
 pub use commands::{Actor, Code, Command, Entry};
+pub use errors::{StepRefused, SubmitError};
 pub use fired::{FiredRow, FiredState};
 pub use jobs::JobRow;
 pub use keys::Key;
 pub use limits::{
-    ACQUIRE_LIMIT, FIRED_LIMIT, FIRST_THRESHOLD, INTERVAL_LIMIT, JOB_LIMIT, MEMBER_LIMIT,
-    NODE_LIMIT, NUMBER_LIMIT, PAYLOAD_LIMIT, TIMES_LIMIT, TRIGGER_LIMIT, ZONE_LIMIT,
+    ACQUIRE_LIMIT, CALENDAR_LIMIT, CHAIN_LIMIT, FIRED_LIMIT, FIRST_THRESHOLD, GROUP_LIMIT,
+    INTERVAL_LIMIT, JOB_LIMIT, MEMBER_LIMIT, MISFIRE_LIMIT, NODE_LIMIT, NUMBER_LIMIT,
+    PAYLOAD_LIMIT, STATE_LIMIT, TIMES_LIMIT, TRIGGER_LIMIT, ZONE_LIMIT, limits_are,
 };
 pub use members::MemberRow;
 pub use qz_civil::{
     CalendarKind, Failed, Kind, LAST, LONGEST, List, NAME_LIMIT, NoMemory, Stretch, Text, Timing,
     Unit,
 };
-pub use replies::{Refusal, Reply, Taken};
+pub use replies::{MovedRow, Refusal, Reply, Taken};
 pub use sorted::{Keyed, find, insert, place};
-pub use states::{StateCommand, StateEntry, StateRow};
+pub use states::{Evidence, StateCommand, StateEntry, StateRow};
 pub use steps::{Step, StepReply};
 pub use stores::Store;
 pub use triggers::{TriggerRow, TriggerSpec, TriggerState};

@@ -7,7 +7,7 @@ use std::marker::Model;
 
 /// A node that joined the cluster, with the epoch number that it got. A node that was declared failed and goes on
 /// is known by its epoch: it isn't that of the member.
-#[derive(Clone, Drop)]
+#[derive(Clone, Debug, Drop)]
 pub struct MemberRow {
     /// 1 to `NODE_LIMIT` bytes.
     pub node: Text,

@@ -2,7 +2,7 @@
 ghost use Rattle.std.specs.Prelude.{◌≡◌, ◌<◌, IsOk, IfErr, OnOk, OnErr, option_copied, vec_len, vec_capacity};
 ghost use Rattle.qz_types.specs.Sorted.{place_of, row_of, put};
 
-use crate::{FiredRow, JobRow, Key, MemberRow, TriggerRow};
+use crate::{CalendarRow, FiredRow, JobRow, Key, MemberRow, StateRow, TriggerRow, ZoneRow};
 use qz_civil::Text;
 use std::alloc::AllocFailed;
 use std::cmp::Ordering;
@@ -15,6 +15,13 @@ pub trait Keyed {
 
     fn id(&self) -> &Self::Id
         ensures { result.now ≡ id self.now };
+
+    /// How another id compares with the row's.
+    fn compare(&self, other: &Self::Id) -> Ordering
+        ensures { result ≡ Self.Id.cmp other.now (id self.now) }
+    {
+        other.cmp(self.id())
+    }
 }
 
 impl Keyed for JobRow {
@@ -24,6 +31,37 @@ impl Keyed for JobRow {
 
     fn id(&self) -> &Key {
         &self.key
+    }
+}
+
+impl Keyed for CalendarRow {
+    type Id = Text;
+
+    ghost id = { λ r. r.name };
+
+    fn id(&self) -> &Text {
+        &self.name
+    }
+}
+
+impl Keyed for ZoneRow {
+    type Id = Text;
+
+    ghost id = { λ r. r.name };
+
+    fn id(&self) -> &Text {
+        &self.name
+    }
+}
+
+/// A paused group is its own id.
+impl Keyed for Text {
+    type Id = Text;
+
+    ghost id = { λ r. r };
+
+    fn id(&self) -> &Text {
+        self
     }
 }
 
@@ -44,6 +82,16 @@ impl Keyed for TriggerRow {
 
     fn id(&self) -> &Key {
         &self.spec.key
+    }
+}
+
+impl Keyed for StateRow {
+    type Id = Text;
+
+    ghost id = { λ r. r.node };
+
+    fn id(&self) -> &Text {
+        &self.node
     }
 }
 

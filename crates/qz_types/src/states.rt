@@ -38,6 +38,29 @@ impl StateRow {
     }
 }
 
+/// Why a node is taken for failed: its last check-in, and until when it wasn't late. Both are in ms since
+/// 1970-01-01T00:00:00Z.
+#[derive(Drop)]
+pub struct Evidence {
+    /// 1 to `NODE_LIMIT` bytes.
+    pub node: Text,
+    pub last: i64,
+    pub until: i64,
+}
+
+impl Model for Evidence {
+    ghost use Rattle.std.specs.Prelude.{IsTrue};
+    ghost use Rattle.qz_types.specs.Rows.{EvidenceData, is_node};
+
+    ghost Value = { EvidenceData };
+
+    ghost view = { λ a. record { node = a.node; last = a.last; until = a.until } };
+
+    ghost invariant = { λ a. IsTrue (is_node a.node) };
+
+    ghost inverse = { λ d. record { node = d.node; last = d.last; until = d.until } };
+}
+
 /// One transaction of the state store, without its reading. A node's name has 1 to `NODE_LIMIT` bytes.
 #[derive(Debug, Drop)]
 pub enum StateCommand {

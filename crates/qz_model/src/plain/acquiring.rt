@@ -1,22 +1,22 @@
 //! A node acquires a trigger that is due.
-ghost use Rattle.std.specs.Prelude.{◌≡◌, ◌∷◌, [], ◌<◌, IfOk, IfErr, IfNone, IsTrue, option_copied};
+ghost use Rattle.std.specs.Prelude.{◌≡◌, ◌∷◌, [], ◌<◌, ℤ, MatchOption, IfOk, IfErr, IfNone, IsTrue, option_copied};
 ghost use Rattle.qz_civil.specs.Timings.{is_span};
-ghost use Rattle.qz_model.specs.Tables.{IsMoment};
-ghost use Rattle.qz_model.specs.Outcomes.{accepted};
-ghost use Rattle.qz_model.specs.Due.{due_triggers};
-ghost use Rattle.qz_model.specs.Firing.{acquire_refusal, acquired_row, acquire_one, acquire_first, acquire};
+ghost use Rattle.qz_types.specs.Tables.{IsMoment};
+ghost use Rattle.qz_types.specs.Outcomes.{accepted, refused, IsAccepted};
 ghost use Rattle.qz_model.specs.Causes.{IsCause};
+ghost use Rattle.qz_model.specs.Due.{due_triggers};
+ghost use Rattle.qz_model.specs.Firing.{acquire_refusal, acquired_row, next_time, stored_job, acquire_one, acquire_first, acquire};
 
-use super::{PlainStore, StepRefused};
-use crate::rows::{acquire_trigger, job_of, put_fired};
+use super::tables::PlainTables;
+use crate::rows::{acquire_trigger, is_exclusive, is_recovered, put_fired};
 use qz_civil::beside;
 use qz_types::{
     FIRED_LIMIT, FiredRow, FiredState, JobRow, List, MemberRow, NUMBER_LIMIT, Refusal, Reply,
-    Taken, TriggerRow,
+    StepRefused, Taken, TriggerRow,
 };
 use std::alloc::{AllocError, Global};
 
-impl PlainStore {
+impl PlainTables {
     pub(super) fn acquire(
         &mut self,
         moment: i64,
@@ -38,6 +38,17 @@ impl PlainStore {
             return Err(StepRefused::Refused(refusal));
         }
         self.acquire_first(moment, me, no_later + window)
+    }
+
+    /// Why an Acquire of the member is refused, if it is.
+    #[tactic(auto, using(crate::proofs::Refused::of_acquire))]
+    pub(super) fn acquire_refused(&self, me: &MemberRow, window: i64, max: u32) -> Option<Refusal>
+        ensures { (m no_later : ℤ) → MatchOption result (IsAccepted (acquire self.now m me.now no_later window max)) (λ x. acquire self.now m me.now no_later window max ≡ refused x) }
+    {
+        match self.node_refusal(me) {
+            Some(refusal) => Some(refusal),
+            None => self.acquire_refusal(window, max),
+        }
     }
 
     #[tactic(auto, unfolding(crate::specs::Firing::acquire_refusal))]
@@ -91,14 +102,8 @@ impl PlainStore {
         ensures ok { IfOk result (λ reply. acquire_one self.old moment me.now trigger.now ≡ accepted self.new reply) }
         ensures refused { IfErr result (IsCause (acquire_one self.old moment me.now trigger.now)) }
     {
-        let Some(next) = trigger.next else {
-            return Err(StepRefused::Refused(Refusal::Unbuilt));
-        };
-        let Some(job) = job_of(&self.jobs, &trigger.spec.job) else {
-            return Err(StepRefused::Refused(Refusal::Unbuilt));
-        };
         let alloc = *self.fired.allocator();
-        let Grant { row, taken } = make_grant(alloc, self.next_entry, me, trigger, next, job)?;
+        let Grant { row, taken } = make_grant(alloc, self.next_entry, me, trigger, &self.jobs)?;
         let (taken, ()) = beside(taken, put_fired(&mut self.fired, row))?;
         acquire_trigger(&mut self.triggers, &trigger.spec.key);
         self.next_entry += 1;
@@ -119,15 +124,23 @@ fn make_grant(
     entry: u64,
     me: &MemberRow,
     trigger: &TriggerRow,
-    next: i64,
-    job: &JobRow,
+    jobs: &[JobRow],
 ) -> Result<Grant, AllocError>
-    ensures row { IfOk result (λ grant. grant.row ≡ acquired_row entry me.now trigger.now next job.now) }
-    ensures taken { IfOk result (λ grant. grant.taken ≡ record { entry = entry; trigger = trigger.now.spec.key; next = next } ∷ []) }
+    ensures row { IfOk result (λ grant. grant.row ≡ acquired_row entry me.now trigger.now (next_time trigger.now) (stored_job trigger.now.spec.job jobs.now)) }
+    ensures taken { IfOk result (λ grant. grant.taken ≡ record { entry = entry; trigger = trigger.now.spec.key; next = next_time trigger.now } ∷ []) }
 {
-    let row = acquired_row(entry, me, trigger, next, job)?;
+    let next = next_time(trigger);
+    let row = acquired_row(entry, me, trigger, next, jobs)?;
     let (row, taken) = beside(row, one_taken(alloc, entry, trigger, next))?;
     Ok(Grant { row, taken })
+}
+
+// Its next time, which tables that are valid have for each trigger that waits.
+#[tactic(auto, unfolding(crate::specs::Firing::next_time))]
+fn next_time(trigger: &TriggerRow) -> i64
+    ensures { result ≡ next_time trigger.now }
+{
+    trigger.next.unwrap_or(0)
 }
 
 #[tactic(auto, unfolding(crate::specs::Firing::acquired_row))]
@@ -136,10 +149,12 @@ fn acquired_row(
     me: &MemberRow,
     trigger: &TriggerRow,
     next: i64,
-    job: &JobRow,
+    jobs: &[JobRow],
 ) -> Result<FiredRow, AllocError>
-    ensures { IfOk result (λ row. row ≡ acquired_row entry me.now trigger.now next job.now) }
+    ensures { IfOk result (λ row. row ≡ acquired_row entry me.now trigger.now next (stored_job trigger.now.spec.job jobs.now)) }
 {
+    let no_concurrent = is_exclusive(jobs, &trigger.spec.job);
+    let requests_recovery = is_recovered(jobs, &trigger.spec.job);
     let node = me.node.clone()?;
     let (node, key) = beside(node, trigger.spec.key.copy())?;
     let ((node, key), job_key) = beside((node, key), trigger.spec.job.copy())?;
@@ -153,8 +168,8 @@ fn acquired_row(
         state: FiredState::Acquired,
         scheduled: next,
         fired: None,
-        no_concurrent: job.no_concurrent,
-        requests_recovery: job.requests_recovery,
+        no_concurrent,
+        requests_recovery,
     })
 }
 

@@ -1,14 +1,14 @@
 //! Which trigger is due first.
 ghost use Rattle.std.specs.Prelude.{◌≡◌, ◌-ℤ◌, negsuc, option_copied, slice_get};
 ghost use Rattle.std.specs.Ordering.{int_eq};
-ghost use Rattle.qz_model.specs.Tables.{IsMoment};
+ghost use Rattle.qz_types.specs.Tables.{IsMoment};
 ghost use Rattle.qz_model.specs.Due.{is_waiting, is_up_to, is_before, is_misfired, is_due, due_cmp, due_triggers, earlier};
 
-use super::PlainStore;
+use super::tables::PlainTables;
 use qz_types::{TriggerRow, TriggerSpec, TriggerState};
 use std::cmp::Ordering;
 
-impl PlainStore {
+impl PlainTables {
     /// The first of the due triggers.
     #[tactic(auto, unfolding(crate::specs::Due::due_triggers))]
     pub(super) fn first_due(&self, moment: i64, limit: i64) -> Option<&TriggerRow>

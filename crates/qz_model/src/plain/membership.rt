@@ -1,16 +1,16 @@
 //! The commands on members, and the fence for nodes that aren't members any more.
 ghost use Rattle.std.specs.Prelude.{◌≡◌, ◌<◌, IfOk, IfErr, IfNone, IsTrue, option_copied};
 ghost use Rattle.qz_types.specs.Rows.{is_node};
-ghost use Rattle.qz_model.specs.Tables.{IsMoment};
-ghost use Rattle.qz_model.specs.Outcomes.{accepted};
-ghost use Rattle.qz_model.specs.Membership.{live_epoch, is_live, node_refusal, join_refusal, join};
+ghost use Rattle.qz_types.specs.Tables.{IsMoment};
+ghost use Rattle.qz_types.specs.Outcomes.{accepted};
 ghost use Rattle.qz_model.specs.Causes.{IsCause};
+ghost use Rattle.qz_model.specs.Membership.{live_epoch, is_live, node_refusal, join_refusal, join};
 
-use super::{PlainStore, StepRefused};
+use super::tables::PlainTables;
 use crate::rows::{member_of, put_member};
-use qz_types::{MEMBER_LIMIT, MemberRow, NUMBER_LIMIT, Refusal, Reply, Text};
+use qz_types::{MEMBER_LIMIT, MemberRow, NUMBER_LIMIT, Refusal, Reply, StepRefused, Text};
 
-impl PlainStore {
+impl PlainTables {
     pub(super) fn join(&mut self, moment: i64, node: Text) -> Result<Reply, StepRefused>
         requires moment { IsMoment self.old.horizon moment }
         requires node { IsTrue (is_node node) }
@@ -32,7 +32,7 @@ impl PlainStore {
     }
 
     #[tactic(auto, unfolding(crate::specs::Membership::join_refusal))]
-    fn join_refusal(&self, node: &Text) -> Option<Refusal>
+    pub(super) fn join_refusal(&self, node: &Text) -> Option<Refusal>
         ensures value { result ≡ join_refusal self.now node.now }
         ensures bound { IfNone result (self.now.next_epoch < NUMBER_LIMIT) }
     {

@@ -1,19 +1,19 @@
 //! The commands of clients: jobs and triggers.
 ghost use Rattle.std.specs.Prelude.{◌≡◌, IfOk, IfErr, IsTrue, codes, option_copied};
 ghost use Rattle.qz_types.specs.Rows.{is_trigger_spec};
-ghost use Rattle.qz_model.specs.Tables.{IsMoment};
-ghost use Rattle.qz_model.specs.Outcomes.{accepted};
-ghost use Rattle.qz_model.specs.Scheduling.{is_plain_job, add_job_refusal, add_job, is_one_shot, is_plain_trigger, is_reserved, new_trigger, add_trigger_refusal, add_trigger};
+ghost use Rattle.qz_types.specs.Tables.{IsMoment};
+ghost use Rattle.qz_types.specs.Outcomes.{accepted};
 ghost use Rattle.qz_model.specs.Causes.{IsCause};
+ghost use Rattle.qz_model.specs.Scheduling.{is_plain_job, add_job_refusal, add_job, is_one_shot, is_plain_trigger, is_reserved, new_trigger, add_trigger_refusal, add_trigger};
 
-use super::{PlainStore, StepRefused};
-use crate::rows::{job_of, put_job, put_trigger, same_text, trigger_of};
+use super::tables::PlainTables;
+use crate::rows::{is_busy, is_paused, job_of, put_job, put_trigger, same_text, trigger_of};
 use qz_types::{
-    JOB_LIMIT, JobRow, Kind, Refusal, Reply, TRIGGER_LIMIT, Text, TriggerRow, TriggerSpec,
-    TriggerState,
+    JOB_LIMIT, JobRow, Kind, Refusal, Reply, StepRefused, TRIGGER_LIMIT, Text, TriggerRow,
+    TriggerSpec, TriggerState,
 };
 
-impl PlainStore {
+impl PlainTables {
     pub(super) fn add_job(
         &mut self,
         moment: i64,
@@ -34,10 +34,10 @@ impl PlainStore {
     }
 
     #[tactic(auto, unfolding(crate::specs::Scheduling::add_job_refusal))]
-    fn add_job_refusal(&self, job: &JobRow, replace: bool) -> Option<Refusal>
+    pub(super) fn add_job_refusal(&self, job: &JobRow, replace: bool) -> Option<Refusal>
         ensures { result ≡ add_job_refusal self.now job.now replace }
     {
-        if replace || !is_plain_job(job) {
+        if replace || !is_plain_job(job) || is_busy(&job.key, &self.fired) {
             Some(Refusal::Unbuilt)
         } else if job_of(&self.jobs, &job.key).is_some() {
             Some(Refusal::Unbuilt)
@@ -70,12 +70,16 @@ impl PlainStore {
     }
 
     #[tactic(auto, unfolding(crate::specs::Scheduling::add_trigger_refusal))]
-    fn add_trigger_refusal(&self, spec: &TriggerSpec, replace: bool) -> Option<Refusal>
+    pub(super) fn add_trigger_refusal(&self, spec: &TriggerSpec, replace: bool) -> Option<Refusal>
         ensures { result ≡ add_trigger_refusal self.now spec.now replace }
     {
         if job_of(&self.jobs, &spec.job).is_none() {
             Some(Refusal::UnknownJob)
-        } else if replace || !is_plain_trigger(spec) {
+        } else if replace
+            || !is_plain_trigger(spec)
+            || is_paused(&spec.key.group, &self.paused_groups)
+            || is_busy(&spec.job, &self.fired)
+        {
             Some(Refusal::Unbuilt)
         } else if is_reserved(&spec.key.group) {
             Some(Refusal::Unbuilt)

@@ -1,5 +1,5 @@
 use Rattle.std.proofs.Common.{◌≡◌, ◌++◌, drop}
-use Rattle.qz_model.specs.Words.{without_member}
+use Rattle.qz_types.specs.Words.{without_member}
 use Rattle.qz_cluster.proofs.held.without.Given as goal
 
 abbrev pub invariant-loop-row : goal.invariant-loop-row

@@ -1,6 +1,6 @@
 use Rattle.std.proofs.Common.{◌<◌, length, if◌then◌else◌, arith}
 use Rattle.std.proofs.lemmas.List.Edits.{map_over_more}
-use Rattle.qz_model.specs.Words.{same_key}
+use Rattle.qz_types.specs.Words.{same_key}
 use Rattle.qz_model.specs.Firing.{acquired}
 use Rattle.qz_model.proofs.rows.acquire_trigger.Goals as goal
 

@@ -1,5 +1,5 @@
 use Rattle.std.proofs.Common.{◌≡◌, ◌++◌, take, drop, map, if◌then◌else◌}
-use Rattle.qz_model.specs.Words.{same_key}
+use Rattle.qz_types.specs.Words.{same_key}
 use Rattle.qz_model.specs.Firing.{acquired}
 use Rattle.qz_model.proofs.rows.acquire_trigger.Given as goal
 

@@ -1,6 +1,6 @@
 use Rattle.std.proofs.Common.{rules}
 use Rattle.std.proofs.lemmas.Fn.{filter_same}
-use Rattle.qz_model.specs.Words.{without_job}
+use Rattle.qz_types.specs.Words.{without_job}
 use Rattle.qz_model.proofs.rows.remove_job.Goals as goal
 
 pub returns : goal.returns

@@ -1,5 +1,5 @@
 use Rattle.std.proofs.Common.{◌≡◌, ◌++◌, take, drop, map, if◌then◌else◌}
-use Rattle.qz_model.specs.Words.{same_key}
+use Rattle.qz_types.specs.Words.{same_key}
 use Rattle.qz_model.specs.Firing.{spent}
 use Rattle.qz_model.proofs.rows.spend_trigger.Given as goal
 

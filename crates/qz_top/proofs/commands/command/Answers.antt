@@ -41,7 +41,7 @@ pub returns-clause-times_rest : goal.returns-clause-times_rest
 returns-clause-times_rest g c after count is = let done = rw is at c.work-ended.ensures.worked in (done.3, done.4, done.2)
 
 pub returns-clause-no_script : goal.returns-clause-no_script
-returns-clause-no_script g c = ran_none _ _ _ _ _ _ _ _ _ _ c.work-ended.ensures.worked
+returns-clause-no_script g c = ran_none _ _ _ _ _ _ c.work-ended.ensures.worked
 
 pub returns-clause-told : goal.returns-clause-told
 returns-clause-told g c = c.report.ensures

@@ -1,5 +1,5 @@
 use Rattle.std.proofs.Common.{inl, ap}
-use Rattle.qz_cluster.specs.Seen.{state_of}
+use Rattle.qz_cluster.specs.View.{view as state_of}
 use Rattle.qz_top.specs.Seen.{run_of, states_in}
 use Rattle.qz_top.proofs.OpenedLaws.{plain_of, no_disk_fault}
 use Rattle.qz_top.proofs.own.script_in_memory.Goals as goal
@@ -14,7 +14,7 @@ returns-clause-done g c =
       readings = ran.1;
       replies = ran.2;
       run = ran.3;
-      plain = plain_of _ _ _ _ _ _ _ _ _ _ _ _ ran.3;
+      plain = plain_of _ _ _ _ _ _ _ _ ran.3;
       trail_is = ap states_in c.of-trail.ensures;
-      no_fault = no_disk_fault _ _ _ _ _ _ _ _ _ _ _ _ ran.3;
+      no_fault = no_disk_fault _ _ _ _ _ _ _ _ ran.3;
     })

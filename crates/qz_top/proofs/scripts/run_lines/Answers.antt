@@ -1,6 +1,18 @@
-use Rattle.std.proofs.Common.{[]}
-use Rattle.qz_top.proofs.StopLaws.{IsRun-nothing}
+use Rattle.qz_top.proofs.EndLaws.{IsRun-whole, finish_rose, finish_called}
+use Rattle.qz_top.proofs.StopLaws.{IsRun-stopped, stopped_rose}
 use Rattle.qz_top.proofs.scripts.run_lines.Goals as goal
 
+pub returns-in-Ok-clause-run : goal.returns-in-Ok-clause-run
+returns-in-Ok-clause-run g c = IsRun-whole g.D.Disk g.K.Sink g.C.Clock _ _ _ _ _ _ _ _ _ c.in-Ok.ensures.lines c.closed.ensures c.finish.ensures
+
+pub returns-in-Ok-clause-called : goal.returns-in-Ok-clause-called
+returns-in-Ok-clause-called g c = finish_called _ _ _ _ _ _ c.finish.ensures
+
+pub returns-in-Ok-clause-write : goal.returns-in-Ok-clause-write
+returns-in-Ok-clause-write g c = finish_rose g.D.Disk g.K.Sink g.C.Clock _ _ _ _ _ _ _ _ _ c.in-Ok.ensures.lines c.finish.ensures
+
 pub returns-in-Err-clause-run : goal.returns-in-Err-clause-run
-returns-in-Err-clause-run g c = ([], [], [], IsRun-nothing _ _ _ _)
+returns-in-Err-clause-run g c = rw c.status_of.ensures.value (IsRun-stopped g.D.Disk g.K.Sink g.C.Clock c.in-Err.end _ _ _ _ c.in-Err.ensures.lines)
+
+pub returns-in-Err-clause-write : goal.returns-in-Err-clause-write
+returns-in-Err-clause-write g c = rw c.status_of.ensures.value (stopped_rose g.D.Disk g.K.Sink g.C.Clock c.in-Err.end _ _ _ _ c.in-Err.ensures.lines)

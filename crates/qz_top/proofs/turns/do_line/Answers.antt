@@ -2,13 +2,13 @@ use Rattle.qz_top.proofs.TurnLaws.{LineDone-step, LineDone-blank, LineDone-fault
 use Rattle.qz_top.proofs.turns.do_line.Goals as goal
 
 pub returns-in-Ok-Some-clause-done : goal.returns-in-Ok-Some-clause-done
-returns-in-Ok-Some-clause-done g c = LineDone-step _ _ _ _ _ _ _ _ _ (rw c.in-Ok-Some.field-0-is at c.in-Ok-Some.ensures.meaning) c.do_step.ensures.done
+returns-in-Ok-Some-clause-done g c = LineDone-step _ _ _ _ _ _ _ (rw c.in-Ok-Some.field-0-is at c.in-Ok-Some.ensures.meaning) c.do_step.ensures.done
 
 pub returns-in-Ok-None-clause-done : goal.returns-in-Ok-None-clause-done
-returns-in-Ok-None-clause-done g c = LineDone-blank _ _ _ _ (rw c.in-Ok-None.field-0-is at c.in-Ok-None.ensures.meaning)
+returns-in-Ok-None-clause-done g c = LineDone-blank _ _ _ (rw c.in-Ok-None.field-0-is at c.in-Ok-None.ensures.meaning)
 
 pub returns-in-Err-clause-done : goal.returns-in-Err-clause-done
-returns-in-Err-clause-done g c = rw c.fault_of.ensures (LineDone-fault c.in-Err.fault _ _ _ _ c.in-Err.ensures.meaning)
+returns-in-Err-clause-done g c = rw c.fault_of.ensures (LineDone-fault c.in-Err.fault _ _ _ c.in-Err.ensures.meaning)
 
 pub returns-in-Err-clause-write : goal.returns-in-Err-clause-write
 returns-in-Err-clause-write g c e = absurd (not_write c.in-Err.fault cc)

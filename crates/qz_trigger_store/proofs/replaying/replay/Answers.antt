@@ -1,43 +1,49 @@
-use Rattle.std.proofs.Common.{◌∙◌, ◌+◌, ◌++◌, List, ℕ, Err, sym, ap, subst, arith}
-use Rattle.qz_model.specs.Tables.{SchedulerTables, empty}
-use Rattle.qz_model.specs.Transaction.{transaction}
-use Rattle.qz_model.specs.History.{IsAccepted}
-use Rattle.qz_trigger_store.specs.Bytes.{records, IsRecord}
-use Rattle.qz_trigger_store.proofs.Damage.{within, taken_whole, taken_gate, taken_all, taken_legal, taken_tables}
+use Rattle.std.proofs.Common.{◌≡◌, ◌∙◌, ◌<◌, List, ℕ, Err, length, get_or, refl, sym, ap, subst, arith}
+use Rattle.qz_types.specs.Tables.{SchedulerTables, new_tables}
+use Rattle.qz_model.specs.History.{replay_from}
+use Rattle.qz_model.specs.Invariant.{TablesValid}
+use Rattle.qz_model.proofs.Kept.{valid-new_tables}
+use Rattle.qz_trigger_store.specs.Bytes.{IsRecord}
+use Rattle.qz_trigger_store.proofs.Replays.{gate_fits, taken_none, taken_more, taken_tables, taken_gate, stops_at}
 use Rattle.qz_trigger_store.proofs.replaying.replay.Goals as goal
 
-pub overflow_add-gate-in-Some : goal.overflow_add-gate-in-Some
-overflow_add-gate-in-Some c =
-    let w = c.replay.invariant in
-    let room = within c.args.payloads.now (records c.replay.entries) c.in-Some.payload.now c.in-Some.behind.now (w.whole ∙ ap (λ (l : List (List ℕ)). records c.replay.entries ++ l) c.in-Some.ensures.cases.0) in
-    omega (arith, room, w.gate_is, c.len.ensures, c.requires.offsets)
+pub loop-payload-init : goal.loop-payload-init
+loop-payload-init c = record {
+  replayed = taken_none c.args.payloads.now _ c.new-entries.ensures;
+  tables_are = c.new-tables.ensures ∙ ap (replay_from new_tables) (sym c.new-entries.ensures);
+  valid = subst (λ (T : SchedulerTables). ∥ TablesValid T ∥₁) (sym c.new-tables.ensures) ∣ valid-new_tables ∣₁;
+  gate_is = refl;
+}
 
-pub replay-preserved : goal.replay-preserved
-replay-preserved c =
-    let w = c.replay.invariant in
-    let e = c.in-Ok.entry in
+pub overflow_add-gate-in-loop-payload : goal.overflow_add-gate-in-loop-payload
+overflow_add-gate-in-loop-payload c =
+    let w = c.loop-payload in
+    let p = c.payload-item.result in
+    let below = subst (λ (l : List (List ℕ)). w.payload-index < length l) c.as_slice-payload-items.ensures c.loop-payload-test.true in
+    let here = subst (λ (l : List (List ℕ)). p ≡ get_or l w.payload-index p) c.as_slice-payload-items.ensures c.payload-item.is in
+    let room = gate_fits c.args.payloads.now w.payload-index p w.gate below here w.invariant.gate_is in
+    omega (arith, room, c.len.ensures, c.requires.offsets)
+
+pub loop-payload-preserved : goal.loop-payload-preserved
+loop-payload-preserved c =
+    let w = c.loop-payload in
+    let p = c.payload-item.result in
+    let below = subst (λ (l : List (List ℕ)). w.payload-index < length l) c.as_slice-payload-items.ensures c.loop-payload-test.true in
+    let here = subst (λ (l : List (List ℕ)). p ≡ get_or l w.payload-index p) c.as_slice-payload-items.ensures c.payload-item.is in
     let more = c.in_ok-push-in-Ok.ensures.ok in
-    let is = c.in-Ok.ensures.is_record in
-    let p_is = sym c.as_slice.ensures ∙ is.bytes_are in
+    let is = subst (λ (x : List ℕ). IsRecord x c.in-Ok.entry) c.as_slice.ensures c.in-Ok.ensures.is_record in
     record {
-      whole = taken_whole _ c.replay.entries _ e _ _ _ more p_is c.in-Some.ensures.cases.0 w.whole;
-      legal = taken_legal (empty 1) c.replay.tables c.replay.entries _ e more w.replayed w.legal c.in-Ok.ensures.accepted;
-      replayed = taken_tables (empty 1) c.replay.tables _ c.replay.entries _ e more w.replayed c.in-Ok.ensures.tables;
-      valid = c.in-Ok.ensures.valid w.valid;
-      recorded = taken_all c.replay.entries _ e more w.recorded is.valid;
-      gate_is = ap (λ (n : ℕ). c.replay.gate + (5 + n)) c.len.ensures ∙ taken_gate c.replay.gate c.replay.entries _ e _ more p_is w.gate_is;
+      replayed = taken_more c.args.payloads.now w.payload-index p _ w.entries _ c.in-Ok.entry below here more w.invariant.tables_are is c.in-Ok.ensures.accepted w.invariant.replayed;
+      tables_are = taken_tables _ _ _ w.entries _ c.in-Ok.entry more w.invariant.tables_are c.in-Ok.ensures.tables;
+      valid = c.in-Ok.ensures.valid;
+      gate_is = taken_gate c.args.payloads.now w.payload-index p w.gate _ below here c.len.ensures w.invariant.gate_is;
     }
 
 pub returns-in-Err-Unfit-clause-stopped : goal.returns-in-Err-Unfit-clause-stopped
 returns-in-Err-Unfit-clause-stopped c =
-    let w = c.replay.invariant in
-    record {
-      entries = c.replay.entries;
-      valid = w.recorded;
-      legal = w.legal;
-      payload = c.in-Some.payload.now;
-      more = c.in-Some.behind.now;
-      whole = w.whole ∙ ap (λ (l : List (List ℕ)). records c.replay.entries ++ l) c.in-Some.ensures.cases.0;
-      at_is = w.gate_is;
-      unfit = λ e is yes. c.in-Err-Unfit.ensures.unfit (ap Err c.in-Err-Unfit.field-0-is) e (subst (λ (p : List ℕ). IsRecord p e) (sym c.as_slice.ensures) is) (subst (λ (T : SchedulerTables). IsAccepted (transaction T e)) (sym w.replayed) yes);
-    }
+    let w = c.loop-payload in
+    let p = c.payload-item.result in
+    let below = subst (λ (l : List (List ℕ)). w.payload-index < length l) c.as_slice-payload-items.ensures c.loop-payload-test.true in
+    let here = subst (λ (l : List (List ℕ)). p ≡ get_or l w.payload-index p) c.as_slice-payload-items.ensures c.payload-item.is in
+    stops_at c.args.payloads.now w.payload-index p w.gate _ w.entries below here w.invariant.gate_is w.invariant.tables_are w.invariant.replayed
+    (λ e is passes. c.in-Err-Unfit.ensures.unfit (ap Err c.in-Err-Unfit.field-0-is) e (subst (λ (x : List ℕ). IsRecord x e) (sym c.as_slice.ensures) is) passes)

@@ -1,23 +1,18 @@
-use Rattle.std.proofs.Common.{◌≡◌, ◌++◌, length}
+use Rattle.std.proofs.Common.{◌≡◌, ◌++◌, length, take}
 use Rattle.std.specs.List.{AllByRecursion}
 use Rattle.qz_codec.specs.Values.{IsEntry}
 use Rattle.qz_journal.specs.Layout.{end_of}
-use Rattle.qz_model.specs.Tables.{empty}
-use Rattle.qz_model.specs.History.{IsLegalFrom, replay_from}
+use Rattle.qz_types.specs.Tables.{new_tables}
+use Rattle.qz_model.specs.History.{replay_from}
 use Rattle.qz_model.specs.Invariant.{TablesValid}
-use Rattle.qz_trigger_store.specs.Bytes.{records}
+use Rattle.qz_trigger_store.specs.Opening.{AreReplayed}
 use Rattle.qz_trigger_store.proofs.replaying.replay.Given as goal
 
--- the entries so far are a history, and the rest of the payloads stands behind their records
-abbrev pub invariant-replay : goal.invariant-replay
-invariant-replay l = record {
-  whole : l.payloads ≡ records l.entries ++ l.rest;
-  legal : IsLegalFrom (empty 1) l.entries;
-  replayed : l.tables ≡ replay_from (empty 1) l.entries;
-  valid : TablesValid l.tables;
-  recorded : AllByRecursion IsEntry l.entries;
-  gate_is : l.gate ≡ end_of (records l.entries);
+-- the payloads so far are the records of the entries, which leave these tables
+abbrev pub invariant-loop-payload : goal.invariant-loop-payload
+invariant-loop-payload l = record {
+  replayed : AreReplayed (take l.payload-index l.payloads) l.entries;
+  tables_are : l.tables ≡ replay_from new_tables l.entries;
+  valid : ∥ TablesValid l.tables ∥₁;
+  gate_is : l.gate ≡ end_of (take l.payload-index l.payloads);
 }
-
-abbrev pub decreases-replay : goal.decreases-replay
-decreases-replay l = length l.rest

@@ -9,6 +9,11 @@ node-requires-clause-valid g c =
     let parts = and_parts (is_node c.in-Node.node && is_command c.in-Node.command) (is_of_node c.in-Node.command) (rw c.in-Node.is at c.requires) in
     (and_parts (is_node c.in-Node.node) (is_command c.in-Node.command) parts.0).1
 
+pub node-requires-clause-name : goal.node-requires-clause-name
+node-requires-clause-name g c =
+    let parts = and_parts (is_node c.in-Node.node && is_command c.in-Node.command) (is_of_node c.in-Node.command) (rw c.in-Node.is at c.requires) in
+    (and_parts (is_node c.in-Node.node) (is_command c.in-Node.command) parts.0).0
+
 pub node-requires-clause-node : goal.node-requires-clause-node
 node-requires-clause-node g c =
     (and_parts (is_node c.in-Node.node && is_command c.in-Node.command) (is_of_node c.in-Node.command) (rw c.in-Node.is at c.requires)).1

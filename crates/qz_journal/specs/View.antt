@@ -1,0 +1,24 @@
+-- What a journal shows to those above it.
+use Rattle.std.specs.Prelude.{ℕ, Option}
+use Rattle.qz_disk.specs.declared.disk.Disk.{Ghosts}
+use Rattle.qz_journal.specs.declared.journal.Journal.{Journal}
+
+-- the disk that it is on
+abbrev pub disk_of : {D : Type 0} {g : Ghosts D} → Journal D g → D
+disk_of j = j.disk
+
+-- of triggers or of states
+abbrev pub kind_of : {D : Type 0} {g : Ghosts D} → Journal D g → ℕ
+kind_of j = j.kind
+
+-- the offset of the closed gate after the last payload
+abbrev pub gate_of : {D : Type 0} {g : Ghosts D} → Journal D g → ℕ
+gate_of j = j.gate
+
+-- how many payloads come before the gate
+abbrev pub count_of : {D : Type 0} {g : Ghosts D} → Journal D g → ℕ
+count_of j = j.count
+
+-- the gate's offset, while it is closed by a fault or a crash
+abbrev pub closed_at : {D : Type 0} {g : Ghosts D} → Journal D g → Option ℕ
+closed_at j = j.closed

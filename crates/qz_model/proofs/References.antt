@@ -1,0 +1,104 @@
+-- References and limits, where one list is changed.
+use Rattle.std.proofs.Common.{ℕ, ◌≤◌, ℤ, List, length}
+use Rattle.std.specs.Ordering.{nat_cmp}
+use Rattle.qz_types.specs.Sorted.{IsAscending}
+use Rattle.qz_types.specs.Rows.{JobData, TriggerData, MemberData, FiredData}
+use Rattle.qz_types.specs.declared.limits.TheConstants.{JOB_LIMIT, TRIGGER_LIMIT, MEMBER_LIMIT, FIRED_LIMIT, NUMBER_LIMIT}
+use Rattle.qz_types.specs.Tables.{SchedulerTables}
+use Rattle.qz_types.specs.Words.{key_cmp, text_cmp}
+use Rattle.qz_model.specs.Invariant.{AreStored, ReferencesAndLimits}
+
+module _ (T : SchedulerTables) (was : ReferencesAndLimits T) where
+  pub references-moment : (m : ℤ) → ReferencesAndLimits (record T { last_moment = m })
+  references-moment m = let order = was.ordered in let limits = was.limits in record {
+    ordered = record { jobs = order.jobs; triggers = order.triggers; calendars = order.calendars; zones = order.zones; paused_groups = order.paused_groups; members = order.members; fired = order.fired };
+    stored = was.stored;
+    limits = record {
+      jobs = limits.jobs;
+      triggers = limits.triggers;
+      calendars = limits.calendars;
+      zones = limits.zones;
+      paused_groups = limits.paused_groups;
+      members = limits.members;
+      fired = limits.fired;
+      next_entry = limits.next_entry;
+      next_epoch = limits.next_epoch;
+      threshold = limits.threshold;
+    };
+  }
+
+  pub references-jobs : (jobs : List JobData) → IsAscending key_cmp (λ r. r.key) jobs → AreStored jobs T.triggers T.calendars T.zones → length jobs ≤ JOB_LIMIT
+      → ReferencesAndLimits (record T { jobs = jobs })
+  references-jobs jobs ordered stored short = let order = was.ordered in let limits = was.limits in record {
+    ordered = record { jobs = ordered; triggers = order.triggers; calendars = order.calendars; zones = order.zones; paused_groups = order.paused_groups; members = order.members; fired = order.fired };
+    stored = stored;
+    limits = record {
+      jobs = short;
+      triggers = limits.triggers;
+      calendars = limits.calendars;
+      zones = limits.zones;
+      paused_groups = limits.paused_groups;
+      members = limits.members;
+      fired = limits.fired;
+      next_entry = limits.next_entry;
+      next_epoch = limits.next_epoch;
+      threshold = limits.threshold;
+    };
+  }
+
+  pub references-triggers : (triggers : List TriggerData) → IsAscending key_cmp (λ r. r.spec.key) triggers → AreStored T.jobs triggers T.calendars T.zones → length triggers ≤ TRIGGER_LIMIT
+      → ReferencesAndLimits (record T { triggers = triggers })
+  references-triggers triggers ordered stored short = let order = was.ordered in let limits = was.limits in record {
+    ordered = record { jobs = order.jobs; triggers = ordered; calendars = order.calendars; zones = order.zones; paused_groups = order.paused_groups; members = order.members; fired = order.fired };
+    stored = stored;
+    limits = record {
+      jobs = limits.jobs;
+      triggers = short;
+      calendars = limits.calendars;
+      zones = limits.zones;
+      paused_groups = limits.paused_groups;
+      members = limits.members;
+      fired = limits.fired;
+      next_entry = limits.next_entry;
+      next_epoch = limits.next_epoch;
+      threshold = limits.threshold;
+    };
+  }
+
+  pub references-members : (members : List MemberData) (epoch : ℕ) → IsAscending text_cmp (λ r. r.node) members → length members ≤ MEMBER_LIMIT → epoch ≤ NUMBER_LIMIT
+      → ReferencesAndLimits (record T { members = members; next_epoch = epoch })
+  references-members members epoch ordered short number = let order = was.ordered in let limits = was.limits in record {
+    ordered = record { jobs = order.jobs; triggers = order.triggers; calendars = order.calendars; zones = order.zones; paused_groups = order.paused_groups; members = ordered; fired = order.fired };
+    stored = was.stored;
+    limits = record {
+      jobs = limits.jobs;
+      triggers = limits.triggers;
+      calendars = limits.calendars;
+      zones = limits.zones;
+      paused_groups = limits.paused_groups;
+      members = short;
+      fired = limits.fired;
+      next_entry = limits.next_entry;
+      next_epoch = number;
+      threshold = limits.threshold;
+    };
+  }
+
+  pub references-fired : (fired : List FiredData) (entry : ℕ) → IsAscending nat_cmp (λ r. r.entry) fired → length fired ≤ FIRED_LIMIT → entry ≤ NUMBER_LIMIT
+      → ReferencesAndLimits (record T { fired = fired; next_entry = entry })
+  references-fired fired entry ordered short number = let order = was.ordered in let limits = was.limits in record {
+    ordered = record { jobs = order.jobs; triggers = order.triggers; calendars = order.calendars; zones = order.zones; paused_groups = order.paused_groups; members = order.members; fired = ordered };
+    stored = was.stored;
+    limits = record {
+      jobs = limits.jobs;
+      triggers = limits.triggers;
+      calendars = limits.calendars;
+      zones = limits.zones;
+      paused_groups = limits.paused_groups;
+      members = limits.members;
+      fired = short;
+      next_entry = number;
+      next_epoch = limits.next_epoch;
+      threshold = limits.threshold;
+    };
+  }

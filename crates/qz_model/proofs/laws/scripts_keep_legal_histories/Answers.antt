@@ -1,0 +1,12 @@
+use Rattle.qz_model.proofs.Scripts.{IsLegal-state_after}
+use Rattle.qz_model.proofs.ValidScripts.{valid-state_after, entries-state_after}
+use Rattle.qz_model.proofs.laws.scripts_keep_legal_histories.Goals as goal
+
+pub returns-clause-legal : goal.returns-clause-legal
+returns-clause-legal c s ts legal = IsLegal-state_after s ts legal
+
+pub returns-clause-entries : goal.returns-clause-entries
+returns-clause-entries c s ts good entries = entries-state_after s ts good entries
+
+pub returns-clause-tables : goal.returns-clause-tables
+returns-clause-tables c s ts good valid = valid-state_after s ts good valid

@@ -1,0 +1,30 @@
+//! Laws of the model, each as the contract of a function that does nothing: so they are proved, and a program that rests on
+//! one can call it.
+ghost use Rattle.std.specs.Prelude.{◌≡◌, Bool, List, IsTrue, count_by};
+ghost use Rattle.std.specs.List.{AllByRecursion};
+ghost use Rattle.qz_types.specs.Entries.{is_entry};
+ghost use Rattle.qz_types.specs.Rows.{TriggerData};
+ghost use Rattle.qz_types.specs.Steps.{is_step};
+ghost use Rattle.qz_types.specs.Tables.{new_tables};
+ghost use Rattle.qz_model.specs.Due.{in_due_order, IsInDueOrder};
+ghost use Rattle.qz_model.specs.History.{History, IsLegal, replay};
+ghost use Rattle.qz_model.specs.Invariant.{TablesValid};
+ghost use Rattle.qz_model.specs.Script.{ScriptState, TimedStep, state_after};
+
+/// Triggers put in due order are in it, and are the same ones: each test passes as many of them as before.
+pub fn due_order_is_sorted()
+    ensures sorted { (ts : List TriggerData) → IsInDueOrder (in_due_order ts) }
+    ensures same { (p : TriggerData → Bool) (ts : List TriggerData) → count_by p (in_due_order ts) ≡ count_by p ts }
+{}
+
+/// Each legal history of valid entries that begins with a new store leaves valid tables.
+pub fn legal_histories_leave_valid_tables()
+    ensures { (h : History) → h.base ≡ new_tables → AllByRecursion (λ e. IsTrue (is_entry e)) h.entries → IsLegal h → TablesValid (replay h) }
+{}
+
+/// The steps of a script keep a history legal; valid steps keep its entries valid, and its tables too.
+pub fn scripts_keep_legal_histories()
+    ensures legal { (s : ScriptState) (ts : List TimedStep) → IsLegal s.history → IsLegal (state_after s ts).history }
+    ensures entries { (s : ScriptState) (ts : List TimedStep) → AllByRecursion (λ t. IsTrue (is_step t.step)) ts → AllByRecursion (λ e. IsTrue (is_entry e)) s.history.entries → AllByRecursion (λ e. IsTrue (is_entry e)) (state_after s ts).history.entries }
+    ensures tables { (s : ScriptState) (ts : List TimedStep) → AllByRecursion (λ t. IsTrue (is_step t.step)) ts → TablesValid (replay s.history) → TablesValid (replay (state_after s ts).history) }
+{}

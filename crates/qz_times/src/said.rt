@@ -1,0 +1,44 @@
+//! What is said to a line.
+ghost use Rattle.std.specs.Prelude.{◌≡◌, ◌⊎◌, negsuc, ◌≤ℤ◌, Err, IsTrue, IfOk, IfErr, IfSome};
+ghost use Rattle.qz_job_json.specs.Asked.{is_asked};
+ghost use Rattle.qz_times.specs.Said.{line_meaning, LineSaid};
+ghost use Rattle.qz_times.specs.Answers.{NotSaid};
+
+use crate::ends::LineEnd;
+use crate::queries::Query;
+use crate::telling::say;
+use crate::zones::Zones;
+use qz_civil::{LAST, Text};
+use qz_job_json::{Asked, LineFault, read_asked};
+use std::alloc::Global;
+
+/// What is said to a line: nothing to a blank one.
+pub(crate) fn answer_to(
+    alloc: Global,
+    line: &[u8],
+    zones: &mut Zones,
+    query: Query,
+) -> Result<Text, LineEnd>
+    requires low { negsuc 0 ≤ℤ query.after }
+    requires high { query.after ≤ℤ LAST }
+    ensures ok { IfOk result (λ text. LineSaid query zones.old.entries line.now text zones.new.entries) }
+    ensures err { IfErr result (λ end. NotSaid end line.now) }
+{
+    match read_line(alloc, line) {
+        Ok(None) => Ok(Text::new(alloc)),
+        Ok(Some(asked)) => match say(alloc, asked, zones, query) {
+            Ok(text) => Ok(text),
+            Err(_) => Err(LineEnd::NoMemory),
+        },
+        Err(LineFault::NoMemory) => Err(LineEnd::NoMemory),
+        Err(fault) => Err(LineEnd::Bad(fault)),
+    }
+}
+
+#[tactic(auto, unfolding(crate::specs::Said::line_meaning))]
+fn read_line(alloc: Global, line: &[u8]) -> Result<Option<Asked>, LineFault>
+    ensures meaning { (result ≡ Err LineFault.NoMemory) ⊎ (result ≡ line_meaning line.now) }
+    ensures valid { IfOk result (λ asked. IfSome asked (λ a. IsTrue (is_asked a))) }
+{
+    read_asked(alloc, line)
+}

@@ -1,0 +1,69 @@
+-- What submitting an entry leaves of a store is sound, where the store was.
+use Rattle.std.proofs.Common.{◌≡◌, ℕ, List, [], ◌∷◌, ◌++◌, length, length-append, IsTrue, refl, sym, ◌∙◌, subst, arith}
+use Rattle.std.proofs.Math.Logic.{∥∥₁_map}
+use Rattle.std.specs.Prelude.{Result, Ok, Err}
+use Rattle.qz_types.specs.Entries.{EntryData, is_entry}
+use Rattle.qz_types.specs.Outcomes.{Outcome, accepted, refused, IsAccepted}
+use Rattle.qz_types.specs.Tables.{SchedulerTables}
+use Rattle.qz_types.specs.declared.errors.SubmitError.{SubmitError}
+use Rattle.qz_types.specs.declared.errors.SubmitError.TheVariants as submit
+use Rattle.qz_types.specs.declared.replies.Reply.{Reply}
+use Rattle.qz_model.specs.History.{History, with_entry, IsLegal, replay}
+use Rattle.qz_model.specs.Invariant.{TablesValid}
+use Rattle.qz_model.specs.Transaction.{transaction}
+use Rattle.qz_model.proofs.Histories.{IsLegalFrom-entry, replay_from-append, valid-left}
+use Rattle.qz_journal.specs.Layout.{version}
+use Rattle.qz_journal.proofs.Stands.{end_of-push}
+use Rattle.qz_codec.specs.Layout.{record_of}
+use Rattle.qz_trigger_store.specs.Entries.{TriggerState, answer_of, trigger_entry}
+use Rattle.qz_trigger_store.specs.Stores.{Same, Appends, Submits}
+use Rattle.qz_trigger_store.specs.Bytes.{Encode, BeginsNew}
+use Rattle.qz_trigger_store.specs.Opening.{IsSound}
+use Rattle.qz_trigger_store.proofs.Replays.{Encode-pushed}
+
+accepted_from : (o : Outcome) (r : Reply) → answer_of o ≡ Ok r → IsAccepted o
+accepted_from (accepted T x) r is = tt
+accepted_from (refused x) r is = cc
+
+sound_as : (s t : TriggerState) → t.history ≡ s.history → t.gate ≡ s.gate → t.payloads ≡ s.payloads → IsSound s → IsSound t
+sound_as s t history gate payloads sound =
+    let placed = sound.placed in
+    record {
+      begins = subst (BeginsNew version) (sym history) sound.begins;
+      legal = subst IsLegal (sym history) sound.legal;
+      tables = subst (λ (h : History). ∥ TablesValid (replay h) ∥₁) (sym history) sound.tables;
+      placed = record {
+        payloads = placed.payloads;
+        encode = subst (λ (h : History). Encode placed.payloads h.entries) (sym history) placed.encode;
+        gate = gate ∙ placed.gate;
+        count = payloads ∙ placed.count;
+      };
+    }
+
+same_sound : (s t : TriggerState) → Same s t → IsSound s → IsSound t
+same_sound s t same sound = sound_as s t same.history same.gate same.payloads sound
+
+appended_sound : (e : EntryData) (r : Reply) (s t : TriggerState) → IsTrue (is_entry e) → Appends trigger_entry e r s t → IsSound s → IsSound t
+appended_sound e r s t good appends sound =
+    let h = s.history in
+    let placed = sound.placed in
+    let tables : replay (with_entry e h) ≡ _ = replay_from-append h.base h.entries (e ∷ []) in
+    record {
+      begins = subst (BeginsNew version) (sym appends.history) (record { count = sound.begins.count; base = sound.begins.base });
+      legal = subst IsLegal (sym appends.history) (IsLegalFrom-entry h.base h.entries e sound.legal (accepted_from _ r appends.accepted_as));
+      tables = subst (λ (g : History). ∥ TablesValid (replay g) ∥₁) (sym appends.history) (∥∥₁_map sound.tables (λ valid. subst TablesValid (sym tables) (valid-left (replay h) e good valid)));
+      placed = record {
+        payloads = placed.payloads ++ record_of e ∷ [];
+        encode = subst (λ (g : History). Encode (placed.payloads ++ record_of e ∷ []) g.entries) (sym appends.history) (Encode-pushed placed.payloads h.entries (record_of e) e placed.encode refl);
+        gate = omega (arith, appends.gate, placed.gate, end_of-push placed.payloads (record_of e));
+        count = omega (arith, appends.payloads, placed.count, length-append placed.payloads (record_of e ∷ []));
+      };
+    }
+
+pub submitted_sound : (e : EntryData) (x : Result Reply SubmitError) (s t : TriggerState) → IsTrue (is_entry e) → Submits trigger_entry e x s t → IsSound s → IsSound t
+submitted_sound e (Ok r) s t good is sound = appended_sound e r s t good is sound
+submitted_sound e (Err (submit.Closed at)) s t good is sound = same_sound s t is.0.same sound
+submitted_sound e (Err (submit.Refused x)) s t good is sound = same_sound s t is.same sound
+submitted_sound e (Err (submit.JournalFull need room)) s t good is sound = same_sound s t is.same sound
+submitted_sound e (Err submit.NoMemory) s t good is sound = same_sound s t is.same sound
+submitted_sound e (Err submit.Fault) s t good is sound = sound_as s t is.history is.gate is.payloads sound
