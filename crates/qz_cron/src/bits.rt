@@ -3,7 +3,7 @@ ghost use Rattle.std.specs.Prelude.{◌≡◌, ◌+◌, ◌<◌, ◌≤◌, ◌&
 ghost use Rattle.qz_civil.specs.Fields.{has_bit};
 ghost use Rattle.qz_civil.specs.Least.{IsFirst};
 
-/// The first value from `from` to before `to` that the set has.
+/// The first value from `from` to before `to` that the set has, each from 0 to 63.
 pub fn next_bit(set: u64, from: u64, to: u64) -> Option<u64>
     requires { to ≤ 64 }
     ensures first { IsFirst (has_bit set) from to result }

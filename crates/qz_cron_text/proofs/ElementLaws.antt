@@ -16,7 +16,7 @@ use Rattle.qz_cron_text.specs.declared.forms.WeekForm.{WeekForm}
 use Rattle.qz_cron_text.specs.declared.forms.WeekForm.TheVariants as weeks
 use Rattle.qz_cron_text.specs.Runs.{run_fault, is_year}
 use Rattle.qz_cron_text.specs.Forms.{form_of, form_fault, day_fault, week_fault, range_fault, unless, checked, element_of}
-use Rattle.qz_cron_text.specs.Errors.{told}
+use Rattle.qz_cron_text.specs.Errors.{u32_of}
 use Rattle.qz_cron_text.specs.Grammar.{IsOf, RunInRange, DayInRange, WeekInRange, InRange, IsElement}
 use Rattle.qz_cron_text.proofs.FormLaws.{form_read}
 use Rattle.qz_cron_text.proofs.FormCases.{form_is}
@@ -132,6 +132,6 @@ element_is field at text form is = by_form (form_of field text) refl is
     by_form : (o : Option Form) → form_of field text ≡ o → checked field at o ≡ Ok form → IsElement field text form
     by_form None read e = absurd (clash e)
       where
-        clash : Err (BadToken (number field) (told at)) ≡ Ok form → ⊥
+        clash : Err (BadToken (number field) (u32_of at)) ≡ Ok form → ⊥
         clash x = cc
     by_form (Some found) read e = by_fault found read (form_fault field found) refl e

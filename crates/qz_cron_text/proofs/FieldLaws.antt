@@ -30,7 +30,7 @@ abbrev pub sum_of : Field → ℕ → Elements → List Form → Elements
 sum_of field from found [] = found
 sum_of field from found (form ∷ forms) = sum_of field from (and_form field from found form) forms
 
-no_comma : (field : Field) (text : List ℕ) (form : Form) → IsElement field text form → IsFree (is_mark 44) text
+pub no_comma : (field : Field) (text : List ℕ) (form : Form) → IsElement field text form → IsFree (is_mark 44) text
 no_comma field text form is = inner_no_comma text (form_inner field text form is.is_form)
 
 ok_is : {A : Type 0} {x y : A} → ◌≡◌ {A = Result A CronError} (Ok x) (Ok y) → x ≡ y
@@ -39,7 +39,7 @@ ok_is e = cc
 err_is : {A : Type 0} {x : CronError} {y : A} → ◌≡◌ {A = Result A CronError} (Err x) (Ok y) → ⊥
 err_is e = cc
 
-all_read : (field : Field) (from at : ℕ) (found : Elements) (text : List ℕ) (forms : List Form) → AreElements field text forms
+pub all_read : (field : Field) (from at : ℕ) (found : Elements) (text : List ℕ) (forms : List Form) → AreElements field text forms
     → all_of field from at found (slice_split (λ b. b == 44) text) ≡ Ok (sum_of field from found forms)
 all_read field from at found text forms (one_element {text = word} {form} is) =
     rw (free_split (is_mark 44) word (no_comma field word form is), element_read field at word form is) refl
@@ -48,10 +48,10 @@ all_read field from at found text forms (more_elements {text = word} {texts} {fo
     (all_read field from (at + length word + 1) (and_form field from found form) texts others more)
 
 -- elements with what they add up to
-record Sums (field : Field) (from : ℕ) (found : Elements) (text : List ℕ) (result : Elements) : Type 0 where
-  forms : List Form
-  are : AreElements field text forms
-  sum : result ≡ sum_of field from found forms
+pub record Sums (field : Field) (from : ℕ) (found : Elements) (text : List ℕ) (result : Elements) : Type 0 where
+  pub forms : List Form
+  pub are : AreElements field text forms
+  pub sum : result ≡ sum_of field from found forms
 
 -- the elements of a field's pieces
 pieces_are : (field : Field) (from at : ℕ) (found : Elements) (text : List ℕ) (texts : List (List ℕ)) (result : Elements)
@@ -76,7 +76,7 @@ pieces_are field from at found text (next ∷ texts) result is =
         let rest : Sums field from (and_form field from found form) (join_with_byte 44 (next ∷ texts)) result = deeper form e in
         record { forms = form ∷ rest.forms; are = more_elements (element_is field at text form read) rest.are; sum = rest.sum }
 
-all_is : (field : Field) (from at : ℕ) (found : Elements) (text : List ℕ) (result : Elements)
+pub all_is : (field : Field) (from at : ℕ) (found : Elements) (text : List ℕ) (result : Elements)
     → all_of field from at found (slice_split (λ b. b == 44) text) ≡ Ok result → Sums field from found text result
 all_is field from at found text result is = by_pieces (slice_split (λ b. b == 44) text) refl is
   where
@@ -100,7 +100,7 @@ abbrev pub words_of : Field → ℕ → ℕ → List Run → ℕ
 words_of field from word [] = word
 words_of field from word (run ∷ runs) = words_of field from (bit_or word (word_of field run from)) runs
 
-sum_runs : (field : Field) (from : ℕ) (found : Elements) (runs : List Run)
+pub sum_runs : (field : Field) (from : ℕ) (found : Elements) (runs : List Run)
     → sum_of field from found (map (λ run. Values run) runs) ≡ record found { word = words_of field from found.word runs }
 unfolding and_form
 sum_runs field from found [] = refl
@@ -192,7 +192,7 @@ pub set_read : (field : Field) (from at : ℕ) (text : List ℕ) (word : ℕ) �
 unfolding field_of elements_of
 set_read field from at text word is =
     rw (all_read field from at none_yet text (map (λ run. Values run) is.runs) is.elements, sum_runs field from none_yet is.runs, set_word field from text word is)
-    (alone_none (is_some (cut_at 44 text).behind))
+    (alone_none (is_some (cut_at 44 text).rest))
   where
     alone_none : (b : Bool) → alone field b (record { word = word; day = None; week = None }) ≡ Ok (record { word = word; day = None; week = None })
     alone_none true = refl
@@ -205,7 +205,7 @@ unfolding field_of elements_of
 form_field field from at text form is =
     rw (all_read field from at none_yet text (form ∷ []) (one_element is), uncut 44 text (no_comma field text form is)) refl
 
-special_stays : (field : Field) (from : ℕ) (found : Elements) (forms : List Form) → has_special found ≡ true → has_special (sum_of field from found forms) ≡ true
+pub special_stays : (field : Field) (from : ℕ) (found : Elements) (forms : List Form) → has_special found ≡ true → has_special (sum_of field from found forms) ≡ true
 unfolding and_form
 special_stays field from found [] special = special
 special_stays field from found (Values run ∷ forms) special = special_stays field from (record found { word = bit_or found.word (word_of field run from) }) forms special
@@ -217,9 +217,9 @@ special_stays field from found (Week form ∷ forms) special = special_stays fie
     second false = refl
 
 -- forms that are runs all
-record AreRuns (forms : List Form) : Type 0 where
-  runs : List Run
-  is : forms ≡ map (λ run. Values run) runs
+pub record AreRuns (forms : List Form) : Type 0 where
+  pub runs : List Run
+  pub is : forms ≡ map (λ run. Values run) runs
 
 false_true : {A : Type 0} → true ≡ false → A
 false_true e = absurd (clash e)
@@ -255,11 +255,11 @@ special_field field from text (Values run) is special = false_true (sym special)
 special_field field from text (Day form) is special = a_day is
 special_field field from text (Week form) is special = a_week is
 
-several_is : (field : Field) (text : List ℕ) (forms : List Form) → AreElements field text forms → is_some (cut_at 44 text).behind ≡ false
+several_is : (field : Field) (text : List ℕ) (forms : List Form) → AreElements field text forms → is_some (cut_at 44 text).rest ≡ false
     → (form : Form) × (forms ≡ form ∷ []) × IsElement field text form
 several_is field text forms (one_element {text = word} {form} is) none = (form, refl, is)
 several_is field text forms (more_elements {text = word} {texts} {form} {forms = others} is more) none =
-    false_true (sym (ap (λ (parts : Parts). is_some parts.behind) (cut_marked 44 word texts (no_comma field word form is))) ∙ none)
+    false_true (sym (ap (λ (parts : Parts). is_some parts.rest) (cut_marked 44 word texts (no_comma field word form is))) ∙ none)
 
 pub field_is : (field : Field) (from at : ℕ) (text : List ℕ) (found : Elements) → field_of field from at text ≡ Ok found → IsFieldOf field from text found
 unfolding field_of elements_of
@@ -273,13 +273,13 @@ field_is field from at text found is = by_elements (all_of field from at none_ye
         sums.sum ∙ ap (λ (fs : List Form). sum_of field from none_yet fs) runs.is ∙ sum_runs field from none_yet runs.runs in
         subst (λ (x : Elements). IsFieldOf field from text x) (sym sum) (a_set (runs_are_set field from text runs.runs are))
 
-    as_form : (result : Elements) → Sums field from none_yet text result → is_some (cut_at 44 text).behind ≡ false → has_special result ≡ true → IsFieldOf field from text result
+    as_form : (result : Elements) → Sums field from none_yet text result → is_some (cut_at 44 text).rest ≡ false → has_special result ≡ true → IsFieldOf field from text result
     as_form result sums none special =
         let one : (form : Form) × (sums.forms ≡ form ∷ []) × IsElement field text form = several_is field text sums.forms sums.are none in
         let sum : result ≡ and_form field from none_yet one.0 = sums.sum ∙ ap (λ (fs : List Form). sum_of field from none_yet fs) one.1 in
         subst (λ (x : Elements). IsFieldOf field from text x) (sym sum) (special_field field from text one.0 one.2 (ap (λ (x : Elements). has_special x) (sym sum) ∙ special))
 
-    by_special : (result : Elements) → Sums field from none_yet text result → (several special : Bool) → is_some (cut_at 44 text).behind ≡ several → has_special result ≡ special
+    by_special : (result : Elements) → Sums field from none_yet text result → (several special : Bool) → is_some (cut_at 44 text).rest ≡ several → has_special result ≡ special
         → cond (several && special) (Err (NotAlone (number field))) (Ok result) ≡ Ok found → IsFieldOf field from text found
     by_special result sums several false at_several none e = subst (λ (x : Elements). IsFieldOf field from text x) (ok_is (keep several e)) (as_set result sums none)
       where
@@ -290,7 +290,7 @@ field_is field from at text found is = by_elements (all_of field from at none_ye
     by_special result sums true true several special e = absurd (err_is e)
 
     by_elements : (r : Result Elements CronError) → all_of field from at none_yet (slice_split (λ b. b == 44) text) ≡ r
-        → (r >>= λ x. alone field (is_some (cut_at 44 text).behind) x) ≡ Ok found → IsFieldOf field from text found
+        → (r >>= λ x. alone field (is_some (cut_at 44 text).rest) x) ≡ Ok found → IsFieldOf field from text found
     by_elements (Err fault) read e = absurd (err_is e)
     by_elements (Ok result) read e =
-        by_special result (all_is field from at none_yet text result read) (is_some (cut_at 44 text).behind) (has_special result) refl refl e
+        by_special result (all_is field from at none_yet text result read) (is_some (cut_at 44 text).rest) (has_special result) refl refl e

@@ -2,9 +2,10 @@
 use Rattle.std.proofs.Common.{◌+◌, ◌≤◌, arith}
 use Rattle.qz_civil.specs.declared.fields.Field.{Field}
 use Rattle.qz_civil.specs.declared.fields.Field.TheVariants.{Seconds, Minutes, Hours, DayOfMonth, Month, DayOfWeek, Year}
+use Rattle.qz_civil.specs.declared.limits.TheConstants.{LAST_YEAR}
 use Rattle.qz_civil.specs.Fields.{least, size}
 
-pub values_most : (field : Field) → least field + size field ≤ 2100
+pub values_most : (field : Field) → least field + size field ≤ LAST_YEAR + 1
 unfolding least size
 values_most Seconds = omega arith
 values_most Minutes = omega arith
@@ -14,7 +15,7 @@ values_most Month = omega arith
 values_most DayOfWeek = omega arith
 values_most Year = omega arith
 
-pub size_most : (field : Field) → size field ≤ 130
+pub size_most : (field : Field) → size field ≤ 256
 unfolding size
 size_most Seconds = omega arith
 size_most Minutes = omega arith

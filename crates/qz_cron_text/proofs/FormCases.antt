@@ -126,7 +126,7 @@ day_is text form is = by_question (is_question text) refl is
 
     by_back : (o : Option DayForm) → last_back_of (cut_at 45 text) ≡ o → or_else o (nearest (before_letter 87 text)) ≡ Some form → IsDayForm text form
     by_back None read e = nearest_is text (before_letter 87 text) form refl e
-    by_back (Some f) read e = last_back_is text (cut_at 45 text).front (cut_at 45 text).behind form (cut_is 45 text) (read ∙ e)
+    by_back (Some f) read e = last_back_is text (cut_at 45 text).front (cut_at 45 text).rest form (cut_is 45 text) (read ∙ e)
 
     by_weekday : (b : Bool) → is_last_weekday text ≡ b
         → cond b (Some days.LastWeekday) (or_else (last_back_of (cut_at 45 text)) (nearest (before_letter 87 text))) ≡ Some form → IsDayForm text form
@@ -186,7 +186,7 @@ week_is text form is = by_question (is_question text) refl is
 
     by_nth : (o : Option WeekForm) → nth_of (cut_at 35 text) ≡ o → or_else o (last_of (before_letter 76 text)) ≡ Some form → IsWeekForm text form
     by_nth None read e = last_of_is text (before_letter 76 text) form refl e
-    by_nth (Some f) read e = nth_is text (cut_at 35 text).front (cut_at 35 text).behind form (cut_is 35 text) (read ∙ e)
+    by_nth (Some f) read e = nth_is text (cut_at 35 text).front (cut_at 35 text).rest form (cut_is 35 text) (read ∙ e)
 
     by_letter : (b : Bool) → is_letter 76 text ≡ b → cond b (Some weeks.Saturday) (or_else (nth_of (cut_at 35 text)) (last_of (before_letter 76 text))) ≡ Some form → IsWeekForm text form
     by_letter true one e =

@@ -35,7 +35,7 @@ free_position_at p [] m ys free is = grind (arith, is)
 free_position_at p (b ∷ bs) m ys free is = grind (arith, free_position_at p bs m ys free.1 is, free.0)
 
 -- a text without the mark is one piece
-pub uncut : (mark : ℕ) (x : List ℕ) → IsFree (is_mark mark) x → cut_at mark x ≡ record { front = x; behind = None }
+pub uncut : (mark : ℕ) (x : List ℕ) → IsFree (is_mark mark) x → cut_at mark x ≡ record { front = x; rest = None }
 unfolding cut_at
 uncut mark x free =
     let at : position_or_len (is_mark mark) x ≡ length x = free_position (is_mark mark) x free in
@@ -43,7 +43,7 @@ uncut mark x free =
     ap (λ (o : Option ℕ). cut_where o x) none
 
 -- a text is cut at the first mark
-pub cut_marked : (mark : ℕ) (x ys : List ℕ) → IsFree (is_mark mark) x → cut_at mark (x ++ mark ∷ ys) ≡ record { front = x; behind = Some ys }
+pub cut_marked : (mark : ℕ) (x ys : List ℕ) → IsFree (is_mark mark) x → cut_at mark (x ++ mark ∷ ys) ≡ record { front = x; rest = Some ys }
 unfolding cut_at
 cut_marked mark x ys free =
     let at : position_or_len (is_mark mark) (x ++ mark ∷ ys) ≡ length x = free_position_at (is_mark mark) x mark ys free (grind arith) in
@@ -64,7 +64,7 @@ cut_marked mark x ys free =
     behind : drop (length x + 1) (x ++ mark ∷ ys) ≡ ys
     behind = rw regroup (drop_at (x ++ mark ∷ []) ys (length x + 1) (length_one x))
 
-    parts : cut_where (Some (length x)) (x ++ mark ∷ ys) ≡ record { front = x; behind = Some ys }
+    parts : cut_where (Some (length x)) (x ++ mark ∷ ys) ≡ record { front = x; rest = Some ys }
     parts = rw (take_at x (mark ∷ ys) (length x) refl, behind) refl
 
 -- what a cut says of the text
@@ -72,11 +72,11 @@ abbrev pub IsCut : ℕ → List ℕ → List ℕ → Option (List ℕ) → Type 
 IsCut mark text front None = text ≡ front
 IsCut mark text front (Some behind) = text ≡ front ++ mark ∷ behind
 
-pub cut_is : (mark : ℕ) (text : List ℕ) → IsCut mark text (cut_at mark text).front (cut_at mark text).behind
+pub cut_is : (mark : ℕ) (text : List ℕ) → IsCut mark text (cut_at mark text).front (cut_at mark text).rest
 unfolding cut_at
 cut_is mark text = by_place (position (λ b. b == mark) text) refl
   where
-    by_place : (o : Option ℕ) → position (λ b. b == mark) text ≡ o → IsCut mark text (cut_where o text).front (cut_where o text).behind
+    by_place : (o : Option ℕ) → position (λ b. b == mark) text ≡ o → IsCut mark text (cut_where o text).front (cut_where o text).rest
     by_place None is = refl
     by_place (Some place) is =
         let within : position_or_len (is_mark mark) text < length text = grind arith in

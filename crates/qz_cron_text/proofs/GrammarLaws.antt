@@ -17,7 +17,7 @@ use Rattle.qz_cron_text.specs.declared.forms.DayForm.TheVariants as days
 use Rattle.qz_cron_text.specs.declared.forms.WeekForm.TheVariants as weeks
 use Rattle.qz_cron_text.specs.Elements.{◌>>=◌}
 use Rattle.qz_cron_text.specs.Texts.{Whole, whole_by, whole_of, fields_at, is_blank}
-use Rattle.qz_cron_text.specs.Errors.{told}
+use Rattle.qz_cron_text.specs.Errors.{u32_of}
 use Rattle.qz_cron_text.specs.Reading.{word_at, day_of, week_of, years_of, days_checked, fields_of, reading}
 use Rattle.qz_cron_text.specs.Grammar.{IsElement, AreElements, one_element, more_elements, IsSet, IsDay, IsWeek, AreYearsOf, years_list, IsText}
 use Rattle.qz_cron_text.proofs.Free.{free-append}
@@ -36,26 +36,26 @@ record AreFields (w : Whole) (f : CronFields) : Type 0 where
   years : AreYearsOf (text_in w.years) f.years
   one_named : is_any_day f.day ≡ not (is_any_week f.week)
 
-abbrev given : ℕ → ℕ → ℕ → DayField → ℕ → WeekField → List ℕ → CronFields
+abbrev pub given : ℕ → ℕ → ℕ → DayField → ℕ → WeekField → List ℕ → CronFields
 given s m h d i w years = record { seconds = s; minutes = m; hours = h; day = d; months = i; week = w; years = years }
 
 -- the rest of a text from one of its fields on
-abbrev from_years : Whole → ℕ → ℕ → ℕ → DayField → ℕ → WeekField → Result CronFields CronError
+abbrev pub from_years : Whole → ℕ → ℕ → ℕ → DayField → ℕ → WeekField → Result CronFields CronError
 from_years w s m h d i k = years_of w.years >>= λ years. days_checked (given s m h d i k years)
 
-abbrev from_week : Whole → ℕ → ℕ → ℕ → DayField → ℕ → Result CronFields CronError
+abbrev pub from_week : Whole → ℕ → ℕ → ℕ → DayField → ℕ → Result CronFields CronError
 from_week w s m h d i = week_of w.week >>= from_years w s m h d i
 
-abbrev from_months : Whole → ℕ → ℕ → ℕ → DayField → Result CronFields CronError
+abbrev pub from_months : Whole → ℕ → ℕ → ℕ → DayField → Result CronFields CronError
 from_months w s m h d = word_at Month 0 w.months >>= from_week w s m h d
 
-abbrev from_day : Whole → ℕ → ℕ → ℕ → Result CronFields CronError
+abbrev pub from_day : Whole → ℕ → ℕ → ℕ → Result CronFields CronError
 from_day w s m h = day_of w.day >>= from_months w s m h
 
-abbrev from_hours : Whole → ℕ → ℕ → Result CronFields CronError
+abbrev pub from_hours : Whole → ℕ → ℕ → Result CronFields CronError
 from_hours w s m = word_at Hours 0 w.hours >>= from_day w s m
 
-abbrev from_minutes : Whole → ℕ → Result CronFields CronError
+abbrev pub from_minutes : Whole → ℕ → Result CronFields CronError
 from_minutes w s = word_at Minutes 0 w.minutes >>= from_hours w s
 
 fields_are : (w : Whole) (f : CronFields) → fields_of w ≡ Ok f → AreFields w f
@@ -99,10 +99,10 @@ fields_read w f are =
 -- a text that was read is in the grammar
 pub reading_is : (text : List ℕ) (f : CronFields) → reading text ≡ Ok f → IsText text f
 unfolding reading whole_of
-reading_is text f e = made whole.value (whole_is (told (length (fields_at 0 text))) (fields_at 0 text) whole.value whole.is) (fields_are whole.value f whole.rest)
+reading_is text f e = made whole.value (whole_is (u32_of (length (fields_at 0 text))) (fields_at 0 text) whole.value whole.is) (fields_are whole.value f whole.rest)
   where
-    whole : Read (whole_by (told (length (fields_at 0 text))) (fields_at 0 text)) fields_of f
-    whole = read_on (whole_by (told (length (fields_at 0 text))) (fields_at 0 text)) fields_of f e
+    whole : Read (whole_by (u32_of (length (fields_at 0 text))) (fields_at 0 text)) fields_of f
+    whole = read_on (whole_by (u32_of (length (fields_at 0 text))) (fields_at 0 text)) fields_of f e
 
     made : (w : Whole) → map text_of (fields_at 0 text) ≡ texts_in w → AreFields w f → IsText text f
     made w texts are =
@@ -186,8 +186,8 @@ reading_read text f is =
     ) in
     let found : words text ≡ is.seconds ∷ is.minutes ∷ is.hours ∷ is.day ∷ is.months ∷ is.week ∷ years_list is.years =
     ap words is.is ∙ spaced_words is.blanks (is.seconds ∷ is.minutes ∷ is.hours ∷ is.day ∷ is.months ∷ is.week ∷ years_list is.years) is.rest is.is_blank is.joined all in
-    let w : IsWhole (told (length (fields_at 0 text))) (fields_at 0 text) is.seconds is.minutes is.hours is.day is.months is.week is.years =
-    whole_read (told (length (fields_at 0 text))) (fields_at 0 text) is.seconds is.minutes is.hours is.day is.months is.week is.years (fields_texts 0 text ∙ found) in
+    let w : IsWhole (u32_of (length (fields_at 0 text))) (fields_at 0 text) is.seconds is.minutes is.hours is.day is.months is.week is.years =
+    whole_read (u32_of (length (fields_at 0 text))) (fields_at 0 text) is.seconds is.minutes is.hours is.day is.months is.week is.years (fields_texts 0 text ∙ found) in
     let are : AreFields w.whole f = record {
       seconds = subst (λ (t : List ℕ). IsSet Seconds 0 t f.seconds) (sym w.seconds) is.is_seconds;
       minutes = subst (λ (t : List ℕ). IsSet Minutes 0 t f.minutes) (sym w.minutes) is.is_minutes;

@@ -13,8 +13,13 @@ pub mod Prints
 pub mod RunLaws
 pub mod RunLemmas
 pub mod SetLemmas
+pub mod ElementFaults
+pub mod FieldFaults
+pub mod PlaceLaws
 pub mod TextLaws
+pub mod YearLaws
 pub mod WholeLaws
+pub mod TextFaults
 pub mod GrammarLaws
 pub mod PrintSets
 pub mod PrintStars

@@ -9,7 +9,7 @@ use Rattle.std.specs.List.{AllByRecursion, join_with_byte}
 use Rattle.std.proofs.lemmas.Fmt.{decimal_by_steps, decimal_nonempty, length-decimal-le}
 use Rattle.std.proofs.Math.Nat.{pow-suc, mod-eq_of_lt, mod_self}
 use Rattle.qz_civil.specs.declared.fields.Field.{Field}
-use Rattle.qz_civil.specs.Fields.{least, greatest, size, has_bit, has_word}
+use Rattle.qz_civil.specs.Fields.{least, greatest, size, has_word}
 use Rattle.qz_cron_text.specs.declared.runs.Run.{Run}
 use Rattle.qz_cron_text.specs.declared.forms.Form.TheVariants.{Values}
 use Rattle.qz_cron_text.specs.Printing.{members, values_text}

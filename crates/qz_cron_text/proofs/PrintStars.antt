@@ -59,7 +59,7 @@ one_word_from field w few small = record { there = there; back = back }
         bit_is_one w i (sym (word_at w 0 0 0 i low) ∙ sym (ap (λ (j : ℕ). has_word (one_word w) j) e) ∙ has)
 
 -- a set without members has no number
-no_member : (set : List ℕ) (n i : ℕ) → members set n ≡ [] → i < n → has_word set i ≡ false
+pub no_member : (set : List ℕ) (n i : ℕ) → members set n ≡ [] → i < n → has_word set i ≡ false
 unfolding members
 no_member set zero i none less = absurd (omega arith)
 no_member set (suc n) i none less = step (has_word set n) refl none (nat_lt i n) refl (no_member set n i)
@@ -85,7 +85,7 @@ both_true true true both = (refl, refl)
 both_true true false both = false_true both
 both_true false q both = false_true both
 
-no_bits : (w : ℕ) → ((i : ℕ) → bit_at w i ≡ 1 → ⊥) → w ≡ 0
+pub no_bits : (w : ℕ) → ((i : ℕ) → bit_at w i ≡ 1 → ⊥) → w ≡ 0
 no_bits w none = same_from_bits w 0 (λ i. by_bit i (bit_at w i == 1) refl)
   where
     by_bit : (i : ℕ) (b : Bool) → (bit_at w i == 1) ≡ b → bit_at w i ≡ bit_at 0 i
@@ -99,13 +99,13 @@ word_members field set from word is some none =
     omega (arith, some, zero_word)
 
 -- `*`: each value
-all_in_range : (field : Field) → RunInRange field (all_by field 1)
+pub all_in_range : (field : Field) → RunInRange field (all_by field 1)
 unfolding greatest
 all_in_range field =
     let some : 1 ≤ size field = size_some field in
     record { first = (omega arith, omega arith); last = (omega arith, omega arith); years = λ _. omega arith; step = (lit≤ tt, lit≤ tt) }
 
-all_has : (field : Field) (i : ℕ) → i < size field → HasValue field (all_by field 1) (least field + i)
+pub all_has : (field : Field) (i : ℕ) → i < size field → HasValue field (all_by field 1) (least field + i)
 unfolding greatest
 all_has field i less =
     let some : 1 ≤ size field = size_some field in
@@ -115,7 +115,7 @@ all_has field i less =
     let e : least field - least field + i * 1 ≡ i = omega arith in
     (i, omega (arith, whole), ap (λ (m : ℕ). least field + m) (sym (ap (λ (m : ℕ). m % size field) e ∙ mod-eq_of_lt less)))
 
-has_low : (field : Field) (run : Run) (v : ℕ) → HasValue field run v → v < least field + size field
+pub has_low : (field : Field) (run : Run) (v : ℕ) → HasValue field run v → v < least field + size field
 has_low field run v (k, within, at) =
     let some : 1 ≤ size field = size_some field in
     let low : (run.first - least field + k * run.step) % size field < size field = omega arith in

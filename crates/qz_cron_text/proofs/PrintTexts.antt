@@ -1,11 +1,12 @@
 -- The canonical text is in the grammar, with the fields that it was printed of.
-use Rattle.std.proofs.Common.{◌≡◌, ◌≢◌, ◌∙◌, ap, sym, refl, subst, ℕ, ◌+◌, ◌-◌, ◌/◌, ◌%◌, ◌^◌, ◌<◌, ◌≤◌, Bool, true, false, arith, cond, List, [], ◌∷◌, ◌++◌, length, lit<, lit≤, inl, inr}
-use Rattle.std.specs.Prelude.{Option, Some, None, ◌==◌, ◌||◌, not, nat_lt, ◌⊎◌, codes, Ok}
+use Rattle.std.proofs.Common.{◌≡◌, ◌≢◌, ◌∙◌, ap, sym, refl, subst, ℕ, ◌+◌, ◌-◌, ◌/◌, ◌%◌, ◌^◌, ◌<◌, ◌≤◌, Bool, true, false, min, suc, ◌*◌, arith, cond, List, [], ◌∷◌, ◌++◌, length, lit≤, inl, inr}
+use Rattle.std.specs.Prelude.{Option, Some, None, ◌==◌, not, nat_lt, codes, Ok}
 use Rattle.std.specs.Fmt.{decimal as printed}
 use Rattle.std.specs.Int.{bit_at, IsInRange}
+use Rattle.std.specs.List.{AllByRecursion}
+use Rattle.std.proofs.Math.Pow.{pow_mono}
 use Rattle.std.proofs.lemmas.Bool.{ltb-true}
 use Rattle.std.proofs.lemmas.List.{append_assoc, append-nil}
-use Rattle.std.proofs.lemmas.Nat.Bits.{bit_at_ones, same_from_bits_below}
 use Rattle.qz_civil.specs.declared.fields.Field.TheVariants.{Seconds, Minutes, Hours, DayOfMonth, Month, DayOfWeek, Year}
 use Rattle.qz_civil.specs.declared.fields.DayField.{DayField}
 use Rattle.qz_civil.specs.declared.fields.DayField.TheVariants as day
@@ -16,13 +17,14 @@ use Rattle.qz_civil.specs.Fields.{least, greatest, size, is_value, has_bit, has_
 use Rattle.qz_cron_text.specs.declared.forms.Form.TheVariants.{Day, Week}
 use Rattle.qz_cron_text.specs.declared.forms.DayForm.TheVariants as days
 use Rattle.qz_cron_text.specs.declared.forms.WeekForm.TheVariants as weeks
+use Rattle.qz_cron_text.specs.Runs.{all_by}
 use Rattle.qz_cron_text.specs.Printing.{one_word, members, has_all, values_text, set_text, day_text, week_text, years_text, times_text, dates_text, canonical_text}
-use Rattle.qz_cron_text.specs.Grammar.{numeral, no_day, last_day, before_last_day, last_weekday, nearest_weekday, no_weekday, last_of_month, nth_of_month, of_day, of_week, IsOf, IsElement, IsDay, IsWeek, AreYearsOf, AreJoined, last_field, next_field, years_list, IsText}
+use Rattle.qz_cron_text.specs.Grammar.{numeral, every, of_values, one_element, SomeHas, AreYears, no_day, last_day, before_last_day, last_weekday, nearest_weekday, no_weekday, last_of_month, nth_of_month, of_day, of_week, IsOf, IsElement, IsDay, IsWeek, AreYearsOf, AreJoined, last_field, next_field, years_list, IsText}
 use Rattle.qz_cron_text.specs.Reading.{reading}
 use Rattle.qz_cron_text.proofs.ElementLaws.{value_in_range}
 use Rattle.qz_cron_text.proofs.GrammarLaws.{reading_read}
-use Rattle.qz_cron_text.proofs.PrintSets.{printed_numeral, IsWordFrom, member_runs, members_elements, members_bits}
-use Rattle.qz_cron_text.proofs.PrintStars.{set_is, low_bit, bit_has, bit_is_one, word_members, all_numbers, false_true, both_true}
+use Rattle.qz_cron_text.proofs.PrintSets.{printed_numeral, member_runs, members_elements, member_has, has_member}
+use Rattle.qz_cron_text.proofs.PrintStars.{set_is, low_bit, bit_has, bit_is_one, no_bits, no_member, all_in_range, all_has, has_low, all_numbers, false_true, both_true}
 
 -- days are printed as numerals
 month_day_small : (d : ℕ) → IsOf DayOfMonth d → d < 10000
@@ -93,113 +95,122 @@ week_is (week.Nth d n) valid =
     let high : n ≤ 5 = grind (arith, valid) in
     nth_text d n (value_in_range DayOfWeek d right) (low, high)
 
--- the years' four words
-record AreYearWords (years : List ℕ) : Type 0 where
-  first : ℕ
-  second : ℕ
-  third : ℕ
-  is : years ≡ first ∷ second ∷ third ∷ 0 ∷ []
-  first_small : first < 2 ^ 64
-  second_small : second < 2 ^ 64
-  third_small : third < 2 ^ 2
-  some : (0 < first) ⊎ (0 < second) ⊎ (0 < third)
+-- Years: valid words have no bit beyond the last year, and some bit.
 
-some_word : (a b c : ℕ) → (nat_lt 0 a || (nat_lt 0 b || (nat_lt 0 c || (nat_lt 0 0 || false)))) ≡ true → (0 < a) ⊎ (0 < b) ⊎ (0 < c)
-some_word a b c is = by_first (nat_lt 0 a) refl
+first_of : (w : ℕ) (ws : List ℕ) (i : ℕ) → i < 64 → has_word (w ∷ ws) i ≡ has_bit w i
+unfolding has_word
+first_of w ws i low =
+    let e : i / 64 ≡ 0 = omega arith in
+    let f : i % 64 ≡ i = omega arith in
+    rw (e, f) refl
+
+later_of : (w : ℕ) (ws : List ℕ) (i : ℕ) → has_word (w ∷ ws) (64 + i) ≡ has_word ws i
+unfolding has_word
+later_of w ws i =
+    let e : (64 + i) / 64 ≡ suc (i / 64) = omega arith in
+    let f : (64 + i) % 64 ≡ i % 64 = omega arith in
+    rw (e, f) refl
+
+within_words : (n : ℕ) (ws : List ℕ) (i : ℕ) → is_within_words n ws ≡ true → i < 64 * length ws → has_word ws i ≡ true → i < n
+within_words n [] i valid less has = absurd (omega arith)
+within_words n (w ∷ ws) i valid less has = by_place (nat_lt i 64) refl (within_words (n - 64) ws (i - 64) both.1)
   where
-    by_second : nat_lt 0 a ≡ false → (t : Bool) → nat_lt 0 b ≡ t → (0 < a) ⊎ (0 < b) ⊎ (0 < c)
-    by_second a_none true b_some = inr (inl (grind (arith, b_some)))
-    by_second a_none false b_none = inr (inr (grind (arith, is, a_none, b_none)))
+    both : (nat_lt w (2 ^ min n 64) ≡ true) × (is_within_words (n - 64) ws ≡ true)
+    both = both_true (nat_lt w (2 ^ min n 64)) (is_within_words (n - 64) ws) valid
 
-    by_first : (t : Bool) → nat_lt 0 a ≡ t → (0 < a) ⊎ (0 < b) ⊎ (0 < c)
-    by_first true a_some = inl (grind (arith, a_some))
-    by_first false a_none = by_second a_none (nat_lt 0 b) refl
+    by_place : (b : Bool) → nat_lt i 64 ≡ b → (i - 64 < 64 * length ws → has_word ws (i - 64) ≡ true → i - 64 < n - 64) → i < n
+    by_place true low rest =
+        let one : bit_at w i ≡ 1 = bit_is_one w i (sym (first_of w ws i (grind (arith, low))) ∙ has) in
+        let below : i < min n 64 = low_bit w (min n 64) i (ltb-true w (2 ^ min n 64) both.0) one in
+        omega arith
+    by_place false high rest =
+        let ge : 64 ≤ i = grind (arith, high) in
+        let e : 64 + (i - 64) ≡ i = omega arith in
+        let later : has_word ws (i - 64) ≡ true = sym (later_of w ws (i - 64)) ∙ (ap (λ (j : ℕ). has_word (w ∷ ws) j) e ∙ has) in
+        let below : i - 64 < n - 64 = rest (omega arith) later in
+        omega arith
 
-year_words : (years : List ℕ) → length years ≡ 4 → is_year_set years ≡ true → AreYearWords years
-unfolding is_year_set size
-year_words [] four valid = absurd (omega (arith, four))
-year_words (a ∷ []) four valid = absurd (omega (arith, four))
-year_words (a ∷ b ∷ []) four valid = absurd (omega (arith, four))
-year_words (a ∷ b ∷ c ∷ []) four valid = absurd (omega (arith, four))
-year_words (a ∷ b ∷ c ∷ d ∷ []) four valid =
-    let both = both_true (has_some (a ∷ b ∷ c ∷ d ∷ [])) (is_within_words 130 (a ∷ b ∷ c ∷ d ∷ [])) valid in
-    let from_first = both_true (nat_lt a (2 ^ 64)) (is_within_words 66 (b ∷ c ∷ d ∷ [])) both.1 in
-    let from_second = both_true (nat_lt b (2 ^ 64)) (is_within_words 2 (c ∷ d ∷ [])) from_first.1 in
-    let from_third = both_true (nat_lt c (2 ^ 2)) (is_within_words 0 (d ∷ [])) from_second.1 in
-    let fourth : nat_lt d 1 ≡ true = (both_true (nat_lt d 1) true from_third.1).0 in
-    let d_none : d ≡ 0 = grind (arith, fourth) in
-    record {
-      first = a;
-      second = b;
-      third = c;
-      is = ap (λ (x : ℕ). a ∷ b ∷ c ∷ x ∷ []) d_none;
-      first_small = ltb-true a (2 ^ 64) from_first.0;
-      second_small = ltb-true b (2 ^ 64) from_second.0;
-      third_small = ltb-true c (2 ^ 2) from_third.0;
-      some = some_word a b c (sym (ap (λ (x : ℕ). has_some (a ∷ b ∷ c ∷ x ∷ [])) d_none) ∙ both.0);
-    }
-year_words (a ∷ b ∷ c ∷ d ∷ e ∷ more) four valid = absurd (omega (arith, four))
+pow_most : (k : ℕ) → k ≤ 64 → 2 ^ k ≤ 2 ^ 64
+pow_most k le = pow_mono le
 
--- number `from + i` of the four words
-word_first : (a b c d i : ℕ) → i < 64 → has_word (a ∷ b ∷ c ∷ d ∷ []) (0 + i) ≡ has_bit a i
-unfolding has_word
-word_first a b c d i low =
-    let e : (0 + i) / 64 ≡ 0 = omega arith in
-    let f : (0 + i) % 64 ≡ i = omega arith in
-    rw (e, f) refl
+words_small : (n : ℕ) (ws : List ℕ) → is_within_words n ws ≡ true → AllByRecursion (λ w. w < 2 ^ 64) ws
+words_small n [] valid = tt
+words_small n (w ∷ ws) valid =
+    let both : (nat_lt w (2 ^ min n 64) ≡ true) × (is_within_words (n - 64) ws ≡ true) = both_true (nat_lt w (2 ^ min n 64)) (is_within_words (n - 64) ws) valid in
+    let small : w < 2 ^ min n 64 = ltb-true w (2 ^ min n 64) both.0 in
+    (omega (arith, small, pow_most (min n 64) (omega arith)), words_small (n - 64) ws both.1)
 
-word_second : (a b c d i : ℕ) → i < 64 → has_word (a ∷ b ∷ c ∷ d ∷ []) (64 + i) ≡ has_bit b i
-unfolding has_word
-word_second a b c d i low =
-    let e : (64 + i) / 64 ≡ 1 = omega arith in
-    let f : (64 + i) % 64 ≡ i = omega arith in
-    rw (e, f) refl
+none_some : (ws : List ℕ) → AllByRecursion (λ w. w < 2 ^ 64) ws → ((i : ℕ) → i < 64 * length ws → has_word ws i ≡ true → ⊥) → has_some ws ≡ false
+none_some [] small none = refl
+none_some (w ∷ ws) small none =
+    let no_bit : w ≡ 0 = no_bits w (λ i one. let low : i < 64 = low_bit w 64 i small.0 one in none i (omega arith) (first_of w ws i low ∙ bit_has w i one)) in
+    rw no_bit (none_some ws small.1 (λ i less has. none (64 + i) (omega arith) (later_of w ws i ∙ has)))
 
-word_third : (a b c d i : ℕ) → i < 64 → has_word (a ∷ b ∷ c ∷ d ∷ []) (128 + i) ≡ has_bit c i
-unfolding has_word
-word_third a b c d i low =
-    let e : (128 + i) / 64 ≡ 2 = omega arith in
-    let f : (128 + i) % 64 ≡ i = omega arith in
-    rw (e, f) refl
+-- what a valid set of years has
+record ValidYears (years : List ℕ) : Type 0 where
+  four : length years ≡ 4
+  words : AllByRecursion (λ w. w < 2 ^ 64) years
+  known : (i : ℕ) → i < 256 → has_word years i ≡ true → i < size Year
+  some : members years (size Year) ≢ []
 
--- a word of the years
-word_from : (set : List ℕ) (from word k : ℕ) → word < 2 ^ k → k ≤ 64 → from + k ≤ 130 → (k ≡ 64) ⊎ (from + k ≡ 130)
-    → ((i : ℕ) → i < 64 → has_word set (from + i) ≡ has_bit word i) → IsWordFrom Year set from word
-unfolding size
-word_from set from word k small few within end same = record { there = there; back = back }
+valid_years : (years : List ℕ) → length years ≡ 4 → is_year_set years ≡ true → ValidYears years
+unfolding is_year_set
+valid_years years four valid = record { four = four; words = small; known = known; some = some }
   where
-    there : (i : ℕ) → bit_at word i ≡ 1 → (i < 64) × (from + i < 130) × (has_word set (from + i) ≡ true)
-    there i one =
-        let low : i < k = low_bit word k i small one in
-        (omega arith, omega arith, same i (omega arith) ∙ bit_has word i one)
+    both : (has_some years ≡ true) × (is_within_words (size Year) years ≡ true)
+    both = both_true (has_some years) (is_within_words (size Year) years) valid
 
-    back : (i : ℕ) → i < 64 → from + i < 130 → has_word set (from + i) ≡ true → bit_at word i ≡ 1
-    back i low less has = bit_is_one word i (sym (same i low) ∙ has)
+    small : AllByRecursion (λ w. w < 2 ^ 64) years
+    small = words_small (size Year) years both.1
 
-record WordsFrom (a b c : ℕ) : Type 0 where
-  first : IsWordFrom Year (a ∷ b ∷ c ∷ 0 ∷ []) 0 a
-  second : IsWordFrom Year (a ∷ b ∷ c ∷ 0 ∷ []) 64 b
-  third : IsWordFrom Year (a ∷ b ∷ c ∷ 0 ∷ []) 128 c
+    known : (i : ℕ) → i < 256 → has_word years i ≡ true → i < size Year
+    known i less has = within_words (size Year) years i both.1 (omega (arith, four)) has
 
-words_from : (a b c : ℕ) → a < 2 ^ 64 → b < 2 ^ 64 → c < 2 ^ 2 → WordsFrom a b c
-words_from a b c a_small b_small c_small = record {
-  first = word_from (a ∷ b ∷ c ∷ 0 ∷ []) 0 a 64 a_small (lit≤ tt) (lit≤ tt) (inl refl) (λ i low. word_first a b c 0 i low);
-  second = word_from (a ∷ b ∷ c ∷ 0 ∷ []) 64 b 64 b_small (lit≤ tt) (lit≤ tt) (inl refl) (λ i low. word_second a b c 0 i low);
-  third = word_from (a ∷ b ∷ c ∷ 0 ∷ []) 128 c 2 c_small (lit≤ tt) (lit≤ tt) (inr refl) (λ i low. word_third a b c 0 i low);
+    some : members years (size Year) ≢ []
+    some none = false_true (sym (none_some years small (λ i less has. false_true (sym (no_member years (size Year) i none (known i (omega (arith, four)) has)) ∙ has))) ∙ both.0)
+
+year_least : least Year ≡ 1970
+unfolding least
+year_least = refl
+
+-- the years that are printed one by one
+listed_years : (years : List ℕ) → ValidYears years → AreYears (values_text Year years (size Year)) years
+listed_years years valid = record {
+  runs = member_runs Year years;
+  elements = members_elements Year years valid.some;
+  four = valid.four;
+  words = valid.words;
+  bits = λ i less. (there i less, back i less);
 }
+  where
+    there : (i : ℕ) → i < 256 → has_word years i ≡ true → SomeHas Year (member_runs Year years) (1970 + i)
+    there i less has = rw (← year_least) (member_has Year years (size Year) i (omega arith) (valid.known i less has) has)
 
--- all years
-full_word : (w k : ℕ) → w < 2 ^ k → ((i : ℕ) → i < k → has_bit w i ≡ true) → 2 ^ k - 1 < 2 ^ k → w ≡ 2 ^ k - 1
-full_word w k small all less = same_from_bits_below k w (2 ^ k - 1) small less (λ i low. bit_is_one w i (all i low) ∙ sym (bit_at_ones k i low))
+    back : (i : ℕ) → i < 256 → SomeHas Year (member_runs Year years) (1970 + i) → has_word years i ≡ true
+    back i less some =
+        let found : (j : ℕ) × (j < size Year) × (least Year + i ≡ least Year + j) × (has_word years j ≡ true) =
+        has_member Year years (size Year) (least Year + i) (omega arith) (rw year_least some) in
+        let e : found.0 ≡ i = omega (arith, found.2) in
+        subst (λ (j : ℕ). has_word years j ≡ true) e found.3
 
-all_years : (a b c : ℕ) → a < 2 ^ 64 → b < 2 ^ 64 → c < 2 ^ 2 → has_all (a ∷ b ∷ c ∷ 0 ∷ []) (size Year) ≡ true
-    → a ∷ b ∷ c ∷ 0 ∷ [] ≡ (2 ^ 64 - 1) ∷ (2 ^ 64 - 1) ∷ 3 ∷ 0 ∷ []
-unfolding size
-all_years a b c a_small b_small c_small all =
-    let first : a ≡ 2 ^ 64 - 1 = full_word a 64 a_small (λ i low. sym (word_first a b c 0 i low) ∙ all_numbers (a ∷ b ∷ c ∷ 0 ∷ []) 130 (0 + i) all (omega arith)) (lit< tt) in
-    let second : b ≡ 2 ^ 64 - 1 = full_word b 64 b_small (λ i low. sym (word_second a b c 0 i low) ∙ all_numbers (a ∷ b ∷ c ∷ 0 ∷ []) 130 (64 + i) all (omega arith)) (lit< tt) in
-    let third : c ≡ 2 ^ 2 - 1 = full_word c 2 c_small (λ i low. sym (word_third a b c 0 i (omega arith)) ∙ all_numbers (a ∷ b ∷ c ∷ 0 ∷ []) 130 (128 + i) all (omega arith)) (lit< tt) in
-    cc
+-- all years, for which the field is left out
+all_years : (years : List ℕ) → ValidYears years → has_all years (size Year) ≡ true → AreYears (42 ∷ []) years
+all_years years valid all = record {
+  runs = all_by Year 1 ∷ [];
+  elements = one_element (record { is_form = of_values every; in_range = all_in_range Year });
+  four = valid.four;
+  words = valid.words;
+  bits = λ i less. (there i less, back i less);
+}
+  where
+    there : (i : ℕ) → i < 256 → has_word years i ≡ true → SomeHas Year (all_by Year 1 ∷ []) (1970 + i)
+    there i less has = rw (← year_least) (inl (all_has Year i (valid.known i less has)))
+
+    back : (i : ℕ) → i < 256 → SomeHas Year (all_by Year 1 ∷ []) (1970 + i) → has_word years i ≡ true
+    back i less (inl has) =
+        let below : 1970 + i < least Year + size Year = has_low Year (all_by Year 1) (1970 + i) has in
+        all_numbers years (size Year) i all (omega (arith, below, year_least))
+    back i less (inr none) = absurd none
 
 -- the years' text, and the fields that it adds
 record PrintedYears (years : List ℕ) : Type 0 where
@@ -215,51 +226,26 @@ some_years : (years : List ℕ) → has_all years (size Year) ≡ false → year
 unfolding years_text
 some_years years other = rw other refl
 
-year_members : (a b c : ℕ) → WordsFrom a b c → ((0 < a) ⊎ (0 < b) ⊎ (0 < c)) → members (a ∷ b ∷ c ∷ 0 ∷ []) (size Year) ≢ []
-year_members a b c from (inl some) = word_members Year (a ∷ b ∷ c ∷ 0 ∷ []) 0 a from.first some
-year_members a b c from (inr (inl some)) = word_members Year (a ∷ b ∷ c ∷ 0 ∷ []) 64 b from.second some
-year_members a b c from (inr (inr some)) = word_members Year (a ∷ b ∷ c ∷ 0 ∷ []) 128 c from.third some
-
-printed_words : (a b c : ℕ) → a < 2 ^ 64 → b < 2 ^ 64 → c < 2 ^ 2 → ((0 < a) ⊎ (0 < b) ⊎ (0 < c)) → PrintedYears (a ∷ b ∷ c ∷ 0 ∷ [])
-printed_words a b c a_small b_small c_small some = by_all (has_all (a ∷ b ∷ c ∷ 0 ∷ []) (size Year)) refl
+printed_years : (years : List ℕ) → ValidYears years → PrintedYears years
+printed_years years valid = by_all (has_all years (size Year)) refl
   where
-    from : WordsFrom a b c
-    from = words_from a b c a_small b_small c_small
-
-    has_members : members (a ∷ b ∷ c ∷ 0 ∷ []) (size Year) ≢ []
-    has_members = year_members a b c from some
-
-    by_all : (t : Bool) → has_all (a ∷ b ∷ c ∷ 0 ∷ []) (size Year) ≡ t → PrintedYears (a ∷ b ∷ c ∷ 0 ∷ [])
+    by_all : (t : Bool) → has_all years (size Year) ≡ t → PrintedYears years
     by_all true all = record {
       text = None;
-      are = all_years a b c a_small b_small c_small all;
-      is = λ w. subst (λ (t : List ℕ). AreJoined (w ∷ []) (w ++ t)) (sym (no_years (a ∷ b ∷ c ∷ 0 ∷ []) all)) (last_field w [] tt);
+      are = all_years years valid all;
+      is = λ w. subst (λ (t : List ℕ). AreJoined (w ∷ []) (w ++ t)) (sym (no_years years all)) (last_field w [] tt);
     }
     by_all false other = record {
-      text = Some (values_text Year (a ∷ b ∷ c ∷ 0 ∷ []) (size Year));
-      are = record {
-        first = a;
-        second = b;
-        third = c;
-        words = refl;
-        runs = member_runs Year (a ∷ b ∷ c ∷ 0 ∷ []);
-        elements = members_elements Year (a ∷ b ∷ c ∷ 0 ∷ []) has_members;
-        first_bits = members_bits Year (a ∷ b ∷ c ∷ 0 ∷ []) 0 a from.first;
-        second_bits = members_bits Year (a ∷ b ∷ c ∷ 0 ∷ []) 64 b from.second;
-        third_bits = members_bits Year (a ∷ b ∷ c ∷ 0 ∷ []) 128 c from.third;
-      };
-      is = λ w. subst (λ (t : List ℕ). AreJoined (w ∷ values_text Year (a ∷ b ∷ c ∷ 0 ∷ []) (size Year) ∷ []) (w ++ t)) (sym (some_years (a ∷ b ∷ c ∷ 0 ∷ []) other))
-          (next_field w [] 32 (inl refl, tt) (last_alone (values_text Year (a ∷ b ∷ c ∷ 0 ∷ []) (size Year))));
+      text = Some (values_text Year years (size Year));
+      are = listed_years years valid;
+      is = λ w. subst (λ (t : List ℕ). AreJoined (w ∷ values_text Year years (size Year) ∷ []) (w ++ t)) (sym (some_years years other))
+          (next_field w [] 32 (inl refl, tt) (last_alone (values_text Year years (size Year))));
     }
       where
         last_alone : (y : List ℕ) → AreJoined (y ∷ []) y
         last_alone y = subst (λ (t : List ℕ). AreJoined (y ∷ []) t) (append-nil y) (last_field y [] tt)
 
-printed_years : (years : List ℕ) → AreYearWords years → PrintedYears years
-printed_years years words =
-    subst (λ (ys : List ℕ). PrintedYears ys) (sym words.is) (printed_words words.first words.second words.third words.first_small words.second_small words.third_small words.some)
-
--- a field with one space behind it
+-- a field with one space after it
 spaced_field : (field : List ℕ) (fields : List (List ℕ)) (text : List ℕ) → AreJoined fields text → AreJoined (field ∷ fields) (field ++ 32 ∷ text)
 spaced_field field fields text more = next_field field [] 32 (inl refl, tt) more
 
@@ -306,7 +292,7 @@ are_valid f valid = record {
 
 -- the canonical text of valid fields says them
 pub canonical_is_text : (f : CronFields) → length f.years ≡ 4 → is_cron_fields f ≡ true → IsText (canonical_text f) f
-canonical_is_text f four valid = made (are_valid f valid) (printed_years f.years (year_words f.years four (are_valid f valid).years))
+canonical_is_text f four valid = made (are_valid f valid) (printed_years f.years (valid_years f.years four (are_valid f valid).years))
   where
     made : AreValid f → PrintedYears f.years → IsText (canonical_text f) f
     made are years = record {

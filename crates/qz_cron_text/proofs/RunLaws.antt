@@ -181,8 +181,8 @@ closed_is field text run is = by_star (is_star text) refl is
     by_star true star e =
         subst (λ (t : List ℕ). IsRun field t run) (sym (star_is text star)) (subst (λ (r : Run). IsRun field (42 ∷ []) r) (some_is e) every)
     by_star false other e =
-        closed_by field text (cut_at 45 text).front (cut_at 45 text).behind run (cut_is 45 text)
-        (two_values_is field (λ a. a) 1 (cut_at 45 text).front (cut_at 45 text).behind run e)
+        closed_by field text (cut_at 45 text).front (cut_at 45 text).rest run (cut_is 45 text)
+        (two_values_is field (λ a. a) 1 (cut_at 45 text).front (cut_at 45 text).rest run e)
 
 open_is : (field : Field) (k text : List ℕ) (step : ℕ) (run : Run) → IsNumeral k step → open_run field text step ≡ Some run → IsRun field (text ++ 47 ∷ k) run
 unfolding open_run
@@ -193,8 +193,8 @@ open_is field k text step run by is = by_empty (nat_eq (length text) 0) refl is
     by_star true star e =
         subst (λ (t : List ℕ). IsRun field (t ++ 47 ∷ k) run) (sym (star_is text star)) (subst (λ (r : Run). IsRun field (42 ∷ 47 ∷ k) r) (some_is e) (every_by by))
     by_star false other e =
-        open_by field k text (cut_at 45 text).front (cut_at 45 text).behind step run by (cut_is 45 text)
-        (two_values_is field (λ _. greatest field) step (cut_at 45 text).front (cut_at 45 text).behind run e)
+        open_by field k text (cut_at 45 text).front (cut_at 45 text).rest step run by (cut_is 45 text)
+        (two_values_is field (λ _. greatest field) step (cut_at 45 text).front (cut_at 45 text).rest run e)
 
     by_empty : (b : Bool) → nat_eq (length text) 0 ≡ b
         → cond (b || is_star text) (Some (all_by field step)) (values_by field (λ _. greatest field) step (cut_at 45 text)) ≡ Some run
@@ -214,4 +214,4 @@ run_with_is field text front (Some k) run at is = by_step (number_of k) refl is
 
 pub run_is : (field : Field) (text : List ℕ) (run : Run) → run_of field text ≡ Some run → IsRun field text run
 unfolding run_of
-run_is field text run is = run_with_is field text (cut_at 47 text).front (cut_at 47 text).behind run (cut_is 47 text) is
+run_is field text run is = run_with_is field text (cut_at 47 text).front (cut_at 47 text).rest run (cut_is 47 text) is

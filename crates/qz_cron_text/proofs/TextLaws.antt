@@ -38,11 +38,11 @@ pub record IsWord (text : List ℕ) : Type 0 where
   pub some : 1 ≤ length text
   pub free : IsFree is_blank text
 
-blank_is : (b : ℕ) → (b ≡ 32) ⊎ (b ≡ 9) → is_blank b ≡ true
+pub blank_is : (b : ℕ) → (b ≡ 32) ⊎ (b ≡ 9) → is_blank b ≡ true
 blank_is b (inl is) = grind (arith, is)
 blank_is b (inr is) = grind (arith, is)
 
-is_blank_of : (b : ℕ) → is_blank b ≡ true → (b ≡ 32) ⊎ (b ≡ 9)
+pub is_blank_of : (b : ℕ) → is_blank b ≡ true → (b ≡ 32) ⊎ (b ≡ 9)
 is_blank_of b is = by_space (b == 32) refl
   where
     by_space : (t : Bool) → (b == 32) ≡ t → (b ≡ 32) ⊎ (b ≡ 9)

@@ -1,5 +1,5 @@
 -- What a text says is within the fields' limits, and no set is empty.
-use Rattle.std.proofs.Common.{◌≡◌, ◌∙◌, ap, sym, refl, subst, ℕ, ◌+◌, ◌-◌, ◌*◌, ◌%◌, ◌^◌, ◌<◌, ◌≤◌, Bool, true, false, arith, zero, suc, cond, List, [], ◌∷◌, map, lit<, lit≤, inl, inr}
+use Rattle.std.proofs.Common.{◌≡◌, ◌∙◌, ap, sym, refl, subst, ℕ, ◌+◌, ◌-◌, ◌*◌, ◌%◌, ◌^◌, ◌<◌, ◌≤◌, Bool, true, false, min, arith, zero, suc, cond, List, [], ◌∷◌, map, lit≤, inl, inr}
 use Rattle.std.specs.Prelude.{Option, Some, None, Result, Ok, Err, ◌||◌, not, nat_lt, nat_le, ◌⊎◌, bit_or, IfOk, IsTrue}
 use Rattle.std.specs.Int.{bit_at}
 use Rattle.std.proofs.lemmas.Nat.{or_lt, pow_pos}
@@ -12,7 +12,7 @@ use Rattle.qz_civil.specs.declared.fields.DayField.TheVariants as day
 use Rattle.qz_civil.specs.declared.fields.WeekField.{WeekField}
 use Rattle.qz_civil.specs.declared.fields.WeekField.TheVariants as week
 use Rattle.qz_civil.specs.declared.fields.CronFields.{CronFields}
-use Rattle.qz_civil.specs.Fields.{least, greatest, size, is_value, is_set, is_within_words, has_some, is_year_set, is_day_field, is_week_field, is_any_day, is_any_week, is_time_fields, is_date_fields, is_cron_fields}
+use Rattle.qz_civil.specs.Fields.{least, greatest, size, is_value, is_set, has_some, is_year_set, is_day_field, is_week_field, is_any_day, is_any_week, is_time_fields, is_date_fields, is_cron_fields}
 use Rattle.qz_cron_text.specs.declared.runs.Run.{Run}
 use Rattle.qz_cron_text.specs.declared.forms.Form.{Form}
 use Rattle.qz_cron_text.specs.declared.forms.Form.TheVariants.{Values}
@@ -21,11 +21,12 @@ use Rattle.qz_cron_text.specs.Reading.{reading}
 use Rattle.qz_cron_text.specs.Runs.{has_value}
 use Rattle.qz_cron_text.proofs.GrammarLaws.{reading_is}
 use Rattle.qz_cron_text.specs.Sets.{word_of}
-use Rattle.qz_cron_text.specs.Grammar.{RunInRange, AreElements, one_element, more_elements, HasValue, SomeHas, HasBits, IsSet, IsDay, IsWeek, AreYearsOf, IsText}
-use Rattle.qz_cron_text.proofs.SetLemmas.{set_of-lt, set_of-below, has_value-above}
+use Rattle.qz_cron_text.specs.Grammar.{RunInRange, AreElements, one_element, more_elements, HasValue, SomeHas, HasBits, IsSet, IsDay, IsWeek, AreYears, AreYearsOf, IsText}
+use Rattle.qz_cron_text.proofs.SetLemmas.{set_of-below, has_value-above}
 use Rattle.qz_cron_text.proofs.FieldLemmas.{size_some}
 use Rattle.qz_cron_text.proofs.ElementLaws.{value_right}
 use Rattle.qz_cron_text.proofs.FieldLaws.{AreInRange, words_of, set_word, forms_in_range, runs_in_range}
+use Rattle.qz_cron_text.proofs.YearLaws.{four_words, YearWords, year_words, one_set, set_fits}
 use Rattle.qz_cron_text.proofs.PrintTexts.{days_few, week_few, months_few, hours_few, minutes_few, seconds_few}
 
 -- a word of a run has no bit beyond the field's values
@@ -33,19 +34,6 @@ word_below : (field : Field) (run : Run) (from k : ℕ) → size field ≤ from 
 unfolding word_of
 word_below field run from k beyond =
     set_of-below (λ i. has_value field run (from + i)) k 64 (λ i above. has_value-above field run (from + i) (omega arith))
-
--- nor beyond 64
-word_fits : (field : Field) (run : Run) (from : ℕ) → word_of field run from < 2 ^ 64
-unfolding word_of
-word_fits field run from = set_of-lt (λ i. has_value field run (from + i)) 64
-
-words_fit : (field : Field) (from word : ℕ) (runs : List Run) → word < 2 ^ 64 → words_of field from word runs < 2 ^ 64
-words_fit field from word [] small = small
-words_fit field from word (run ∷ runs) small =
-    words_fit field from (bit_or word (word_of field run from)) runs (or_lt 64 word (word_of field run from) small (word_fits field run from))
-
-set_fits : (field : Field) (from : ℕ) (text : List ℕ) (word : ℕ) → IsSet field from text word → word < 2 ^ 64
-set_fits field from text word is = subst (λ (w : ℕ). w < 2 ^ 64) (set_word field from text word is) (words_fit field from 0 is.runs (lit< tt))
 
 words_below : (field : Field) (from k word : ℕ) (runs : List Run) → size field ≤ from + k → word < 2 ^ k → words_of field from word runs < 2 ^ k
 words_below field from k word [] beyond small = small
@@ -84,6 +72,10 @@ first_run field text (run ∷ runs) are =
     let right : AreInRange field (run ∷ runs) = runs_in_range field (run ∷ runs) (forms_in_range field text (map (λ r. Values r) (run ∷ runs)) are) in
     record { run = run; right = right.0; has = inl (has_first field run right.0) }
 
+or_true : (b : Bool) → (b || true) ≡ true
+or_true true = refl
+or_true false = refl
+
 some_bit : (w i : ℕ) → bit_at w i ≡ 1 → 0 < w
 some_bit zero i one = let none : bit_at 0 i ≡ 0 = bit_at-zero i in absurd (omega (arith, none, one))
 some_bit (suc w) i one = omega arith
@@ -115,58 +107,62 @@ set_valid field text word few is =
     grind (arith, some, small)
 
 -- the years' words
-years_some : (a b c : ℕ) → ((0 < a) ⊎ (0 < b) ⊎ (0 < c)) → has_some (a ∷ b ∷ c ∷ 0 ∷ []) ≡ true
-years_some a b c (inl some) = let e : nat_lt 0 a ≡ true = grind (arith, some) in rw e refl
-years_some a b c (inr (inl some)) = let e : nat_lt 0 b ≡ true = grind (arith, some) in rw e (second (nat_lt 0 a))
-  where
-    second : (t : Bool) → (t || true) ≡ true
-    second true = refl
-    second false = refl
-years_some a b c (inr (inr some)) = let e : nat_lt 0 c ≡ true = grind (arith, some) in rw e (third (nat_lt 0 a) (nat_lt 0 b))
-  where
-    third : (t u : Bool) → (t || (u || true)) ≡ true
-    third true u = refl
-    third false true = refl
-    third false false = refl
+years_some : (a b c d : ℕ) → ((0 < a) ⊎ (0 < b) ⊎ (0 < c) ⊎ (0 < d)) → has_some (four_words a b c d) ≡ true
+years_some a b c d (inl some) = let e : nat_lt 0 a ≡ true = grind (arith, some) in rw e refl
+years_some a b c d (inr (inl some)) = let e : nat_lt 0 b ≡ true = grind (arith, some) in rw e (or_true (nat_lt 0 a))
+years_some a b c d (inr (inr (inl some))) = let e : nat_lt 0 c ≡ true = grind (arith, some) in rw (e, or_true (nat_lt 0 b)) (or_true (nat_lt 0 a))
+years_some a b c d (inr (inr (inr some))) =
+    let e : nat_lt 0 d ≡ true = grind (arith, some) in rw (e, or_true (nat_lt 0 c), or_true (nat_lt 0 b)) (or_true (nat_lt 0 a))
 
-years_small : (a b c : ℕ) → a < 2 ^ 64 → b < 2 ^ 64 → c < 2 ^ 2 → is_within_words 130 (a ∷ b ∷ c ∷ 0 ∷ []) ≡ true
-years_small a b c a_small b_small c_small =
-    let x : nat_lt a (2 ^ 64) ≡ true = grind (arith, a_small) in
-    let y : nat_lt b (2 ^ 64) ≡ true = grind (arith, b_small) in
-    let z : nat_lt c (2 ^ 2) ≡ true = grind (arith, c_small) in
-    rw (x, y, z) refl
+-- a word of the years has no bit beyond the last year
+year_word_small : (text : List ℕ) (from word : ℕ) → IsSet Year from text word → nat_lt word (2 ^ min (size Year - from) 64) ≡ true
+year_word_small text from word is = by_place (nat_lt (size Year - from) 64) refl
+  where
+    by_place : (b : Bool) → nat_lt (size Year - from) 64 ≡ b → nat_lt word (2 ^ min (size Year - from) 64) ≡ true
+    by_place true less =
+        let same : min (size Year - from) 64 ≡ size Year - from = grind (arith, less) in
+        let small : word < 2 ^ (size Year - from) = set_below Year from (size Year - from) text word (omega arith) is in
+        rw same (grind (arith, small))
+    by_place false more =
+        let same : min (size Year - from) 64 ≡ 64 = grind (arith, more) in
+        let small : word < 2 ^ 64 = set_fits Year from text word is in
+        rw same (grind (arith, small))
 
-year_set : (a b c : ℕ) → ((0 < a) ⊎ (0 < b) ⊎ (0 < c)) → a < 2 ^ 64 → b < 2 ^ 64 → c < 2 ^ 2 → is_year_set (a ∷ b ∷ c ∷ 0 ∷ []) ≡ true
+years_valid_at : (text years : List ℕ) → AreYears text years → is_year_set years ≡ true
 unfolding is_year_set size
-year_set a b c some a_small b_small c_small = rw (years_some a b c some, years_small a b c a_small b_small c_small) refl
+years_valid_at text years are =
+    subst (λ (ys : List ℕ). is_year_set ys ≡ true) (sym words.is)
+    (rw (
+      years_some words.first words.second words.third words.fourth some,
+      year_word_small text 0 words.first (one_set text years words 0 words.first words.first_bits),
+      year_word_small text 64 words.second (one_set text years words 64 words.second words.second_bits),
+      year_word_small text 128 words.third (one_set text years words 128 words.third words.third_bits),
+      year_word_small text 192 words.fourth (one_set text years words 192 words.fourth words.fourth_bits),
+    )
+    refl)
+  where
+    words : YearWords text years
+    words = year_words text years are
+
+    start : HasFirst Year words.runs
+    start = first_run Year text words.runs words.elements
+
+    number : start.run.first - least Year < 256
+    number = let within = first_number Year start.run start.right in let most : size Year ≤ 256 = lit≤ tt in omega arith
+
+    by_place : (x y z : Bool) → nat_lt (start.run.first - least Year) 64 ≡ x → nat_lt (start.run.first - least Year) 128 ≡ y → nat_lt (start.run.first - least Year) 192 ≡ z
+        → (0 < words.first) ⊎ (0 < words.second) ⊎ (0 < words.third) ⊎ (0 < words.fourth)
+    by_place true y z low second third = inl (first_bit Year 0 words.first words.runs start words.first_bits (omega arith) (grind (arith, low)))
+    by_place false true z low second third = inr (inl (first_bit Year 64 words.second words.runs start words.second_bits (grind (arith, low)) (grind (arith, second))))
+    by_place false false true low second third = inr (inr (inl (first_bit Year 128 words.third words.runs start words.third_bits (grind (arith, second)) (grind (arith, third)))))
+    by_place false false false low second third = inr (inr (inr (first_bit Year 192 words.fourth words.runs start words.fourth_bits (grind (arith, third)) (omega (arith, number)))))
+
+    some : (0 < words.first) ⊎ (0 < words.second) ⊎ (0 < words.third) ⊎ (0 < words.fourth)
+    some = by_place (nat_lt (start.run.first - least Year) 64) (nat_lt (start.run.first - least Year) 128) (nat_lt (start.run.first - least Year) 192) refl refl refl
 
 years_valid : (text : Option (List ℕ)) (years : List ℕ) → AreYearsOf text years → is_year_set years ≡ true
-unfolding size
-years_valid None years is = subst (λ (ys : List ℕ). is_year_set ys ≡ true) (sym is) (year_set (2 ^ 64 - 1) (2 ^ 64 - 1) 3 (inl (lit< tt)) (lit< tt) (lit< tt) (lit< tt))
-years_valid (Some text) years is = subst (λ (ys : List ℕ). is_year_set ys ≡ true) (sym is.words) (year_set is.first is.second is.third some small_first small_second small_third)
-  where
-    small_first : is.first < 2 ^ 64
-    small_first = set_fits Year 0 text is.first (record { runs = is.runs; elements = is.elements; bits = is.first_bits })
-
-    small_second : is.second < 2 ^ 64
-    small_second = set_fits Year 64 text is.second (record { runs = is.runs; elements = is.elements; bits = is.second_bits })
-
-    small_third : is.third < 2 ^ 2
-    small_third = set_below Year 128 2 text is.third (lit≤ tt) (record { runs = is.runs; elements = is.elements; bits = is.third_bits })
-
-    first : HasFirst Year is.runs
-    first = first_run Year text is.runs is.elements
-
-    number : first.run.first - least Year < 130
-    number = first_number Year first.run first.right
-
-    by_place : (x y : Bool) → nat_lt (first.run.first - least Year) 64 ≡ x → nat_lt (first.run.first - least Year) 128 ≡ y → (0 < is.first) ⊎ (0 < is.second) ⊎ (0 < is.third)
-    by_place true y low high = inl (first_bit Year 0 is.first is.runs first is.first_bits (omega arith) (grind (arith, low)))
-    by_place false true low high = inr (inl (first_bit Year 64 is.second is.runs first is.second_bits (grind (arith, low)) (grind (arith, high))))
-    by_place false false low high = inr (inr (first_bit Year 128 is.third is.runs first is.third_bits (grind (arith, high)) (omega (arith, number))))
-
-    some : (0 < is.first) ⊎ (0 < is.second) ⊎ (0 < is.third)
-    some = by_place (nat_lt (first.run.first - least Year) 64) (nat_lt (first.run.first - least Year) 128) refl refl
+years_valid None years is = years_valid_at (42 ∷ []) years is
+years_valid (Some text) years is = years_valid_at text years is
 
 day_valid : (text : List ℕ) (d : DayField) → IsDay text d → is_day_field d ≡ true
 unfolding is_day_field

@@ -20,9 +20,10 @@ use Rattle.qz_cron_text.specs.declared.forms.WeekForm.TheVariants as weeks
 use Rattle.qz_cron_text.specs.declared.elements.Elements.{Elements}
 use Rattle.qz_cron_text.specs.Elements.{◌>>=◌, and_form}
 use Rattle.qz_cron_text.specs.Texts.{Placed, Whole, six_and, whole_by}
-use Rattle.qz_cron_text.specs.Reading.{field_at, word_at, special_day, day_by, special_week, week_by, day_of, week_of, years_of, days_checked}
-use Rattle.qz_cron_text.specs.Grammar.{IsForm, of_day, of_week, IsElement, HasBits, IsSet, IsDay, IsWeek, AreYearsOf, years_list}
+use Rattle.qz_cron_text.specs.Reading.{field_at, word_at, special_day, day_by, special_week, week_by, day_of, week_of, years_at, all_years, years_of, days_checked}
+use Rattle.qz_cron_text.specs.Grammar.{IsForm, of_day, of_week, IsElement, HasBits, IsSet, IsDay, IsWeek, AreYears, AreYearsOf, years_list}
 use Rattle.qz_cron_text.proofs.TextLaws.{text_of}
+use Rattle.qz_cron_text.proofs.YearLaws.{YearWords, year_words, one_set, years_of_words}
 use Rattle.qz_cron_text.proofs.FieldLaws.{IsFieldOf, a_set, a_day, a_week, words_of, runs_bits, runs_are_set, set_read, form_field, field_is}
 
 -- what was read, and the rest
@@ -173,29 +174,23 @@ week_read p (week.Nth d n) is = rw (form_field DayOfWeek 0 p.at p.text (Week (we
 abbrev pub text_in : Option Placed → Option (List ℕ)
 text_in p = option_map (λ x. x.text) p
 
-pub years_are : (p : Option Placed) (years : List ℕ) → years_of p ≡ Ok years → AreYearsOf (text_in p) years
-unfolding years_of
-years_are None years e = sym (ok_is e)
-years_are (Some p) years e = record {
-  first = first.value;
-  second = second.value;
-  third = third.value;
-  words = sym (ok_is third.rest);
-  runs = set.runs;
-  elements = set.elements;
-  first_bits = set.bits;
-  second_bits = same_bits 64 second.value second.is;
-  third_bits = same_bits 128 third.value third.is;
-}
+years_are_at : (p : Placed) (years : List ℕ) → years_at p ≡ Ok years → AreYears p.text years
+years_are_at p years e =
+    subst (λ (ys : List ℕ). AreYears p.text ys) (ok_is fourth.rest)
+    (years_of_words p.text set.runs first.value second.value third.value fourth.value set.elements set.bits
+    (same_bits 64 second.value second.is) (same_bits 128 third.value third.is) (same_bits 192 fourth.value fourth.is))
   where
-    first : Read (word_at Year 0 p) (λ a. word_at Year 64 p >>= λ b. word_at Year 128 p >>= λ c. Ok (a ∷ b ∷ c ∷ 0 ∷ [])) years
-    first = read_on (word_at Year 0 p) (λ a. word_at Year 64 p >>= λ b. word_at Year 128 p >>= λ c. Ok (a ∷ b ∷ c ∷ 0 ∷ [])) years e
+    first : Read (word_at Year 0 p) (λ a. word_at Year 64 p >>= λ b. word_at Year 128 p >>= λ c. word_at Year 192 p >>= λ d. Ok (a ∷ b ∷ c ∷ d ∷ [])) years
+    first = read_on (word_at Year 0 p) (λ a. word_at Year 64 p >>= λ b. word_at Year 128 p >>= λ c. word_at Year 192 p >>= λ d. Ok (a ∷ b ∷ c ∷ d ∷ [])) years e
 
-    second : Read (word_at Year 64 p) (λ b. word_at Year 128 p >>= λ c. Ok (first.value ∷ b ∷ c ∷ 0 ∷ [])) years
-    second = read_on (word_at Year 64 p) (λ b. word_at Year 128 p >>= λ c. Ok (first.value ∷ b ∷ c ∷ 0 ∷ [])) years first.rest
+    second : Read (word_at Year 64 p) (λ b. word_at Year 128 p >>= λ c. word_at Year 192 p >>= λ d. Ok (first.value ∷ b ∷ c ∷ d ∷ [])) years
+    second = read_on (word_at Year 64 p) (λ b. word_at Year 128 p >>= λ c. word_at Year 192 p >>= λ d. Ok (first.value ∷ b ∷ c ∷ d ∷ [])) years first.rest
 
-    third : Read (word_at Year 128 p) (λ c. Ok (first.value ∷ second.value ∷ c ∷ 0 ∷ [])) years
-    third = read_on (word_at Year 128 p) (λ c. Ok (first.value ∷ second.value ∷ c ∷ 0 ∷ [])) years second.rest
+    third : Read (word_at Year 128 p) (λ c. word_at Year 192 p >>= λ d. Ok (first.value ∷ second.value ∷ c ∷ d ∷ [])) years
+    third = read_on (word_at Year 128 p) (λ c. word_at Year 192 p >>= λ d. Ok (first.value ∷ second.value ∷ c ∷ d ∷ [])) years second.rest
+
+    fourth : Read (word_at Year 192 p) (λ d. Ok (first.value ∷ second.value ∷ third.value ∷ d ∷ [])) years
+    fourth = read_on (word_at Year 192 p) (λ d. Ok (first.value ∷ second.value ∷ third.value ∷ d ∷ [])) years third.rest
 
     set : IsSet Year 0 p.text first.value
     set = word_is Year 0 p first.value years_plain first.is
@@ -207,16 +202,26 @@ years_are (Some p) years e = record {
         again : word_at Year from p ≡ Ok (words_of Year from 0 set.runs)
         again = word_read Year from p (words_of Year from 0 set.runs) (runs_are_set Year from p.text set.runs set.elements)
 
+years_read_at : (p : Placed) (years : List ℕ) → AreYears p.text years → years_at p ≡ Ok years
+years_read_at p years are =
+    let words : YearWords p.text years = year_words p.text years are in
+    rw (
+      word_read Year 0 p words.first (one_set p.text years words 0 words.first words.first_bits),
+      word_read Year 64 p words.second (one_set p.text years words 64 words.second words.second_bits),
+      word_read Year 128 p words.third (one_set p.text years words 128 words.third words.third_bits),
+      word_read Year 192 p words.fourth (one_set p.text years words 192 words.fourth words.fourth_bits),
+    )
+    (ap (λ (ys : List ℕ). Ok ys) (sym words.is))
+
+pub years_are : (p : Option Placed) (years : List ℕ) → years_of p ≡ Ok years → AreYearsOf (text_in p) years
+unfolding years_of
+years_are None years e = years_are_at all_years years e
+years_are (Some p) years e = years_are_at p years e
+
 pub years_read : (p : Option Placed) (years : List ℕ) → AreYearsOf (text_in p) years → years_of p ≡ Ok years
 unfolding years_of
-years_read None years is = rw is refl
-years_read (Some p) years is =
-    rw (
-      word_read Year 0 p is.first (record { runs = is.runs; elements = is.elements; bits = is.first_bits }),
-      word_read Year 64 p is.second (record { runs = is.runs; elements = is.elements; bits = is.second_bits }),
-      word_read Year 128 p is.third (record { runs = is.runs; elements = is.elements; bits = is.third_bits }),
-    )
-    (ap (λ (ys : List ℕ). Ok ys) (sym is.words))
+years_read None years is = years_read_at all_years years is
+years_read (Some p) years is = years_read_at p years is
 
 -- exactly one of the two day fields is named
 pub record IsChecked (f g : CronFields) : Type 0 where

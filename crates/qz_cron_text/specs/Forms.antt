@@ -14,7 +14,7 @@ use Rattle.qz_cron_text.specs.declared.forms.WeekForm.TheVariants as weeks
 use Rattle.qz_cron_text.specs.declared.errors.CronError.{CronError}
 use Rattle.qz_cron_text.specs.declared.errors.CronError.TheVariants.{OutOfRange, BadToken}
 use Rattle.qz_cron_text.specs.Cuts.{Parts, cut_at}
-use Rattle.qz_cron_text.specs.Errors.{told}
+use Rattle.qz_cron_text.specs.Errors.{u32_of}
 use Rattle.qz_cron_text.specs.Values.{number_of, value_of}
 use Rattle.qz_cron_text.specs.Runs.{run_of, run_fault}
 
@@ -33,7 +33,7 @@ abbrev pub is_last_weekday : List ℕ → Bool
 is_last_weekday (a ∷ b ∷ []) = (to_ascii_uppercase a == 76) && (to_ascii_uppercase b == 87)
 is_last_weekday _ = false
 
--- what stands before the letter at the end
+-- what is before the letter at the end
 unfoldable pub before_letter : ℕ → List ℕ → Option (List ℕ)
 before_letter letter text =
     if nat_eq (length text) 0 then None
@@ -50,7 +50,7 @@ last_back front None = None
 last_back front (Some back) = if is_letter 76 front then option_map (λ n. days.Last n) (number_of back) else None
 
 abbrev pub last_back_of : Parts → Option DayForm
-last_back_of parts = last_back parts.front parts.behind
+last_back_of parts = last_back parts.front parts.rest
 
 -- `aW`
 abbrev pub nearest : Option (List ℕ) → Option DayForm
@@ -71,7 +71,7 @@ nth day None = None
 nth day (Some k) = option_and_then (λ a. option_map (λ n. weeks.Nth a n) (number_of k)) (value_of DayOfWeek day)
 
 abbrev pub nth_of : Parts → Option WeekForm
-nth_of parts = nth parts.front parts.behind
+nth_of parts = nth parts.front parts.rest
 
 -- `aL`
 abbrev pub last_of : Option (List ℕ) → Option WeekForm
@@ -129,7 +129,7 @@ unless None form = Ok form
 unless (Some fault) form = Err fault
 
 abbrev pub checked : Field → ℕ → Option Form → Result Form CronError
-checked field at None = Err (BadToken (number field) (told at))
+checked field at None = Err (BadToken (number field) (u32_of at))
 checked field at (Some form) = unless (form_fault field form) form
 
 -- the element at this place, or what is wrong with it

@@ -1,9 +1,10 @@
--- The grammar of cron texts, as a relation: which texts there are, and what each says. No rule reads a text; each says
+-- The grammar of cron texts, as a relation: which texts there are, and what each means. No rule reads a text; each tells
 -- how one is put together. Marks as bytes: 42 `*`, 44 `,`, 45 `-`, 47 `/`, 35 `#`, 63 `?`, 76 `L`, 87 `W`.
 use Rattle.std.specs.Prelude.{◌≡◌, ℕ, ◌+◌, ◌-◌, ◌*◌, ◌%◌, ◌^◌, ◌≤◌, ◌<◌, ◌↔◌, ◌⊎◌, List, [], ◌∷◌, ◌++◌, map, length, true, Option, Some, None, not, slice_get}
 use Rattle.std.specs.Char.{to_ascii_uppercase}
 use Rattle.std.specs.Str.{all_ascii_digits}
 use Rattle.std.specs.Int.{IsInRange, bit_at}
+use Rattle.std.specs.List.{AllByRecursion}
 use Rattle.qz_civil.specs.declared.fields.Field.{Field}
 use Rattle.qz_civil.specs.declared.fields.Field.TheVariants.{Seconds, Minutes, Hours, DayOfMonth, Month, DayOfWeek, Year}
 use Rattle.qz_civil.specs.declared.fields.DayField.{DayField}
@@ -11,7 +12,7 @@ use Rattle.qz_civil.specs.declared.fields.DayField.TheVariants as day
 use Rattle.qz_civil.specs.declared.fields.WeekField.{WeekField}
 use Rattle.qz_civil.specs.declared.fields.WeekField.TheVariants as week
 use Rattle.qz_civil.specs.declared.fields.CronFields.{CronFields}
-use Rattle.qz_civil.specs.Fields.{least, greatest, size, is_any_day, is_any_week}
+use Rattle.qz_civil.specs.Fields.{least, greatest, size, has_word, is_any_day, is_any_week}
 use Rattle.qz_cron_text.specs.declared.runs.Run.{Run}
 use Rattle.qz_cron_text.specs.declared.forms.Form.{Form}
 use Rattle.qz_cron_text.specs.declared.forms.Form.TheVariants.{Values, Day, Week}
@@ -156,21 +157,17 @@ IsWeek text (week.Set word) = IsSet DayOfWeek 0 text word ⊎ (IsElement DayOfWe
 IsWeek text (week.Last d) = IsElement DayOfWeek text (Week (weeks.LastOf d))
 IsWeek text (week.Nth d n) = IsElement DayOfWeek text (Week (weeks.Nth d n))
 
--- a list of runs, and the years that some run has, 64 a word
+-- a list of runs, and four words of 64 bits: bit i of them is set exactly where some run has the year 1970 + i
 pub record AreYears (text : List ℕ) (years : List ℕ) : Type 0 where
-  pub first : ℕ
-  pub second : ℕ
-  pub third : ℕ
-  pub words : years ≡ first ∷ second ∷ third ∷ 0 ∷ []
   pub runs : List Run
   pub elements : AreElements Year text (map (λ run. Values run) runs)
-  pub first_bits : HasBits Year 0 runs first
-  pub second_bits : HasBits Year 64 runs second
-  pub third_bits : HasBits Year 128 runs third
+  pub four : length years ≡ 4
+  pub words : AllByRecursion (λ word. word < 2 ^ 64) years
+  pub bits : (i : ℕ) → i < 256 → (has_word years i ≡ true) ↔ SomeHas Year runs (1970 + i)
 
--- all years where the field is absent
+-- where the field is absent, the years are those of `*`
 abbrev pub AreYearsOf : Option (List ℕ) → List ℕ → Type 0
-AreYearsOf None years = years ≡ (2 ^ 64 - 1) ∷ (2 ^ 64 - 1) ∷ 3 ∷ 0 ∷ []
+AreYearsOf None years = AreYears (42 ∷ []) years
 AreYearsOf (Some text) years = AreYears text years
 
 -- spaces and tabs
@@ -178,7 +175,7 @@ abbrev pub AreBlanks : List ℕ → Type 0
 AreBlanks [] = Unit {0}
 AreBlanks (b ∷ bs) = ((b ≡ 32) ⊎ (b ≡ 9)) × AreBlanks bs
 
--- fields with one blank or more between any two, and any behind the last
+-- fields with one blank or more between any two, and any after the last
 pub data AreJoined : List (List ℕ) → List ℕ → Type 0 where
   last_field : (field blanks : List ℕ) → AreBlanks blanks → AreJoined (field ∷ []) (field ++ blanks)
   next_field : {fields : List (List ℕ)} {text : List ℕ} (field blanks : List ℕ) (b : ℕ) → AreBlanks (b ∷ blanks) → AreJoined fields text
@@ -189,7 +186,7 @@ abbrev pub years_list : Option (List ℕ) → List (List ℕ)
 years_list None = []
 years_list (Some text) = text ∷ []
 
--- a cron text with what it says: six or seven fields, of which exactly one of the two day fields is `?`
+-- a cron text with its meaning: six or seven fields, of which exactly one of the two day fields is `?`
 pub record IsText (text : List ℕ) (f : CronFields) : Type 0 where
   -- the texts of its fields
   pub seconds : List ℕ
@@ -199,13 +196,13 @@ pub record IsText (text : List ℕ) (f : CronFields) : Type 0 where
   pub months : List ℕ
   pub week : List ℕ
   pub years : Option (List ℕ)
-  -- the fields stand behind blanks, joined by blanks
+  -- blanks, and then the fields, joined by blanks
   pub blanks : List ℕ
   pub rest : List ℕ
   pub is_blank : AreBlanks blanks
   pub is : text ≡ blanks ++ rest
   pub joined : AreJoined (seconds ∷ minutes ∷ hours ∷ day ∷ months ∷ week ∷ years_list years) rest
-  -- what each field says
+  -- the meaning of each field
   pub is_seconds : IsSet Seconds 0 seconds f.seconds
   pub is_minutes : IsSet Minutes 0 minutes f.minutes
   pub is_hours : IsSet Hours 0 hours f.hours

@@ -1,6 +1,7 @@
 pub mod Cuts
 pub mod Elements
 pub mod Errors
+pub mod Faults
 pub mod Forms
 pub mod Grammar
 pub mod Printing

@@ -33,7 +33,7 @@ values_text field set n = join_with_byte 44 (map (λ i. decimal (least field + i
 unfoldable pub set_text : Field → List ℕ → List ℕ
 set_text field set = if has_all set (size field) then codes "*" else values_text field set (size field)
 
--- what a value adds behind others, if it is there
+-- what a value adds after others, if it is there
 unfoldable pub member_text : Bool → Bool → ℕ → List ℕ
 member_text there first value = if there then (if first then decimal value else 44 ∷ decimal value) else []
 

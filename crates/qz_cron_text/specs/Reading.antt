@@ -1,5 +1,5 @@
 -- What a cron text means, or what is first wrong with it.
-use Rattle.std.specs.Prelude.{ℕ, ◌-◌, ◌^◌, List, [], ◌∷◌, Option, Some, None, Result, Ok, Err, if◌then◌else◌, ◌&&◌, not}
+use Rattle.std.specs.Prelude.{ℕ, List, [], ◌∷◌, Option, Some, None, Result, Ok, Err, if◌then◌else◌, ◌&&◌, not}
 use Rattle.qz_civil.specs.declared.fields.Field.{Field}
 use Rattle.qz_civil.specs.declared.fields.Field.TheVariants.{Seconds, Minutes, Hours, DayOfMonth, Month, DayOfWeek, Year}
 use Rattle.qz_civil.specs.declared.fields.DayField.{DayField}
@@ -51,11 +51,18 @@ day_of p = field_at DayOfMonth 0 p >>= λ found. Ok (day_by found.word found.day
 unfoldable pub week_of : Placed → Result WeekField CronError
 week_of p = field_at DayOfWeek 0 p >>= λ found. Ok (week_by found.word found.week)
 
--- all years where the field is absent; the words have the years from 1970 on, 64 each
+-- the years from 1970 on, 64 a word
+abbrev pub years_at : Placed → Result (List ℕ) CronError
+years_at p =
+    word_at Year 0 p >>= λ a. word_at Year 64 p >>= λ b. word_at Year 128 p >>= λ c. word_at Year 192 p >>= λ d. Ok (a ∷ b ∷ c ∷ d ∷ [])
+
+-- `*`, which an absent field means
+abbrev pub all_years : Placed
+all_years = record { at = 0; text = 42 ∷ [] }
+
 unfoldable pub years_of : Option Placed → Result (List ℕ) CronError
-years_of None = Ok ((2 ^ 64 - 1) ∷ (2 ^ 64 - 1) ∷ 3 ∷ 0 ∷ [])
-years_of (Some p) =
-    word_at Year 0 p >>= λ a. word_at Year 64 p >>= λ b. word_at Year 128 p >>= λ c. Ok (a ∷ b ∷ c ∷ 0 ∷ [])
+years_of None = years_at all_years
+years_of (Some p) = years_at p
 
 -- exactly one of the two day fields names no value
 unfoldable pub days_checked : CronFields → Result CronFields CronError

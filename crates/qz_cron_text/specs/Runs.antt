@@ -26,7 +26,7 @@ two_values field last step a (Some b) =
     option_and_then (λ first. option_map (λ last. record { first = first; last = last; step = step }) (value_of field b)) (value_of field a)
 
 abbrev pub values_by : Field → (ℕ → ℕ) → ℕ → Parts → Option Run
-values_by field last step parts = two_values field last step parts.front parts.behind
+values_by field last step parts = two_values field last step parts.front parts.rest
 
 -- `*`, `a` or `a-b`
 unfoldable pub closed_run : Field → List ℕ → Option Run
@@ -43,7 +43,7 @@ run_with field base None = closed_run field base
 run_with field base (Some step) = option_and_then (λ n. open_run field base n) (number_of step)
 
 abbrev pub run_by : Field → Parts → Option Run
-run_by field parts = run_with field parts.front parts.behind
+run_by field parts = run_with field parts.front parts.rest
 
 unfoldable pub run_of : Field → List ℕ → Option Run
 run_of field text = run_by field (cut_at 47 text)
@@ -57,7 +57,7 @@ is_year DayOfMonth = false
 is_year Month = false
 is_year DayOfWeek = false
 
--- the first value that is out of range, where a first year behind the last one is too, or else a step that is
+-- the first value that is out of range, where a first year after the last one is too, or else a step that is
 unfoldable pub run_fault : Field → Run → Option CronError
 run_fault field run =
     if not (is_value field run.first) then Some (OutOfRange (number field) run.first)

@@ -1,4 +1,4 @@
--- What the code's pieces of a text show.
+-- The pieces of a text as the code keeps them, and as the definitions have them.
 use Rattle.std.specs.Prelude.{ℕ, ◌+◌, List, [], ◌∷◌, Option, Some, None, Result, Ok, Err, length, ◌<◌, IfSome}
 use Rattle.std.specs.Option.{option_map}
 use Rattle.qz_cron_text.specs.declared.errors.CronError.{CronError}

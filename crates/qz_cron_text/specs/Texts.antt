@@ -3,7 +3,7 @@ use Rattle.std.specs.Prelude.{ℕ, ◌+◌, List, [], ◌∷◌, Option, Some, N
 use Rattle.std.specs.List.{slice_split}
 use Rattle.qz_cron_text.specs.declared.errors.CronError.{CronError}
 use Rattle.qz_cron_text.specs.declared.errors.CronError.TheVariants.{FieldCount}
-use Rattle.qz_cron_text.specs.Errors.{told}
+use Rattle.qz_cron_text.specs.Errors.{u32_of}
 
 -- a space or a tab
 abbrev pub is_blank : ℕ → Bool
@@ -14,7 +14,7 @@ pub record Placed : Type 0 where
   pub at : ℕ
   pub text : List ℕ
 
--- those that aren't empty, of pieces with one blank between any two, of which the first stands at the place
+-- those that aren't empty, of pieces with one blank between any two, of which the first is at the place
 abbrev pub placed : ℕ → List (List ℕ) → List Placed
 placed at [] = []
 placed at (piece ∷ pieces) =
@@ -45,4 +45,4 @@ whole_by found (a ∷ b ∷ c ∷ d ∷ e ∷ f ∷ g ∷ []) = Ok (six_and (Som
 whole_by found _ = Err (FieldCount found)
 
 unfoldable pub whole_of : List ℕ → Result Whole CronError
-whole_of text = whole_by (told (length (fields_at 0 text))) (fields_at 0 text)
+whole_of text = whole_by (u32_of (length (fields_at 0 text))) (fields_at 0 text)

@@ -18,7 +18,7 @@ pub struct Elements {
     pub week: Option<WeekForm>,
 }
 
-/// The elements so far and one more.
+// The elements so far and one more.
 #[tactic(auto, unfolding(crate::specs::Elements::and_form), using(crate::proofs::RunLemmas::run_is_right, std::proofs::lemmas::Nat::or_lt))]
 fn and_form(field: Field, from: u16, found: Elements, form: Form) -> Elements
     requires right { form_fault field form ≡ None }
@@ -46,7 +46,7 @@ fn and_form(field: Field, from: u16, found: Elements, form: Form) -> Elements
     }
 }
 
-/// The elements of a field that begins at a place of the text.
+// The elements of a field that begins at a place of the text.
 #[tactic(auto, unfolding(crate::specs::Elements::elements_of))]
 fn elements_of(field: Field, from: u16, at: usize, text: &[u8]) -> Result<Elements, CronError>
     requires from { from ≤ 1000 }
@@ -76,8 +76,7 @@ fn elements_of(field: Field, from: u16, at: usize, text: &[u8]) -> Result<Elemen
     }
 }
 
-/// A field that begins at a place of the text, with 64 of its values from number `from` on. The years are asked three
-/// times.
+/// A field that begins at a place of the text, with 64 of its values from number `from` on. The years are read four times.
 #[tactic(auto, unfolding(crate::specs::Elements::field_of))]
 pub fn field_of(field: Field, from: u16, at: usize, text: &[u8]) -> Result<Elements, CronError>
     requires from { from ≤ 1000 }

@@ -5,7 +5,7 @@ ghost use Rattle.qz_cron_text.specs.Cuts.{cut_at};
 ghost use Rattle.qz_cron_text.specs.Forms.{is_letter, is_question, is_last_weekday, before_letter, day_form, week_form, special_form, form_of, day_fault, week_fault, form_fault, element_of, last_back_of, nth_of, range_fault};
 
 use crate::cuts::cut;
-use crate::errors::{CronError, told};
+use crate::errors::{CronError, u32_of};
 use crate::runs::{Run, run_fault, run_of};
 use crate::values::{number, value};
 use qz_civil::Field;
@@ -71,7 +71,7 @@ fn is_last_weekday(text: &[u8]) -> bool
     }
 }
 
-/// What stands before the letter at the end.
+// What is before the letter at the end.
 #[tactic(auto, unfolding(crate::specs::Forms::before_letter))]
 fn before_letter(letter: u8, text: &[u8]) -> Option<&[u8]>
     ensures { option_map (λ s. s.now) result ≡ before_letter letter text.now }
@@ -85,7 +85,7 @@ fn before_letter(letter: u8, text: &[u8]) -> Option<&[u8]>
     }
 }
 
-/// `L-n`.
+// `L-n`.
 fn last_back(text: &[u8]) -> Option<DayForm>
     ensures { result ≡ last_back_of (cut_at 45 text.now) }
 {
@@ -98,7 +98,7 @@ fn last_back(text: &[u8]) -> Option<DayForm>
     Some(DayForm::Last(back))
 }
 
-/// `?`, `L`, `LW`, `L-n` and `aW`.
+// `?`, `L`, `LW`, `L-n` and `aW`.
 #[tactic(auto, unfolding(crate::specs::Forms::day_form))]
 fn day_form(text: &[u8]) -> Option<DayForm>
     ensures { result ≡ day_form text.now }
@@ -120,7 +120,7 @@ fn day_form(text: &[u8]) -> Option<DayForm>
     Some(DayForm::Nearest(day))
 }
 
-/// `a#k`.
+// `a#k`.
 fn nth(text: &[u8]) -> Option<WeekForm>
     ensures { result ≡ nth_of (cut_at 35 text.now) }
 {
@@ -131,7 +131,7 @@ fn nth(text: &[u8]) -> Option<WeekForm>
     Some(WeekForm::Nth(day, nth))
 }
 
-/// `?`, `L`, `a#k` and `aL`.
+// `?`, `L`, `a#k` and `aL`.
 #[tactic(auto, unfolding(crate::specs::Forms::week_form))]
 fn week_form(text: &[u8]) -> Option<WeekForm>
     ensures { result ≡ week_form text.now }
@@ -150,7 +150,7 @@ fn week_form(text: &[u8]) -> Option<WeekForm>
     Some(WeekForm::LastOf(day))
 }
 
-/// A form that only the days of the month, or those of the week, have.
+// A form that only the days of the month, or those of the week, have.
 fn special_form(field: Field, text: &[u8]) -> Option<Form>
     ensures { result ≡ special_form field text.now }
 {
@@ -161,7 +161,7 @@ fn special_form(field: Field, text: &[u8]) -> Option<Form>
     }
 }
 
-/// The form of an element.
+// The form of an element.
 #[tactic(auto, unfolding(crate::specs::Forms::form_of))]
 fn form_of(field: Field, text: &[u8]) -> Option<Form>
     ensures { result ≡ form_of field text.now }
@@ -215,7 +215,7 @@ fn week_fault(form: WeekForm) -> Option<CronError>
     }
 }
 
-/// The first of its numbers that is out of range, or else its step.
+// The first of its numbers that is out of range, or else its step.
 fn form_fault(field: Field, form: Form) -> Option<CronError>
     ensures { result ≡ form_fault field form }
 {
@@ -235,7 +235,7 @@ pub fn element_of(field: Field, at: usize, text: &[u8]) -> Result<Form, CronErro
     match form_of(field, text) {
         None => Err(CronError::BadToken {
             field: field.number(),
-            at: told(at),
+            at: u32_of(at),
         }),
         Some(form) => match form_fault(field, form) {
             None => Ok(form),

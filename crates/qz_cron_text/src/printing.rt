@@ -8,17 +8,17 @@ use qz_civil::{CronFields, DayField, Field, NoMemory, Text, WeekField, has_bit};
 use std::alloc::{AllocError, Global};
 use std::fmt::Write;
 
-/// The values of a field from its least on, 64 a word.
+// The values of a field from its least on, 64 a word.
 type Set = [u64; 4];
 
-/// A set of up to 64 values.
+// A set of up to 64 values.
 fn one_word(set: u64) -> Set
     ensures { result ≡ one_word set }
 {
     [set, 0, 0, 0]
 }
 
-/// Whether a set has its `index`th value.
+// Whether a set has its `index`th value.
 #[tactic(auto, unfolding(qz_civil::specs::Fields::has_word))]
 fn has_value(set: &Set, index: u16) -> bool
     requires { index < 256 }
@@ -27,7 +27,7 @@ fn has_value(set: &Set, index: u16) -> bool
     has_bit(set[index as usize / 64], index as u32 % 64)
 }
 
-/// Whether a set has each of its field's values.
+// Whether a set has each of its field's values.
 #[tactic(auto, using(crate::proofs::Prints::all_steps, crate::proofs::FieldLemmas::field_bounds))]
 fn is_full(field: Field, set: &Set) -> bool
     ensures { result ≡ has_all set.now (size field) }
@@ -40,7 +40,7 @@ fn is_full(field: Field, set: &Set) -> bool
     true
 }
 
-/// Adds a value if it is there, behind a comma unless it is the first.
+// Adds a value if it is there, after a comma unless it is the first.
 #[tactic(auto, unfolding(crate::specs::Printing::member_text))]
 fn push_member(text: &mut String, there: bool, first: bool, value: u16) -> Result<(), AllocError>
     ensures { OnOk result (string_bytes text.new ≡ string_bytes text.old ++ member_text there first value) }
@@ -55,7 +55,7 @@ fn push_member(text: &mut String, there: bool, first: bool, value: u16) -> Resul
     Ok(())
 }
 
-/// Adds the values of a set.
+// Adds the values of a set.
 #[tactic(auto, using(crate::proofs::Prints::member_steps, crate::proofs::FieldLemmas::field_bounds))]
 fn push_values(text: &mut String, field: Field, set: &Set) -> Result<(), AllocError>
     ensures { OnOk result (string_bytes text.new ≡ string_bytes text.old ++ values_text field set.now (size field)) }
@@ -69,7 +69,7 @@ fn push_values(text: &mut String, field: Field, set: &Set) -> Result<(), AllocEr
     Ok(())
 }
 
-/// Adds a set: `*` where it has each value, else its values.
+// Adds a set: `*` where it has each value, else its values.
 #[tactic(auto, unfolding(crate::specs::Printing::set_text))]
 fn push_set(text: &mut String, field: Field, set: Set) -> Result<(), AllocError>
     ensures { OnOk result (string_bytes text.new ≡ string_bytes text.old ++ set_text field set) }
@@ -81,7 +81,7 @@ fn push_set(text: &mut String, field: Field, set: Set) -> Result<(), AllocError>
     }
 }
 
-/// Adds the days of the month.
+// Adds the days of the month.
 #[tactic(auto, unfolding(crate::specs::Printing::day_text))]
 fn push_day(text: &mut String, day: DayField) -> Result<(), AllocError>
     ensures { OnOk result (string_bytes text.new ≡ string_bytes text.old ++ day_text day) }
@@ -101,7 +101,7 @@ fn push_day(text: &mut String, day: DayField) -> Result<(), AllocError>
     }
 }
 
-/// Adds the days of the week.
+// Adds the days of the week.
 #[tactic(auto, unfolding(crate::specs::Printing::week_text))]
 fn push_week(text: &mut String, week: WeekField) -> Result<(), AllocError>
     ensures { OnOk result (string_bytes text.new ≡ string_bytes text.old ++ week_text week) }
@@ -114,7 +114,7 @@ fn push_week(text: &mut String, week: WeekField) -> Result<(), AllocError>
     }
 }
 
-/// Adds the years as a further field, unless they are all.
+// Adds the years as a further field, unless they are all.
 #[tactic(auto, unfolding(crate::specs::Printing::years_text))]
 fn push_years(text: &mut String, years: &Set) -> Result<(), AllocError>
     ensures text { OnOk result (string_bytes text.new ≡ string_bytes text.old ++ years_text years.now) }
@@ -127,7 +127,7 @@ fn push_years(text: &mut String, years: &Set) -> Result<(), AllocError>
     push_values(text, Field::Year, years)
 }
 
-/// Adds the seconds, minutes and hours.
+// Adds the seconds, minutes and hours.
 #[tactic(auto, unfolding(crate::specs::Printing::times_text))]
 fn push_times(text: &mut String, fields: &CronFields) -> Result<(), AllocError>
     ensures { OnOk result (string_bytes text.new ≡ string_bytes text.old ++ times_text fields.now) }
@@ -139,7 +139,7 @@ fn push_times(text: &mut String, fields: &CronFields) -> Result<(), AllocError>
     push_set(text, Field::Hours, one_word(fields.hours as u64))
 }
 
-/// Adds the days, months and weekdays.
+// Adds the days, months and weekdays.
 #[tactic(auto, unfolding(crate::specs::Printing::dates_text))]
 fn push_dates(text: &mut String, fields: &CronFields) -> Result<(), AllocError>
     ensures { OnOk result (string_bytes text.new ≡ string_bytes text.old ++ dates_text fields.now) }
@@ -151,7 +151,7 @@ fn push_dates(text: &mut String, fields: &CronFields) -> Result<(), AllocError>
     push_week(text, fields.week)
 }
 
-/// Adds the fields.
+// Adds the fields.
 #[tactic(auto, unfolding(crate::specs::Printing::canonical_text))]
 fn push_fields(text: &mut String, fields: &CronFields) -> Result<(), AllocError>
     ensures text { OnOk result (string_bytes text.new ≡ string_bytes text.old ++ canonical_text fields.now) }
@@ -164,8 +164,8 @@ fn push_fields(text: &mut String, fields: &CronFields) -> Result<(), AllocError>
 }
 
 /// The canonical text: single spaces, a set as `*` where it has each value and else as its ascending values, weekdays and
-/// months as numbers, and no year field where all years are meant. Fields that no text says, as those with an empty set,
-/// are printed too, but the text doesn't say them.
+/// months as numbers, and no year field where all years are meant. Fields that no text means, as those with an empty set,
+/// are printed too, but their text isn't read as them.
 pub fn print(alloc: Global, fields: &CronFields) -> Result<Text, NoMemory>
     ensures text { IfOk result (λ text. text ≡ canonical_text fields.now) }
     // Valid fields are read again.

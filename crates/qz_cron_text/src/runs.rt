@@ -24,7 +24,7 @@ fn is_star(text: &[u8]) -> bool
     }
 }
 
-/// `*`, `a` or `a-b`.
+// `*`, `a` or `a-b`.
 #[tactic(auto, unfolding(crate::specs::Runs::closed_run))]
 fn closed_run(field: Field, text: &[u8]) -> Option<Run>
     ensures { result ≡ closed_run field text.now }
@@ -55,7 +55,7 @@ fn closed_run(field: Field, text: &[u8]) -> Option<Run>
     }
 }
 
-/// Nothing, `*`, `a` or `a-b` before a step.
+// Nothing, `*`, `a` or `a-b` before a step.
 #[tactic(auto, unfolding(crate::specs::Runs::open_run))]
 fn open_run(field: Field, text: &[u8], step: u16) -> Option<Run>
     ensures { result ≡ open_run field text.now step }
@@ -82,7 +82,7 @@ fn open_run(field: Field, text: &[u8], step: u16) -> Option<Run>
     }
 }
 
-/// The run that an element spells.
+/// The run that an element is.
 #[tactic(auto, unfolding(crate::specs::Runs::run_of))]
 pub fn run_of(field: Field, text: &[u8]) -> Option<Run>
     ensures { result ≡ run_of field text.now }
@@ -103,7 +103,7 @@ fn is_year(field: Field) -> bool
     matches!(field, Field::Year)
 }
 
-/// The first value that is out of range, or else a step that is. Years don't go round.
+/// The first value that is out of range, or else a step that is. Years don't wrap.
 #[tactic(auto, unfolding(crate::specs::Runs::run_fault))]
 pub fn run_fault(field: Field, run: Run) -> Option<CronError>
     ensures { result ≡ run_fault field run }

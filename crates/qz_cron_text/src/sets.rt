@@ -7,11 +7,11 @@ ghost use Rattle.qz_cron_text.specs.Sets.{word_of};
 use crate::runs::Run;
 use qz_civil::Field;
 
-/// How far `to` is ahead of `from`, where after the last of `size` numbers the first comes.
+// How far `to` is ahead of `from`, where after the last of `size` numbers the first comes.
 fn ahead(size: u16, from: u16, to: u16) -> u16
-    requires size { size ≤ 130 }
+    requires size { size ≤ 256 }
     requires from { from ≤ size }
-    requires to { to ≤ 130 }
+    requires to { to ≤ 256 }
     ensures { result ≡ ahead size from to }
 {
     if from <= to {
@@ -21,7 +21,7 @@ fn ahead(size: u16, from: u16, to: u16) -> u16
     }
 }
 
-/// Whether value number `index` is one of the run's.
+// Whether value number `index` is one of the run's.
 #[tactic(auto, unfolding(crate::specs::Runs::has_value, qz_civil::specs::Fields::is_value, qz_civil::specs::Fields::greatest, qz_civil::specs::Fields::size, qz_civil::specs::Fields::least))]
 fn has_value(field: Field, run: Run, index: u16) -> bool
     requires first { IsTrue (is_value field run.first) }

@@ -4,7 +4,7 @@ ghost use Rattle.qz_cron_text.specs.Texts.{fields_at, whole_of};
 ghost use Rattle.qz_cron_text.specs.Seen.{listed, shown, AreWithin};
 
 use crate::cuts::cut_at_blank;
-use crate::errors::{CronError, told};
+use crate::errors::{CronError, u32_of};
 
 /// A field and its place in the text.
 #[derive(Clone, Copy)]
@@ -13,7 +13,7 @@ pub struct Piece<'a> {
     pub text: &'a [u8],
 }
 
-/// A field, and the text behind it with its place.
+/// A field, and the text after it with its place.
 #[derive(Clone, Copy)]
 pub struct Found<'a> {
     pub piece: Piece<'a>,
@@ -33,7 +33,7 @@ pub struct Pieces<'a> {
     pub years: Option<Piece<'a>>,
 }
 
-/// The first field of a text that begins at the place.
+// The first field of a text that begins at the place.
 #[tactic(auto, unfolding(crate::specs::Texts::fields_at))]
 fn next_field(at: usize, text: &[u8]) -> Option<Found<'_>>
     requires { at + length text.now < 2 ^ 63 }
@@ -45,11 +45,11 @@ fn next_field(at: usize, text: &[u8]) -> Option<Found<'_>>
     let mut at = at;
     let mut rest = text;
     'blanks: loop {
-        let (front, behind) = cut_at_blank(rest);
+        let (front, after) = cut_at_blank(rest);
         if front.len() > 0 {
             let piece = Piece { at, text: front };
             let end = at + front.len();
-            return match behind {
+            return match after {
                 Some(rest) => Some(Found {
                     piece,
                     at: end + 1,
@@ -62,7 +62,7 @@ fn next_field(at: usize, text: &[u8]) -> Option<Found<'_>>
                 }),
             };
         }
-        match behind {
+        match after {
             Some(more) => {
                 rest = more;
                 at += 1;
@@ -72,7 +72,7 @@ fn next_field(at: usize, text: &[u8]) -> Option<Found<'_>>
     }
 }
 
-/// How many fields the text has.
+// How many fields the text has.
 fn field_count(text: &[u8]) -> usize
     ensures count { result ≡ length (fields_at 0 text.now) }
 {
@@ -91,7 +91,7 @@ fn field_count(text: &[u8]) -> usize
     }
 }
 
-/// The field at the front, with what is behind it, or that the text has another number of fields.
+// The field at the front, with what is after it, or that the text has another number of fields.
 fn wanted(at: usize, text: &[u8], fault: CronError) -> Result<Found<'_>, CronError>
     requires { at + length text.now < 2 ^ 63 }
     ensures ok { IfOk result (λ f. fields_at at text.now ≡ listed (Some f)) }
@@ -112,7 +112,9 @@ pub fn pieces_of(text: &[u8]) -> Result<Pieces<'_>, CronError>
     ensures within { IfOk result (λ p. AreWithin (2 ^ 63) p) }
 {
     let count = field_count(text);
-    let fault = CronError::FieldCount { found: told(count) };
+    let fault = CronError::FieldCount {
+        found: u32_of(count),
+    };
     let seconds = wanted(0, text, fault)?;
     let minutes = wanted(seconds.at, seconds.rest, fault)?;
     let hours = wanted(minutes.at, minutes.rest, fault)?;

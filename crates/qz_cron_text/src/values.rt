@@ -23,7 +23,7 @@ pub fn number(text: &[u8]) -> Option<u16>
     Some(number)
 }
 
-/// Whether the text is these three letters, in either case.
+// Whether the text is these three letters, in either case.
 fn is_name(text: &[u8], name: [u8; 3]) -> bool
     ensures { result ≡ is_spelled name text.now }
 {
@@ -37,7 +37,7 @@ fn is_name(text: &[u8], name: [u8; 3]) -> bool
     }
 }
 
-/// SUN to SAT, from 1.
+// SUN to SAT, from 1.
 #[tactic(auto, unfolding(crate::specs::Values::name_of))]
 fn weekday(text: &[u8]) -> Option<u16>
     ensures { result ≡ name_of field.DayOfWeek text.now }
@@ -61,7 +61,7 @@ fn weekday(text: &[u8]) -> Option<u16>
     }
 }
 
-/// JAN to DEC, from 1.
+// JAN to DEC, from 1.
 #[tactic(auto, unfolding(crate::specs::Values::name_of))]
 fn month(text: &[u8]) -> Option<u16>
     ensures { result ≡ name_of field.Month text.now }
@@ -95,7 +95,7 @@ fn month(text: &[u8]) -> Option<u16>
     }
 }
 
-/// The value that is a name of the field.
+// The value that is a name of the field.
 #[tactic(auto, unfolding(crate::specs::Values::name_of))]
 fn named(field: Field, text: &[u8]) -> Option<u16>
     ensures { result ≡ name_of field text.now }

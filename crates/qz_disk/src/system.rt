@@ -8,7 +8,6 @@ use crate::{FileHandle, HandleError};
 use qz_civil::Text;
 use std::fs::{File, OpenFile, OpenOptions};
 use std::io;
-use std::os::fd::AsRawFd;
 use std::os::unix::fs::FileExt;
 use std::path::Path;
 use std::rt::HostRuntime;
@@ -16,12 +15,13 @@ use std::rt::HostRuntime;
 /// A file of the system, named by its path. Its length and its failures are known, and nothing of its content.
 ///
 /// The file is opened at the first call, and locked until it is closed: where another program holds the lock, the call
-/// fails. A missing file reads as an empty one, and is made at the first write. The first sync of an open file also
-/// drops what the system holds of it in memory, so that what is read from then on comes from the disk, and syncs its
-/// folder, whichever run made the file: POSIX keeps a new name over a crash only then. A sync that failed drops what is
-/// held in memory too: the system may take for written what never reached the disk. A read that gives nothing, and a
-/// write that takes nothing, is a failure. After a write or a sync that failed the length is unknown, and passes for 0
+/// fails. A missing file reads as an empty one, and is made at the first write. The first sync of an open file also syncs
+/// its folder, whichever run made the file: POSIX keeps a new name over a crash only then. A read that gives nothing, and
+/// a write that takes nothing, is a failure. After a write or a sync that failed the length is unknown, and passes for 0
 /// until `len` is called. `restart` closes the file and opens it again.
+///
+/// After a sync that failed, Linux may show what never reached the device, and call a later sync done. Only what is read
+/// after the file system was mounted again, or after its cache was dropped, is what the device has.
 #[derive(Drop)]
 pub struct SystemFile {
     rt: HostRuntime,
@@ -72,11 +72,6 @@ fn open_file(rt: &HostRuntime, path: &str, make: bool) -> Result<Option<File>, H
         Err(error) if error.kind() == io::ErrorKind::NotFound && !make => Ok(None),
         Err(error) => Err(cause_of(error)),
     }
-}
-
-// Lets the system forget what it holds of the file in memory, except what it has yet to write. It may refuse.
-fn drop_cache(file: &File) {
-    let _ = libc::posix_fadvise(file.as_raw_fd(), 0, 0, libc::POSIX_FADV_DONTNEED);
 }
 
 // Syncs the folder that holds the file, so that a crash doesn't lose the file's name.
@@ -177,11 +172,7 @@ impl SystemFile {
         let Some(file) = &self.file else {
             return Ok(());
         };
-        let synced = file.sync_all();
-        if synced.is_err() || !self.is_named {
-            drop_cache(file);
-        }
-        if let Err(error) = synced {
+        if let Err(error) = file.sync_all() {
             return Err(cause_of(error));
         }
         if !self.is_named {

@@ -2,6 +2,8 @@
 #![tactic(auto)]
 
 #[cfg(test)]
+mod calendars;
+#[cfg(test)]
 mod civil;
 #[cfg(test)]
 mod cron;

@@ -7,8 +7,8 @@ use Rattle.qz_types.specs.Rows.{is_trigger_spec}
 use Rattle.qz_job_json.specs.declared.asked.Asked.{Asked}
 use Rattle.qz_job_json.specs.declared.asked.Asked.TheVariants.{AddZone, AddTrigger}
 use Rattle.qz_job_json.specs.declared.forms.Form.TheVariants.{ZoneLine, TriggerLine}
-use Rattle.qz_job_json.specs.declared.lines.LineFault.{LineFault}
-use Rattle.qz_job_json.specs.declared.lines.LineFault.TheVariants.{NotHere, Shape}
+use Rattle.qz_job_json.specs.declared.faults.LineFault.{LineFault}
+use Rattle.qz_job_json.specs.declared.faults.LineFault.TheVariants.{NotHere, Shape}
 use Rattle.qz_job_json.specs.Faults.{◌>>=◌, or_shape}
 use Rattle.qz_job_json.specs.Forms.{built, unbuilt_words, word_of}
 use Rattle.qz_job_json.specs.Lines.{json_of, said_by}

@@ -6,4 +6,5 @@ pub mod Lines
 pub mod Members
 pub mod Objects
 pub mod Schedules
+pub mod Tables
 pub mod Zones

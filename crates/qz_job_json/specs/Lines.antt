@@ -1,6 +1,6 @@
 -- What a line of a script says, and which fault it has. Of several faults the first in the order TooLong, NotJson,
 -- NotHere, Shape is meant.
-use Rattle.std.specs.Prelude.{ℕ, ℤ, pos, List, length, Bool, false, ◌==◌, ◌||◌, nat_lt, if◌then◌else◌, Option, Some, None, Result, Ok, Err, option_map, option_and_then, codes}
+use Rattle.std.specs.Prelude.{◌≡◌, ℕ, ℤ, pos, List, length, Bool, false, ◌==◌, ◌||◌, nat_lt, if◌then◌else◌, Option, Some, None, Result, Ok, Err, option_map, option_and_then, codes}
 use Rattle.std.specs.List.{list_all}
 use Rattle.std.specs.Str.{is_utf8}
 use Rattle.serde_json.specs.Data.{Data}
@@ -14,10 +14,12 @@ use Rattle.qz_types.specs.declared.steps.Step.TheVariants as step
 use Rattle.qz_job_json.specs.declared.forms.Word.{Word}
 use Rattle.qz_job_json.specs.declared.forms.Word.TheVariants.{AddJob, AddTrigger, Join, Acquire, Fire, Complete}
 use Rattle.qz_job_json.specs.declared.forms.Form.TheVariants.{Line, Job, Trigger}
-use Rattle.qz_job_json.specs.declared.lines.TheConstants.{LINE_LIMIT}
+use Rattle.qz_io.specs.declared.limits.TheConstants.{LINE_LIMIT}
 use Rattle.qz_job_json.specs.declared.lines.Given.{Given}
-use Rattle.qz_job_json.specs.declared.lines.LineFault.{LineFault}
-use Rattle.qz_job_json.specs.declared.lines.LineFault.TheVariants.{TooLong, NotJson, NotHere}
+use Rattle.qz_job_json.specs.declared.faults.LineError.{LineError}
+use Rattle.qz_job_json.specs.declared.faults.LineError.TheVariants as error
+use Rattle.qz_job_json.specs.declared.faults.LineFault.{LineFault}
+use Rattle.qz_job_json.specs.declared.faults.LineFault.TheVariants.{TooLong, NotJson, NotHere}
 use Rattle.qz_job_json.specs.Faults.{◌>>=◌, or_shape}
 use Rattle.qz_job_json.specs.Forms.{built, unbuilt, unbuilt_kinds, unbuilt_words, word_of}
 use Rattle.qz_job_json.specs.Members.{is_among, has_any, has_only, both, text_at, number_at, node_at, span_at, optional_integer_at}
@@ -114,6 +116,22 @@ json_of line =
 abbrev pub said_by : {A : Type 0} → (Data → Result A LineFault) → Option Data → Result (Option A) LineFault
 said_by says None = Ok None
 said_by says (Some d) = says d >>= λ x. Ok (Some x)
+
+-- The line is neither too long nor blank, so its JSON value is read, which takes memory.
+abbrev pub NeedsJson : List ℕ → Type 0
+NeedsJson line = (nat_lt LINE_LIMIT (length line) ≡ false) × (list_all is_blank line ≡ false)
+
+-- why there is no JSON value of a line
+abbrev pub HasNoJson : LineError → List ℕ → Type 0
+HasNoJson (error.Bad fault) line = json_of line ≡ Err fault
+HasNoJson error.NoMemory line = NeedsJson line
+
+-- What a reader of lines answers: what the line means, or its fault. Memory may run out while the JSON value of a
+-- line is read, before anything is known of that value; after that only where the value has no fault.
+abbrev pub ReadsLineAs : {A : Type 0} → Result A LineError → List ℕ → Result A LineFault → Type 0
+ReadsLineAs (Ok x) line meaning = meaning ≡ Ok x
+ReadsLineAs (Err (error.Bad fault)) line meaning = meaning ≡ Err fault
+ReadsLineAs (Err error.NoMemory) line meaning = NeedsJson line
 
 -- a line, without its line feed; Ok None is a blank line
 abbrev pub meaning_of : List ℕ → Result (Option Given) LineFault

@@ -15,8 +15,8 @@ use Rattle.qz_cron_text.specs.Reading.{reading}
 use Rattle.qz_job_json.specs.declared.forms.KindWord.{KindWord}
 use Rattle.qz_job_json.specs.declared.forms.KindWord.TheVariants.{Simple, Cron, Interval, Daily}
 use Rattle.qz_job_json.specs.declared.forms.Form.TheVariants.{TriggerOf}
-use Rattle.qz_job_json.specs.declared.lines.LineFault.{LineFault}
-use Rattle.qz_job_json.specs.declared.lines.LineFault.TheVariants as fault
+use Rattle.qz_job_json.specs.declared.faults.LineFault.{LineFault}
+use Rattle.qz_job_json.specs.declared.faults.LineFault.TheVariants as fault
 use Rattle.qz_job_json.specs.Clocks.{second_or, days_at}
 use Rattle.qz_job_json.specs.Faults.{◌>>=◌, or_shape}
 use Rattle.qz_job_json.specs.Forms.{built, kind_word_of}

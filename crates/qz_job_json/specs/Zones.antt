@@ -1,5 +1,5 @@
 -- The tables of zones. None is a value of another shape, or a table that is no zone's.
-use Rattle.std.specs.Prelude.{ℤ, pos, negsuc, List, [], ◌∷◌, Bool, if◌then◌else◌, is_none, Option, Some, None, option_and_then}
+use Rattle.std.specs.Prelude.{ℤ, pos, negsuc, List, [], ◌∷◌, Bool, if◌then◌else◌, is_none, is_some, Option, Some, None, option_and_then}
 use Rattle.serde_json.specs.Data.{Data, Items, no_items, item}
 use Rattle.serde_json.specs.Find.{at, as_array}
 use Rattle.qz_civil.specs.declared.stretches.Stretch.{Stretch}
@@ -26,6 +26,10 @@ stretches_of (item d ds) = both (λ s rest. s ∷ rest) (stretch_of d) (stretche
 
 abbrev pub is_zone : List Stretch → Bool
 is_zone stretches = is_none (bad_zone stretches)
+
+-- these are the stretches of a zone
+abbrev pub is_table : Items → Bool
+is_table items = is_some (kept is_zone (stretches_of items))
 
 abbrev pub zone_of : Data → Option (List Stretch)
 zone_of d = kept is_zone (option_and_then stretches_of (as_array d))

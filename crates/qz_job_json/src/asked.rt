@@ -3,10 +3,12 @@ ghost use Rattle.std.specs.Prelude.{◌≡◌, ◌⊎◌, Err, Bool, true, IsTru
 ghost use Rattle.serde_json.specs.View.{view};
 ghost use Rattle.qz_types.specs.Rows.{is_trigger_spec};
 ghost use Rattle.qz_job_json.specs.Asked as spec;
-ghost use Rattle.qz_job_json.specs.Faults.{or_shape};
+ghost use Rattle.qz_job_json.specs.Faults.{ReadsAs, or_shape};
+ghost use Rattle.qz_job_json.specs.Lines.{ReadsLineAs};
 
+use crate::faults::{LineError, LineFault};
 use crate::forms::{Form, Word, is_unbuilt_word};
-use crate::lines::{LineFault, json_of};
+use crate::lines::json_of;
 use crate::members::{has_only, name_at, optional_bool_at, optional_integer_at, text_at};
 use crate::schedules::trigger_by_kind;
 use crate::zones::zone_of;
@@ -25,8 +27,8 @@ pub enum Asked {
 }
 
 /// Reads a line of `times`, which has no line feed. None is a blank line: it has only spaces, tabs and carriage returns.
-pub fn read_asked(alloc: Global, line: &[u8]) -> Result<Option<Asked>, LineFault>
-    ensures meaning { (result ≡ Err LineFault.NoMemory) ⊎ (result ≡ spec.asked_meaning line.now) }
+pub fn read_asked(alloc: Global, line: &[u8]) -> Result<Option<Asked>, LineError>
+    ensures meaning { ReadsLineAs result line.now (spec.asked_meaning line.now) }
     ensures valid { IfOk result (λ asked. IfSome asked (λ a. IsTrue (spec.is_asked a))) }
 {
     match json_of(alloc, line)? {
@@ -36,14 +38,14 @@ pub fn read_asked(alloc: Global, line: &[u8]) -> Result<Option<Asked>, LineFault
 }
 
 /// What a line asks for whose JSON value this is.
-fn read_value(alloc: Global, value: &Value) -> Result<Asked, LineFault>
-    ensures meaning { (result ≡ Err LineFault.NoMemory) ⊎ (result ≡ spec.asked_by_value (view value.now)) }
+fn read_value(alloc: Global, value: &Value) -> Result<Asked, LineError>
+    ensures meaning { ReadsAs result (spec.asked_by_value (view value.now)) }
     ensures valid { IfOk result (λ asked. IsTrue (spec.is_asked asked)) }
 {
     match text_at(value, "do").ok_or(LineFault::Shape)? {
         "add_zone" => zone_line(alloc, value),
         "add_trigger" => trigger_line(alloc, value),
-        text => Err(fault_of_word(text)),
+        text => Err(LineError::Bad(fault_of_word(text))),
     }
 }
 
@@ -60,12 +62,12 @@ fn fault_of_word(text: &str) -> LineFault
 
 /// A zone by name.
 #[tactic(auto, unfolding(crate::specs::Asked::zone_line))]
-fn zone_line(alloc: Global, value: &Value) -> Result<Asked, LineFault>
-    ensures value { (result ≡ Err LineFault.NoMemory) ⊎ (result ≡ or_shape (spec.zone_line (view value.now))) }
+fn zone_line(alloc: Global, value: &Value) -> Result<Asked, LineError>
+    ensures value { ReadsAs result (or_shape (spec.zone_line (view value.now))) }
     ensures valid { IfOk result (λ asked. IsTrue (spec.is_asked asked)) }
 {
     if !has_only(value, Form::ZoneLine) || optional_integer_at(value, "at").is_none() {
-        return Err(LineFault::Shape);
+        return Err(LineError::Bad(LineFault::Shape));
     }
     let name = name_at(value, "name").ok_or(LineFault::Shape)?;
     let table = value.get("stretches").ok_or(LineFault::Shape)?;
@@ -76,15 +78,15 @@ fn zone_line(alloc: Global, value: &Value) -> Result<Asked, LineFault>
 
 /// A trigger.
 #[tactic(auto, unfolding(crate::specs::Asked::trigger_line))]
-fn trigger_line(alloc: Global, value: &Value) -> Result<Asked, LineFault>
-    ensures value { (result ≡ Err LineFault.NoMemory) ⊎ (result ≡ spec.trigger_line (view value.now)) }
+fn trigger_line(alloc: Global, value: &Value) -> Result<Asked, LineError>
+    ensures value { ReadsAs result (spec.trigger_line (view value.now)) }
     ensures valid { IfOk result (λ asked. IsTrue (spec.is_asked asked)) }
 {
     if !has_only(value, Form::TriggerLine)
         || optional_integer_at(value, "at").is_none()
         || optional_bool_at(value, "replace").is_none()
     {
-        return Err(LineFault::Shape);
+        return Err(LineError::Bad(LineFault::Shape));
     }
     let trigger = value.get("trigger").ok_or(LineFault::Shape)?;
     let spec = trigger_by_kind(alloc, trigger)?;

@@ -3,6 +3,7 @@
 
 mod asked;
 mod clocks;
+mod faults;
 mod forms;
 mod lines;
 mod members;
@@ -12,4 +13,6 @@ mod steps;
 mod zones;
 
 pub use asked::{Asked, read_asked};
-pub use lines::{Given, LINE_LIMIT, LineFault, read_step};
+pub use faults::{LineError, LineFault};
+pub use lines::{Given, read_step};
+pub use qz_io::LINE_LIMIT;

@@ -1,22 +1,19 @@
 //! Lines of a script.
-ghost use Rattle.std.specs.Prelude.{◌≡◌, ◌⊎◌, Ok, Err, Some, None, IsTrue, IfOk, IfErr, IfSome, option_map};
+ghost use Rattle.std.specs.Prelude.{◌≡◌, ◌⊎◌, Ok, Some, None, IsTrue, IfOk, IfErr, IfSome, option_map};
 ghost use Rattle.std.specs.List.{list_all};
 ghost use Rattle.serde_json.specs.View.{view};
 ghost use Rattle.qz_types.specs.Steps.{is_step};
-ghost use Rattle.qz_job_json.specs.Faults.{or_shape};
-ghost use Rattle.qz_job_json.specs.Lines.{is_blank, value_of, json_of, is_unbuilt, is_unbuilt_trigger, given_of, meaning_of, meaning_of_value};
+ghost use Rattle.qz_job_json.specs.Faults.{ReadsAs, or_shape};
+ghost use Rattle.qz_job_json.specs.Lines.{is_blank, value_of, json_of, NeedsJson, HasNoJson, ReadsLineAs, is_unbuilt, is_unbuilt_trigger, given_of, meaning_of, meaning_of_value};
 
+use crate::faults::{LineError, LineFault};
 use crate::forms::{Form, Word, is_unbuilt_kind, is_unbuilt_word};
 use crate::members::{has_only, has_unbuilt, optional_integer_at, text_at};
 use crate::steps::step_of;
-use qz_cron_text::CronError;
-use qz_types::{NoMemory, Step};
+use qz_io::LINE_LIMIT;
+use qz_types::Step;
 use serde_json::Value;
-use std::alloc::{AllocError, Global};
-use thiserror::Error;
-
-/// Bytes of a line, its line feed not counted.
-pub const LINE_LIMIT: u64 = 65536;
+use std::alloc::Global;
 
 /// What a line asks for.
 #[derive(Debug, Drop)]
@@ -26,52 +23,9 @@ pub struct Given {
     pub step: Step,
 }
 
-/// What is wrong with a line. Of several faults the first in this order is reported.
-#[derive(Clone, Copy, PartialEq, Eq, Debug, Error)]
-pub enum LineFault {
-    /// More than `LINE_LIMIT` bytes, even if all are blank.
-    #[error("too long")]
-    TooLong,
-    /// The bytes aren't UTF-8, or they aren't one JSON value.
-    #[error("not JSON")]
-    NotJson,
-    /// The format has this line or this member of it, and the scheduler doesn't read it yet.
-    #[error("not here")]
-    NotHere,
-    /// An unknown or missing member, a value of another type, `null`, or a value out of its range.
-    #[error("not a step")]
-    Shape,
-    /// The line is right but for its cron text. Script lines have none yet.
-    #[error("bad cron {}", .0.number())]
-    Cron(CronError),
-    /// Memory ran out. Nothing is known of the line.
-    #[error("no memory")]
-    NoMemory,
-}
-
-impl From<NoMemory> for LineFault {
-    ghost use Rattle.qz_job_json.specs.declared.lines.LineFault.TheVariants as faults;
-
-    ghost from_gives = { λ _ e. e ≡ faults.NoMemory };
-
-    fn from(_error: NoMemory) -> LineFault {
-        LineFault::NoMemory
-    }
-}
-
-impl From<AllocError> for LineFault {
-    ghost use Rattle.qz_job_json.specs.declared.lines.LineFault.TheVariants as faults;
-
-    ghost from_gives = { λ _ e. e ≡ faults.NoMemory };
-
-    fn from(_error: AllocError) -> LineFault {
-        LineFault::NoMemory
-    }
-}
-
 /// Reads a line, which has no line feed. None is a blank line: it has only spaces, tabs and carriage returns.
-pub fn read_step(alloc: Global, line: &[u8]) -> Result<Option<Given>, LineFault>
-    ensures meaning { (result ≡ Err LineFault.NoMemory) ⊎ (result ≡ meaning_of line.now) }
+pub fn read_step(alloc: Global, line: &[u8]) -> Result<Option<Given>, LineError>
+    ensures meaning { ReadsLineAs result line.now (meaning_of line.now) }
     ensures valid { IfOk result (λ given. IfSome given (λ g. IsTrue (is_step g.step))) }
 {
     match json_of(alloc, line)? {
@@ -88,29 +42,30 @@ fn is_blank(line: &[u8]) -> bool
 }
 
 /// The JSON value that the bytes are.
-fn value_of(alloc: Global, bytes: &[u8]) -> Result<Value, LineFault>
+fn value_of(alloc: Global, bytes: &[u8]) -> Result<Value, LineError>
     ensures ok { IfOk result (λ value. value_of bytes.now ≡ Some (view value)) }
-    ensures err { IfErr result (λ fault. (fault ≡ LineFault.NoMemory) ⊎ ((fault ≡ LineFault.NotJson) × (value_of bytes.now ≡ None))) }
+    ensures err { IfErr result (λ error. (error ≡ LineError.NoMemory) ⊎ ((error ≡ LineError.Bad LineFault.NotJson) × (value_of bytes.now ≡ None))) }
 {
     match Value::from_slice(alloc, bytes) {
         Ok(value) => Ok(value),
         Err(error) => {
             if error.is_memory() {
-                Err(LineFault::NoMemory)
+                Err(LineError::NoMemory)
             } else {
-                Err(LineFault::NotJson)
+                Err(LineError::Bad(LineFault::NotJson))
             }
         }
     }
 }
 
 /// The JSON value of a line; None is a blank line.
-pub(crate) fn json_of(alloc: Global, line: &[u8]) -> Result<Option<Value>, LineFault>
+pub(crate) fn json_of(alloc: Global, line: &[u8]) -> Result<Option<Value>, LineError>
     ensures ok { IfOk result (λ value. json_of line.now ≡ Ok (option_map view value)) }
-    ensures err { IfErr result (λ fault. (fault ≡ LineFault.NoMemory) ⊎ (json_of line.now ≡ Err fault)) }
+    ensures err { IfErr result (λ error. HasNoJson error line.now) }
+    ensures needed { IfOk result (λ value. IfSome value (λ v. NeedsJson line.now)) }
 {
-    if line.len() as u64 > LINE_LIMIT {
-        return Err(LineFault::TooLong);
+    if line.len() > LINE_LIMIT {
+        return Err(LineError::Bad(LineFault::TooLong));
     }
     if is_blank(line) {
         return Ok(None);
@@ -119,17 +74,17 @@ pub(crate) fn json_of(alloc: Global, line: &[u8]) -> Result<Option<Value>, LineF
 }
 
 /// What a line says whose JSON value this is.
-fn read_value(alloc: Global, value: &Value) -> Result<Given, LineFault>
-    ensures meaning { (result ≡ Err LineFault.NoMemory) ⊎ (result ≡ meaning_of_value (view value.now)) }
+fn read_value(alloc: Global, value: &Value) -> Result<Given, LineError>
+    ensures meaning { ReadsAs result (meaning_of_value (view value.now)) }
     ensures valid { IfOk result (λ given. IsTrue (is_step given.step)) }
 {
     let text = text_at(value, "do").ok_or(LineFault::Shape)?;
     if is_unbuilt_word(text) {
-        return Err(LineFault::NotHere);
+        return Err(LineError::Bad(LineFault::NotHere));
     }
     let word = Word::of(text).ok_or(LineFault::Shape)?;
     if is_unbuilt(word, value) {
-        return Err(LineFault::NotHere);
+        return Err(LineError::Bad(LineFault::NotHere));
     }
     given_of(alloc, word, value)
 }
@@ -169,12 +124,12 @@ fn is_unbuilt_trigger(value: &Value) -> bool
 
 /// The step with its reading.
 #[tactic(auto, unfolding(crate::specs::Lines::given_of))]
-fn given_of(alloc: Global, word: Word, value: &Value) -> Result<Given, LineFault>
-    ensures value { (result ≡ Err LineFault.NoMemory) ⊎ (result ≡ or_shape (given_of word (view value.now))) }
+fn given_of(alloc: Global, word: Word, value: &Value) -> Result<Given, LineError>
+    ensures value { ReadsAs result (or_shape (given_of word (view value.now))) }
     ensures valid { IfOk result (λ given. IsTrue (is_step given.step)) }
 {
     if !has_only(value, Form::Line(word)) {
-        return Err(LineFault::Shape);
+        return Err(LineError::Bad(LineFault::Shape));
     }
     let at = optional_integer_at(value, "at").ok_or(LineFault::Shape)?;
     let step = step_of(alloc, word, value)?;

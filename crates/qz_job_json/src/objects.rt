@@ -2,12 +2,12 @@
 ghost use Rattle.std.specs.Prelude.{◌≡◌, ◌⊎◌, Err, IsTrue, IfOk, IfSome, option_map, codes};
 ghost use Rattle.serde_json.specs.View.{view};
 ghost use Rattle.qz_types.specs.Rows.{is_key, is_trigger_spec};
-ghost use Rattle.qz_job_json.specs.Faults.{or_shape};
+ghost use Rattle.qz_job_json.specs.Faults.{ReadsAs, or_shape};
 ghost use Rattle.qz_job_json.specs.Members.{text_at};
 ghost use Rattle.qz_job_json.specs.Objects.{make_key, key_at, job_of, trigger_of, plain_job, one_shot, is_simple};
 
+use crate::faults::{LineError, LineFault};
 use crate::forms::Form;
-use crate::lines::LineFault;
 use crate::members::{group_at, has_only, name_at, span_at, text_at};
 use qz_civil::beside;
 use qz_types::{JobRow, Key, Kind, Text, Timing, TriggerSpec};
@@ -40,11 +40,11 @@ pub(crate) fn make_keys(
 
 /// The job that the object is.
 #[tactic(auto, unfolding(crate::specs::Objects::job_of))]
-pub(crate) fn job_of(alloc: Global, value: &Value) -> Result<JobRow, LineFault>
-    ensures { (result ≡ Err LineFault.NoMemory) ⊎ (result ≡ or_shape (job_of (view value.now))) }
+pub(crate) fn job_of(alloc: Global, value: &Value) -> Result<JobRow, LineError>
+    ensures { ReadsAs result (or_shape (job_of (view value.now))) }
 {
     if !has_only(value, Form::Job) {
-        return Err(LineFault::Shape);
+        return Err(LineError::Bad(LineFault::Shape));
     }
     let class = name_at(value, "class").ok_or(LineFault::Shape)?;
     let (group, name) = names_at(value, "group", "name").ok_or(LineFault::Shape)?;
@@ -92,12 +92,12 @@ fn one_shot(start: i64, key: Key, job: Key) -> TriggerSpec
 
 /// The trigger that the object is.
 #[tactic(auto, unfolding(crate::specs::Objects::trigger_of))]
-pub(crate) fn trigger_of(alloc: Global, value: &Value) -> Result<TriggerSpec, LineFault>
-    ensures value { (result ≡ Err LineFault.NoMemory) ⊎ (result ≡ or_shape (trigger_of (view value.now))) }
+pub(crate) fn trigger_of(alloc: Global, value: &Value) -> Result<TriggerSpec, LineError>
+    ensures value { ReadsAs result (or_shape (trigger_of (view value.now))) }
     ensures valid { IfOk result (λ spec. IsTrue (is_trigger_spec spec)) }
 {
     if !has_only(value, Form::Trigger) || !is_simple(value) {
-        return Err(LineFault::Shape);
+        return Err(LineError::Bad(LineFault::Shape));
     }
     let start = span_at(value, "start").ok_or(LineFault::Shape)?;
     let key = names_at(value, "group", "name").ok_or(LineFault::Shape)?;

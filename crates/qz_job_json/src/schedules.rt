@@ -3,12 +3,13 @@ ghost use Rattle.std.specs.Prelude.{◌≡◌, ◌⊎◌, ◌≤ℤ◌, pos, neg
 ghost use Rattle.serde_json.specs.View.{view};
 ghost use Rattle.qz_civil.specs.Timings.{is_name, is_every, is_kind, is_misfire, is_timing, is_daily_time};
 ghost use Rattle.qz_types.specs.Rows.{is_calendar, is_trigger_spec};
+ghost use Rattle.qz_job_json.specs.Faults.{ReadsAs};
 ghost use Rattle.qz_job_json.specs.Objects.{make_key};
 ghost use Rattle.qz_job_json.specs.Schedules as spec;
 
 use crate::clocks::{days_at, second_or};
+use crate::faults::{LineError, LineFault};
 use crate::forms::{Form, KindWord};
-use crate::lines::LineFault;
 use crate::members::{
     has_only, integer_or, name_at, name_or, number_at, optional_span_at, span_at, text_at,
 };
@@ -74,8 +75,8 @@ fn simple_of(value: &Value) -> Result<Kind, LineFault>
 }
 
 #[tactic(auto, unfolding(crate::specs::Schedules::cron_of))]
-fn cron_of(alloc: Global, value: &Value) -> Result<Kind, LineFault>
-    ensures value { (result ≡ Err LineFault.NoMemory) ⊎ (result ≡ spec.cron_of (view value.now)) }
+fn cron_of(alloc: Global, value: &Value) -> Result<Kind, LineError>
+    ensures value { ReadsAs result (spec.cron_of (view value.now)) }
     ensures valid { IfOk result (λ kind. IsTrue (is_kind kind)) }
     ensures last { IfOk result (λ kind. spec.last_of kind ≡ pos 2) }
 {
@@ -87,8 +88,8 @@ fn cron_of(alloc: Global, value: &Value) -> Result<Kind, LineFault>
 }
 
 #[tactic(auto, unfolding(crate::specs::Schedules::interval_of))]
-fn interval_of(alloc: Global, value: &Value) -> Result<Kind, LineFault>
-    ensures value { (result ≡ Err LineFault.NoMemory) ⊎ (result ≡ spec.interval_of (view value.now)) }
+fn interval_of(alloc: Global, value: &Value) -> Result<Kind, LineError>
+    ensures value { ReadsAs result (spec.interval_of (view value.now)) }
     ensures valid { IfOk result (λ kind. IsTrue (is_kind kind)) }
     ensures last { IfOk result (λ kind. spec.last_of kind ≡ pos 2) }
 {
@@ -107,8 +108,8 @@ fn is_daily_time(unit: Unit, every: u32, from: u32, to: u32) -> bool
 }
 
 #[tactic(auto, unfolding(crate::specs::Schedules::daily_of))]
-fn daily_of(alloc: Global, value: &Value) -> Result<Kind, LineFault>
-    ensures value { (result ≡ Err LineFault.NoMemory) ⊎ (result ≡ spec.daily_of (view value.now)) }
+fn daily_of(alloc: Global, value: &Value) -> Result<Kind, LineError>
+    ensures value { ReadsAs result (spec.daily_of (view value.now)) }
     ensures valid { IfOk result (λ kind. IsTrue (is_kind kind)) }
     ensures last { IfOk result (λ kind. spec.last_of kind ≡ pos 2) }
 {
@@ -119,7 +120,7 @@ fn daily_of(alloc: Global, value: &Value) -> Result<Kind, LineFault>
     let days = days_at(value).ok_or(LineFault::Shape)?;
     let zone = zone_at(value).ok_or(LineFault::Shape)?;
     if !is_daily_time(unit, every, from, to) {
-        return Err(LineFault::Shape);
+        return Err(LineError::Bad(LineFault::Shape));
     }
     let zone = Text::from_str(alloc, zone)?;
     Ok(Kind::Daily {
@@ -132,13 +133,13 @@ fn daily_of(alloc: Global, value: &Value) -> Result<Kind, LineFault>
     })
 }
 
-fn kind_of(alloc: Global, value: &Value, word: KindWord) -> Result<Kind, LineFault>
-    ensures value { (result ≡ Err LineFault.NoMemory) ⊎ (result ≡ spec.kind_of word (view value.now)) }
+fn kind_of(alloc: Global, value: &Value, word: KindWord) -> Result<Kind, LineError>
+    ensures value { ReadsAs result (spec.kind_of word (view value.now)) }
     ensures valid { IfOk result (λ kind. IsTrue (is_kind kind)) }
     ensures last { IfOk result (λ kind. spec.last_of kind ≡ spec.last_misfire word) }
 {
     match word {
-        KindWord::Simple => simple_of(value),
+        KindWord::Simple => Ok(simple_of(value)?),
         KindWord::Cron => cron_of(alloc, value),
         KindWord::Interval => interval_of(alloc, value),
         KindWord::Daily => daily_of(alloc, value),
@@ -159,8 +160,8 @@ fn misfire_at(value: &Value, word: KindWord) -> Option<i8>
 }
 
 #[tactic(auto, using(crate::proofs::Units::misfires_to_last), unfolding(crate::specs::Schedules::timing_of))]
-fn timing_of(alloc: Global, value: &Value, word: KindWord) -> Result<Timing, LineFault>
-    ensures value { (result ≡ Err LineFault.NoMemory) ⊎ (result ≡ spec.timing_of word (view value.now)) }
+fn timing_of(alloc: Global, value: &Value, word: KindWord) -> Result<Timing, LineError>
+    ensures value { ReadsAs result (spec.timing_of word (view value.now)) }
     ensures valid { IfOk result (λ timing. IsTrue (is_timing timing)) }
 {
     let misfire = misfire_at(value, word).ok_or(LineFault::Shape)?;
@@ -220,16 +221,16 @@ fn make_names(
 
 /// A trigger of that kind.
 #[tactic(auto, unfolding(crate::specs::Schedules::timed_trigger_of))]
-fn timed_trigger_of(alloc: Global, value: &Value, word: KindWord) -> Result<TriggerSpec, LineFault>
-    ensures value { (result ≡ Err LineFault.NoMemory) ⊎ (result ≡ spec.timed_trigger_of word (view value.now)) }
+fn timed_trigger_of(alloc: Global, value: &Value, word: KindWord) -> Result<TriggerSpec, LineError>
+    ensures value { ReadsAs result (spec.timed_trigger_of word (view value.now)) }
     ensures valid { IfOk result (λ trigger. IsTrue (is_trigger_spec trigger)) }
 {
     let key = names_at(value, "group", "name").ok_or(LineFault::Shape)?;
     let job = names_at(value, "job_group", "job").ok_or(LineFault::Shape)?;
     let priority = priority_at(value).ok_or(LineFault::Shape)?;
     let calendar = calendar_at(value).ok_or(LineFault::Shape)?;
-    let named = make_names(alloc, key, job, calendar)?;
-    let ((calendar, (key, job)), timing) = beside(named, timing_of(alloc, value, word))?;
+    let timing = timing_of(alloc, value, word)?;
+    let (timing, (calendar, (key, job))) = beside(timing, make_names(alloc, key, job, calendar))?;
     Ok(TriggerSpec {
         key,
         job,
@@ -246,13 +247,13 @@ fn kind_word_at(value: &Value) -> Option<KindWord>
 }
 
 /// The trigger that the object is.
-pub(crate) fn trigger_by_kind(alloc: Global, value: &Value) -> Result<TriggerSpec, LineFault>
-    ensures value { (result ≡ Err LineFault.NoMemory) ⊎ (result ≡ spec.trigger_by_kind (view value.now)) }
+pub(crate) fn trigger_by_kind(alloc: Global, value: &Value) -> Result<TriggerSpec, LineError>
+    ensures value { ReadsAs result (spec.trigger_by_kind (view value.now)) }
     ensures valid { IfOk result (λ trigger. IsTrue (is_trigger_spec trigger)) }
 {
     let word = kind_word_at(value).ok_or(LineFault::Shape)?;
     if !has_only(value, Form::TriggerOf(word)) {
-        return Err(LineFault::Shape);
+        return Err(LineError::Bad(LineFault::Shape));
     }
     timed_trigger_of(alloc, value, word)
 }

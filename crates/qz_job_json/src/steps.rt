@@ -3,13 +3,13 @@ ghost use Rattle.std.specs.Prelude.{◌≡◌, ◌⊎◌, Err, IsTrue, IfOk, cod
 ghost use Rattle.serde_json.specs.View.{view};
 ghost use Rattle.qz_types.specs.Rows.{is_node};
 ghost use Rattle.qz_types.specs.Steps.{is_step};
-ghost use Rattle.qz_job_json.specs.Faults.{or_shape};
+ghost use Rattle.qz_job_json.specs.Faults.{ReadsAs, or_shape};
 ghost use Rattle.qz_job_json.specs.Lines.{step_of};
 ghost use Rattle.qz_job_json.specs.Members.{node_at};
 ghost use Rattle.qz_job_json.specs.declared.forms.Word.TheVariants.{AddJob, AddTrigger, Join, Acquire, Fire, Complete};
 
+use crate::faults::{LineError, LineFault};
 use crate::forms::Word;
-use crate::lines::LineFault;
 use crate::members::{node_at, number_at, span_at};
 use crate::objects::{job_of, trigger_of};
 use qz_types::{Code, Command, Step, Text};
@@ -17,8 +17,8 @@ use serde_json::Value;
 use std::alloc::Global;
 
 #[tactic(auto, unfolding(crate::specs::Lines::step_of))]
-fn add_job(alloc: Global, value: &Value) -> Result<Step, LineFault>
-    ensures value { (result ≡ Err LineFault.NoMemory) ⊎ (result ≡ or_shape (step_of AddJob (view value.now))) }
+fn add_job(alloc: Global, value: &Value) -> Result<Step, LineError>
+    ensures value { ReadsAs result (or_shape (step_of AddJob (view value.now))) }
     ensures valid { IfOk result (λ step. IsTrue (is_step step)) }
 {
     let object = value.get("job").ok_or(LineFault::Shape)?;
@@ -30,8 +30,8 @@ fn add_job(alloc: Global, value: &Value) -> Result<Step, LineFault>
 }
 
 #[tactic(auto, unfolding(crate::specs::Lines::step_of))]
-fn add_trigger(alloc: Global, value: &Value) -> Result<Step, LineFault>
-    ensures value { (result ≡ Err LineFault.NoMemory) ⊎ (result ≡ or_shape (step_of AddTrigger (view value.now))) }
+fn add_trigger(alloc: Global, value: &Value) -> Result<Step, LineError>
+    ensures value { ReadsAs result (or_shape (step_of AddTrigger (view value.now))) }
     ensures valid { IfOk result (λ step. IsTrue (is_step step)) }
 {
     let object = value.get("trigger").ok_or(LineFault::Shape)?;
@@ -42,8 +42,8 @@ fn add_trigger(alloc: Global, value: &Value) -> Result<Step, LineFault>
     }))
 }
 
-fn node_of(alloc: Global, value: &Value) -> Result<Text, LineFault>
-    ensures value { (result ≡ Err LineFault.NoMemory) ⊎ (result ≡ or_shape (node_at (codes "node") (view value.now))) }
+fn node_of(alloc: Global, value: &Value) -> Result<Text, LineError>
+    ensures value { ReadsAs result (or_shape (node_at (codes "node") (view value.now))) }
     ensures valid { IfOk result (λ node. IsTrue (is_node node)) }
 {
     let node = node_at(value, "node").ok_or(LineFault::Shape)?;
@@ -51,8 +51,8 @@ fn node_of(alloc: Global, value: &Value) -> Result<Text, LineFault>
 }
 
 #[tactic(auto, unfolding(crate::specs::Lines::step_of))]
-fn join(alloc: Global, value: &Value) -> Result<Step, LineFault>
-    ensures value { (result ≡ Err LineFault.NoMemory) ⊎ (result ≡ or_shape (step_of Join (view value.now))) }
+fn join(alloc: Global, value: &Value) -> Result<Step, LineError>
+    ensures value { ReadsAs result (or_shape (step_of Join (view value.now))) }
     ensures valid { IfOk result (λ step. IsTrue (is_step step)) }
 {
     let node = node_of(alloc, value)?;
@@ -63,8 +63,8 @@ fn join(alloc: Global, value: &Value) -> Result<Step, LineFault>
 }
 
 #[tactic(auto, unfolding(crate::specs::Lines::step_of))]
-fn acquire(alloc: Global, value: &Value) -> Result<Step, LineFault>
-    ensures value { (result ≡ Err LineFault.NoMemory) ⊎ (result ≡ or_shape (step_of Acquire (view value.now))) }
+fn acquire(alloc: Global, value: &Value) -> Result<Step, LineError>
+    ensures value { ReadsAs result (or_shape (step_of Acquire (view value.now))) }
     ensures valid { IfOk result (λ step. IsTrue (is_step step)) }
 {
     let no_later = span_at(value, "no_later").ok_or(LineFault::Shape)?;
@@ -78,8 +78,8 @@ fn acquire(alloc: Global, value: &Value) -> Result<Step, LineFault>
 }
 
 #[tactic(auto, unfolding(crate::specs::Lines::step_of))]
-fn fire(alloc: Global, value: &Value) -> Result<Step, LineFault>
-    ensures value { (result ≡ Err LineFault.NoMemory) ⊎ (result ≡ or_shape (step_of Fire (view value.now))) }
+fn fire(alloc: Global, value: &Value) -> Result<Step, LineError>
+    ensures value { ReadsAs result (or_shape (step_of Fire (view value.now))) }
     ensures valid { IfOk result (λ step. IsTrue (is_step step)) }
 {
     let entry = number_at(value, "entry").ok_or(LineFault::Shape)?;
@@ -89,8 +89,8 @@ fn fire(alloc: Global, value: &Value) -> Result<Step, LineFault>
 }
 
 #[tactic(auto, unfolding(crate::specs::Lines::step_of))]
-fn complete(alloc: Global, value: &Value) -> Result<Step, LineFault>
-    ensures value { (result ≡ Err LineFault.NoMemory) ⊎ (result ≡ or_shape (step_of Complete (view value.now))) }
+fn complete(alloc: Global, value: &Value) -> Result<Step, LineError>
+    ensures value { ReadsAs result (or_shape (step_of Complete (view value.now))) }
     ensures valid { IfOk result (λ step. IsTrue (is_step step)) }
 {
     let entry = number_at(value, "entry").ok_or(LineFault::Shape)?;
@@ -103,8 +103,8 @@ fn complete(alloc: Global, value: &Value) -> Result<Step, LineFault>
 }
 
 /// The step of a line.
-pub(crate) fn step_of(alloc: Global, word: Word, value: &Value) -> Result<Step, LineFault>
-    ensures value { (result ≡ Err LineFault.NoMemory) ⊎ (result ≡ or_shape (step_of word (view value.now))) }
+pub(crate) fn step_of(alloc: Global, word: Word, value: &Value) -> Result<Step, LineError>
+    ensures value { ReadsAs result (or_shape (step_of word (view value.now))) }
     ensures valid { IfOk result (λ step. IsTrue (is_step step)) }
 {
     match word {

@@ -1,12 +1,13 @@
 //! The tables of zones.
-ghost use Rattle.std.specs.Prelude.{◌≡◌, ◌⊎◌, Err};
+ghost use Rattle.std.specs.Prelude.{◌≡◌, ◌⊎◌, None, Some, IfOk, IfErr};
 ghost use Rattle.serde_json.specs.View.{view, items_view};
-ghost use Rattle.qz_job_json.specs.Faults.{or_shape};
+ghost use Rattle.qz_job_json.specs.Faults.{ReadsAs, or_shape};
+ghost use Rattle.qz_job_json.specs.Tables.{follows, all_follow};
 ghost use Rattle.qz_job_json.specs.Zones as spec;
 
-use crate::lines::LineFault;
+use crate::faults::{LineError, LineFault};
 use crate::members::integer_in;
-use qz_civil::{List, Stretch, Zone};
+use qz_civil::{List, STRETCH_LIMIT, Stretch, Zone, is_offset, may_begin};
 use serde_json::Value;
 use std::alloc::Global;
 
@@ -26,22 +27,66 @@ fn stretch_of(value: &Value) -> Option<Stretch>
     })
 }
 
-fn stretches_of(alloc: Global, items: &[Value]) -> Result<List<Stretch>, LineFault>
-    ensures { (result ≡ Err LineFault.NoMemory) ⊎ (result ≡ or_shape (spec.stretches_of (items_view items.now))) }
+/// Whether the values are the stretches of a zone.
+fn is_table(items: &[Value]) -> bool
+    ensures { result ≡ spec.is_table (items_view items.now) }
+{
+    let count = items.len() as u64;
+    if count == 0 {
+        return false;
+    }
+    if count > STRETCH_LIMIT {
+        return false;
+    }
+    all_follow(items)
+}
+
+/// Whether each value is a stretch, and each may begin where it does.
+fn all_follow(items: &[Value]) -> bool
+    ensures { result ≡ all_follow None (items_view items.now) }
+{
+    let mut before = None;
+    for item in items {
+        match follows(before, item) {
+            Some(from) => before = Some(from),
+            None => return false,
+        }
+    }
+    true
+}
+
+/// Where the stretch that the value is begins, in ms, if it may follow one that begins at `before`.
+fn follows(before: Option<i64>, value: &Value) -> Option<i64>
+    ensures { result ≡ follows before (view value.now) }
+{
+    let stretch = stretch_of(value)?;
+    if may_begin(before, stretch.from) && is_offset(stretch.offset) {
+        Some(stretch.from)
+    } else {
+        None
+    }
+}
+
+fn stretches_of(alloc: Global, items: &[Value]) -> Result<List<Stretch>, LineError>
+    ensures ok { IfOk result (λ stretches. spec.stretches_of (items_view items.now) ≡ Some stretches) }
+    ensures err { IfErr result (λ error. (error ≡ LineError.NoMemory) ⊎ ((error ≡ LineError.Bad LineFault.Shape) × (spec.stretches_of (items_view items.now) ≡ None))) }
 {
     let mut stretches = List::new(alloc);
     for item in items {
         let stretch = stretch_of(item).ok_or(LineFault::Shape)?;
-        stretches.push(stretch).map_err(|_| LineFault::NoMemory)?;
+        stretches.push(stretch).map_err(|_| LineError::NoMemory)?;
     }
     Ok(stretches)
 }
 
-/// The zone whose table the value is.
-pub(crate) fn zone_of(alloc: Global, value: &Value) -> Result<Zone, LineFault>
-    ensures { (result ≡ Err LineFault.NoMemory) ⊎ (result ≡ or_shape (spec.zone_of (view value.now))) }
+/// The zone whose table the value is. A table that is bad is refused before memory is wanted.
+pub(crate) fn zone_of(alloc: Global, value: &Value) -> Result<Zone, LineError>
+    ensures { ReadsAs result (or_shape (spec.zone_of (view value.now))) }
 {
     let items = value.as_array().ok_or(LineFault::Shape)?;
+    if !is_table(items.as_slice()) {
+        return Err(LineError::Bad(LineFault::Shape));
+    }
     let stretches = stretches_of(alloc, items.as_slice())?;
-    Zone::table(stretches).map_err(|_| LineFault::Shape)
+    Zone::table(stretches).map_err(|_| LineError::Bad(LineFault::Shape))
 }

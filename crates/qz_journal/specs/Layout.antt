@@ -1,34 +1,40 @@
 -- The bytes of a store file: a header of 16 bytes, a block for each payload, and one byte that ends them.
 use Rattle.std.specs.Prelude.{◌≡◌, ◌≢◌, ◌⊎◌, ℕ, ◌+◌, ◌<◌, ◌≤◌, List, [], ◌∷◌, ◌++◌, length, take, drop, replicate, slice_index, All, if◌then◌else◌, ◌==◌}
 use Rattle.std.specs.Int.{w32, to_be_bytes}
+use Rattle.qz_journal.specs.declared.layout.TheConstants.{VERSION, TRIGGERS, STATES, OPEN_GATE, MAX_PAYLOAD}
 
--- the format that is written, and the only one that is read
-abbrev pub version : ℕ
-version = 1
+-- `QZ23`, a version and a kind
+abbrev pub front_of : ℕ → ℕ → List ℕ
+front_of version kind = 81 ∷ 90 ∷ 50 ∷ 51 ∷ version ∷ kind ∷ []
 
--- `QZ23`, the version and the kind
-abbrev pub front_of : ℕ → List ℕ
-front_of kind = 81 ∷ 90 ∷ 50 ∷ 51 ∷ version ∷ kind ∷ []
-
--- The first 16 bytes of a store of this kind. Ten of them are kept for later versions.
+-- The first 16 bytes of a store of this kind, in the version that is written and read. Ten of them are kept for later
+-- versions.
 pub record IsHeader (kind : ℕ) (head : List ℕ) : Type 0 where
-  pub front : take 6 head ≡ front_of kind
+  pub front : take 6 head ≡ front_of VERSION kind
   pub reserved : drop 6 head ≡ replicate 10 0
 
 -- the kind of the other store: `T` of triggers, `S` of states
 abbrev pub other_kind : ℕ → ℕ
-other_kind kind = if kind == 84 then 83 else 84
+other_kind kind = if kind == TRIGGERS then STATES else TRIGGERS
 
--- the bytes begin with the header of a store, of this kind or of the other
-abbrev pub HasHeader : ℕ → List ℕ → Type 0
-HasHeader kind bytes = IsHeader kind (take 16 bytes) ⊎ IsHeader (other_kind kind) (take 16 bytes)
+-- the first six bytes of a store of this kind, of any version
+abbrev pub IsFront : ℕ → List ℕ → Type 0
+IsFront kind front = (version : ℕ) × (front ≡ front_of version kind)
+
+-- The bytes begin as a store of this kind does, in any version and whatever follows.
+abbrev pub IsStore : ℕ → List ℕ → Type 0
+IsStore kind bytes = IsFront kind (take 6 bytes)
+
+-- The bytes begin as a store does, of this kind or of the other.
+abbrev pub HasStore : ℕ → List ℕ → Type 0
+HasStore kind bytes = IsStore kind bytes ⊎ IsStore (other_kind kind) bytes
 
 -- the byte of an open gate; any other closes the file
 abbrev pub open_gate : ℕ
-open_gate = 165
+open_gate = OPEN_GATE
 
 abbrev pub IsPayload : List ℕ → Type 0
-IsPayload payload = (1 ≤ length payload) × (length payload ≤ 32768)
+IsPayload payload = (1 ≤ length payload) × (length payload ≤ MAX_PAYLOAD)
 
 -- what follows an open gate: the length of the payload, and the payload
 abbrev pub body_of : List ℕ → List ℕ
@@ -39,14 +45,14 @@ abbrev pub blocks : List (List ℕ) → List ℕ
 blocks [] = []
 blocks (p ∷ ps) = open_gate ∷ (body_of p ++ blocks ps)
 
--- the offset behind them
+-- the offset after them
 abbrev pub end_of : List (List ℕ) → ℕ
 end_of ps = 16 + length (blocks ps)
 
 abbrev pub BeginsWith : List ℕ → List ℕ → Type 0
 BeginsWith front bytes = take (length front) bytes ≡ front
 
--- The bytes stand for these payloads: the header, a block for each, one byte that is no open gate, and then any bytes.
+-- The bytes hold these payloads: the header, a block for each, one byte that is no open gate, and then any bytes.
 pub record Holds (bytes : List ℕ) (kind : ℕ) (payloads : List (List ℕ)) : Type 0 where
   pub sizes : All IsPayload payloads
   pub header : IsHeader kind (take 16 bytes)

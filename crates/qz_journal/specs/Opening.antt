@@ -5,7 +5,7 @@ use Rattle.qz_journal.specs.declared.errors.CreateError.{CreateError}
 use Rattle.qz_journal.specs.declared.errors.CreateError.TheVariants as create
 use Rattle.qz_journal.specs.declared.errors.MountError.{MountError}
 use Rattle.qz_journal.specs.declared.errors.MountError.TheVariants as mount
-use Rattle.qz_journal.specs.Layout.{IsHeader, HasHeader, IsPayload, other_kind, open_gate, body_of, blocks, end_of}
+use Rattle.qz_journal.specs.Layout.{IsHeader, IsStore, HasStore, IsPayload, other_kind, open_gate, body_of, blocks, end_of}
 
 -- no length and payload stand here: the length is out of range, or it or the payload passes the end
 abbrev pub IsCut : List ℕ → Type 0
@@ -44,9 +44,9 @@ IsRefusedBehind bytes kind payloads (mount.Damaged at) = IsDamagedBehind bytes k
 IsRefusedBehind bytes kind payloads mount.Fault = ⊤
 IsRefusedBehind bytes kind payloads mount.NoMemory = ⊤
 
--- What a creation finds: neither header, this kind's or the other's. That the disk failed isn't seen in the bytes.
+-- What a creation finds: no store, one of this kind, or one of the other. That the disk failed isn't seen in the bytes.
 abbrev pub IsFound : List ℕ → ℕ → Result (Unit {0}) CreateError → Type 0
-IsFound bytes kind (Ok _) = HasHeader kind bytes → ⊥
-IsFound bytes kind (Err create.Exists) = IsHeader kind (take 16 bytes)
-IsFound bytes kind (Err create.OtherKind) = IsHeader (other_kind kind) (take 16 bytes)
+IsFound bytes kind (Ok _) = HasStore kind bytes → ⊥
+IsFound bytes kind (Err create.Exists) = IsStore kind bytes
+IsFound bytes kind (Err create.OtherKind) = IsStore (other_kind kind) bytes
 IsFound bytes kind (Err create.Fault) = ⊤

@@ -7,24 +7,18 @@ ghost use Rattle.qz_journal.specs.Layout.{IsPayload, open_gate, body_of, Holds, 
 ghost use Rattle.qz_journal.specs.Commits.{IsPlaced, IsFull, need_of, room_of};
 ghost use Rattle.qz_journal.specs.Through.{PutsThrough};
 
-use crate::layout::{CLOSED_GATE, OPEN_GATE};
+use crate::layout::{CLOSED_GATE, FRAME_LENGTH, MAX_BYTES, MAX_COMMIT, MAX_PAYLOADS, OPEN_GATE};
 use crate::{AppendError, Journal, JournalFull};
 use qz_civil::Failed;
 use qz_disk::Disk;
 
-/// The most bytes that a store has, header included.
-const MAX_BYTES: u64 = 1 << 28;
-
-/// The most payloads that a store has.
-const MAX_PAYLOADS: u64 = 1 << 22;
-
-/// Whether a payload of this length, in bytes, has room behind the closed gate at this offset, with so many payloads
-/// before it. No memory.
+/// Whether a payload of this length, in bytes, has room after the closed gate at this offset, with so many payloads
+/// before it.
 pub fn fits(offset: u64, count: u64, length: u32) -> Result<(), JournalFull>
     ensures full { IfErr result (λ f. IsFull offset count length f.need f.room) }
     ensures ok { OnOk result (need_of length ≤ room_of offset count) }
 {
-    let need = 5 + u64::from(length);
+    let need = FRAME_LENGTH as u64 + u64::from(length);
     let room = if count < MAX_PAYLOADS {
         (MAX_BYTES - 1).saturating_sub(offset)
     } else {
@@ -47,7 +41,7 @@ pub(crate) fn put_through<D: Disk>(disk: &mut D, at: u64, bytes: &[u8]) -> Resul
     disk.sync()
 }
 
-// Writes a commit behind the closed gate, and syncs; then opens the gate, and syncs.
+// Writes a commit after the closed gate, and syncs; then opens the gate, and syncs.
 fn put_commit<D: Disk>(disk: &mut D, gate: u64, commit: &[u8]) -> Result<(), Failed>
     requires place { gate < D.len disk.old }
     requires end { gate < 2 ^ 28 }
@@ -65,18 +59,16 @@ fn put_commit<D: Disk>(disk: &mut D, gate: u64, commit: &[u8]) -> Result<(), Fai
         → Only (D.state disk.old).content (D.state disk.old)
         → LeavesOnly (D.state disk.old) (D.state disk.new) (IsBeforeOrAfter kind payloads payload) }
 {
-    if put_through(disk, gate + 1, commit).is_err() {
-        return Err(Failed);
-    }
+    put_through(disk, gate + 1, commit)?;
     put_through(disk, gate, &[OPEN_GATE])
 }
 
 // The length, the payload and a closed gate, in a buffer that has the room for them.
 fn fill(commit: &mut Vec<u8>, payload: &[u8])
-    requires room { 32773 ≤ vec_capacity commit.old }
+    requires room { MAX_COMMIT ≤ vec_capacity commit.old }
     requires payload { IsPayload payload.now }
     ensures bytes { commit.new.items ≡ body_of payload.now ++ 0 ∷ [] }
-    ensures room { 32773 ≤ vec_capacity commit.new }
+    ensures room { MAX_COMMIT ≤ vec_capacity commit.new }
 {
     commit.clear();
     let length = payload.len() as u32;
@@ -87,10 +79,10 @@ fn fill(commit: &mut Vec<u8>, payload: &[u8])
 }
 
 impl<D: Disk> Journal<D> {
-    /// Adds a payload, in four device calls: the body behind the gate and a sync, the open gate and a sync. Nothing is
-    /// read. `Closed` comes exactly while the journal is closed, else `JournalFull` exactly where `fits` refuses, else
-    /// `Fault` only where the disk's count of faults rose. After `Fault` the journal is closed, and it isn't known
-    /// whether the payload is there. No memory.
+    /// Adds a payload, in four device calls: the body after the gate and a sync, the open gate and a sync. Nothing is
+    /// read. `Closed` is returned exactly while the journal is closed, else `JournalFull` exactly if `fits` refuses, else
+    /// `Fault` only if the disk's count of faults rose. After `Fault` the journal is closed, and it isn't known whether
+    /// the payload is there.
     pub fn append(&mut self, payload: &[u8]) -> Result<(), AppendError>
         requires { IsPayload payload.now }
 
@@ -114,12 +106,12 @@ impl<D: Disk> Journal<D> {
         ensures bytes { D.honest → OnOk result ((D.state self.new.disk).content
             ≡ written self.old.gate (open_gate ∷ []) (written (self.old.gate + 1) (body_of payload.now ++ 0 ∷ []) (D.state self.old.disk).content)) }
 
-        // At `Ok` the bytes stand for the payloads and this one behind them, and so does what a crash leaves.
+        // At `Ok` the bytes hold the payloads and then this one, and so does what a crash leaves.
         ensures stands { D.honest → (payloads : List (List ℕ)) → Holds (D.state self.old.disk).content self.old.kind payloads
             → OnOk result (Holds (D.state self.new.disk).content self.old.kind (payloads ++ payload.now ∷ [])) }
         ensures durable { D.honest → OnOk result (Only (D.state self.new.disk).content (D.state self.new.disk)) }
 
-        // Whatever is answered, the content stands for the payloads without this one or with it.
+        // Whatever is answered, the content holds the payloads without this one or with it.
         ensures content { D.honest → self.old.closed ≡ None
             → (payloads : List (List ℕ)) → Holds (D.state self.old.disk).content self.old.kind payloads
             → IsBeforeOrAfter self.old.kind payloads payload.now (D.state self.new.disk).content }
@@ -143,7 +135,7 @@ impl<D: Disk> Journal<D> {
         if put_commit(&mut self.disk, self.gate, &self.commit).is_err() {
             return Err(AppendError::Fault);
         }
-        self.gate += 5 + payload.len() as u64;
+        self.gate += (FRAME_LENGTH + payload.len()) as u64;
         self.count += 1;
         self.closed = None;
         Ok(())

@@ -5,20 +5,20 @@ use qz_civil::NoMemory;
 use std::alloc::{AllocError, AllocFailed};
 use thiserror::Error;
 
-/// Why no journal was made. `Fault` comes only where the disk's count of faults rose in the call.
+/// Why no journal was made. `Fault` is returned only if the disk's count of faults rose in the call.
 #[derive(Clone, Copy, PartialEq, Eq, Debug, Error)]
 pub enum CreateError {
-    /// The disk begins with the header of a store of this kind.
+    /// The disk begins as a store of this kind does, in any version.
     #[error("the store exists")]
     Exists,
-    /// The disk begins with the header of a store of the other kind.
+    /// The disk begins as a store of the other kind does, in any version.
     #[error("the disk holds the other store")]
     OtherKind,
     #[error("the disk failed")]
     Fault,
 }
 
-/// Why no journal was opened. `Fault` comes only where the disk's count of faults rose in the call.
+/// Why no journal was opened. `Fault` is returned only if the disk's count of faults rose in the call.
 #[derive(Clone, Copy, PartialEq, Eq, Debug, Error)]
 pub enum MountError {
     #[error("the disk failed")]
@@ -26,7 +26,7 @@ pub enum MountError {
     /// The first 16 bytes aren't all there, or aren't the header of a store of this kind.
     #[error("no store of this kind")]
     NotAStore,
-    /// At this offset, in bytes, the least such, a gate is missing, or it is open and the length behind it isn't 1 to
+    /// At this offset, in bytes, the least such, a gate is missing, or it is open and the length after it isn't 1 to
     /// 32768, or the length or the payload passes the end.
     #[error("the store is damaged at {at}")]
     Damaged { at: u64 },
@@ -34,7 +34,7 @@ pub enum MountError {
     NoMemory,
 }
 
-/// A payload needs more bytes than are left. Both numbers are in bytes and count from behind the gate.
+/// A payload needs more bytes than are left. Both numbers are in bytes and count from the byte after the gate.
 #[derive(Clone, Copy, PartialEq, Eq, Debug, Error)]
 #[error("the journal is full: {need} bytes are needed and {room} are left")]
 pub struct JournalFull {
@@ -42,11 +42,11 @@ pub struct JournalFull {
     pub room: u64,
 }
 
-/// Why a payload wasn't added. `Fault` comes only where the disk's count of faults rose in the call.
+/// Why a payload wasn't added. `Fault` is returned only if the disk's count of faults rose in the call.
 #[derive(Clone, Copy, PartialEq, Eq, Debug, Error)]
 pub enum AppendError {
     /// The journal is closed, since a fault of an earlier call or since a crash. The offset, in bytes, is that of the
-    /// gate behind the last payload that was added: at a fault, the gate of the payload that failed.
+    /// gate after the last payload that was added: at a fault, the gate of the payload that failed.
     #[error("the journal is closed at {at}")]
     Closed { at: u64 },
     #[error("the journal is full: {need} bytes are needed and {room} are left")]

@@ -1,6 +1,6 @@
 //! The parts of a store file.
 ghost use Rattle.std.specs.Prelude.{◌≡◌, ◌↔◌, ◌++◌, ◌∷◌, [], ◌≤◌, length, true, false, vec_capacity, IsTrue, IfSome, IfNone};
-ghost use Rattle.qz_journal.specs.Layout.{IsHeader, IsPayload, body_of, open_gate, other_kind};
+ghost use Rattle.qz_journal.specs.Layout.{IsHeader, IsFront, IsPayload, body_of, open_gate, other_kind};
 ghost use Rattle.qz_journal.specs.Opening.{IsCut};
 
 /// The kind of a store of triggers, as the header has it.
@@ -12,13 +12,29 @@ pub const STATES: u8 = b'S';
 /// The length of the longest payload, in bytes.
 pub const MAX_PAYLOAD: usize = 32768;
 
+/// The most bytes that a store has, header included.
+pub(crate) const MAX_BYTES: u64 = 1 << 28;
+
+/// The most payloads that a store has.
+pub(crate) const MAX_PAYLOADS: u64 = 1 << 22;
+
 pub(crate) const HEADER_LENGTH: usize = 16;
+
+// The part of the header that is the same in all versions, but for the version itself: letters, version and kind.
+pub(crate) const FRONT_LENGTH: usize = 6;
+
+// What a payload takes beside its bytes: a gate and four bytes of length.
+pub(crate) const FRAME_LENGTH: usize = 5;
+
+// The length of the longest commit: the length of a payload, the payload and a gate.
+pub(crate) const MAX_COMMIT: usize = MAX_PAYLOAD + FRAME_LENGTH;
 
 pub(crate) const OPEN_GATE: u8 = 0xa5;
 
 pub(crate) const CLOSED_GATE: u8 = 0;
 
-const VERSION: u8 = 1;
+/// The version of the format that is written, and the only one that is read.
+pub(crate) const VERSION: u8 = 1;
 
 // The header of a store of this kind, as it is written.
 pub(crate) fn header(kind: u8) -> [u8; 16]
@@ -39,6 +55,15 @@ pub(crate) fn is_header(kind: u8, front: &[u8]) -> bool
     front == wanted.as_slice()
 }
 
+// Whether these first bytes are those of a store of this kind, of any version.
+pub(crate) fn is_store(kind: u8, front: &[u8; FRONT_LENGTH]) -> bool
+    ensures yes { result ≡ true → IsFront kind front.now }
+    ensures no { result ≡ false → IsFront kind front.now → ⊥ }
+{
+    let wanted = [b'Q', b'Z', b'2', b'3', front[4], kind];
+    *front == wanted
+}
+
 pub(crate) fn other_kind(kind: u8) -> u8
     ensures { result ≡ other_kind kind }
 {
@@ -51,7 +76,7 @@ pub(crate) fn is_open(gate: u8) -> bool
     gate == OPEN_GATE
 }
 
-// The payload behind an open gate, and what stands behind it.
+// The payload after an open gate, and what follows it.
 pub(crate) fn split_block(bytes: &[u8]) -> Option<(&[u8], &[u8])>
     ensures some { IfSome result (λ p. IsPayload p.0.now × (bytes.now ≡ body_of p.0.now ++ p.1.now)) }
     ensures none { IfNone result (IsCut bytes.now) }

@@ -1,4 +1,4 @@
-//! Opening what stands on a disk.
+//! Opening the journal on a disk.
 ghost use Rattle.std.specs.Prelude.{◌≡◌, ◌+◌, ◌^◌, ◌<◌, ◌≤◌, ℕ, List, [], length, IfOk, IfErr, MatchResult, OnOk, OnErr, Some, None, Ok, Err, ◌⊎◌, vec_len, vec_capacity};
 ghost use Rattle.qz_civil.specs.Causes.{Rose, HasCause};
 ghost use Rattle.qz_disk.specs.Disk.{Only, LeavesOnly, Restarts};
@@ -6,14 +6,12 @@ ghost use Rattle.qz_journal.specs.Layout.{Holds, end_of};
 ghost use Rattle.qz_journal.specs.Opening.{IsRefused, IsRefusedBehind};
 ghost use Rattle.qz_journal.specs.Through.{OnlyReads, OnlyReadsUnless};
 
+use crate::layout::MAX_COMMIT;
 use crate::parsing::{Parsed, parse};
 use crate::{Journal, MountError};
 use qz_civil::{Failed, List};
 use qz_disk::Disk;
 use std::alloc::Global;
-
-/// The length of the longest commit: four bytes of length, a payload and a gate.
-const MAX_COMMIT: usize = crate::MAX_PAYLOAD + 5;
 
 // Syncs, and asks for the length.
 fn synced_length<D: Disk>(disk: &mut D) -> Result<u64, Failed>
@@ -51,7 +49,7 @@ fn read_all<D: Disk>(alloc: Global, disk: &mut D) -> Result<Vec<u8>, MountError>
 }
 
 impl<D: Disk> Journal<D> {
-    /// Opens the journal of this kind, `TRIGGERS` or `STATES`, that stands on a disk, and gives its payloads. It syncs
+    /// Opens the journal of this kind, `TRIGGERS` or `STATES`, on a disk, and gives its payloads. It syncs
     /// first, so that what it reads is what a crash leaves, and writes nothing. An `Err` hands the disk back.
     pub fn mount(
         alloc: Global,
@@ -64,7 +62,7 @@ impl<D: Disk> Journal<D> {
         ensures reads { D.honest → IfOk result (λ r. OnlyReads (D.state disk) (D.state r.0.disk)) }
         ensures reads_err { D.honest → IfErr result (λ e. OnlyReadsUnless (e.0 ≡ MountError.Fault) (D.state disk) (D.state e.1)) }
         ensures refused { D.honest → IfErr result (λ e. IsRefused (D.state disk).content kind e.0) }
-        // Where the bytes stand for a list, it comes to that list, or memory or the disk fails.
+        // If the bytes hold a list, it is that list, or memory or the disk fails.
         ensures whole { D.honest → (payloads : List (List ℕ)) → Holds (D.state disk).content kind payloads
             → MatchResult result (λ r. r.1 ≡ payloads) (λ e. (e.0 ≡ MountError.Fault) ⊎ (e.0 ≡ MountError.NoMemory)) }
         ensures later { IfOk result (λ r. D.faults disk ≤ D.faults r.0.disk) }
@@ -91,7 +89,7 @@ impl<D: Disk> Journal<D> {
         ensures reads { D.honest → IfOk result (λ r. OnlyReads (D.state disk) (D.state r.0.disk)) }
         ensures reads_err { D.honest → IfErr result (λ e. OnlyReadsUnless (e.0 ≡ MountError.Fault) (D.state disk) (D.state e.2)) }
         ensures refused { D.honest → IfErr result (λ e. IsRefusedBehind (D.state disk).content kind e.1 e.0) }
-        // the place behind the payloads is an offset
+        // the place after the payloads is an offset
         ensures place { IfErr result (λ e. end_of e.1 < 2 ^ 64) }
         ensures later { IfOk result (λ r. D.faults disk ≤ D.faults r.0.disk) }
         ensures fault { IfErr result (λ e. (D.faults disk ≤ D.faults e.2)
@@ -129,7 +127,7 @@ impl<D: Disk> Journal<D> {
     }
 
     /// A crash of the disk: the first half of a restart. The journal is closed until `remount`, so that several disks
-    /// can crash before anything on them is read. No memory.
+    /// can crash before anything on them is read.
     pub fn crash(&mut self) -> Result<(), Failed>
         ensures closed { self.new.closed ≡ Some self.old.gate }
         ensures same { (self.new.kind ≡ self.old.kind) × (self.new.gate ≡ self.old.gate) × (self.new.count ≡ self.old.count) }
@@ -142,7 +140,7 @@ impl<D: Disk> Journal<D> {
         self.disk.restart()
     }
 
-    /// Opens what stands on the disk, as `mount` does: the second half of a restart. After an `Err` the journal is
+    /// Opens the journal on the disk, as `mount` does: the second half of a restart. After an `Err` the journal is
     /// closed.
     pub fn remount(&mut self, alloc: Global) -> Result<List<List<u8>>, MountError>
         ensures stands { D.honest → IfOk result (λ payloads. Holds (D.state self.new.disk).content self.old.kind payloads) }

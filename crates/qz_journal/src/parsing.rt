@@ -4,11 +4,11 @@ ghost use Rattle.qz_journal.specs.Layout.{IsHeader, Holds, end_of};
 ghost use Rattle.qz_journal.specs.Opening.{IsDamagedBehind};
 
 use crate::MountError;
-use crate::layout::{HEADER_LENGTH, is_header, is_open, split_block};
+use crate::layout::{FRAME_LENGTH, HEADER_LENGTH, is_header, is_open, split_block};
 use qz_civil::List;
 use std::alloc::Global;
 
-// What stands in the bytes of a store: payloads, and behind them a closed gate or a bad place, at the offset `gate`.
+// What the bytes of a store hold: payloads, and after them a closed gate or a bad place, at the offset `gate`.
 #[derive(Drop)]
 pub(crate) struct Parsed {
     pub(crate) payloads: List<List<u8>>,
@@ -16,7 +16,7 @@ pub(crate) struct Parsed {
     pub(crate) is_whole: bool,
 }
 
-// The payloads that stand in these bytes, up to a closed gate or to the first bad place.
+// The payloads in these bytes, up to a closed gate or to the first bad place.
 pub(crate) fn parse(alloc: Global, bytes: &[u8], kind: u8) -> Result<Parsed, MountError>
     ensures whole { IfOk result (λ p. p.is_whole ≡ true → Holds bytes.now kind p.payloads) }
     ensures damaged { IfOk result (λ p. p.is_whole ≡ false → IsDamagedBehind bytes.now kind p.payloads p.gate) }
@@ -56,7 +56,7 @@ pub(crate) fn parse(alloc: Global, bytes: &[u8], kind: u8) -> Result<Parsed, Mou
                 return Err(error);
             }
         }
-        gate += 5 + payload.len() as u64;
+        gate += (FRAME_LENGTH + payload.len()) as u64;
         rest = after;
     }
     Ok(Parsed {
@@ -66,7 +66,7 @@ pub(crate) fn parse(alloc: Global, bytes: &[u8], kind: u8) -> Result<Parsed, Mou
     })
 }
 
-// Puts a copy of a payload behind the others.
+// Adds a copy of a payload at the end.
 fn add(alloc: Global, payloads: &mut List<List<u8>>, payload: &[u8]) -> Result<(), MountError>
     ensures ok { OnOk result (payloads.new ≡ payloads.old ++ payload.now ∷ []) }
     ensures err { IfErr result (λ e. e ≡ MountError.NoMemory) }

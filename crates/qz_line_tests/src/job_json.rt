@@ -2,20 +2,20 @@
 mod asked;
 
 use crate::rows::{Row, check};
-use qz_job_json::{Given, LineFault, read_step};
+use qz_job_json::{Given, LineError, LineFault, read_step};
 use std::alloc::{AllocError, Global};
 use std::process::Abort;
 
-fn text_of(alloc: Global, read: &Result<Option<Given>, LineFault>) -> Result<String, AllocError> {
+fn text_of(alloc: Global, read: &Result<Option<Given>, LineError>) -> Result<String, AllocError> {
     match read {
         Ok(Some(given)) => format!(in alloc; "{given:?}"),
         Ok(None) => String::from_str(alloc, "blank"),
-        Err(fault) => format!(in alloc; "{fault:?}"),
+        Err(error) => format!(in alloc; "{error:?}"),
     }
 }
 
-// What is wrong with a line. A step is let go here and nowhere else.
-fn fault_of(alloc: Global, line: &[u8]) -> Option<LineFault> {
+// Why a line isn't read. A step is dropped here and nowhere else.
+fn error_of(alloc: Global, line: &[u8]) -> Option<LineError> {
     read_step(alloc, line).err()
 }
 
@@ -23,7 +23,7 @@ fn fault_of(alloc: Global, line: &[u8]) -> Option<LineFault> {
 type StepRow = (&'static str, &'static str);
 
 impl Row for StepRow {
-    // What the line says is let go here and nowhere else.
+    // What the line says is dropped here and nowhere else.
     fn holds(&self, alloc: Global) -> Result<bool, AllocError> {
         let read = read_step(alloc, self.0.as_bytes());
         let text = text_of(alloc, &read);
@@ -74,7 +74,7 @@ fn has_fault(
     want: Option<LineFault>,
 ) -> Result<bool, AllocError> {
     let line = format!(in alloc; "{before}{words}{behind}")?;
-    Ok(fault_of(alloc, line.as_bytes()) == want)
+    Ok(error_of(alloc, line.as_bytes()) == want.map(LineError::Bad))
 }
 
 fn check_faults(
@@ -215,7 +215,7 @@ impl Row for LongRow {
         let mut bytes = Vec::from_slice(alloc, before)?;
         push_row(&mut bytes, byte, count)?;
         bytes.extend_from_slice(behind)?;
-        Ok(fault_of(alloc, &bytes) == want)
+        Ok(error_of(alloc, &bytes) == want.map(LineError::Bad))
     }
 }
 
@@ -224,16 +224,16 @@ fn lengths_have_limits(rt: HostRuntime) -> Result<(), AllocError> {
     check(&rt, rt.alloc(), LONG)
 }
 
-fn fault_of_nested(alloc: Global, depth: usize) -> Result<Option<LineFault>, AllocError> {
+fn error_of_nested(alloc: Global, depth: usize) -> Result<Option<LineError>, AllocError> {
     let mut bytes = Vec::new(alloc);
     push_row(&mut bytes, b'[', depth)?;
     push_row(&mut bytes, b']', depth)?;
-    Ok(fault_of(alloc, &bytes))
+    Ok(error_of(alloc, &bytes))
 }
 
 #[test]
 fn arrays_nest_127_deep(rt: HostRuntime) -> Result<(), AllocError> {
-    assert!(rt; fault_of_nested(rt.alloc(), 127)? == Some(LineFault::Shape));
-    assert!(rt; fault_of_nested(rt.alloc(), 128)? == Some(LineFault::NotJson));
+    assert!(rt; error_of_nested(rt.alloc(), 127)? == Some(LineError::Bad(LineFault::Shape)));
+    assert!(rt; error_of_nested(rt.alloc(), 128)? == Some(LineError::Bad(LineFault::NotJson)));
     Ok(())
 }

@@ -2,6 +2,7 @@ pub mod Changes
 mod Counts
 mod DueFirst
 pub mod DueLaws
+mod DueOrder
 pub mod Histories
 pub mod Kept
 pub mod KeptAcquiring

@@ -1,5 +1,5 @@
 -- Which triggers are due, and in which order.
-use Rattle.std.specs.Prelude.{ℤ, negsuc, ◌-ℤ◌, List, [], ◌∷◌, Bool, true, false, not, ◌&&◌, int_le, int_lt, filter, if◌then◌else◌, Option, Some, None}
+use Rattle.std.specs.Prelude.{◌≡◌, ⊤, ℤ, negsuc, ◌-ℤ◌, List, [], ◌∷◌, Bool, true, false, not, ◌&&◌, int_le, int_lt, filter, if◌then◌else◌, Option, Some, None}
 use Rattle.std.specs.Ordering.{int_cmp, int_eq, ordering_then, is_gt}
 use Rattle.std.specs.declared.cmp.Ordering.{Ordering}
 use Rattle.std.specs.declared.cmp.Ordering.TheVariants.{Less, Equal, Greater}
@@ -59,3 +59,13 @@ due_triggers T m limit = in_due_order (filter (is_due T m limit) T.triggers)
 abbrev pub earlier : TriggerData → Option TriggerData → TriggerData
 earlier t None = t
 earlier t (Some u) = if is_gt (due_cmp t u) then u else t
+
+-- the trigger doesn't come after the first of these
+abbrev pub IsNotAfterFirst : TriggerData → List TriggerData → Type 0
+IsNotAfterFirst t [] = ⊤
+IsNotAfterFirst t (u ∷ us) = is_gt (due_cmp t u) ≡ false
+
+-- no trigger comes after the next one in due order
+abbrev pub IsInDueOrder : List TriggerData → Type 0
+IsInDueOrder [] = ⊤
+IsInDueOrder (t ∷ ts) = IsNotAfterFirst t ts × IsInDueOrder ts

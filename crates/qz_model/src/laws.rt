@@ -1,13 +1,21 @@
 //! Laws of the model, each as the contract of a function that does nothing: so they are proved, and a program that rests on
 //! one can call it.
-ghost use Rattle.std.specs.Prelude.{◌≡◌, List, IsTrue};
+ghost use Rattle.std.specs.Prelude.{◌≡◌, Bool, List, IsTrue, count_by};
 ghost use Rattle.std.specs.List.{AllByRecursion};
 ghost use Rattle.qz_types.specs.Entries.{is_entry};
+ghost use Rattle.qz_types.specs.Rows.{TriggerData};
 ghost use Rattle.qz_types.specs.Steps.{is_step};
 ghost use Rattle.qz_types.specs.Tables.{new_tables};
+ghost use Rattle.qz_model.specs.Due.{in_due_order, IsInDueOrder};
 ghost use Rattle.qz_model.specs.History.{History, IsLegal, replay};
 ghost use Rattle.qz_model.specs.Invariant.{TablesValid};
 ghost use Rattle.qz_model.specs.Script.{ScriptState, TimedStep, state_after};
+
+/// Triggers put in due order are in it, and are the same ones: each test passes as many of them as before.
+pub fn due_order_is_sorted()
+    ensures sorted { (ts : List TriggerData) → IsInDueOrder (in_due_order ts) }
+    ensures same { (p : TriggerData → Bool) (ts : List TriggerData) → count_by p (in_due_order ts) ≡ count_by p ts }
+{}
 
 /// Each legal history of valid entries that begins with a new store leaves valid tables.
 pub fn legal_histories_leave_valid_tables()

@@ -6,5 +6,7 @@ mod laws;
 mod plain;
 mod rows;
 
-pub use laws::{legal_histories_leave_valid_tables, scripts_keep_legal_histories};
+pub use laws::{
+    due_order_is_sorted, legal_histories_leave_valid_tables, scripts_keep_legal_histories,
+};
 pub use plain::{PlainStore, Worked};

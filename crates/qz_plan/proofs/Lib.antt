@@ -1,1 +1,3 @@
+pub mod FireLaws
+pub mod FireTimesLaws
 pub mod NextLaws

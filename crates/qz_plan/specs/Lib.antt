@@ -1,1 +1,2 @@
+pub mod FireTimes
 pub mod Schedule

@@ -1,7 +1,10 @@
-//! When a trigger fires: the schedule of each kind.
+//! When a trigger fires: the schedule of each kind, less what its calendars exclude.
 #![tactic(auto)]
 
 mod crons;
+mod fire_times;
 mod schedules;
+mod times;
 
-pub use schedules::after;
+pub use fire_times::{after, first};
+pub use times::FireTimes;

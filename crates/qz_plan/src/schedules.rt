@@ -1,4 +1,4 @@
-//! The fire times of a timing.
+//! The schedule of a timing, whatever its calendars exclude.
 ghost use Rattle.std.specs.Prelude.{◌≡◌, negsuc, ◌≤ℤ◌, IsTrue};
 ghost use Rattle.qz_civil.specs.Least.{IsNext};
 ghost use Rattle.qz_civil.specs.Timings.{is_timing};
@@ -7,9 +7,9 @@ ghost use Rattle.qz_plan.specs.Schedule.{IsScheduled};
 use crate::crons::cron_after;
 use qz_civil::{Kind, LAST, Timing, Zone};
 
-/// The least fire time after `after`, up to `LAST`, in the zone that the kind names, and `None` where there is none.
-/// Calendars are not looked at. Both are in ms since 1970-01-01T00:00:00Z, and `after` is a timestamp or -1. No memory.
-pub fn after(timing: &Timing, zone: &Zone, after: i64) -> Option<i64>
+/// The least timestamp of the schedule after `after`, up to `LAST`, in the zone that the kind names, and `None` where
+/// there is none. Both are in ms since 1970-01-01T00:00:00Z, and `after` is a timestamp or -1.
+pub(crate) fn scheduled_after(timing: &Timing, zone: &Zone, after: i64) -> Option<i64>
     requires timing { IsTrue (is_timing timing.now) }
     requires low { negsuc 0 ≤ℤ after }
     requires high { after ≤ℤ LAST }

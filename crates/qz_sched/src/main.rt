@@ -1,85 +1,8 @@
-//! The program `qz_sched`: the top call over standard input and output, two files and the system's clock.
+//! The program `qz_sched`. Its stored run is a script on a store that is there already.
 #![tactic(auto)]
 
-mod help;
-mod words;
-
-use help::{HELP, VERSION};
-use qz_disk::{FileDisk, SystemFile};
-use qz_io::{RealClock, Sink, StdSink, StdSource, write_all};
-use qz_top::{Status, command};
-use qz_types::{NoMemory, Text};
 use std::process::ExitCode;
-use words::read_words;
-
-/// The files of the two stores, in the current folder.
-const TRIGGERS: &str = "qz-triggers.store";
-
-const STATES: &str = "qz-states.store";
 
 fn main(rt: HostRuntime) -> ExitCode {
-    let mut out = StdSink::new(rt.stdout());
-    let mut err = StdSink::new(rt.stderr());
-    let status = match read_words(rt.alloc(), &rt) {
-        Ok(words) => match told(&words) {
-            Some(text) => tell(text, &mut out, &mut err),
-            None => work(rt, &words, &mut out, &mut err),
-        },
-        Err(_) => starve(&mut err),
-    };
-    ExitCode::from(status.exit_number())
-}
-
-/// What is told of the program itself, where the only word asks for it.
-fn told(words: &[Text]) -> Option<&'static str> {
-    match words {
-        [word] => match word.as_str() {
-            "--help" => Some(HELP),
-            "--version" => Some(VERSION),
-            _ => None,
-        },
-        _ => None,
-    }
-}
-
-fn tell<K: Sink, E: Sink>(text: &str, out: &mut K, err: &mut E) -> Status {
-    let status = match write_all(out, text.as_bytes()) {
-        Ok(()) => Status::Ok,
-        Err(_) => Status::WriteFault,
-    };
-    qz_top::report(status, err);
-    status
-}
-
-fn starve<E: Sink>(err: &mut E) -> Status {
-    qz_top::report(Status::NoMemory, err);
-    Status::NoMemory
-}
-
-/// The top call over real objects. The files are opened at the first call on them.
-fn work<K: Sink, E: Sink>(rt: HostRuntime, words: &[Text], out: &mut K, err: &mut E) -> Status {
-    match paths(rt) {
-        Ok((triggers, states)) => {
-            let mut input = StdSource::new(rt.reader());
-            let mut clock = RealClock::new(&rt);
-            let ended = command(
-                rt.alloc(),
-                words,
-                &mut input,
-                out,
-                err,
-                FileDisk::new(SystemFile::new(rt, triggers)),
-                FileDisk::new(SystemFile::new(rt, states)),
-                &mut clock,
-            );
-            ended.status
-        }
-        Err(_) => starve(err),
-    }
-}
-
-fn paths(rt: HostRuntime) -> Result<(Text, Text), NoMemory> {
-    let triggers = Text::from_str(rt.alloc(), TRIGGERS)?;
-    let states = Text::from_str(rt.alloc(), STATES)?;
-    Ok((triggers, states))
+    qz_program::run(rt)
 }

@@ -126,6 +126,31 @@ fn a_store_is_created_once(rt: HostRuntime) -> Result<(), AllocError> {
     Ok(())
 }
 
+// What a disk begins with, and what making a store of triggers on it answers.
+type Making = (&'static [u8], Result<(), CreateError>);
+
+impl Row for Making {
+    fn holds(&self, alloc: Global) -> Result<bool, AllocError> {
+        let &(front, answer) = self;
+        let mut disk = disk_of(alloc, front, b"")?;
+        Ok(create(&mut disk, TRIGGERS) == answer)
+    }
+}
+
+const MAKINGS: &[Making] = &[
+    (b"QZ23\x01T", Err(CreateError::Exists)),
+    (b"QZ23\x02T, a later version", Err(CreateError::Exists)),
+    (b"QZ23\xffS, a later version", Err(CreateError::OtherKind)),
+    (b"QZ23\x01U, another kind", Ok(())),
+    (b"QZ24\x01T, other letters", Ok(())),
+    (b"QZ23\x01", Ok(())),
+];
+
+#[test]
+fn a_store_of_any_version_is_left(rt: HostRuntime) -> Result<(), AllocError> {
+    check(&rt, rt.alloc(), MAKINGS)
+}
+
 // Whether a store is created the second time, where a fault comes first.
 fn is_created_after_a_fault<D: Disk>(mut disk: D) -> bool {
     create(&mut disk, STATES) == Err(CreateError::Fault) && create(&mut disk, STATES) == Ok(())

@@ -15,7 +15,7 @@ use Rattle.qz_io.specs.Handlers.{AllHandled, HandlesLines}
 use Rattle.qz_io.specs.LineStates.{LineState}
 use Rattle.qz_io.specs.Lines.{lines_of}
 use Rattle.qz_io.specs.Outside.{Outside}
-use Rattle.qz_job_json.specs.declared.lines.LineFault.TheVariants as fault
+use Rattle.qz_job_json.specs.declared.faults.LineFault.TheVariants as fault
 use Rattle.qz_times.specs.declared.answers.Answering.{Answering}
 use Rattle.qz_times.specs.declared.ends.LineEnd.{LineEnd}
 use Rattle.qz_times.specs.declared.ends.LineEnd.TheVariants as ends

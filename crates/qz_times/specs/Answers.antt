@@ -8,7 +8,7 @@ use Rattle.qz_io.specs.Outside.{Outside, IsHandedOn}
 use Rattle.qz_io.specs.declared.handlers.LinesEnd.{LinesEnd}
 use Rattle.qz_io.specs.declared.handlers.LinesEnd.TheVariants as lines
 use Rattle.qz_io.specs.declared.traits.Sink as sink
-use Rattle.qz_job_json.specs.declared.lines.LineFault.TheVariants as fault
+use Rattle.qz_job_json.specs.declared.faults.LineFault.TheVariants as fault
 use Rattle.qz_times.specs.declared.answers.Answering.{Answering}
 use Rattle.qz_times.specs.declared.ends.LineEnd.{LineEnd}
 use Rattle.qz_times.specs.declared.ends.LineEnd.TheVariants as ends

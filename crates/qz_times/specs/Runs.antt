@@ -6,7 +6,7 @@ use Rattle.qz_io.specs.Ahead.{BeginWith}
 use Rattle.qz_io.specs.Handlers.{IfKnown, IsNextLine, HasNextLine, IsNextNumber}
 use Rattle.qz_io.specs.Lines.{IsOneLine, lines_of, with_feeds}
 use Rattle.qz_io.specs.Outside.{Outside, IsHandedOn}
-use Rattle.qz_job_json.specs.declared.lines.LineFault.{LineFault}
+use Rattle.qz_job_json.specs.declared.faults.LineFault.{LineFault}
 use Rattle.qz_times.specs.declared.queries.Query.{Query}
 use Rattle.qz_times.specs.declared.ends.TimesEnd.{TimesEnd}
 use Rattle.qz_times.specs.declared.ends.TimesEnd.TheVariants as ends

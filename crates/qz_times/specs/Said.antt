@@ -19,11 +19,11 @@ use Rattle.qz_types.specs.declared.steps.StepReply.TheVariants as reply
 use Rattle.qz_types.specs.declared.triggers.TriggerSpec.{TriggerSpec}
 use Rattle.qz_job_json.specs.declared.asked.Asked.{Asked}
 use Rattle.qz_job_json.specs.declared.asked.Asked.TheVariants.{AddZone, AddTrigger}
-use Rattle.qz_job_json.specs.declared.lines.LineFault.{LineFault}
+use Rattle.qz_job_json.specs.declared.faults.LineFault.{LineFault}
 use Rattle.qz_job_json.specs.Asked.{asked_meaning}
 use Rattle.qz_report.specs.Replies.{reply_text}
 use Rattle.qz_report.specs.Times.{times_text}
-use Rattle.qz_plan.specs.Schedule.{IsScheduled}
+use Rattle.qz_plan.specs.FireTimes.{IsFireTime}
 use Rattle.qz_times.specs.declared.queries.Query.{Query}
 
 -- what a line means; proofs see this word closed
@@ -84,7 +84,7 @@ pub record AreFirst (P : ℤ → Type 0) (after : ℤ) (count : ℕ) (times : Li
 abbrev pub IsToldIn : Option (List Stretch) → Query → TriggerSpec → List ℕ → Type 0
 IsToldIn None q spec text = text ≡ reply_text (reply.Refused UnknownZone)
 IsToldIn (Some zone) q spec text =
-    (times : List ℤ) × AreFirst (IsScheduled spec.timing zone) q.after q.count times
+    (times : List ℤ) × AreFirst (IsFireTime spec.timing zone []) q.after q.count times
     × (text ≡ times_text spec.key times)
 
 -- no calendar is stored

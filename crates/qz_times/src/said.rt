@@ -1,6 +1,7 @@
 //! What is said to a line.
-ghost use Rattle.std.specs.Prelude.{◌≡◌, ◌⊎◌, negsuc, ◌≤ℤ◌, Err, IsTrue, IfOk, IfErr, IfSome};
+ghost use Rattle.std.specs.Prelude.{negsuc, ◌≤ℤ◌, IsTrue, IfOk, IfErr, IfSome};
 ghost use Rattle.qz_job_json.specs.Asked.{is_asked};
+ghost use Rattle.qz_job_json.specs.Lines.{ReadsLineAs};
 ghost use Rattle.qz_times.specs.Said.{line_meaning, LineSaid};
 ghost use Rattle.qz_times.specs.Answers.{NotSaid};
 
@@ -9,7 +10,7 @@ use crate::queries::Query;
 use crate::telling::say;
 use crate::zones::Zones;
 use qz_civil::{LAST, Text};
-use qz_job_json::{Asked, LineFault, read_asked};
+use qz_job_json::{Asked, LineError, read_asked};
 use std::alloc::Global;
 
 /// What is said to a line: nothing to a blank one.
@@ -30,14 +31,14 @@ pub(crate) fn answer_to(
             Ok(text) => Ok(text),
             Err(_) => Err(LineEnd::NoMemory),
         },
-        Err(LineFault::NoMemory) => Err(LineEnd::NoMemory),
-        Err(fault) => Err(LineEnd::Bad(fault)),
+        Err(LineError::NoMemory) => Err(LineEnd::NoMemory),
+        Err(LineError::Bad(fault)) => Err(LineEnd::Bad(fault)),
     }
 }
 
 #[tactic(auto, unfolding(crate::specs::Said::line_meaning))]
-fn read_line(alloc: Global, line: &[u8]) -> Result<Option<Asked>, LineFault>
-    ensures meaning { (result ≡ Err LineFault.NoMemory) ⊎ (result ≡ line_meaning line.now) }
+fn read_line(alloc: Global, line: &[u8]) -> Result<Option<Asked>, LineError>
+    ensures meaning { ReadsLineAs result line.now (line_meaning line.now) }
     ensures valid { IfOk result (λ asked. IfSome asked (λ a. IsTrue (is_asked a))) }
 {
     read_asked(alloc, line)

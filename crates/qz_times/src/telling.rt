@@ -5,11 +5,12 @@ ghost use Rattle.qz_types.specs.Rows.{is_trigger_spec};
 ghost use Rattle.qz_job_json.specs.Asked.{is_asked};
 ghost use Rattle.qz_types.specs.declared.steps.StepReply.TheVariants as reply;
 ghost use Rattle.qz_report.specs.Replies.{reply_text};
-ghost use Rattle.qz_plan.specs.Schedule.{IsScheduled};
+ghost use Rattle.qz_plan.specs.FireTimes.{IsFireTime};
 ghost use Rattle.qz_times.specs.Said.{AreFirst, IsTold, IsToldIn, Said, zone_name};
 
 use crate::queries::Query;
 use crate::zones::{Zones, add_zone};
+use qz_calendar::Chain;
 use qz_civil::{Kind, LAST, NoMemory, Text, Timing, Zone};
 use qz_job_json::Asked;
 use qz_report::{reply_line, times_line};
@@ -78,7 +79,8 @@ fn tell_in(alloc: Global, zone: &Zone, spec: &TriggerSpec, query: Query) -> Resu
     requires high { query.after ≤ℤ LAST }
     ensures { IfOk result (IsToldIn (Some zone.now) query spec.now) }
 {
-    let times = first_times(alloc, &spec.timing, zone, query)?;
+    let chain = Chain::empty();
+    let times = first_times(alloc, &spec.timing, zone, &chain, query)?;
     times_line(alloc, &spec.key, &times)
 }
 
@@ -87,17 +89,18 @@ fn first_times(
     alloc: Global,
     timing: &Timing,
     zone: &Zone,
+    chain: &Chain,
     query: Query,
 ) -> Result<Vec<i64>, NoMemory>
     requires timing { IsTrue (is_timing timing.now) }
     requires low { negsuc 0 ≤ℤ query.after }
     requires high { query.after ≤ℤ LAST }
-    ensures { IfOk result (λ times. AreFirst (IsScheduled timing.now zone.now) query.after query.count times.items) }
+    ensures { IfOk result (λ times. AreFirst (IsFireTime timing.now zone.now chain.now) query.after query.count times.items) }
 {
     let mut times = Vec::new(alloc);
     let mut last = query.after;
     for _place in 0..query.count {
-        let Some(next) = qz_plan::after(timing, zone, last) else {
+        let Some(next) = qz_plan::after(timing, zone, chain, last) else {
             return Ok(times);
         };
         times.push(next)?;

@@ -20,7 +20,7 @@ use Rattle.qz_io.specs.LineStates.{LineState}
 use Rattle.qz_io.specs.Lines.{lines_of}
 use Rattle.qz_io.specs.Outside.{Outside}
 use Rattle.qz_io.proofs.Readings.{Tells-trans}
-use Rattle.qz_job_json.specs.declared.lines.LineFault.TheVariants as line_fault
+use Rattle.qz_job_json.specs.declared.faults.LineFault.TheVariants as line_fault
 use Rattle.qz_top.specs.declared.runs.Run.{Run}
 use Rattle.qz_top.specs.declared.statuses.BadKind.{BadKind}
 use Rattle.qz_top.specs.declared.statuses.BadKind.TheVariants as bad

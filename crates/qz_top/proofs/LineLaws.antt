@@ -5,7 +5,7 @@ use Rattle.std.specs.List.{AllByRecursion}
 use Rattle.std.proofs.lemmas.Bool.Decides.{nat_tests}
 use Rattle.qz_types.specs.declared.steps.Step.{Step}
 use Rattle.qz_model.specs.Script.{TimedStep}
-use Rattle.qz_job_json.specs.declared.lines.LineFault.{LineFault}
+use Rattle.qz_job_json.specs.declared.faults.LineFault.{LineFault}
 use Rattle.qz_io.specs.declared.limits.TheConstants.{LINE_COUNT_LIMIT}
 use Rattle.qz_top.specs.declared.statuses.Status.{Status}
 use Rattle.qz_top.specs.declared.statuses.Status.TheVariants.{BadLine}

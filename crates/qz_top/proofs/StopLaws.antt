@@ -11,7 +11,7 @@ use Rattle.qz_io.specs.declared.traits.Sink as sink
 use Rattle.qz_io.specs.Handlers.{HandlesLines, IfKnown, IsNextLine, IsNextNumber}
 use Rattle.qz_io.specs.Lines.{lines_of}
 use Rattle.qz_io.proofs.Readings.{Tells-trans}
-use Rattle.qz_job_json.specs.declared.lines.LineFault.TheVariants as line_fault
+use Rattle.qz_job_json.specs.declared.faults.LineFault.TheVariants as line_fault
 use Rattle.qz_top.specs.declared.statuses.BadKind.TheVariants as bad
 use Rattle.qz_top.specs.declared.statuses.Status.TheVariants as status
 use Rattle.qz_top.specs.declared.turns.LineEnd.{LineEnd}

@@ -17,8 +17,10 @@ use Rattle.qz_top.specs.Trails.{texts, RunState, Went}
 use Rattle.qz_top.specs.Turns.{Did, Ran, DidStep, IsOwn, taken_reading, step_at, GaveUp, StepPart, NotAnswered, StepDone, LineDone, RanPart, IsBad, Untouched, line_end}
 use Rattle.qz_top.specs.declared.turns.LineEnd.{LineEnd}
 use Rattle.qz_top.specs.declared.turns.LineEnd.TheVariants as ends
-use Rattle.qz_job_json.specs.declared.lines.LineFault.{LineFault}
-use Rattle.qz_job_json.specs.declared.lines.LineFault.TheVariants as line_fault
+use Rattle.qz_job_json.specs.declared.faults.LineFault.{LineFault}
+use Rattle.qz_job_json.specs.declared.faults.LineError.{LineError}
+use Rattle.qz_job_json.specs.declared.faults.LineError.TheVariants as line_error
+use Rattle.qz_job_json.specs.Lines.{ReadsLineAs}
 use Rattle.qz_top.proofs.LineLaws.{steps_of-append, readings_of-append}
 use Rattle.qz_io.proofs.TakenLaws.{AllByRecursion-append}
 use Rattle.qz_top.proofs.TrailLaws.{Went-none, Went-more, Idles-none}
@@ -108,11 +110,6 @@ Ran-blank line R o e = record {
   written = Appends-nil o.held;
 }
 
--- what was read is the line's meaning, if it isn't want of memory
-read_meaning : (given : Option Given) (m : Meaning) → (Ok given ≡ Err line_fault.NoMemory) ⊎ (Ok given ≡ m) → m ≡ Ok given
-read_meaning given m (inl e) = absurd cc
-read_meaning given m (inr e) = sym e
-
 gave_up : (R : RunState) (o : Outside) → GaveUp R R o o
 gave_up R o = record { idles = Idles-none R; readings = []; one = omega arith; told = Tells-nil o.readings; kept = Appends-nil o.held }
 
@@ -171,27 +168,21 @@ StepDone-part given at before after a b text own told went written = record {
 
 -- what became of a line's step became of the line
 pub LineDone-step : (r : Result (Unit {0}) LineEnd) (line : List ℕ) (given : Given) (before after : RunState) (a b : Outside)
-    → (Ok (Some given) ≡ Err line_fault.NoMemory) ⊎ (Ok (Some given) ≡ line_meaning line) → StepDone r given before after a b → LineDone r line before after a b
+    → line_meaning line ≡ Ok (Some given) → StepDone r given before after a b → LineDone r line before after a b
 unfolding Did-one
-LineDone-step (Ok u) line given before after a b read done =
-    let e = read_meaning (Some given) (line_meaning line) read in (
-      taken_reading given.at done.0,
-      record {
-        did = Did-one line given done.0 before after a b e done.1;
-        written = subst (Appends a.held b.held) (sym (one_text done.1.reply)) done.2;
-      },
-    )
+LineDone-step (Ok u) line given before after a b read done = (
+  taken_reading given.at done.0,
+  record {
+    did = Did-one line given done.0 before after a b read done.1;
+    written = subst (Appends a.held b.held) (sym (one_text done.1.reply)) done.2;
+  },
+)
 LineDone-step (Err (ends.Bad kind)) line given before after a b read done = absurd done
-LineDone-step (Err ends.WriteFault) line given before after a b read done = part_of line given before after a b (read_meaning (Some given) (line_meaning line) read) done
-LineDone-step (Err ends.Unanswered) line given before after a b read done = part_of line given before after a b (read_meaning (Some given) (line_meaning line) read) done
+LineDone-step (Err ends.WriteFault) line given before after a b read done = part_of line given before after a b read done
+LineDone-step (Err ends.Unanswered) line given before after a b read done = part_of line given before after a b read done
 LineDone-step (Err ends.NoMemory) line given before after a b read done = done
 LineDone-step (Err (ends.JournalFull need room)) line given before after a b read done =
-    record { given = given; meaning = read_meaning (Some given) (line_meaning line) read; full = done }
-
--- a fault is the line's meaning, if it isn't want of memory
-fault_meaning : (fault : LineFault) (m : Meaning) → (fault ≡ line_fault.NoMemory → ⊥) → (◌≡◌ {A = Meaning} (Err fault) (Err line_fault.NoMemory)) ⊎ (Err fault ≡ m) → m ≡ Err fault
-fault_meaning fault m other (inl e) = absurd (other cc)
-fault_meaning fault m other (inr e) = sym e
+    record { given = given; meaning = read; full = done }
 
 untouched : (R : RunState) (o : Outside) → Untouched R R o o
 untouched R o = record { same = refl; kept = Appends-nil o.held; told = Tells-nil o.readings }
@@ -202,23 +193,14 @@ bad_done fault line R o e = (record { fault = fault; meaning = e; kind_is = refl
 
 -- a blank line was read
 pub LineDone-blank : (line : List ℕ) (R : RunState) (o : Outside)
-    → (◌≡◌ {A = Meaning} (Ok None) (Err line_fault.NoMemory)) ⊎ (Ok None ≡ line_meaning line) → (readings : List ℤ) × Ran (line ∷ []) readings R R o o
-LineDone-blank line R o read = ([], Ran-blank line R o (read_meaning None (line_meaning line) read))
+    → line_meaning line ≡ Ok None → (readings : List ℤ) × Ran (line ∷ []) readings R R o o
+LineDone-blank line R o read = ([], Ran-blank line R o read)
 
--- a line with a fault did nothing
-pub LineDone-fault : (fault : LineFault) (line : List ℕ) (R : RunState) (o : Outside)
-    → (◌≡◌ {A = Meaning} (Err fault) (Err line_fault.NoMemory)) ⊎ (Err fault ≡ line_meaning line) → LineDone (Err (line_end fault)) line R R o o
-LineDone-fault line_fault.NoMemory line R o read = gave_up R o
-LineDone-fault line_fault.TooLong line R o read = bad_done line_fault.TooLong line R o (fault_meaning line_fault.TooLong (line_meaning line) (λ e. cc) read)
-LineDone-fault line_fault.NotJson line R o read = bad_done line_fault.NotJson line R o (fault_meaning line_fault.NotJson (line_meaning line) (λ e. cc) read)
-LineDone-fault line_fault.NotHere line R o read = bad_done line_fault.NotHere line R o (fault_meaning line_fault.NotHere (line_meaning line) (λ e. cc) read)
-LineDone-fault (line_fault.Cron error) line R o read = bad_done (line_fault.Cron error) line R o (fault_meaning (line_fault.Cron error) (line_meaning line) (λ e. cc) read)
-LineDone-fault line_fault.Shape line R o read = bad_done line_fault.Shape line R o (fault_meaning line_fault.Shape (line_meaning line) (λ e. cc) read)
+-- a line that wasn't read did nothing
+pub LineDone-unread : (error : LineError) (line : List ℕ) (R : RunState) (o : Outside) → ReadsLineAs (Err error) line (line_meaning line) → LineDone (Err (line_end error)) line R R o o
+LineDone-unread line_error.NoMemory line R o read = gave_up R o
+LineDone-unread (line_error.Bad fault) line R o read = bad_done fault line R o read
 
-pub not_write : (fault : LineFault) → line_end fault ≡ ends.WriteFault → ⊥
-not_write line_fault.NoMemory e = cc
-not_write line_fault.TooLong e = cc
-not_write line_fault.NotJson e = cc
-not_write line_fault.NotHere e = cc
-not_write (line_fault.Cron error) e = cc
-not_write line_fault.Shape e = cc
+pub not_write : (error : LineError) → line_end error ≡ ends.WriteFault → ⊥
+not_write line_error.NoMemory e = cc
+not_write (line_error.Bad fault) e = cc

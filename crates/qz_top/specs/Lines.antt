@@ -3,8 +3,8 @@ use Rattle.std.specs.Prelude.{⊤, ℕ, ◌+◌, ℤ, List, [], ◌∷◌, nat_l
 use Rattle.qz_types.specs.declared.steps.Step.{Step}
 use Rattle.qz_model.specs.Script.{TimedStep}
 use Rattle.qz_job_json.specs.declared.lines.Given.{Given}
-use Rattle.qz_job_json.specs.declared.lines.LineFault.{LineFault}
-use Rattle.qz_job_json.specs.declared.lines.LineFault.TheVariants as line_fault
+use Rattle.qz_job_json.specs.declared.faults.LineFault.{LineFault}
+use Rattle.qz_job_json.specs.declared.faults.LineFault.TheVariants as line_fault
 use Rattle.qz_job_json.specs.Lines.{meaning_of}
 use Rattle.qz_io.specs.declared.limits.TheConstants.{LINE_COUNT_LIMIT}
 use Rattle.qz_top.specs.declared.statuses.BadKind.{BadKind}
@@ -25,8 +25,6 @@ kind_of line_fault.NotJson = bad.NotJson
 kind_of line_fault.NotHere = bad.NotHere
 kind_of line_fault.Shape = bad.Shape
 kind_of (line_fault.Cron error) = bad.Cron error
--- no line means this
-kind_of line_fault.NoMemory = bad.Shape
 
 -- it is blank, or it asks for a step
 abbrev pub IsGoodMeaning : Meaning → Type 0

@@ -3,7 +3,7 @@ use Rattle.std.specs.Prelude.{⊤, ◌≡◌, ◌⊎◌, ◌≤◌, ℕ, [], tak
 use Rattle.std.specs.Io.KnownBytes.{Appends}
 use Rattle.qz_disk.specs.Disk.{DiskState, Only, Stays}
 use Rattle.qz_io.specs.Outside.{Outside, IsHandedOn}
-use Rattle.qz_journal.specs.Layout.{IsHeader, HasHeader, Holds, other_kind}
+use Rattle.qz_journal.specs.Layout.{IsStore, HasStore, Holds, other_kind}
 use Rattle.qz_journal.specs.Through.{IsKept}
 use Rattle.qz_journal.specs.declared.layout.TheConstants.{TRIGGERS, STATES}
 use Rattle.qz_types.specs.declared.stores.Store.TheVariants as store
@@ -12,26 +12,26 @@ use Rattle.qz_top.specs.declared.making.Unmade.TheVariants as unmade
 use Rattle.qz_top.specs.declared.statuses.Status.{Status}
 use Rattle.qz_top.specs.declared.statuses.Status.TheVariants as status
 
--- An empty store was made on a disk that began with neither header. What a crash leaves is this store, and what stood
--- behind it stays.
+-- An empty store was made on a disk that began as no store of either kind does. A crash leaves this store, and what
+-- followed it on the disk stays.
 pub record IsNew (kind : ℕ) (old new : DiskState) : Type 0 where
-  pub none : HasHeader kind old.content → ⊥
+  pub none : HasStore kind old.content → ⊥
   pub empty : Holds new.content kind []
   pub durable : Only new.content new
   pub behind : drop 17 new.content ≡ drop 17 old.content
 
--- A store stands on a disk, and was left as it was.
+-- A store of this kind and some version is on a disk, and was left as it was.
 pub record IsLeft (kind : ℕ) (old new : DiskState) : Type 0 where
-  pub header : IsHeader kind (take 16 old.content)
+  pub store : IsStore kind old.content
   pub stays : Stays old new
 
--- a new store, or the one that stood there
+-- a new store, or the one that was there
 abbrev pub IsMade : ℕ → Bool → DiskState → DiskState → Type 0
 IsMade kind true old new = IsNew kind old new
 IsMade kind false old new = IsLeft kind old new
 
--- What came of making a store on a disk: whether there is a new one, or why there is none. A store that stands there
--- stays, also where the disk fails.
+-- What came of making a store on a disk: whether there is a new one, or why there is none. A store that is there stays,
+-- also if the disk fails.
 abbrev pub Makes : ℕ → Result Bool Unmade → DiskState → DiskState → Type 0
 Makes kind (Ok made) old new = IsMade kind made old new
 Makes kind (Err unmade.OtherKind) old new = IsLeft (other_kind kind) old new
@@ -45,7 +45,7 @@ pub record AreMade (t t' s s' : DiskState) : Type 0 where
   pub states : IsMade STATES states_made s s'
   pub some : (triggers_made ≡ true) ⊎ (states_made ≡ true)
 
--- A trigger store is there, new or not, and the disk of states begins with its header too.
+-- A trigger store is there, new or not, and the disk of states begins as one too.
 pub record AreSwapped (t t' s s' : DiskState) : Type 0 where
   pub made : Bool
   pub triggers : IsMade TRIGGERS made t t'

@@ -9,8 +9,9 @@ use Rattle.qz_model.specs.Script.{TimedStep}
 use Rattle.qz_report.specs.Replies.{reply_text}
 use Rattle.qz_cluster.specs.Steps.{Stays, OverflowedStep}
 use Rattle.qz_job_json.specs.declared.lines.Given.{Given}
-use Rattle.qz_job_json.specs.declared.lines.LineFault.{LineFault}
-use Rattle.qz_job_json.specs.declared.lines.LineFault.TheVariants as line_fault
+use Rattle.qz_job_json.specs.declared.faults.LineError.{LineError}
+use Rattle.qz_job_json.specs.declared.faults.LineError.TheVariants as line_error
+use Rattle.qz_job_json.specs.declared.faults.LineFault.{LineFault}
 use Rattle.qz_top.specs.Lines.{line_meaning, kind_of, IsGood, readings_of, steps_of}
 use Rattle.qz_top.specs.Trails.{texts, RunState, Went}
 use Rattle.qz_top.specs.declared.statuses.BadKind.{BadKind}
@@ -118,10 +119,10 @@ StepDone (Err ends.NoMemory) given before after old new = GaveUp before after ol
 StepDone (Err (ends.JournalFull need room)) given before after old new =
     StepFull given need room before after old new
 
--- how a line with this fault ends a script
-abbrev pub line_end : LineFault → LineEnd
-line_end line_fault.NoMemory = ends.NoMemory
-line_end fault = ends.Bad (kind_of fault)
+-- how a line ends a script that isn't read for this reason
+abbrev pub line_end : LineError → LineEnd
+line_end (line_error.Bad fault) = ends.Bad (kind_of fault)
+line_end line_error.NoMemory = ends.NoMemory
 
 -- a line is bad, of this kind
 pub record IsBad (line : List ℕ) (kind : BadKind) : Type 0 where

@@ -34,8 +34,7 @@ pub(crate) fn kind_of(fault: LineFault) -> BadKind
         LineFault::NotJson => BadKind::NotJson,
         LineFault::NotHere => BadKind::NotHere,
         LineFault::Cron(error) => BadKind::Cron(error),
-        // No line is found to be without memory.
-        LineFault::Shape | LineFault::NoMemory => BadKind::Shape,
+        LineFault::Shape => BadKind::Shape,
     }
 }
 

@@ -5,6 +5,7 @@ ghost use Rattle.qz_io.specs.Around.{without_input};
 ghost use Rattle.qz_io.specs.Clocks.{Tells};
 ghost use Rattle.qz_types.specs.Steps.{is_step};
 ghost use Rattle.qz_types.specs.declared.steps.StepReply.{StepReply as Reply};
+ghost use Rattle.qz_job_json.specs.Lines.{ReadsLineAs};
 ghost use Rattle.qz_report.specs.Replies.{reply_text};
 ghost use Rattle.qz_cluster.specs.Steps.{IsStep, IsCutShort};
 ghost use Rattle.qz_cluster.specs.View.{view as state_of};
@@ -19,7 +20,7 @@ use crate::statuses::kind_of;
 use qz_cluster::StepEnd;
 use qz_disk::Disk;
 use qz_io::{Clock, LineHandler, Sink, write_all};
-use qz_job_json::{Given, LineFault, read_step};
+use qz_job_json::{Given, LineError, read_step};
 use qz_report::reply_line;
 use qz_types::{NoMemory, Step, StepReply, Text};
 use std::alloc::Global;
@@ -67,24 +68,25 @@ fn do_line<K: Sink, D: Disk, C: Clock>(
     match read_line(alloc, line) {
         Ok(None) => Ok(()),
         Ok(Some(given)) => do_step(alloc, given, run, out, clock),
-        Err(fault) => Err(fault_of(fault)),
+        Err(error) => Err(end_of(error)),
     }
 }
 
 #[tactic(auto, unfolding(crate::specs::Lines::line_meaning))]
-fn read_line(alloc: Global, line: &[u8]) -> Result<Option<Given>, LineFault>
-    ensures meaning { (result ≡ Err LineFault.NoMemory) ⊎ (result ≡ line_meaning line.now) }
+fn read_line(alloc: Global, line: &[u8]) -> Result<Option<Given>, LineError>
+    ensures meaning { ReadsLineAs result line.now (line_meaning line.now) }
     ensures valid { IfOk result (λ given. IfSome given (λ g. IsTrue (is_step g.step))) }
 {
     read_step(alloc, line)
 }
 
-fn fault_of(fault: LineFault) -> LineEnd
-    ensures { result ≡ line_end fault }
+/// How a line ends a script that isn't read.
+fn end_of(error: LineError) -> LineEnd
+    ensures { result ≡ line_end error }
 {
-    match fault {
-        LineFault::NoMemory => LineEnd::NoMemory,
-        _ => LineEnd::Bad(kind_of(fault)),
+    match error {
+        LineError::Bad(fault) => LineEnd::Bad(kind_of(fault)),
+        LineError::NoMemory => LineEnd::NoMemory,
     }
 }
 

@@ -1,7 +1,7 @@
 //! Lines of `times` with what they say: the timing or the zone as a text, or the fault.
 use qz_civil::Zone;
 use qz_cron_text::CronError;
-use qz_job_json::{Asked, LineFault, read_asked};
+use qz_job_json::{Asked, LineError, LineFault, read_asked};
 use std::alloc::{AllocError, Global};
 use std::process::Abort;
 
@@ -10,19 +10,20 @@ fn zone_text(alloc: Global, zone: &Zone) -> Result<String, AllocError> {
     format!(in alloc; "zone {offset} {next_start:?}")
 }
 
-fn text_of(alloc: Global, read: &Result<Option<Asked>, LineFault>) -> Result<String, AllocError> {
+fn text_of(alloc: Global, read: &Result<Option<Asked>, LineError>) -> Result<String, AllocError> {
     match read {
         Ok(Some(Asked::AddZone { name: _, zone })) => zone_text(alloc, zone),
         Ok(Some(Asked::AddTrigger { spec })) => format!(in alloc; "{:?}", spec.timing),
         Ok(None) => String::from_str(alloc, "blank"),
-        Err(fault) => format!(in alloc; "{fault:?}"),
+        Err(LineError::Bad(fault)) => format!(in alloc; "{fault:?}"),
+        Err(LineError::NoMemory) => String::from_str(alloc, "no memory"),
     }
 }
 
 // What stands before and behind the words of a table.
 type Around = (&'static str, &'static str);
 
-// Whether the line says this. What it says is let go here and nowhere else.
+// Whether the line says this. What it says is dropped here and nowhere else.
 fn line_says(alloc: Global, line: &str, want: &str) -> Result<bool, AllocError> {
     let read = read_asked(alloc, line.as_bytes());
     let text = text_of(alloc, &read);

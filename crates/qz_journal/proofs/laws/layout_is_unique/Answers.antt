@@ -1,4 +1,5 @@
 use Rattle.qz_journal.proofs.Once.{holds_once, not_damaged, damaged_once}
+use Rattle.qz_journal.proofs.Headers.{one_kind, header_store}
 use Rattle.qz_journal.proofs.laws.layout_is_unique.Goals as goal
 
 pub returns-clause-one_list : goal.returns-clause-one_list
@@ -9,3 +10,9 @@ returns-clause-one_place c = damaged_once
 
 pub returns-clause-not_both : goal.returns-clause-not_both
 returns-clause-not_both c bytes kind at ps = not_damaged bytes kind at ps
+
+pub returns-clause-one_kind : goal.returns-clause-one_kind
+returns-clause-one_kind c = one_kind
+
+pub returns-clause-header : goal.returns-clause-header
+returns-clause-header c = header_store

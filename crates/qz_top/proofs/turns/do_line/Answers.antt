@@ -1,4 +1,4 @@
-use Rattle.qz_top.proofs.TurnLaws.{LineDone-step, LineDone-blank, LineDone-fault, not_write}
+use Rattle.qz_top.proofs.TurnLaws.{LineDone-step, LineDone-blank, LineDone-unread, not_write}
 use Rattle.qz_top.proofs.turns.do_line.Goals as goal
 
 pub returns-in-Ok-Some-clause-done : goal.returns-in-Ok-Some-clause-done
@@ -8,7 +8,7 @@ pub returns-in-Ok-None-clause-done : goal.returns-in-Ok-None-clause-done
 returns-in-Ok-None-clause-done g c = LineDone-blank _ _ _ (rw c.in-Ok-None.field-0-is at c.in-Ok-None.ensures.meaning)
 
 pub returns-in-Err-clause-done : goal.returns-in-Err-clause-done
-returns-in-Err-clause-done g c = rw c.fault_of.ensures (LineDone-fault c.in-Err.fault _ _ _ c.in-Err.ensures.meaning)
+returns-in-Err-clause-done g c = rw c.end_of.ensures (LineDone-unread c.in-Err.error _ _ _ c.in-Err.ensures.meaning)
 
 pub returns-in-Err-clause-write : goal.returns-in-Err-clause-write
-returns-in-Err-clause-write g c e = absurd (not_write c.in-Err.fault cc)
+returns-in-Err-clause-write g c e = absurd (not_write c.in-Err.error cc)

@@ -1,6 +1,6 @@
 use Rattle.std.proofs.Common.{rules, FitsSigned, w64}
 use Rattle.std.proofs.lemmas.Int.{to_z-of_z}
-use Rattle.qz_plan.proofs.schedules.after.Goals as goal
+use Rattle.qz_plan.proofs.schedules.scheduled_after.Goals as goal
 
 pub returns-in-Simple : goal.returns-in-Simple
 returns-in-Simple c =

@@ -1,0 +1,4 @@
+pub mod Lacking
+pub mod ListLaws
+pub mod DayTimes
+pub mod ClockLaws
