@@ -13,7 +13,8 @@ use Rattle.qz_model.specs.History.{History, with_entry, IsLegal, replay, replay_
 use Rattle.qz_model.specs.Invariant.{TablesValid}
 use Rattle.qz_model.specs.Transaction.{transaction}
 use Rattle.qz_model.proofs.Histories.{IsLegalFrom-entry, replay_from-append, valid-left}
-use Rattle.qz_journal.specs.Layout.{version, end_of}
+use Rattle.qz_journal.specs.Layout.{end_of}
+use Rattle.qz_journal.specs.View.{version}
 use Rattle.qz_journal.proofs.Stands.{end_of-push}
 use Rattle.qz_codec.specs.Layout.{record_of}
 use Rattle.qz_codec.specs.Values.{IsEntry}
