@@ -1,4 +1,3 @@
-pub mod Cases
-pub mod Held
+pub mod FoundRows
 pub mod Sound
 pub mod Unaccepted

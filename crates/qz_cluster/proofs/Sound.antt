@@ -1,5 +1,5 @@
 -- A valid step submits a valid entry, so it leaves a sound store where it found one.
-use Rattle.std.proofs.Common.{◌≡◌, ℕ, ℤ, List, Bool, true, false, not, ◌&&◌, IsTrue, Some, None, sym, ◌∙◌, ap, subst}
+use Rattle.std.proofs.Common.{◌≡◌, ℕ, ℤ, List, Bool, true, false, not, ◌&&◌, IsTrue, Some, None, refl, subst}
 use Rattle.std.specs.Prelude.{Option, Ok, Err}
 use Rattle.std.proofs.lemmas.Bool.{and_parts}
 use Rattle.qz_types.specs.Rows.{MemberData, is_node, is_interval}
@@ -20,17 +20,17 @@ use Rattle.qz_trigger_store.proofs.Sound.{same_sound, submitted_sound}
 use Rattle.qz_cluster.specs.Steps.{ClusterState, entry_of_member, entry_of_step, StepCase, IsStep}
 
 both : (a b : Bool) → IsTrue a → IsTrue b → IsTrue (a && b)
-both true true p q = tt
-both true false p q = absurd q
-both false b p q = absurd p
+both true true p q = refl
+both true false p q = q
+both false b p q = p
 
 of_client : (b : Bool) → IsTrue (not b) → IsTrue (has_actor b actor.Client)
-of_client true is = absurd is
-of_client false is = tt
+of_client true is = is
+of_client false is = refl
 
 of_node : (b : Bool) (me : MemberData) → IsTrue b → IsTrue (has_actor b (actor.Node me))
-of_node true me is = tt
-of_node false me is = absurd is
+of_node true me is = refl
+of_node false me is = is
 
 same_entry : (P : EntryData → Type 0) (e f : EntryData) → ◌≡◌ {A = Option EntryData} (Some e) (Some f) → P e → P f
 same_entry P e f same is = let one : e ≡ f = cc in subst P one is
@@ -48,7 +48,7 @@ valid_entry (Client c) held at e valid asked =
     let first = and_parts (is_command c) (not (is_of_node c)) parts.0 in
     same_entry (λ f. IsTrue (is_entry f)) (entry_of actor.Client c at) e asked (both (is_command c) (has_actor (is_of_node c) actor.Client) first.0 (of_client (is_of_node c) first.1))
 valid_entry (Join node interval) held at e valid asked =
-    same_entry (λ f. IsTrue (is_entry f)) (entry_of actor.Client (command.Join node) at) e asked (both (is_node node) true (and_parts (is_node node) (is_interval interval) valid).0 tt)
+    same_entry (λ f. IsTrue (is_entry f)) (entry_of actor.Client (command.Join node) at) e asked (both (is_node node) true (and_parts (is_node node) (is_interval interval) valid).0 refl)
 valid_entry (Node node c) held at e valid asked =
     let parts = and_parts (is_node node && is_command c) (is_of_node c) valid in
     member_entry (member_of node held) c at e asked (and_parts (is_node node) (is_command c) parts.0).1 parts.1

@@ -9,5 +9,4 @@ ghost use Rattle.qz_cluster.specs.Steps.{ClusterState, IsStep};
 #[tactic(auto, using(crate::proofs::Sound::step_sound))]
 pub fn steps_keep_stores_sound()
     ensures { (t : TimedStep) (r : Answered) (S new : ClusterState) → IsStep t r S new → IsSound S.triggers → IsSound new.triggers }
-{
-}
+{}

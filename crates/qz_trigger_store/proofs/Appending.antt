@@ -79,7 +79,6 @@ holding b ps es holds encode = record {
   encode = λ qs also. subst (λ (l : List (List ℕ)). Encode l es) (holds_once b TRIGGERS ps qs holds also) encode;
 }
 
-
 pub holds_with : (kind : ℕ) (found old new : List EntryData) (e : EntryData) (p b c : List ℕ) → kind ≡ TRIGGERS → new ≡ old ++ e ∷ [] → p ≡ record_of e
     → ((ps : List (List ℕ)) → Holds b kind ps → Holds c kind (ps ++ p ∷ [])) → HoldEntries b (found ++ old) → HoldEntries c (found ++ new)
 holds_with kind found old new e p b c kind_is is p_is grows held =

@@ -12,5 +12,4 @@ ghost use Rattle.qz_trigger_store.specs.Stores.{Submits};
 #[tactic(auto, using(crate::proofs::Sound::submitted_sound))]
 pub fn submitting_keeps_stores_sound()
     ensures { (e : EntryData) (answer : Answer Answered Error) (s t : TriggerState) → IsTrue (is_entry e) → Submits trigger_entry e answer s t → IsSound s → IsSound t }
-{
-}
+{}
