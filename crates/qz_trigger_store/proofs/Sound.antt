@@ -40,7 +40,7 @@ sound_as s t history gate payloads sound =
       };
     }
 
-same_sound : (s t : TriggerState) → Same s t → IsSound s → IsSound t
+pub same_sound : (s t : TriggerState) → Same s t → IsSound s → IsSound t
 same_sound s t same sound = sound_as s t same.history same.gate same.payloads sound
 
 appended_sound : (e : EntryData) (r : Reply) (s t : TriggerState) → IsTrue (is_entry e) → Appends trigger_entry e r s t → IsSound s → IsSound t
