@@ -12,7 +12,8 @@ use Rattle.qz_types.specs.Outcomes.{Outcome, accepted, IsAccepted}
 use Rattle.qz_model.specs.Transaction.{transaction}
 use Rattle.qz_model.specs.History.{new_history, tables_left, onto_replies, IsLegalFrom, replay_from, replies_from, moments_from}
 use Rattle.qz_model.proofs.Histories.{IsLegalFrom-entry, replay_from-append, replies_from-append, moments_from-append}
-use Rattle.qz_journal.specs.Layout.{version, Holds, IsBeforeOrAfter}
+use Rattle.qz_journal.specs.Layout.{Holds, IsBeforeOrAfter}
+use Rattle.qz_journal.specs.View.{version}
 use Rattle.qz_journal.specs.declared.layout.TheConstants.{TRIGGERS}
 use Rattle.qz_journal.proofs.Once.{holds_once}
 use Rattle.qz_codec.specs.Layout.{record_of}

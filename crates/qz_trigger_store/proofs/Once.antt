@@ -5,7 +5,8 @@ use Rattle.qz_types.specs.Entries.{EntryData}
 use Rattle.qz_types.specs.Tables.{SchedulerTables, new_tables}
 use Rattle.qz_model.specs.Transaction.{transaction}
 use Rattle.qz_model.specs.History.{History, tables_left, IsLegalFrom, replay_from}
-use Rattle.qz_journal.specs.Layout.{version, Holds}
+use Rattle.qz_journal.specs.Layout.{Holds}
+use Rattle.qz_journal.specs.View.{version}
 use Rattle.qz_journal.specs.declared.layout.TheConstants.{TRIGGERS}
 use Rattle.qz_journal.specs.declared.errors.MountError.{MountError}
 use Rattle.qz_journal.specs.declared.errors.MountError.TheVariants as mount

@@ -20,7 +20,7 @@ same_itself : (s : TriggerState) → Same s s
 same_itself s = record { history = refl; gate = refl; payloads = refl; is_open = refl; undecided = refl; later = omega arith }
 
 passes : (o : Outcome) → IsAccepted o → IsOk (answer_of o)
-passes (accepted T r) is = tt
+passes (accepted T r) is = refl
 passes (refused x) is = absurd is
 
 error_at : (o : Outcome) (s : TriggerState) (e : EntryData) (x : StepRefused) → transaction (replay s.history) e ≡ o → s.is_open ≡ true → IsErrorOf o x → Submits trigger_entry e (Err (submit_error x)) s s
@@ -37,9 +37,9 @@ error_is T s e x y tables is_open is error =
 pub unwritten_is : (T U : SchedulerTables) (s : TriggerState) (e : EntryData) (r : Reply) (y : SubmitError) → T ≡ replay s.history → s.is_open ≡ true → transaction T e ≡ accepted U r → IsUnwritten (length (record_of e)) s y
     → Submits trigger_entry e (Err y) s s
 unwritten_is T U s e r (submit.JournalFull need room) tables is_open is unwritten =
-    record { was_open = is_open; passes = subst (λ (o : Outcome). IsOk (answer_of o)) (sym (ap (λ (V : SchedulerTables). transaction V e) (sym tables) ∙ is)) tt; full = unwritten; same = same_itself s }
+    record { was_open = is_open; passes = subst (λ (o : Outcome). IsOk (answer_of o)) (sym (ap (λ (V : SchedulerTables). transaction V e) (sym tables) ∙ is)) refl; full = unwritten; same = same_itself s }
 unwritten_is T U s e r submit.NoMemory tables is_open is unwritten =
-    record { was_open = is_open; passes = subst (λ (o : Outcome). IsOk (answer_of o)) (sym (ap (λ (V : SchedulerTables). transaction V e) (sym tables) ∙ is)) tt; same = same_itself s }
+    record { was_open = is_open; passes = subst (λ (o : Outcome). IsOk (answer_of o)) (sym (ap (λ (V : SchedulerTables). transaction V e) (sym tables) ∙ is)) refl; same = same_itself s }
 unwritten_is T U s e r (submit.Refused x) tables is_open is unwritten = absurd unwritten
 unwritten_is T U s e r (submit.Closed at) tables is_open is unwritten = absurd unwritten
 unwritten_is T U s e r submit.Fault tables is_open is unwritten = absurd unwritten

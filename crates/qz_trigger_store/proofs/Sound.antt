@@ -1,24 +1,27 @@
 -- What submitting an entry leaves of a store is sound, where the store was.
-use Rattle.std.proofs.Common.{◌≡◌, ℕ, List, [], ◌∷◌, ◌++◌, length, length-append, IsTrue, refl, sym, ◌∙◌, subst, arith}
+use Rattle.std.proofs.Common.{◌≡◌, ℕ, List, [], ◌∷◌, ◌++◌, length, length-append, true, IsTrue, refl, sym, ◌∙◌, subst, arith}
 use Rattle.std.proofs.Math.Logic.{∥∥₁_map}
-use Rattle.std.specs.Prelude.{Result, Ok, Err}
+use Rattle.std.specs.Prelude.{Result, Ok, Err, None}
+use Rattle.std.specs.List.{AllByRecursion}
 use Rattle.qz_types.specs.Entries.{EntryData, is_entry}
 use Rattle.qz_types.specs.Outcomes.{Outcome, accepted, refused, IsAccepted}
-use Rattle.qz_types.specs.Tables.{SchedulerTables}
+use Rattle.qz_types.specs.Tables.{SchedulerTables, new_tables}
 use Rattle.qz_types.specs.declared.errors.SubmitError.{SubmitError}
 use Rattle.qz_types.specs.declared.errors.SubmitError.TheVariants as submit
 use Rattle.qz_types.specs.declared.replies.Reply.{Reply}
-use Rattle.qz_model.specs.History.{History, with_entry, IsLegal, replay}
+use Rattle.qz_model.specs.History.{History, with_entry, IsLegal, replay, replay_from}
 use Rattle.qz_model.specs.Invariant.{TablesValid}
 use Rattle.qz_model.specs.Transaction.{transaction}
 use Rattle.qz_model.proofs.Histories.{IsLegalFrom-entry, replay_from-append, valid-left}
-use Rattle.qz_journal.specs.Layout.{version}
+use Rattle.qz_journal.specs.Layout.{end_of}
+use Rattle.qz_journal.specs.View.{version}
 use Rattle.qz_journal.proofs.Stands.{end_of-push}
 use Rattle.qz_codec.specs.Layout.{record_of}
-use Rattle.qz_trigger_store.specs.Entries.{TriggerState, answer_of, trigger_entry}
+use Rattle.qz_codec.specs.Values.{IsEntry}
+use Rattle.qz_trigger_store.specs.Entries.{TriggerState, answer_of, trigger_entry, history_of}
 use Rattle.qz_trigger_store.specs.Stores.{Same, Appends, Submits}
 use Rattle.qz_trigger_store.specs.Bytes.{Encode, BeginsNew}
-use Rattle.qz_trigger_store.specs.Opening.{IsSound}
+use Rattle.qz_trigger_store.specs.Opening.{IsSound, IsOpened, AreReplayed}
 use Rattle.qz_trigger_store.proofs.Replays.{Encode-pushed}
 
 accepted_from : (o : Outcome) (r : Reply) → answer_of o ≡ Ok r → IsAccepted o
@@ -67,3 +70,19 @@ submitted_sound e (Err (submit.Refused x)) s t good is sound = same_sound s t is
 submitted_sound e (Err (submit.JournalFull need room)) s t good is sound = same_sound s t is.same sound
 submitted_sound e (Err submit.NoMemory) s t good is sound = same_sound s t is.same sound
 submitted_sound e (Err submit.Fault) s t good is sound = sound_as s t is.history is.gate is.payloads sound
+
+-- a store that was just opened, on these payloads
+pub opened_on : (s : TriggerState) (payloads : List (List ℕ)) (es : List EntryData) (T : SchedulerTables) → s.history ≡ history_of es → s.gate ≡ end_of payloads → s.payloads ≡ length payloads
+    → s.is_open ≡ true → s.undecided ≡ None → AreReplayed payloads es → T ≡ replay_from new_tables es → ∥ TablesValid T ∥₁ → IsOpened s
+unfolding new_tables
+opened_on s payloads es T history gate count is_open settled replayed tables valid = record {
+  is_open = is_open;
+  settled = settled;
+  sound = record {
+    begins = subst (BeginsNew version) (sym history) (record { count = refl; base = refl });
+    legal = subst IsLegal (sym history) replayed.legal;
+    tables = subst (λ (h : History). ∥ TablesValid (replay h) ∥₁) (sym history) (subst (λ (U : SchedulerTables). ∥ TablesValid U ∥₁) tables valid);
+    placed = record { payloads = payloads; encode = subst (λ (h : History). Encode payloads h.entries) (sym history) replayed.encode; gate = gate; count = count };
+  };
+  valid = subst (λ (h : History). AllByRecursion IsEntry h.entries) (sym history) replayed.valid;
+}

@@ -4,7 +4,8 @@ use Rattle.std.specs.List.{AllByRecursion, AllZip}
 use Rattle.qz_types.specs.Entries.{EntryData}
 use Rattle.qz_types.specs.Tables.{empty}
 use Rattle.qz_model.specs.History.{History, new_history, IsLegal}
-use Rattle.qz_journal.specs.Layout.{Holds, version, end_of}
+use Rattle.qz_journal.specs.Layout.{Holds, end_of}
+use Rattle.qz_journal.specs.View.{version}
 use Rattle.qz_journal.specs.declared.layout.TheConstants.{TRIGGERS}
 use Rattle.qz_codec.specs.Layout.{record_of}
 use Rattle.qz_codec.specs.Values.{IsEntry}

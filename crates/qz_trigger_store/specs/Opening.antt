@@ -7,7 +7,8 @@ use Rattle.qz_model.specs.Transaction.{transaction}
 use Rattle.qz_model.specs.History.{IsLegal, IsLegalFrom, replay_from, replay}
 use Rattle.qz_types.specs.Outcomes.{IsAccepted}
 use Rattle.qz_model.specs.Invariant.{TablesValid}
-use Rattle.qz_journal.specs.Layout.{version, IsHeader, IsPayload, open_gate, body_of, blocks, end_of}
+use Rattle.qz_journal.specs.Layout.{IsHeader, IsPayload, open_gate, body_of, blocks, end_of}
+use Rattle.qz_journal.specs.View.{version}
 use Rattle.qz_journal.specs.Opening.{IsBad}
 use Rattle.qz_journal.specs.declared.layout.TheConstants.{TRIGGERS}
 use Rattle.qz_journal.specs.declared.errors.MountError.{MountError}
