@@ -13,6 +13,6 @@ left_alone false old new made there = made.stays
 
 pub returns-in-Err-Fault-make-clause-told : goal.returns-in-Err-Fault-make-clause-told
 returns-in-Err-Fault-make-clause-told g c h = (
-    left_alone c.in-Ok.first _ _ (c.in-Ok.ensures.told h),
-    subst (λ e. Makes STATES (Err e) (g.D.Disk.state c.args.states.now) (g.D.Disk.state c.make-2.new.disk)) c.in-Err-Fault-make.field-0-is (c.in-Err-Fault-make.ensures.told h)
+  left_alone c.in-Ok.first _ _ (c.in-Ok.ensures.told h),
+  subst (λ e. Makes STATES (Err e) (g.D.Disk.state c.args.states.now) (g.D.Disk.state c.make-2.new.disk)) c.in-Err-Fault-make.field-0-is (c.in-Err-Fault-make.ensures.told h),
 )
