@@ -135,7 +135,7 @@ pub full_idles : (line : List ℕ) (need room : ℕ) (R S : RunState) (a b : Out
 full_idles line need room R S a b full = record {
   trail = full.full.trail;
   own = full.full.is_own;
-  stays = λ not_own. record { triggers = full.full.full.full.same; held = full.full.full.held };
+  stays = λ not_own. record { triggers = full.full.full.triggers.same; held = full.full.full.held };
 }
 
 pub rose_later : (x y z : ℕ) → x ≤ y → Rose y z → Rose x z
