@@ -1,5 +1,4 @@
 //! Replies with their lines.
-use crate::rows::{Row, check};
 use qz_civil::beside;
 use qz_report::{reply_line, times_line};
 use qz_types::{JobRow, Key, List, NoMemory, Refusal, Reply, StepReply, Taken, Text};
@@ -53,30 +52,37 @@ fn ends_have_their_lines(rt: HostRuntime) {
     assert!(rt; has_line(alloc, StepReply::Stopped, "stopped\n"));
 }
 
-// A refusal, and its line.
-type RefusalRow = (Refusal, &'static str);
-
-impl Row for RefusalRow {
-    fn holds(&self, alloc: Global) -> Result<bool, AllocError> {
-        let refusal = self.0.clone()?;
-        Ok(has_line(alloc, StepReply::Refused(refusal), self.1))
-    }
+fn is_refused(alloc: Global, refusal: Refusal, line: &str) -> bool {
+    has_line(alloc, StepReply::Refused(refusal), line)
 }
 
-const REFUSALS: &[RefusalRow] = &[
-    (Refusal::Unbuilt, "refused 0\n"),
-    (Refusal::Fenced { live: Some(7) }, "refused 1 live 7\n"),
-    (Refusal::Fenced { live: None }, "refused 1 live none\n"),
-    (Refusal::UnknownJob, "refused 3\n"),
-    (Refusal::UnknownEntry, "refused 15\n"),
-    (Refusal::Early { next: -1 }, "refused 19 next -1\n"),
-    (Refusal::ZoneExists, "refused 10\n"),
-    (Refusal::TooMany { count: 4096 }, "refused 22 count 4096\n"),
-];
-
 #[test]
-fn refusals_have_their_lines(rt: HostRuntime) -> Result<(), AllocError> {
-    check(&rt, rt.alloc(), REFUSALS)
+fn refusals_have_their_lines(rt: HostRuntime) {
+    let alloc = rt.alloc();
+    assert!(rt; is_refused(alloc, Refusal::Unbuilt, "refused 0\n"));
+    assert!(rt;
+        is_refused(
+            alloc,
+            Refusal::Fenced { live: Some(7) },
+            "refused 1 live 7\n"
+        )
+    );
+    assert!(rt;
+        is_refused(
+            alloc,
+            Refusal::Fenced { live: None },
+            "refused 1 live none\n"
+        )
+    );
+    assert!(rt; is_refused(alloc, Refusal::UnknownEntry, "refused 15\n"));
+    assert!(rt; is_refused(alloc, Refusal::Early { next: -1 }, "refused 19 next -1\n"));
+    assert!(rt;
+        is_refused(
+            alloc,
+            Refusal::TooMany { count: 4096 },
+            "refused 22 count 4096\n"
+        )
+    );
 }
 
 #[test]
