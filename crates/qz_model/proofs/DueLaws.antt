@@ -8,7 +8,8 @@ use Rattle.qz_types.specs.declared.triggers.TriggerState.{TriggerState}
 use Rattle.qz_types.specs.declared.triggers.TriggerState.TheVariants.{Waiting, Acquired, Complete, Blocked, Paused, PausedBlocked, Error}
 use Rattle.qz_types.specs.Tables.{SchedulerTables}
 use Rattle.qz_types.specs.Words.{key_cmp, trigger_of}
-use Rattle.qz_model.specs.Due.{is_waiting, is_up_to, is_misfired, is_due, due_cmp, in_due_order, due_triggers}
+use Rattle.qz_types.specs.Due.{is_waiting, due_cmp, in_due_order}
+use Rattle.qz_model.specs.Due.{is_up_to, is_misfired, is_due, due_triggers}
 use Rattle.qz_model.proofs.RowPoints.{All-weaker, All-filter, All-put}
 use Rattle.qz_model.proofs.RowLaws.{each_trigger}
 

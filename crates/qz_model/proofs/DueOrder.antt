@@ -7,7 +7,8 @@ use Rattle.std.proofs.lemmas.Cmp.{int_cmp_total}
 use Rattle.qz_types.specs.Sorted.{put}
 use Rattle.qz_types.specs.Rows.{TriggerData}
 use Rattle.qz_types.specs.Words.{key_cmp}
-use Rattle.qz_model.specs.Due.{next_cmp, due_cmp, in_due_order, IsNotAfterFirst, IsInDueOrder}
+use Rattle.qz_types.specs.Due.{next_cmp, due_cmp, in_due_order}
+use Rattle.qz_model.specs.Due.{IsNotAfterFirst, IsInDueOrder}
 use Rattle.qz_model.proofs.RowLaws.{key_total}
 use Rattle.qz_model.proofs.RowPoints.{count_by-cons, count_by-put}
 

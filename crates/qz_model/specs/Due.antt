@@ -1,18 +1,9 @@
--- Which triggers are due, and in which order.
-use Rattle.std.specs.Prelude.{◌≡◌, ⊤, ℤ, negsuc, ◌-ℤ◌, List, [], ◌∷◌, Bool, true, false, not, ◌&&◌, int_le, int_lt, filter, if◌then◌else◌, Option, Some, None}
-use Rattle.std.specs.Ordering.{int_cmp, int_eq, ordering_then, is_gt}
-use Rattle.std.specs.declared.cmp.Ordering.{Ordering}
-use Rattle.std.specs.declared.cmp.Ordering.TheVariants.{Less, Equal, Greater}
-use Rattle.qz_types.specs.Sorted.{put}
+-- Which triggers are due.
+use Rattle.std.specs.Prelude.{◌≡◌, ⊤, ℤ, negsuc, ◌-ℤ◌, List, [], ◌∷◌, Bool, false, not, ◌&&◌, int_le, int_lt, filter, Option, Some, None}
+use Rattle.std.specs.Ordering.{int_eq, is_gt}
+use Rattle.qz_types.specs.Due.{is_waiting, due_cmp, in_due_order}
 use Rattle.qz_types.specs.Rows.{TriggerData}
-use Rattle.qz_types.specs.declared.triggers.TriggerState.{TriggerState}
-use Rattle.qz_types.specs.declared.triggers.TriggerState.TheVariants.{Waiting}
 use Rattle.qz_types.specs.Tables.{SchedulerTables}
-use Rattle.qz_types.specs.Words.{key_cmp}
-
-abbrev pub is_waiting : TriggerState → Bool
-is_waiting Waiting = true
-is_waiting state = false
 
 -- there is a next time, and it isn't past the limit
 abbrev pub is_up_to : ℤ → Option ℤ → Bool
@@ -33,32 +24,9 @@ is_misfired T m t = not (int_eq t.spec.timing.misfire (negsuc 0)) && is_before (
 unfoldable pub is_due : SchedulerTables → ℤ → ℤ → TriggerData → Bool
 is_due T m limit t = is_waiting t.state && is_up_to limit t.next && not (is_misfired T m t)
 
--- none comes before each time
-abbrev pub next_cmp : Option ℤ → Option ℤ → Ordering
-next_cmp None None = Equal
-next_cmp None (Some b) = Less
-next_cmp (Some a) None = Greater
-next_cmp (Some a) (Some b) = int_cmp a b
-
--- by next time, then the greater priority, then the key
-unfoldable pub due_cmp : TriggerData → TriggerData → Ordering
-due_cmp a b =
-    ordering_then (next_cmp a.next b.next)
-    (ordering_then (int_cmp b.spec.priority a.spec.priority) (key_cmp a.spec.key b.spec.key))
-
--- these triggers in due order, each put in its place
-abbrev pub in_due_order : List TriggerData → List TriggerData
-in_due_order [] = []
-in_due_order (t ∷ ts) = put due_cmp (λ x. x) t (in_due_order ts)
-
 -- the triggers that a node may acquire at m, up to the limit
 unfoldable pub due_triggers : SchedulerTables → ℤ → ℤ → List TriggerData
 due_triggers T m limit = in_due_order (filter (is_due T m limit) T.triggers)
-
--- the earlier of two triggers in due order, where they tie the first; or the trigger alone
-abbrev pub earlier : TriggerData → Option TriggerData → TriggerData
-earlier t None = t
-earlier t (Some u) = if is_gt (due_cmp t u) then u else t
 
 -- the trigger doesn't come after the first of these
 abbrev pub IsNotAfterFirst : TriggerData → List TriggerData → Type 0

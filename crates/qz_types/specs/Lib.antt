@@ -1,4 +1,5 @@
 pub mod Chains
+pub mod Due
 pub mod Entries
 pub mod Errors
 pub mod Outcomes

@@ -2,7 +2,8 @@
 ghost use Rattle.std.specs.Prelude.{◌≡◌, ◌-ℤ◌, negsuc, option_copied, slice_get};
 ghost use Rattle.std.specs.Ordering.{int_eq};
 ghost use Rattle.qz_types.specs.Tables.{IsMoment};
-ghost use Rattle.qz_model.specs.Due.{is_waiting, is_up_to, is_before, is_misfired, is_due, due_cmp, due_triggers, earlier};
+ghost use Rattle.qz_types.specs.Due.{is_waiting, due_cmp, earlier};
+ghost use Rattle.qz_model.specs.Due.{is_up_to, is_before, is_misfired, is_due, due_triggers};
 
 use super::tables::PlainTables;
 use qz_types::{TriggerRow, TriggerSpec, TriggerState};
@@ -96,7 +97,7 @@ fn earlier<'a>(trigger: &'a TriggerRow, other: Option<&'a TriggerRow>) -> &'a Tr
 }
 
 /// By next time, then the greater priority, then the key.
-#[tactic(auto, unfolding(crate::specs::Due::due_cmp))]
+#[tactic(auto, unfolding(qz_types::specs::Due::due_cmp))]
 fn compare(a: &TriggerRow, b: &TriggerRow) -> Ordering
     ensures { result ≡ due_cmp a.now b.now }
 {

@@ -1,6 +1,7 @@
 use Rattle.std.proofs.Common.{◌≡◌, ◌≤◌, length, drop, filter, option_copied}
 use Rattle.std.specs.List.{slice_get}
-use Rattle.qz_model.specs.Due.{is_due, in_due_order}
+use Rattle.qz_types.specs.Due.{in_due_order}
+use Rattle.qz_model.specs.Due.{is_due}
 use Rattle.qz_model.proofs.plain.tables.PlainTables.first_due.Given as goal
 
 abbrev pub decreases-loop-at : goal.decreases-loop-at
