@@ -1,0 +1,4 @@
+pub mod ByIds
+pub mod Edits
+pub mod Filled
+pub mod Places

@@ -1,0 +1,6 @@
+//! The tables of the trigger store: rows of seven kinds, each in the order of its ids.
+#![tactic(auto)]
+
+mod indexed;
+
+pub use indexed::{Edit, Indexed};
