@@ -221,3 +221,20 @@ pub rows_take : {R : Type 0} (slots : List (Option R)) (order : List ℕ) (i : �
 rows_take slots [] i r lt e = absurd (omega arith)
 rows_take slots (s ∷ ss) zero r lt e = rw e refl
 rows_take slots (s ∷ ss) (suc i) r lt e = ap (with_found (get_or slots s None)) (rows_take slots ss i r (omega arith) e) ∙ found_append (get_or slots s None) (rows_at slots (take i ss)) (r ∷ [])
+
+pub rows_at-append : {R : Type 0} (slots : List (Option R)) (a b : List ℕ) → rows_at slots (a ++ b) ≡ rows_at slots a ++ rows_at slots b
+rows_at-append slots [] b = refl
+rows_at-append slots (s ∷ a) b = ap (with_found (get_or slots s None)) (rows_at-append slots a b) ∙ found_append (get_or slots s None) (rows_at slots a) (rows_at slots b)
+
+slot_is : (xs : List ℕ) (i s : ℕ) → slice_get xs i ≡ Some s → (i < length xs) × (s ≡ get_or xs i 0)
+slot_is [] i s e = absurd (cc)
+slot_is (x ∷ xs) zero s e = (omega arith, cc)
+slot_is (x ∷ xs) (suc i) s e = let h = slot_is xs i s e in (omega (arith, h.0), h.1)
+
+pub nth_slot : {R : Type 0} (slots : List (Option R)) (order : List ℕ) (i s : ℕ) → AreFilled slots order → slice_get order i ≡ Some s → slice_get (rows_at slots order) i ≡ get_or slots s None
+nth_slot slots order i s f e = let h = slot_is order i s e in nth_row slots order i s f h.0 h.1
+
+pub slot_at : (xs : List ℕ) (i s : ℕ) → i < length xs → get_or xs i 0 ≡ s → slice_get xs i ≡ Some s
+slot_at [] i s lt e = absurd (omega arith)
+slot_at (x ∷ xs) zero s lt e = ap Some e
+slot_at (x ∷ xs) (suc i) s lt e = slot_at xs i s (omega arith) e

@@ -2,5 +2,7 @@
 #![tactic(auto)]
 
 mod indexed;
+mod linked;
 
 pub use indexed::{Edit, Indexed};
+pub use linked::Linked;
