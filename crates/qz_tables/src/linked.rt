@@ -95,6 +95,17 @@ impl Linked {
         self.rows.sorted(alloc)
     }
 
+    /// The same triggers, linked in the same order, in memory of their own.
+    pub fn copy(&self) -> Result<Self, AllocError>
+        ensures rows { IfOk result (λ copy. copy.rows ≡ self.now.rows) }
+        ensures links { IfOk result (λ copy. copy.links ≡ self.now.links) }
+    {
+        Ok(Linked {
+            rows: self.rows.copy()?,
+            linked: self.linked.clone()?,
+        })
+    }
+
     /// Makes room for so many triggers more.
     pub fn reserve(&mut self, more: usize) -> Result<(), AllocError>
         ensures rows { self.new.rows ≡ self.old.rows }
