@@ -181,9 +181,12 @@ impl<R: Keyed> Indexed<R> {
         ensures rows { self.new.rows ≡ self.old.rows }
         ensures slots { self.new.slots ≡ self.old.slots }
         ensures room { OnOk result (more ≤ self.new.spare) }
+        ensures succeeds { more ≤ self.old.spare → IsOk result }
         ensures spare { self.old.spare ≤ self.new.spare }
     {
-        self.rows.reserve(more)?;
+        if self.rows.capacity() - self.rows.len() < more {
+            self.rows.reserve(more)?;
+        }
         self.order.reserve(more)
     }
 
