@@ -1,6 +1,9 @@
 pub mod ByIds
-pub mod Edits
+mod Counts
+mod DueLemmas
 pub mod Filled
+mod FiredWords
 pub mod Keys
 pub mod LinkLemmas
 pub mod Places
+pub mod SlotEdits

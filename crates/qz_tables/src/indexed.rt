@@ -4,7 +4,7 @@ ghost use Rattle.std.specs.Ordering.{is_gt, is_eq};
 ghost use Rattle.slab.specs.Slab.{get, slab_len};
 ghost use Rattle.qz_types.specs.Sorted.{place_of, row_of, put, IsAscending};
 ghost use Rattle.qz_tables.specs.Ids.{changed_at, without};
-ghost use Rattle.qz_tables.specs.Slots.{rows_at, AreFilled, IsFound, IsAbsent, IsWritten};
+ghost use Rattle.qz_tables.specs.Slots.{rows_at, AreFilled, AreEdited, IsFound, IsAbsent, IsWritten};
 
 use qz_types::Keyed;
 use slab::Slab;
@@ -229,6 +229,7 @@ impl<R: Keyed> Indexed<R> {
         ensures was { IfSome result (λ p. slice_index_or self.old.slots p.0 None ≡ Some p.1) }
         ensures none { IfNone result (self.new ≡ self.old) }
         ensures rows { self.new.rows ≡ without R.Id.cmp R.id id.now self.old.rows }
+        ensures sorted { IsAscending R.Id.cmp R.id self.old.rows }
         ensures freed { OnSome result (self.old.spare + 1 ≤ self.new.spare) }
         ensures spare { self.old.spare ≤ self.new.spare }
     {
@@ -249,6 +250,7 @@ impl<R: Keyed> Indexed<R> {
         ensures row { result ≡ row_of R.Id.cmp R.id id.now self.old.rows }
         ensures none { IfNone result (self.new ≡ self.old) }
         ensures rows { self.new.rows ≡ without R.Id.cmp R.id id.now self.old.rows }
+        ensures sorted { IsAscending R.Id.cmp R.id self.old.rows }
         ensures freed { OnSome result (self.old.spare + 1 ≤ self.new.spare) }
         ensures spare { self.old.spare ≤ self.new.spare }
     {
@@ -263,6 +265,7 @@ impl<R: Keyed> Indexed<R> {
         requires { IsSome (row_of R.Id.cmp R.id (R.id row) self.old.rows) }
         ensures row { Some result ≡ row_of R.Id.cmp R.id (R.id row) self.old.rows }
         ensures rows { self.new.rows ≡ changed_at R.Id.cmp R.id (R.id row) (λ _. row) self.old.rows }
+        ensures slots { AreEdited (λ old new. (old ≡ Some result) × (new ≡ Some row)) self.old.slots self.new.slots }
         ensures spare { self.new.spare ≡ self.old.spare }
     {
         let Some(at) = find(&self.rows, &self.order, row.id()) else {
@@ -277,6 +280,7 @@ impl<R: Keyed> Indexed<R> {
     /// Changes the row of this id in place, if it is stored.
     pub fn edit<E: Edit<R>>(&mut self, id: &R::Id, edit: &E)
         ensures rows { self.new.rows ≡ changed_at R.Id.cmp R.id id.now (E.edited edit.now) self.old.rows }
+        ensures slots { AreEdited (λ old new. new ≡ option_map (E.edited edit.now) old) self.old.slots self.new.slots }
         ensures spare { self.new.spare ≡ self.old.spare }
     {
         if let Some(at) = find(&self.rows, &self.order, id) {
