@@ -1,0 +1,4 @@
+pub mod Refused
+pub mod Rooms
+pub mod Searches
+pub mod Validity

@@ -1,0 +1,19 @@
+-- How many rows a transaction adds.
+use Rattle.std.specs.Prelude.{⊤, ℕ, ◌+◌, ◌≤◌, length}
+use Rattle.qz_types.specs.Tables.{SchedulerTables}
+use Rattle.qz_types.specs.Outcomes.{Outcome, accepted, refused}
+
+-- no kind has more than so many rows more
+pub record GrowsUpTo (rows : ℕ) (old new : SchedulerTables) : Type 0 where
+  pub jobs : length new.jobs ≤ length old.jobs + rows
+  pub triggers : length new.triggers ≤ length old.triggers + rows
+  pub calendars : length new.calendars ≤ length old.calendars + rows
+  pub zones : length new.zones ≤ length old.zones + rows
+  pub paused_groups : length new.paused_groups ≤ length old.paused_groups + rows
+  pub members : length new.members ≤ length old.members + rows
+  pub fired : length new.fired ≤ length old.fired + rows
+
+-- the tables that the outcome leaves, if it is accepted, have no more than so many rows more of each kind
+abbrev pub AddsUpTo : ℕ → SchedulerTables → Outcome → Type 0
+AddsUpTo rows old (accepted new reply) = GrowsUpTo rows old new
+AddsUpTo rows old (refused refusal) = ⊤

@@ -1,0 +1,13 @@
+//! What the application of every command needs, over the tables of the trigger store: the recorded moment, the fence of
+//! nodes, tests on texts and keys, and the executions that exclude others. Nothing here takes memory or changes a table.
+#![tactic(auto)]
+
+mod executions;
+mod members;
+mod moments;
+mod names;
+
+pub use executions::{is_acquired, is_busy};
+pub use members::node_refusal;
+pub use moments::recorded_moment;
+pub use names::{same_key, same_text};
