@@ -1,5 +1,5 @@
 -- Which of the triggers that wait come next in due order.
-use Rattle.std.specs.Prelude.{List, Bool, true, ◌&&◌, filter, Option, Some, None, option_and_then}
+use Rattle.std.specs.Prelude.{◌≡◌, ℕ, suc, List, Bool, true, ◌&&◌, filter, Option, Some, None, option_and_then}
 use Rattle.std.specs.List.{slice_get}
 use Rattle.std.specs.Ordering.{is_gt}
 use Rattle.qz_types.specs.Rows.{TriggerData}
@@ -27,3 +27,7 @@ due_first triggers = slice_get (waiting None triggers) 0
 -- the first that waits and comes after the trigger of this key, which has to be stored
 unfoldable pub due_after : Key → List TriggerData → Option TriggerData
 due_after k triggers = option_and_then (λ t. slice_get (waiting (Some t) triggers) 0) (trigger_of k triggers)
+
+-- Looking for the next waiting trigger walks the list of those that wait: after the one at a place comes that at the next.
+abbrev pub IsWalked : List TriggerData → Type 0
+IsWalked triggers = (n : ℕ) (t : TriggerData) → Some t ≡ slice_get (waiting None triggers) n → due_after t.spec.key triggers ≡ slice_get (waiting None triggers) (suc n)

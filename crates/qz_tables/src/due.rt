@@ -1,7 +1,7 @@
 //! Which waiting trigger comes next in due order.
 ghost use Rattle.std.specs.Prelude.{◌≡◌, option_copied, slice_get};
 ghost use Rattle.qz_types.specs.Due.{is_waiting, due_cmp, earlier};
-ghost use Rattle.qz_tables.specs.Due.{is_later, waits_after, waiting, due_first, due_after};
+ghost use Rattle.qz_tables.specs.Due.{is_later, waits_after, waiting, due_first, due_after, IsWalked};
 
 use crate::linked::Linked;
 use crate::tables::Tables;
@@ -24,7 +24,8 @@ impl Tables {
     /// It looks at every trigger.
     #[tactic(auto, unfolding(crate::specs::Due::due_after))]
     pub fn due_after(&self, key: &Key) -> Option<&TriggerRow>
-        ensures { option_copied result ≡ due_after key.now self.now.tables.triggers }
+        ensures row { option_copied result ≡ due_after key.now self.now.tables.triggers }
+        ensures walks { IsWalked self.now.tables.triggers }
     {
         match self.get_trigger(key) {
             Some(after) => first_waiting(&self.triggers, Some(after)),
