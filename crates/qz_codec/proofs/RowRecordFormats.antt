@@ -10,14 +10,14 @@ use Rattle.qz_types.specs.declared.fired.FiredState.{FiredState}
 use Rattle.qz_types.specs.declared.fired.FiredState.TheVariants as fired_states
 use Rattle.qz_types.specs.declared.triggers.TriggerState.{TriggerState}
 use Rattle.qz_types.specs.declared.triggers.TriggerState.TheVariants as trigger_states
-use Rattle.qz_codec.specs.Layout.{number}
-use Rattle.qz_codec.specs.Reading.{checked, byte_at, number_at}
+use Rattle.qz_values.specs.Fields.{number, checked, byte_at, number_at}
 use Rattle.qz_codec.specs.Rows.{trigger_state_place, fired_state_place, trigger, fired, state, IsTrigger, IsFired, IsState, trigger_state_at, fired_state_at, trigger_at, fired_behind, fired_at, state_at}
-use Rattle.qz_codec.proofs.Formats.{IsFormat, Any, Also, field, last, same}
-use Rattle.qz_codec.proofs.SingleFields.{wide32, wide64, same32, same64, number_format, integer_format, flag_format, optional_format}
-use Rattle.qz_codec.proofs.NameFormats.{node_format, tested, narrowed}
-use Rattle.qz_codec.proofs.RowFormats.{key_format, spec_format}
-use Rattle.qz_codec.proofs.VariantFormats.{Choices, bare, tagged}
+use Rattle.qz_values.specs.Formats.{IsFormat, Any}
+use Rattle.qz_values.proofs.Formats.{Also, field, last, same}
+use Rattle.qz_values.proofs.SingleFields.{wide32, wide64, same32, same64, number_format, integer_format, flag_format, optional_format}
+use Rattle.qz_codec.proofs.RowFormats.{node_format, key_format, spec_format}
+use Rattle.qz_values.proofs.NameFormats.{tested, narrowed}
+use Rattle.qz_values.proofs.VariantFormats.{Choices, bare, tagged}
 
 abbrev Free : {A : Type 0} → A → Type 0
 Free x = Unit {0}

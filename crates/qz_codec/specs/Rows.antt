@@ -8,9 +8,10 @@ use Rattle.qz_types.specs.declared.fired.FiredState.TheVariants as fired_states
 use Rattle.qz_types.specs.declared.keys.Key.{Key}
 use Rattle.qz_types.specs.declared.triggers.TriggerState.{TriggerState}
 use Rattle.qz_types.specs.declared.triggers.TriggerState.TheVariants as trigger_states
-use Rattle.qz_codec.specs.Layout.{number, integer, flag, text, optional, key, spec}
-use Rattle.qz_codec.specs.Values.{IsText, IsNumber, IsKey, IsSpec}
-use Rattle.qz_codec.specs.Reading.{◌>>=◌, Read, checked, byte_at, number_at, integer_at, flag_at, optional_at, node_at, key_at, spec_at}
+use Rattle.qz_values.specs.Fields.{number, integer, flag, text, optional, IsText, IsNumber, ◌>>=◌, Read, checked, byte_at, number_at, integer_at, flag_at, optional_at}
+use Rattle.qz_codec.specs.Layout.{key, spec}
+use Rattle.qz_codec.specs.Values.{IsKey, IsSpec}
+use Rattle.qz_codec.specs.Reading.{node_at, key_at, spec_at}
 
 -- ---- bytes
 
