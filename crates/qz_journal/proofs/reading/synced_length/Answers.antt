@@ -1,6 +1,6 @@
 use Rattle.std.proofs.Common.{refl}
 use Rattle.qz_journal.proofs.Calls.{sync_leaves, synced_length_leaves, synced_length_durable, synced_length_content}
-use Rattle.qz_journal.proofs.mounting.synced_length.Goals as goal
+use Rattle.qz_journal.proofs.reading.synced_length.Goals as goal
 
 pub returns-in_err-sync-clause-any_moment : goal.returns-in_err-sync-clause-any_moment
 returns-in_err-sync-clause-any_moment g c h = sync_leaves _ _ _ (g.met.D.Disk.lawful h c.args.disk.now) (c.in_err-sync.ensures.told h)
