@@ -1,32 +1,11 @@
 -- What the groups of device calls leave, from what each call does.
-use Rattle.std.proofs.Common.{◌≡◌, ℕ, ◌+◌, ◌≤◌, List, length, Result, false, refl, sym, ◌∙◌, subst, arith}
+use Rattle.std.proofs.Common.{◌≡◌, ℕ, ◌+◌, ◌≤◌, List, length, Result, refl, sym, ◌∙◌, subst, arith}
 use Rattle.std.specs.Prelude.{Ok, Err, OnOk}
-use Rattle.std.specs.Result.{is_err, IsErr}
-use Rattle.qz_disk.specs.Disk.{DiskState, Torn, Only, Stays, LeavesOnly, IsLawful, Measured, Reads, Writes, Syncs, written}
+use Rattle.std.specs.Result.{IsErr}
+use Rattle.qz_disk.specs.Disk.{DiskState, Torn, Only, LeavesOnly, IsLawful, Reads, Writes, Syncs, written}
 use Rattle.qz_disk.proofs.Moments.{started, goes_on, then_leaves, torn_same}
 use Rattle.qz_journal.specs.Through.{PutsThrough, OnlyReads, OnlyReadsUnless, ReadsBetween}
-use Rattle.qz_journal.proofs.Append.{on_ok}
 use Rattle.qz_journal.proofs.Undecided.{was_image}
-
-always : {T E : Type 0} (r : Result T E) (P : Type 0) → P → OnOk r P
-always (Ok x) P p = p
-always (Err e) P p = tt
-
-pub sync_leaves : {T E : Type 0} (r : Result T E) (s t : DiskState) → IsLawful s → Syncs r s t → LeavesOnly s t s.IsImage
-sync_leaves r s t lawful told = goes_on s s t s.IsImage (started s s.IsImage lawful (λ b is. is)) told.time told.images
-
--- a sync, and the length
-pub synced_length_leaves : {T E : Type 0} (r : Result T E) (s m t : DiskState) → IsLawful s → IsLawful m → Syncs r s m → Measured m t → LeavesOnly s t s.IsImage
-synced_length_leaves r s m t before between synced told =
-    let leaves = sync_leaves r s m before synced in
-    goes_on s m t s.IsImage leaves told.time (λ b is. was_image s m between leaves b ((told.same.images b).0 is))
-
-pub synced_length_durable : {T E U F : Type 0} (q : Result T E) (r : Result U F) (s m t : DiskState) → is_err q ≡ false → Syncs q s m → Measured m t → OnOk r (Only t.content t)
-synced_length_durable q r s m t ok synced told =
-    always r (Only t.content t) (λ b is. on_ok q _ ok synced.durable b ((told.same.images b).0 is) ∙ sym (on_ok q _ ok synced.content) ∙ sym told.same.content)
-
-pub synced_length_content : {T E U F : Type 0} (q : Result T E) (r : Result U F) (s m t : DiskState) → is_err q ≡ false → Syncs q s m → Measured m t → OnOk r (t.content ≡ s.content)
-synced_length_content q r s m t ok synced told = always r (t.content ≡ s.content) (told.same.content ∙ on_ok q _ ok synced.content)
 
 -- nothing was read
 pub reads_nothing : (P : Type 0) (s t : DiskState) → ((P → ⊥) → t.content ≡ s.content) → LeavesOnly s t s.IsImage → t.bytes_read ≡ s.bytes_read → OnlyReadsUnless P s t
@@ -113,16 +92,3 @@ puts x r at bytes s m t before between wrote synced = record {
     wrote_through : {T E : Type 0} (r : Result T E) → Syncs r m t → OnOk r (t.content ≡ written at bytes s.content)
     wrote_through (Ok y) synced = synced.content ∙ wrote.content
     wrote_through (Err e) synced = tt
-
-pub both_stay : (s m t : DiskState) → Stays s m → Stays m t → Stays s t
-both_stay s m t first second = record {
-  content = second.content ∙ first.content;
-  images = λ b. (λ is. (first.images b).0 ((second.images b).0 is), λ is. (second.images b).1 ((first.images b).1 is));
-}
-
-pub len_leaves : (s t : DiskState) → IsLawful s → Measured s t → LeavesOnly s t s.IsImage
-len_leaves s t lawful told = goes_on s s t s.IsImage (started s s.IsImage lawful (λ b is. is)) told.time (λ b is. (told.same.images b).0 is)
-
--- the length, and a read
-pub front_leaves : {T E : Type 0} (r : Result T E) (at : ℕ) (into : List ℕ) (s m t : DiskState) → IsLawful s → Measured s m → Reads at r into m t → LeavesOnly s t s.IsImage
-front_leaves r at into s m t lawful measured told = goes_on s m t s.IsImage (len_leaves s m lawful measured) told.time (λ b is. (measured.same.images b).0 ((told.same.images b).0 is))

@@ -10,7 +10,7 @@ use Rattle.qz_journal.specs.Through.{OnlyReads, OnlyReadsUnless, ReadsBetween}
 use Rattle.qz_journal.specs.declared.reading.Found.{Found}
 use Rattle.qz_journal.specs.declared.errors.MountError.{MountError}
 use Rattle.qz_journal.specs.declared.errors.MountError.TheVariants as mount
-use Rattle.qz_journal.proofs.Calls.{between_then, between_more, only_reads, only_reads_unless, still_only}
+use Rattle.qz_journal.proofs.Calls.{between_then, only_reads, only_reads_unless, still_only}
 use Rattle.qz_journal.proofs.Walk.{holds_at, damaged_at}
 
 pub found_whole : (r : Result Found MountError) (kind : ℕ) (bytes content : List ℕ) → bytes ≡ content → IsHeader kind (take 16 bytes) → 16 ≤ length bytes

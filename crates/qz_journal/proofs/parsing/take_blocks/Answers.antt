@@ -1,4 +1,4 @@
-use Rattle.std.proofs.Common.{arith, inl, inr, refl, true, false, ℕ, ◌≡◌, ◌∷◌, ◌∙◌, ap, length, length-append}
+use Rattle.std.proofs.Common.{arith, inl, inr, true, false, ℕ, ◌≡◌, ◌∷◌, ◌∙◌, ap, length, length-append}
 use Rattle.std.proofs.lemmas.List.{nil_from_length}
 use Rattle.qz_journal.specs.Layout.{body_of}
 use Rattle.qz_journal.proofs.Walk.{walked, all_payloads}

@@ -1,4 +1,4 @@
-use Rattle.std.proofs.Common.{◌≡◌, ◌⊎◌, inl, inr, ◌+◌, ◌-◌, ◌≤◌, ◌++◌, ◌∙◌, ℕ, List, length, take, drop, min, true, false, sym, ap, arith}
+use Rattle.std.proofs.Common.{◌≡◌, ◌⊎◌, inl, inr, ◌+◌, ◌≤◌, ◌++◌, ◌∙◌, ℕ, List, length, take, drop, true, false, sym, ap, arith}
 use Rattle.qz_journal.specs.Layout.{blocks, end_of}
 use Rattle.qz_journal.proofs.Calls.{between_then, between_more}
 use Rattle.qz_journal.proofs.Walk.{next_piece, piece_end, ends_at}

@@ -17,7 +17,7 @@ returns-in_err-read_header-clause-reads_err g c h =
     let synced = c.in-Ok.ensures in
     let long : c.in-Ok.len ≡ length (g.D.Disk.state c.args.disk.now).content = synced.length ∙ g.met.D.Disk.whole h c.synced_length.new.disk ∙ ap length (synced.content h) in
     rw p.1 (only_reads_unless _ c.in-Ok.len _ _ (omega (arith, long))
-        (synced_then c.in-Ok.len _ _ _ (g.met.D.Disk.lawful h c.synced_length.new.disk) (synced.content h) (synced.any_moment h) (synced.bytes_read h) (c.in_err-read_header.ensures.reads_err h)))
+    (synced_then c.in-Ok.len _ _ _ (g.met.D.Disk.lawful h c.synced_length.new.disk) (synced.content h) (synced.any_moment h) (synced.bytes_read h) (c.in_err-read_header.ensures.reads_err h)))
 
 pub returns-clause-whole : goal.returns-clause-whole
 returns-clause-whole g c h =

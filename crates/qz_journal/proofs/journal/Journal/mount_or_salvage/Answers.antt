@@ -12,11 +12,11 @@ invariant_of-journal g c = record {
   inside = λ _. c.in-Ok.ensures.inside c.if-not-is_whole.false;
   durable = λ h _. c.in-Ok.ensures.durable h;
   placed = λ h _. ∣ record {
-        payloads = c.in-Ok.found.payloads;
-        stands = subst (λ (b : List ℕ). Holds b c.args.kind c.in-Ok.found.payloads) (sym (c.in-Ok.ensures.reads h).content) (c.in-Ok.ensures.whole h c.if-not-is_whole.false);
-        gate_is = c.in-Ok.ensures.gate;
-        count_is = c.len-count.ensures;
-      } ∣₁;
+    payloads = c.in-Ok.found.payloads;
+    stands = subst (λ (b : List ℕ). Holds b c.args.kind c.in-Ok.found.payloads) (sym (c.in-Ok.ensures.reads h).content) (c.in-Ok.ensures.whole h c.if-not-is_whole.false);
+    gate_is = c.in-Ok.ensures.gate;
+    count_is = c.len-count.ensures;
+  } ∣₁;
 }
 
 pub returns-in-Err-clause-refused : goal.returns-in-Err-clause-refused

@@ -26,11 +26,11 @@ invariant_of-self-2 g c = record {
   inside = λ _. c.in_ok-payloads.ensures.inside c.if-not-is_whole.false;
   durable = λ h _. c.in_ok-payloads.ensures.durable h;
   placed = λ h _. ∣ record {
-        payloads = c.in_ok-payloads.field-0.payloads;
-        stands = subst (λ (b : List ℕ). Holds b c.args.self.now.kind c.in_ok-payloads.field-0.payloads) (sym (c.in_ok-payloads.ensures.reads h).content) (c.in_ok-payloads.ensures.whole h c.if-not-is_whole.false);
-        gate_is = c.in_ok-payloads.ensures.gate;
-        count_is = c.len.ensures;
-      } ∣₁;
+    payloads = c.in_ok-payloads.field-0.payloads;
+    stands = subst (λ (b : List ℕ). Holds b c.args.self.now.kind c.in_ok-payloads.field-0.payloads) (sym (c.in_ok-payloads.ensures.reads h).content) (c.in_ok-payloads.ensures.whole h c.if-not-is_whole.false);
+    gate_is = c.in_ok-payloads.ensures.gate;
+    count_is = c.len.ensures;
+  } ∣₁;
 }
 
 pub returns-in_err-payloads-clause-refused : goal.returns-in_err-payloads-clause-refused
