@@ -14,7 +14,7 @@ use std::test::Fail;
 
 // A kind of calendar as plain data.
 #[derive(Clone, Copy, Debug)]
-enum Plain {
+pub enum Plain {
     Annual(&'static [u16]),
     Holiday(&'static [u32]),
     Weekly(u8),
@@ -562,7 +562,7 @@ fn kind_of(alloc: Global, plain: Plain) -> Result<CalendarKind, Fail>
     }
 }
 
-fn chain_of(alloc: Global, links: &[(Plain, &'static [Begin])]) -> Result<Chain, Fail> {
+pub fn chain_of(alloc: Global, links: &[(Plain, &'static [Begin])]) -> Result<Chain, Fail> {
     let mut chain = Chain::empty();
     for &(plain, stretches) in links {
         chain.push(kind_of(alloc, plain)?, zone_of(alloc, stretches)?)?;
