@@ -1,0 +1,3 @@
+mod Ends
+mod Hearing
+mod Wants

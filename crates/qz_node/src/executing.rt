@@ -13,7 +13,7 @@ pub type Jobs = Vec<Box<dyn Job + Send>>;
 
 /// The place of the first job of this class.
 pub fn place_of_class(jobs: &Jobs, class: &str) -> Option<usize>
-    ensures { result ≡ position (is_of_class class.now) (map means jobs.now.items) }
+    ensures { result ≡ position (λ job. is_of_class class.now (means job)) jobs.now.items }
 {
     for place in 0..jobs.len() {
         if is_of_class(&jobs[place], class) {
