@@ -1,21 +1,19 @@
 -- When a node wants to end: what it does next agrees with what it has heard.
-use Rattle.std.proofs.Common.{◌≡◌, ◌⊎◌, inl, inr, ⊎_elim, ℕ, ℤ, ◌≤ℤ◌, int_le, Bool, true, false, ◌||◌, List, [], ◌∷◌, refl, sym, ap, ◌∙◌, arith, rules, subst, if◌then◌else◌}
+use Rattle.std.proofs.Common.{◌≡◌, ◌⊎◌, inl, inr, ℤ, int_le, Bool, true, false, ◌||◌, List, [], ◌∷◌, refl, sym, ap, ◌∙◌, arith, rules, subst, if◌then◌else◌}
 use Rattle.std.specs.Prelude.{⊤, Option, Some, None}
 use Rattle.std.specs.Option.{option_or}
-use Rattle.std.specs.List.{list_any}
 use Rattle.qz_types.specs.declared.replies.Taken.{Taken}
 use Rattle.qz_types.specs.declared.replies.MovedRow.{MovedRow}
 use Rattle.qz_types.specs.declared.replies.Reply.{Reply}
 use Rattle.qz_types.specs.declared.replies.Reply.TheVariants as reply
-use Rattle.qz_node.specs.declared.turns.LastHeard.{LastHeard}
-use Rattle.qz_node.specs.declared.turns.LastHeard.TheVariants as last
 use Rattle.qz_node.specs.declared.turns.Held.{Held}
 use Rattle.qz_node.specs.declared.turns.Idle.{Idle}
 use Rattle.qz_node.specs.declared.turns.Idle.TheVariants as idle
 use Rattle.qz_node.specs.declared.turns.Heard.{Heard}
 use Rattle.qz_node.specs.declared.turns.Heard.TheVariants as hears
 use Rattle.qz_node.specs.declared.turns.Want.TheVariants as want
-use Rattle.qz_node.specs.Turns.{TurnData, new_turn, learnt, learnt_reply, refused_with, ends_at_refusal, ended, IsIdle, CanHear, CanHearReply, is_fenced, wanted, wanted_with, wanted_idle, wanted_of}
+use Rattle.qz_node.specs.Turns.{TurnData, learnt, learnt_reply, refused_with, ends_at_refusal, ended, IsIdle, CanHear, CanHearReply, is_fenced, wanted}
+use Rattle.qz_node.proofs.Cases.{of_wanted}
 use Rattle.qz_node.specs.TurnRuns.{turn_of, CouldHear, misfired_in, acquired_in, misfired_by, acquired_by, is_fencing, last_misfired, last_acquired, was_fenced, IsDone}
 
 -- what was heard last, by what an idle node does next
@@ -83,40 +81,22 @@ keeps until (h ∷ past) =
     let now = heard_keeps (turn_of until past) h in
     record { until = now.until ∙ before.until; fenced = now.fenced ∙ ap (λ b. is_fencing h || b) before.fenced }
 
--- what is known where an end is wanted
-record Ended (until now : ℤ) (held : Option Held) (moved : Option (List MovedRow)) (taken : Option (List Taken)) : Type 0 where
-  pub no_misfires : moved ≡ Some []
-  pub none_due : taken ≡ Some []
-  pub none_held : held ≡ None
-  pub late_enough : until ≤ℤ now
-
-end_of_rest : (until now end : ℤ) (b : Bool) → int_le until now ≡ b → (if b then want.End else want.Rest end) ≡ want.End → until ≤ℤ now
-end_of_rest until now end true late is = grind arith
-end_of_rest until now end false early is = search rules
-
-end_of_idle : (until now : ℤ) (i : Idle) (moved : Option (List MovedRow)) (taken : Option (List Taken)) → Agrees i moved taken → wanted_idle until i now ≡ want.End → Ended until now None moved taken
-end_of_idle until now idle.Misfires moved taken a is = search rules
-end_of_idle until now idle.Acquire moved taken a is = search rules
-end_of_idle until now idle.Rest moved taken a is = record { no_misfires = a.0; none_due = a.1; none_held = refl; late_enough = end_of_rest until now _ (int_le until now) refl is }
-
-no_end : (entry : ℕ) (l : LastHeard) → wanted_of entry l ≡ want.End → ⊥
-no_end entry last.Acquired is = search rules
-no_end entry last.Fired is = search rules
-no_end entry last.Again is = search rules
-no_end entry (last.Executed code) is = search rules
-
-end_of_hands : (t : TurnData) (now : ℤ) (h : Option Held) (moved : Option (List MovedRow)) (taken : Option (List Taken)) → Agrees t.idle moved taken → wanted_with h t now ≡ want.End → Ended t.until now h moved taken
-end_of_hands t now None moved taken a is = end_of_idle t.until now t.idle moved taken a is
-end_of_hands t now (Some held) moved taken a is = absurd (no_end held.entry held.last is)
-
-end_of : (t : TurnData) (b : Bool) (now : ℤ) (moved : Option (List MovedRow)) (taken : Option (List Taken)) → Agrees t.idle moved taken → (if b then want.End else wanted_with t.held t now) ≡ want.End → (b ≡ true) ⊎ Ended t.until now t.held moved taken
-end_of t true now moved taken a is = inl refl
-end_of t false now moved taken a is = inr (end_of_hands t now t.held moved taken a is)
+-- a node that would rest from its last moment on is done
+done : (until now : ℤ) (heard : List Heard) → (turn_of until heard).until ≡ until → IsIdle (turn_of until heard) idle.Rest → int_le (turn_of until heard).until now ≡ true → Agrees idle.Rest (last_misfired heard) (last_acquired heard) → IsDone until now heard
+done until now heard same is late seen =
+    record { no_misfires = seen.0; none_due = seen.1; none_held = is.free; late_enough = grind arith }
 
 pub ends : (until now : ℤ) (heard : List Heard) → CouldHear until heard → wanted (turn_of until heard) now ≡ want.End → (was_fenced heard ≡ true) ⊎ IsDone until now heard
-ends until now heard could is =
+ends until now heard could =
     let t = turn_of until heard in
     let kept = keeps until heard in
-    ⊎_elim (λ fenced. inl (sym kept.fenced ∙ fenced))
-    (λ e. inr (record { no_misfires = e.no_misfires; none_due = e.none_due; none_held = e.none_held; late_enough = subst (λ u. u ≤ℤ now) kept.until e.late_enough }))
-    (end_of t t.fenced now (last_misfired heard) (last_acquired heard) (agrees until heard could) is)
+    let seen = agrees until heard could in
+    of_wanted t now (λ w. w ≡ want.End → (was_fenced heard ≡ true) ⊎ IsDone until now heard)
+    (λ was is. inl (sym kept.fenced ∙ was))
+    (λ idle is. search rules)
+    (λ idle is. search rules)
+    (λ idle early is. search rules)
+    (λ idle late is. inr (done until now heard kept.until idle late (subst (λ i. Agrees i (last_misfired heard) (last_acquired heard)) idle.wants seen)))
+    (λ entry holds is. search rules)
+    (λ entry holds is. search rules)
+    (λ entry code holds is. search rules)

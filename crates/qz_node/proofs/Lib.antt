@@ -1,3 +1,5 @@
+pub mod Calling
+mod Cases
 mod Ends
-mod Hearing
-mod Wants
+pub mod Hearing
+pub mod Wants

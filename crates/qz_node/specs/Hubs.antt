@@ -1,5 +1,5 @@
 -- What a node asks of a store, and what it learns of the answer.
-use Rattle.std.specs.Prelude.{⊤, ◌≡◌, ◌≤◌, pos, List, length, Option, Some, None, Result, Ok, Err}
+use Rattle.std.specs.Prelude.{⊤, ◌≡◌, ◌≤◌, pos, length, Option, Some, None, Result, Ok, Err}
 use Rattle.qz_types.specs.declared.commands.Code.TheVariants as code
 use Rattle.qz_types.specs.declared.commands.Command.{Command}
 use Rattle.qz_types.specs.declared.commands.Command.TheVariants as asks

@@ -1,5 +1,5 @@
 -- All that a node has heard, the latest first, and when it may end.
-use Rattle.std.specs.Prelude.{⊤, ◌≡◌, ◌≤ℤ◌, ℤ, Bool, true, false, List, [], ◌∷◌, Option, Some, None}
+use Rattle.std.specs.Prelude.{⊤, ◌≡◌, ◌≤ℤ◌, ℤ, Bool, false, List, [], ◌∷◌, Option, Some, None}
 use Rattle.std.specs.Option.{option_or}
 use Rattle.std.specs.List.{list_any}
 use Rattle.qz_types.specs.declared.replies.Taken.{Taken}

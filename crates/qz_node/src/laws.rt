@@ -22,7 +22,7 @@ pub fn acquires_only_what_is_due()
 {}
 
 /// A node rests for at least a millisecond and at most a second, and not past the moment up to which it works.
-#[tactic(auto, using(crate::proofs::Wants::rest))]
+#[tactic(auto, using(crate::proofs::Wants::brief))]
 pub fn rests_for_a_second_at_most()
     ensures { (turn : TurnData) (now end : ℤ) → wanted turn now ≡ want.Rest end
         → (now <ℤ end) × (end ≤ℤ (now +ℤ pos 1000)) × (end ≤ℤ turn.until) }
