@@ -1,0 +1,5 @@
+pub mod Calling
+mod Cases
+mod Ends
+pub mod Hearing
+pub mod Wants
