@@ -1,0 +1,6 @@
+pub mod ByIds
+pub mod Edits
+pub mod Filled
+pub mod Keys
+pub mod LinkLemmas
+pub mod Places
