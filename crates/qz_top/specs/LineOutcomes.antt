@@ -13,10 +13,10 @@ use Rattle.qz_job_json.specs.declared.faults.LineError.{LineError}
 use Rattle.qz_job_json.specs.declared.faults.LineError.TheVariants as line_error
 use Rattle.qz_job_json.specs.declared.faults.LineFault.{LineFault}
 use Rattle.qz_top.specs.Lines.{line_meaning, kind_of, IsGood, readings_of, steps_of}
-use Rattle.qz_top.specs.Trails.{texts, RunState, Went}
+use Rattle.qz_top.specs.Trails.{texts, RunState, RanSteps}
 use Rattle.qz_top.specs.declared.statuses.BadKind.{BadKind}
-use Rattle.qz_top.specs.declared.turns.LineEnd.{LineEnd}
-use Rattle.qz_top.specs.declared.turns.LineEnd.TheVariants as ends
+use Rattle.qz_top.specs.declared.line_handler.LineEnd.{LineEnd}
+use Rattle.qz_top.specs.declared.line_handler.LineEnd.TheVariants as ends
 
 -- Good lines were done with these readings of the clock: their steps led from one state to the other, and the clock
 -- told the readings.
@@ -25,7 +25,7 @@ pub record Did (lines : List (List ℕ)) (readings : List ℤ) (before after : R
   pub count : length readings ≡ readings_of lines
   pub told : Tells old.readings new.readings readings
   pub replies : List StepReply
-  pub went : Went (steps_of lines readings) replies before after
+  pub steps : RanSteps (steps_of lines readings) replies before after
 
 -- Good lines were done and answered.
 pub record Ran (lines : List (List ℕ)) (readings : List ℤ)
@@ -51,17 +51,17 @@ pub record DidStep (given : Given) (at : ℤ) (before after : RunState) (old new
   pub own : IsOwn given.at at
   pub told : Tells old.readings new.readings (taken_reading given.at at)
   pub reply : StepReply
-  pub went : Went (step_at given at ∷ []) (reply ∷ []) before after
+  pub steps : RanSteps (step_at given at ∷ []) (reply ∷ []) before after
 
 -- Nothing was done but, where the disk is the call's own, a step that it failed in.
-pub record Idles (before after : RunState) : Type 0 where
+pub record NothingDone (before after : RunState) : Type 0 where
   pub trail : after.trail ≡ before.trail
   pub own : after.is_own ≡ before.is_own
   pub stays : before.is_own ≡ false → Stays before.cluster after.cluster
 
 -- nothing was done and nothing written, and at most one reading was taken
 pub record GaveUp (before after : RunState) (old new : Outside) : Type 0 where
-  pub idles : Idles before after
+  pub nothing : NothingDone before after
   pub readings : List ℤ
   pub one : length readings ≤ 1
   pub told : Tells old.readings new.readings readings
@@ -82,16 +82,16 @@ pub record StepFull (given : Given) (need room : ℕ)
 abbrev pub NotDone : LineEnd → TimedStep → RunState → RunState → Type 0
 NotDone (ends.JournalFull need room) t before after =
     OverflowedStep t need room before.cluster after.cluster × (after.trail ≡ before.trail) × (after.is_own ≡ before.is_own)
-NotDone ends.NoMemory t before after = Idles before after
+NotDone ends.NoMemory t before after = NothingDone before after
 NotDone (ends.Bad kind) t before after = ⊥
 NotDone ends.WriteFault t before after = ⊥
 NotDone ends.Unanswered t before after = ⊥
 
 -- what is left where a step has no reply line: the step was done, or it wasn't
 abbrev pub NotAnswered : LineEnd → TimedStep → RunState → RunState → Type 0
-NotAnswered ends.Unanswered t before after = (reply : StepReply) × Went (t ∷ []) (reply ∷ []) before after
+NotAnswered ends.Unanswered t before after = (reply : StepReply) × RanSteps (t ∷ []) (reply ∷ []) before after
 NotAnswered (ends.JournalFull need room) t before after = NotDone (ends.JournalFull need room) t before after
-NotAnswered ends.NoMemory t before after = Idles before after
+NotAnswered ends.NoMemory t before after = NothingDone before after
 NotAnswered (ends.Bad kind) t before after = ⊥
 NotAnswered ends.WriteFault t before after = ⊥
 

@@ -3,9 +3,9 @@ ghost use Rattle.std.specs.Prelude.{◌≡◌, IfSome, true, []};
 ghost use Rattle.qz_civil.specs.Causes.{Rose};
 ghost use Rattle.qz_io.specs.Around.{outside};
 ghost use Rattle.qz_journal.specs.Layout.{Holds};
-ghost use Rattle.qz_cluster.specs.View.{view as state_of};
+ghost use Rattle.qz_cluster.specs.View.{view as cluster_view};
 ghost use Rattle.qz_top.specs.Calls.{begun, trail_of, OwnDone};
-ghost use Rattle.qz_top.specs.Seen.{run_of, states_in};
+ghost use Rattle.qz_top.specs.Seen.{view, states_in};
 ghost use Rattle.qz_top.specs.Trails.{new_cluster};
 
 use crate::Status;
@@ -77,7 +77,7 @@ fn script_in_memory<S: Source, K: Sink, C: Clock>(
 
 // A script that begins on new stores. None, where there is no memory for them.
 fn new_run(alloc: Global) -> Option<Run<MemDisk>>
-    ensures { IfSome result (λ run. run_of run ≡ begun true (new_cluster (state_of run.cluster).triggers.faults)) }
+    ensures { IfSome result (λ run. view run ≡ begun true (new_cluster (cluster_view run.cluster).triggers.faults)) }
 {
     let cluster = new_stores(alloc)?;
     match Run::begin(alloc, cluster, true) {
@@ -91,7 +91,7 @@ fn new_run(alloc: Global) -> Option<Run<MemDisk>>
 
 // An open cluster on new stores.
 fn new_stores(alloc: Global) -> Option<Cluster<MemDisk>>
-    ensures { IfSome result (λ c. state_of c ≡ new_cluster (state_of c).triggers.faults) }
+    ensures { IfSome result (λ c. cluster_view c ≡ new_cluster (cluster_view c).triggers.faults) }
 {
     // A script has both stores, as `init` makes them; nothing works on the states yet.
     drop(new_store(alloc, STATES)?);

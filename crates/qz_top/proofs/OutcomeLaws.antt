@@ -13,26 +13,26 @@ use Rattle.qz_job_json.specs.declared.lines.Given.{Given}
 use Rattle.qz_top.specs.Lines.{Meaning, line_meaning, kind_of, IsGoodMeaning, readings_of_at, readings_of_meaning, timed, steps_by_meaning, steps_of}
 use Rattle.qz_types.specs.declared.steps.StepReply.{StepReply}
 use Rattle.qz_report.specs.Replies.{reply_text}
-use Rattle.qz_top.specs.Trails.{texts, RunState, Went}
-use Rattle.qz_top.specs.Turns.{Did, Ran, DidStep, IsOwn, taken_reading, step_at, GaveUp, StepPart, NotAnswered, StepDone, LineDone, RanPart, IsBad, Untouched, line_end}
-use Rattle.qz_top.specs.declared.turns.LineEnd.{LineEnd}
-use Rattle.qz_top.specs.declared.turns.LineEnd.TheVariants as ends
+use Rattle.qz_top.specs.Trails.{texts, RunState, RanSteps}
+use Rattle.qz_top.specs.LineOutcomes.{Did, Ran, DidStep, IsOwn, taken_reading, step_at, GaveUp, StepPart, NotAnswered, StepDone, LineDone, RanPart, IsBad, Untouched, line_end}
+use Rattle.qz_top.specs.declared.line_handler.LineEnd.{LineEnd}
+use Rattle.qz_top.specs.declared.line_handler.LineEnd.TheVariants as ends
 use Rattle.qz_job_json.specs.declared.faults.LineFault.{LineFault}
 use Rattle.qz_job_json.specs.declared.faults.LineError.{LineError}
 use Rattle.qz_job_json.specs.declared.faults.LineError.TheVariants as line_error
 use Rattle.qz_job_json.specs.Lines.{ReadsLineAs}
 use Rattle.qz_top.proofs.LineLaws.{steps_of-append, readings_of-append}
 use Rattle.qz_io.proofs.TakenLaws.{AllByRecursion-append}
-use Rattle.qz_top.proofs.TrailLaws.{Went-none, Went-more, Idles-none}
+use Rattle.qz_top.proofs.TrailLaws.{RanSteps-none, RanSteps-more, NothingDone-none}
 
 pub Did-none : (R : RunState) (o : Outside) → Did [] [] R R o o
-Did-none R o = record { good = tt; count = refl; told = Tells-nil o.readings; replies = []; went = Went-none R }
+Did-none R o = record { good = tt; count = refl; told = Tells-nil o.readings; replies = []; steps = RanSteps-none R }
 
 pub Ran-none : (R : RunState) (o : Outside) → Ran [] [] R R o o
 unfolding Did-none
 Ran-none R o = record { did = Did-none R o; written = Appends-nil o.held }
 
--- lines are done behind others
+-- lines are done after others
 unfoldable pub Did-more : (xs ys : List (List ℕ)) (rs qs : List ℤ) (R S T : RunState) (a b c : Outside)
     → Did xs rs R S a b → Did ys qs S T b c → Did (xs ++ ys) (rs ++ qs) R T a c
 Did-more xs ys rs qs R S T a b c p q = record {
@@ -40,8 +40,8 @@ Did-more xs ys rs qs R S T a b c p q = record {
   count = simp length-append (rw readings_of-append (omega (arith, p.count, q.count)));
   told = Tells-trans a.readings b.readings c.readings rs qs p.told q.told;
   replies = p.replies ++ q.replies;
-  went = subst (λ ts. Went ts (p.replies ++ q.replies) R T) (sym (steps_of-append xs ys rs qs p.good p.count))
-      (Went-more (steps_of xs rs) (steps_of ys qs) p.replies q.replies R S T p.went q.went);
+  steps = subst (λ ts. RanSteps ts (p.replies ++ q.replies) R T) (sym (steps_of-append xs ys rs qs p.good p.count))
+      (RanSteps-more (steps_of xs rs) (steps_of ys qs) p.replies q.replies R S T p.steps q.steps);
 }
 
 pub Ran-more : (xs ys : List (List ℕ)) (rs qs : List ℤ) (R S T : RunState) (a b c : Outside)
@@ -83,7 +83,7 @@ Did-one line given t before after a b e did = record {
   count = count_by_meaning (line_meaning line) given t e;
   told = did.told;
   replies = did.reply ∷ [];
-  went = subst (λ ts. Went ts (did.reply ∷ []) before after) (sym (steps_of-one line given t e did.own)) did.went;
+  steps = subst (λ ts. RanSteps ts (did.reply ∷ []) before after) (sym (steps_of-one line given t e did.own)) did.steps;
 }
 
 -- the text of one reply
@@ -105,13 +105,13 @@ Ran-blank line R o e = record {
     count = blank_count (line_meaning line) e;
     told = Tells-nil o.readings;
     replies = [];
-    went = subst (λ ts. Went ts [] R R) (sym (blank_steps (line_meaning line) e)) (Went-none R);
+    steps = subst (λ ts. RanSteps ts [] R R) (sym (blank_steps (line_meaning line) e)) (RanSteps-none R);
   };
   written = Appends-nil o.held;
 }
 
 gave_up : (R : RunState) (o : Outside) → GaveUp R R o o
-gave_up R o = record { idles = Idles-none R; readings = []; one = omega arith; told = Tells-nil o.readings; kept = Appends-nil o.held }
+gave_up R o = record { nothing = NothingDone-none R; readings = []; one = omega arith; told = Tells-nil o.readings; kept = Appends-nil o.held }
 
 -- a part of the reply of a line's step was written
 part_of : (line : List ℕ) (given : Given) (before after : RunState) (a b : Outside) → line_meaning line ≡ Ok (Some given)
@@ -135,13 +135,13 @@ pub StepDone-err : (e : LineEnd) (given : Given) (at : ℤ) (before after : RunS
     → Appends a.held b.held [] → NotAnswered e (step_at given at) before after → StepDone (Err e) given before after a b
 StepDone-err ends.Unanswered given at before after a b own told kept left = record {
   at = at;
-  did = record { own = own; told = told; reply = left.0; went = left.1 };
+  did = record { own = own; told = told; reply = left.0; steps = left.1 };
   count = 0;
   part = omega arith;
   written = kept;
 }
 StepDone-err ends.NoMemory given at before after a b own told kept left =
-    record { idles = left; readings = taken_reading given.at at; one = at_most_one given.at at; told = told; kept = kept }
+    record { nothing = left; readings = taken_reading given.at at; one = at_most_one given.at at; told = told; kept = kept }
 StepDone-err (ends.JournalFull need room) given at before after a b own told kept left =
     record { at = at; own = own; told = told; kept = kept; full = left.0; trail = left.1; is_own = left.2 }
 StepDone-err (ends.Bad kind) given at before after a b own told kept left = absurd left
@@ -149,21 +149,21 @@ StepDone-err ends.WriteFault given at before after a b own told kept left = absu
 
 -- a step whose reply line was written
 pub StepDone-ok : (given : Given) (at : ℤ) (before after : RunState) (a b : Outside) (text : List ℕ) → IsOwn given.at at → Tells a.readings b.readings (taken_reading given.at at)
-    → (reply : StepReply) × Went (step_at given at ∷ []) (reply ∷ []) before after × (text ≡ reply_text reply) → Appends a.held b.held text
+    → (reply : StepReply) × RanSteps (step_at given at ∷ []) (reply ∷ []) before after × (text ≡ reply_text reply) → Appends a.held b.held text
     → (at : ℤ) × (did : DidStep given at before after a b) × Appends a.held b.held (reply_text did.reply)
-StepDone-ok given at before after a b text own told went written =
-    (at, record { own = own; told = told; reply = went.0; went = went.1 }, subst (Appends a.held b.held) went.2 written)
+StepDone-ok given at before after a b text own told ran written =
+    (at, record { own = own; told = told; reply = ran.0; steps = ran.1 }, subst (Appends a.held b.held) ran.2 written)
 
 -- a step of whose reply line a part was written
 pub StepDone-part : (given : Given) (at : ℤ) (before after : RunState) (a b : Outside) (text : List ℕ) → IsOwn given.at at → Tells a.readings b.readings (taken_reading given.at at)
-    → (reply : StepReply) × Went (step_at given at ∷ []) (reply ∷ []) before after × (text ≡ reply_text reply) → (n : ℕ) × (n ≤ length text) × Appends a.held b.held (take n text)
+    → (reply : StepReply) × RanSteps (step_at given at ∷ []) (reply ∷ []) before after × (text ≡ reply_text reply) → (n : ℕ) × (n ≤ length text) × Appends a.held b.held (take n text)
     → StepPart given before after a b
-StepDone-part given at before after a b text own told went written = record {
+StepDone-part given at before after a b text own told ran written = record {
   at = at;
-  did = record { own = own; told = told; reply = went.0; went = went.1 };
+  did = record { own = own; told = told; reply = ran.0; steps = ran.1 };
   count = written.0;
-  part = subst (λ t. written.0 ≤ length t) went.2 written.1;
-  written = subst (λ t. Appends a.held b.held (take written.0 t)) went.2 written.2;
+  part = subst (λ t. written.0 ≤ length t) ran.2 written.1;
+  written = subst (λ t. Appends a.held b.held (take written.0 t)) ran.2 written.2;
 }
 
 -- what became of a line's step became of the line

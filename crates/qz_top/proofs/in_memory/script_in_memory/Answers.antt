@@ -1,15 +1,15 @@
 use Rattle.std.proofs.Common.{inl, ap}
-use Rattle.qz_cluster.specs.View.{view as state_of}
-use Rattle.qz_top.specs.Seen.{run_of, states_in}
+use Rattle.qz_cluster.specs.View.{view as cluster_view}
+use Rattle.qz_top.specs.Seen.{view, states_in}
 use Rattle.qz_top.proofs.OpenedLaws.{plain_of, no_disk_fault}
-use Rattle.qz_top.proofs.own.script_in_memory.Goals as goal
+use Rattle.qz_top.proofs.in_memory.script_in_memory.Goals as goal
 
 pub returns-clause-done : goal.returns-clause-done
 returns-clause-done g c =
     let ran = rw c.in-Some.ensures at c.run_lines-status.ensures.run in
     inl (record {
-      faults = (state_of c.in-Some.run'.cluster).triggers.faults;
-      behind = run_of c.run_lines-status.new.run;
+      faults = (cluster_view c.in-Some.run'.cluster).triggers.faults;
+      end = view c.run_lines-status.new.run;
       lines = ran.0;
       readings = ran.1;
       replies = ran.2;

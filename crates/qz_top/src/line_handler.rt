@@ -1,5 +1,5 @@
 //! The handler of a script's lines: each line is read, done and answered.
-ghost use Rattle.std.specs.Prelude.{◌≡◌, ◌⊎◌, ◌≤◌, ◌<◌, ◌∷◌, [], Err, IsTrue, IfOk, IfErr, IfSome, OnOk, vec_len, vec_capacity, true};
+ghost use Rattle.std.specs.Prelude.{◌≡◌, ◌⊎◌, ◌≤◌, ◌<◌, ◌∷◌, [], Err, IsTrue, IsOk, IfOk, IfErr, IfSome, OnOk, vec_len, vec_capacity, true};
 ghost use Rattle.qz_civil.specs.Causes.{Rose};
 ghost use Rattle.qz_io.specs.Around.{without_input};
 ghost use Rattle.qz_io.specs.Clocks.{Tells};
@@ -8,11 +8,12 @@ ghost use Rattle.qz_types.specs.declared.steps.StepReply.{StepReply as Reply};
 ghost use Rattle.qz_job_json.specs.Lines.{ReadsLineAs};
 ghost use Rattle.qz_report.specs.Replies.{reply_text};
 ghost use Rattle.qz_cluster.specs.Steps.{IsStep, IsCutShort};
-ghost use Rattle.qz_cluster.specs.View.{view as state_of};
+ghost use Rattle.qz_cluster.specs.View.{view as cluster_view};
 ghost use Rattle.qz_top.specs.Lines.{line_meaning};
-ghost use Rattle.qz_top.specs.Seen.{run_of};
-ghost use Rattle.qz_top.specs.Trails.{Went, is_fault};
-ghost use Rattle.qz_top.specs.Turns.{IsOwn, taken_reading, line_end, StepDone, LineDone, NotDone, NotAnswered};
+ghost use Rattle.qz_top.specs.Moments.{Shows};
+ghost use Rattle.qz_top.specs.Seen.{view};
+ghost use Rattle.qz_top.specs.Trails.{RanSteps, is_fault};
+ghost use Rattle.qz_top.specs.LineOutcomes.{IsOwn, taken_reading, line_end, StepDone, LineDone, NotDone, NotAnswered};
 
 use crate::BadKind;
 use crate::runs::Run;
@@ -61,7 +62,8 @@ fn do_line<K: Sink, D: Disk, C: Clock>(
     out: &mut K,
     clock: &mut C,
 ) -> Result<(), LineEnd>
-    ensures done { LineDone result line.now (run_of run.old) (run_of run.new) (without_input K.Sink C.Clock out.old clock.old) (without_input K.Sink C.Clock out.new clock.new) }
+    ensures done { LineDone result line.now (view run.old) (view run.new) (without_input K.Sink C.Clock out.old clock.old) (without_input K.Sink C.Clock out.new clock.new) }
+    ensures shows { Shows (IsOk result) run.old run.new }
     ensures later { K.faults out.old ≤ K.faults out.new }
     ensures write { result ≡ Err LineEnd.WriteFault → Rose (K.faults out.old) (K.faults out.new) }
 {
@@ -99,7 +101,8 @@ fn do_step<K: Sink, D: Disk, C: Clock>(
     clock: &mut C,
 ) -> Result<(), LineEnd>
     requires { IsTrue (is_step given.step) }
-    ensures done { StepDone result given (run_of run.old) (run_of run.new) (without_input K.Sink C.Clock out.old clock.old) (without_input K.Sink C.Clock out.new clock.new) }
+    ensures done { StepDone result given (view run.old) (view run.new) (without_input K.Sink C.Clock out.old clock.old) (without_input K.Sink C.Clock out.new clock.new) }
+    ensures shows { Shows (IsOk result) run.old run.new }
     ensures later { K.faults out.old ≤ K.faults out.new }
     ensures write { result ≡ Err LineEnd.WriteFault → Rose (K.faults out.old) (K.faults out.new) }
 {
@@ -123,8 +126,9 @@ fn answer_text<D: Disk>(
     run: &mut Run<D>,
 ) -> Result<Text, LineEnd>
     requires { IsTrue (is_step step) }
-    ensures ok { IfOk result (λ text. (reply : Reply) × Went (record { step = step; at = at } ∷ []) (reply ∷ []) (run_of run.old) (run_of run.new) × (text ≡ reply_text reply)) }
-    ensures err { IfErr result (λ e. NotAnswered e (record { step = step; at = at }) (run_of run.old) (run_of run.new)) }
+    ensures ok { IfOk result (λ text. (reply : Reply) × RanSteps (record { step = step; at = at } ∷ []) (reply ∷ []) (view run.old) (view run.new) × (text ≡ reply_text reply)) }
+    ensures err { IfErr result (λ e. NotAnswered e (record { step = step; at = at }) (view run.old) (view run.new)) }
+    ensures shows { Shows (IsOk result) run.old run.new }
 {
     match answer(step, at, run) {
         Ok(reply) => match line_of(alloc, reply) {
@@ -144,11 +148,12 @@ fn line_of(alloc: Global, reply: StepReply) -> Result<Text, NoMemory>
     line
 }
 
-/// Does a step, and shows the state behind it.
+/// Does a step, and shows the state after it.
 fn answer<D: Disk>(step: Step, at: i64, run: &mut Run<D>) -> Result<StepReply, LineEnd>
     requires { IsTrue (is_step step) }
-    ensures ok { IfOk result (λ reply. Went (record { step = step; at = at } ∷ []) (reply ∷ []) (run_of run.old) (run_of run.new)) }
-    ensures err { IfErr result (λ e. NotDone e (record { step = step; at = at }) (run_of run.old) (run_of run.new)) }
+    ensures ok { IfOk result (λ reply. RanSteps (record { step = step; at = at } ∷ []) (reply ∷ []) (view run.old) (view run.new)) }
+    ensures err { IfErr result (λ e. NotDone e (record { step = step; at = at }) (view run.old) (view run.new)) }
+    ensures shows { Shows (IsOk result) run.old run.new }
 {
     if run.trail.reserve(1).is_err() {
         drop(step);
