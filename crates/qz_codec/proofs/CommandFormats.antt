@@ -176,7 +176,7 @@ again (Recover node) rest is = (of_node Recover).again node rest is
 given_again : (by_node : Bool) (c : Command) (rest : List ℕ) → IsGiven by_node c → given_at by_node (command c ++ rest) ≡ Ok (c, rest)
 given_again by_node c rest is = subst (λ (b : Bool). given_at b (command c ++ rest) ≡ Ok (c, rest)) is.actor (again c rest is.valid)
 
--- A command behind its place, whose fields are all that it asks for.
+-- A command after its place, whose fields are all that it asks for.
 abbrev given : {A : Type 0} {make : A → Command} {write : A → List ℕ} {Is : A → Type 0} {read : List ℕ → Read Command} {m : ℕ} {by_node : Bool} (place : ℕ)
     → IsVariant make write Is read m → m ≤ 16995 → ((x : A) → place ∷ write x ≡ command (make x)) → ((x : A) → Is x → IsGiven by_node (make x)) → Part command (IsGiven by_node) 16995
 given {A} {make} {write} {Is} {read} {m} {by_node} place v le spelled valid = record { place = place; read = read; is = part place v le spelled valid }

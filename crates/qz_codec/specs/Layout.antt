@@ -107,7 +107,7 @@ command c = command_place c ∷ command_fields c
 unfoldable pub entry : EntryData → List ℕ
 entry e = integer w64 e.at ++ (actor e.actor ++ (number w32 e.seat ++ command e.command))
 
--- a record: the byte of its version, and what is written behind it
+-- a record: the byte of its version, and what is written after it
 abbrev pub recorded : {A : Type 0} → (A → List ℕ) → A → List ℕ
 recorded write x = 1 ∷ write x
 

@@ -160,7 +160,7 @@ entry_at bytes = do
   command ← command_at actor.0 seat.1
   Ok (record { at = at.0; actor = actor.0; seat = seat.0; command = command.0 }, command.1)
 
--- a whole record: its version, what is read behind it, and nothing more
+-- a whole record: its version, what is read after it, and nothing more
 unfoldable pub whole_at : {A : Type 0} → (List ℕ → Read A) → List ℕ → Result A ℕ
 whole_at read bytes = do
   version ← checked (λ n. n == 1) byte_at bytes

@@ -77,7 +77,7 @@ pub record IsState (s : StateData) : Type 0 where
   pub last : FitsSigned w64 s.last
   pub interval : IsNumber w64 is_interval s.interval
 
--- ---- reading, field by field: the value and the bytes behind it, or how many bytes are left at the first wrong field
+-- ---- reading, field by field: the value and the bytes after it, or how many bytes are left at the first wrong field
 
 unfoldable pub trigger_state_at : List ℕ → Read TriggerState
 trigger_state_at bytes = do
@@ -108,8 +108,8 @@ trigger_at bytes = do
   Ok (record { spec = spec.0; next = next.0; prev = prev.0; times = times.0; state = state.0 }, state.1)
 
 -- a fired row, of which what stands before its priority is given
-unfoldable pub fired_behind : ℕ → List ℕ → ℕ → Key → Key → List ℕ → Read FiredData
-fired_behind entry node epoch trigger job bytes = do
+unfoldable pub progress_at : ℕ → List ℕ → ℕ → Key → Key → List ℕ → Read FiredData
+progress_at entry node epoch trigger job bytes = do
   priority ← integer_at w32 bytes
   state ← fired_state_at priority.1
   scheduled ← integer_at w64 state.1
@@ -140,7 +140,7 @@ fired_at bytes = do
   epoch ← number_at w64 node.1
   trigger ← key_at epoch.1
   job ← key_at trigger.1
-  fired_behind entry.0 node.0 epoch.0 trigger.0 job.0 job.1
+  progress_at entry.0 node.0 epoch.0 trigger.0 job.0 job.1
 
 unfoldable pub state_at : List ℕ → Read StateData
 state_at bytes = do

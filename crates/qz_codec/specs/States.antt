@@ -31,7 +31,7 @@ pub record IsStateEntry (e : StateEntryData) : Type 0 where
   pub seat : e.seat < 2 ^ 32
   pub command : IsStateCommand e.command
 
--- ---- reading, field by field: the value and the bytes behind it, or how many bytes are left at the first wrong field
+-- ---- reading, field by field: the value and the bytes after it, or how many bytes are left at the first wrong field
 
 unfoldable pub check_in_at : List ℕ → Read StateCommand
 check_in_at bytes = do

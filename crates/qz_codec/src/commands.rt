@@ -9,20 +9,24 @@ ghost use Rattle.qz_values.specs.Fields.{number, integer, flag};
 ghost use Rattle.qz_codec.specs.Layout.{key, job, spec, code_place, command_place, command_fields, command};
 ghost use Rattle.qz_codec.specs.Calendars.{calendar_row};
 
+mod client;
 mod node;
 
-use crate::calendars::{calendar_row_of, put_calendar_row};
-use crate::check_ins::interval_of;
+use crate::calendars::put_calendar_row;
 use crate::codes::place_of_code;
-use crate::jobs::{job_of, put_job};
-use crate::keys::{key_of, put_key};
-use crate::members::{owned_node_of, put_node};
-use crate::triggers::{put_spec, spec_of};
-use crate::zones::{put_zone_row, zone_row_of};
+use crate::jobs::put_job;
+use crate::keys::put_key;
+use crate::members::put_node;
+use crate::triggers::put_spec;
+use crate::zones::put_zone_row;
+use client::{
+    add_calendar_of, add_job_of, add_trigger_of, add_zone_of, delete_calendar_of, delete_job_of,
+    delete_trigger_of, delete_zone_of, join_of, pause_group_of, pause_trigger_of, resume_group_of,
+    resume_trigger_of, threshold_of, trigger_now_of,
+};
 use node::{acquire_of, complete_of, fire_of, recover_of, release_of};
-use qz_civil::beside;
 use qz_types::{Actor, CalendarRow, Code, Command, JobRow, TriggerSpec};
-use qz_values::{Fault, bool_at, owned_name_of, put_bool, put_i64, put_name, put_u8, put_u32, put_u64, u8_at};
+use qz_values::{Fault, put_bool, put_i64, put_name, put_u8, put_u32, put_u64, u8_at};
 use std::alloc::{AllocError, Global};
 
 #[tactic(auto, unfolding(crate::specs::Reading::client_command_at))]
@@ -32,69 +36,21 @@ fn client_command_of(alloc: Global, bytes: &[u8]) -> Result<(Command, &[u8]), Fa
 {
     let (place, rest) = u8_at(bytes)?;
     match place {
-        0 => {
-            let (job, rest) = job_of(alloc, rest)?;
-            let (job, (replace, rest)) = beside(job, bool_at(rest))?;
-            Ok((Command::AddJob { job, replace }, rest))
-        }
-        1 => {
-            let (key, rest) = key_of(alloc, rest)?;
-            Ok((Command::DeleteJob { key }, rest))
-        }
-        2 => {
-            let (spec, rest) = spec_of(alloc, rest)?;
-            let (spec, (replace, rest)) = beside(spec, bool_at(rest))?;
-            Ok((Command::AddTrigger { spec, replace }, rest))
-        }
-        3 => {
-            let (key, rest) = key_of(alloc, rest)?;
-            Ok((Command::DeleteTrigger { key }, rest))
-        }
-        4 => {
-            let (key, rest) = key_of(alloc, rest)?;
-            Ok((Command::PauseTrigger { key }, rest))
-        }
-        5 => {
-            let (key, rest) = key_of(alloc, rest)?;
-            Ok((Command::ResumeTrigger { key }, rest))
-        }
-        6 => {
-            let (group, rest) = owned_name_of(alloc, rest)?;
-            Ok((Command::PauseGroup { group }, rest))
-        }
-        7 => {
-            let (group, rest) = owned_name_of(alloc, rest)?;
-            Ok((Command::ResumeGroup { group }, rest))
-        }
-        8 => {
-            let (calendar, rest) = calendar_row_of(alloc, rest)?;
-            let (calendar, (replace, rest)) = beside(calendar, bool_at(rest))?;
-            Ok((Command::AddCalendar { calendar, replace }, rest))
-        }
-        9 => {
-            let (name, rest) = owned_name_of(alloc, rest)?;
-            Ok((Command::DeleteCalendar { name }, rest))
-        }
-        10 => {
-            let (zone, rest) = zone_row_of(alloc, rest)?;
-            Ok((Command::AddZone { zone }, rest))
-        }
-        11 => {
-            let (name, rest) = owned_name_of(alloc, rest)?;
-            Ok((Command::DeleteZone { name }, rest))
-        }
-        12 => {
-            let (job, rest) = key_of(alloc, rest)?;
-            Ok((Command::TriggerNow { job }, rest))
-        }
-        13 => {
-            let (ms, rest) = interval_of(rest)?;
-            Ok((Command::Threshold { ms }, rest))
-        }
-        14 => {
-            let (node, rest) = owned_node_of(alloc, rest)?;
-            Ok((Command::Join { node }, rest))
-        }
+        0 => add_job_of(alloc, rest),
+        1 => delete_job_of(alloc, rest),
+        2 => add_trigger_of(alloc, rest),
+        3 => delete_trigger_of(alloc, rest),
+        4 => pause_trigger_of(alloc, rest),
+        5 => resume_trigger_of(alloc, rest),
+        6 => pause_group_of(alloc, rest),
+        7 => resume_group_of(alloc, rest),
+        8 => add_calendar_of(alloc, rest),
+        9 => delete_calendar_of(alloc, rest),
+        10 => add_zone_of(alloc, rest),
+        11 => delete_zone_of(alloc, rest),
+        12 => trigger_now_of(alloc, rest),
+        13 => threshold_of(rest),
+        14 => join_of(alloc, rest),
         _ => Err(Fault::at(bytes)),
     }
 }

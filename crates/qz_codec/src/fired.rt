@@ -7,7 +7,7 @@ ghost use Rattle.qz_values.specs.Fields.{number, integer, flag, text, optional, 
 ghost use Rattle.qz_codec.specs.Layout.{key};
 ghost use Rattle.qz_codec.specs.Values.{IsKey};
 ghost use Rattle.qz_values.specs.Reading.{Gives};
-ghost use Rattle.qz_codec.specs.Rows.{fired_state_place, fired, IsFired, fired_state_at, fired_at, fired_behind};
+ghost use Rattle.qz_codec.specs.Rows.{fired_state_place, fired, IsFired, fired_state_at, fired_at, progress_at};
 
 use crate::keys::{make_keys, names_of, put_key};
 use crate::members::{node_of, put_node};
@@ -48,7 +48,7 @@ fn make_names(
 }
 
 /// A fired row, of which what stands before its priority was read.
-#[tactic(auto, unfolding(crate::specs::Rows::fired_behind))]
+#[tactic(auto, unfolding(crate::specs::Rows::progress_at))]
 fn progress_of<'a>(
     alloc: Global,
     entry: u64,
@@ -61,7 +61,7 @@ fn progress_of<'a>(
     requires node { IsTrue (is_node node.now) }
     requires trigger { IsTrue (is_key (record { group = trigger.0.now; name = trigger.1.now })) }
     requires job { IsTrue (is_key (record { group = job.0.now; name = job.1.now })) }
-    ensures { Gives (λ x. (x.0, x.1.now)) result (fired_behind entry node.now epoch (record { group = trigger.entry.0.now; name = trigger.entry.1.now }) (record { group = job.entry.0.now; name = job.entry.1.now }) bytes.now) }
+    ensures { Gives (λ x. (x.0, x.1.now)) result (progress_at entry node.now epoch (record { group = trigger.entry.0.now; name = trigger.entry.1.now }) (record { group = job.entry.0.now; name = job.entry.1.now }) bytes.now) }
 {
     let (priority, rest) = i32_at(bytes)?;
     let (state, rest) = fired_state_of(rest)?;

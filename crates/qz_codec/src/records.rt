@@ -1,4 +1,4 @@
-//! Records: the version, and what stands behind it, once for all that has a record.
+//! Records: the version, and what stands after it, once for all that has a record.
 ghost use Rattle.std.specs.Prelude.{◌≡◌, ◌==◌, ◌≤◌, ◌++◌, ℕ, length, IfOk, OnOk, Ok};
 ghost use Rattle.qz_codec.specs.declared.limits.TheConstants.{RECORD_LIMIT};
 ghost use Rattle.qz_codec.specs.Layout.{recorded};
@@ -15,7 +15,7 @@ use std::alloc::{AllocError, Global};
 /// Bytes that most records have room in, so that few buffers grow.
 const USUAL_SIZE: usize = 256;
 
-/// What has a record: the fields that stand behind its version.
+/// What has a record: the fields that stand after its version.
 pub trait Recorded: Sized + Drop {
     ghost use Rattle.std.specs.Prelude.{ℕ, ◌<◌, List};
     ghost use Rattle.qz_codec.specs.declared.limits.TheConstants.{RECORD_LIMIT};
@@ -37,13 +37,13 @@ pub trait Recorded: Sized + Drop {
     /// The most bytes that the fields have.
     ghost most: { ℕ };
 
-    /// Puts the fields behind what is there.
+    /// Puts the fields after what is there.
     fn put_fields(&self, out: &mut Vec<u8>) -> Result<(), AllocError>
         requires { can_put self.now }
         ensures bytes { OnOk result (out.new.items ≡ out.old.items ++ fields self.now) }
         ensures valid { OnOk result (has_record self.now) };
 
-    /// Reads the fields at the front, and answers the bytes behind them too.
+    /// Reads the fields at the front, and answers the bytes after them too.
     fn fields_of(alloc: Global, bytes: &[u8]) -> Result<(Self, &[u8]), Fault>
         ensures { Gives (λ x. (x.0, x.1.now)) result (fields_at bytes.now) };
 

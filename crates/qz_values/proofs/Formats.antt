@@ -43,7 +43,7 @@ pub record Both (P Q : Type 0) : Type 0 where
   pub first : P
   pub others : Q
 
--- A field, and those behind it.
+-- A field, and those after it.
 pub field : {A B : Type 0} {write_b : B → List ℕ} {IsB : B → Type 0} {read_b : List ℕ → Read B} {m n : ℕ} {write : A → List ℕ} {Is : A → Type 0} {read : B → List ℕ → Read A} → (Known : A → Type 0)
     → (get : A → B) → IsFormat write_b Any IsB read_b m
     → ((b : B) → IsFormat write (λ x. Also (Known x) (get x ≡ b)) Is (read b) n)

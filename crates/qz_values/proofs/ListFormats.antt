@@ -11,12 +11,12 @@ use Rattle.qz_values.proofs.SingleFields.{wide16, long_le}
 use Rattle.qz_values.proofs.NameFormats.{narrowed}
 use Rattle.qz_values.proofs.VariantFormats.{nearer}
 
--- each item is right behind the one before; `before` is what stands before the first
+-- each item is right after the one before; `before` is what stands before the first
 abbrev pub AreItems : {A : Type 0} → (Option A → A → Type 0) → Option A → List A → Type 0
 AreItems IsItem before [] = Unit {0}
 AreItems IsItem before (x ∷ xs) = IsItem before x × AreItems IsItem (Some x) xs
 
--- a format of items, each behind any one before
+-- a format of items, each after any one before
 abbrev pub AreFormats : {A : Type 0} → (A → List ℕ) → (Option A → A → Type 0) → (Option A → List ℕ → Read A) → ℕ → Type 0
 AreFormats {A} write Is read m = (before : Option A) → IsFormat write Any (Is before) (read before) m
 

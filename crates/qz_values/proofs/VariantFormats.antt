@@ -1,4 +1,4 @@
--- Enums: the place of a variant, and what stands behind it.
+-- Enums: the place of a variant, and what stands after it.
 use Rattle.std.proofs.Common.{◌≡◌, ℕ, suc, ◌+◌, ◌≤◌, Bool, true, false, cond, List, [], ◌∷◌, ◌++◌, length, Ok, Err, refl, sym, ap, subst, ◌∙◌, arith, ◌==◌, ◌⊎◌, inl, inr}
 use Rattle.std.proofs.lemmas.Bool.{eqb-true}
 use Rattle.qz_values.specs.Fields.{◌>>=◌, Read, as_variant}
@@ -6,7 +6,7 @@ use Rattle.qz_values.specs.Formats.{IsBytes, EndsNear, Takes, IsFormat, Any}
 use Rattle.qz_values.proofs.Formats.{Also, Both, bind_ok, ok_is, no_value, field, last, same}
 use Rattle.qz_values.proofs.SingleFields.{IsBytes-rest}
 
--- What stands behind a variant's place, read as the variant.
+-- What stands after a variant's place, read as the variant.
 pub record IsVariant {A C : Type 0} (make : A → C) (write : A → List ℕ) (Is : A → Type 0) (read : List ℕ → Read C) (most : ℕ) : Type 0 where
   pub again : (x : A) (rest : List ℕ) → Is x → read (write x ++ rest) ≡ Ok (make x, rest)
   pub takes : (bytes : List ℕ) (y : C × List ℕ) → IsBytes bytes → read bytes ≡ Ok y → (x : A × List ℕ) × Takes write Any Is bytes x × ((make x.0, x.1) ≡ y)
@@ -60,7 +60,7 @@ regroup make (Err left) s t e = refl
 
 -- ---- variants by their places
 
--- What stands behind a place, read as a value of the enum.
+-- What stands after a place, read as a value of the enum.
 pub record IsPart {C : Type 0} (write : C → List ℕ) (Is : C → Type 0) (most place : ℕ) (read : List ℕ → Read C) : Type 0 where
   pub takes : (bytes : List ℕ) (y : C × List ℕ) → IsBytes bytes → read bytes ≡ Ok y → Takes write Any Is (place ∷ bytes) y
   pub near : (bytes : List ℕ) → EndsNear most (length bytes) (read bytes)
@@ -99,7 +99,7 @@ bare {C} {write} {Is} {most} place x spelled is = record {
   near = λ bytes. record { within = omega arith; near = omega arith };
 }
 
--- places, each with what reads behind it
+-- places, each with what reads after it
 abbrev pub Choices : Type 0 → Type 0
 Choices C = List (ℕ × (List ℕ → Read C))
 
@@ -111,7 +111,7 @@ abbrev pub AreParts : {C : Type 0} → (C → List ℕ) → (C → Type 0) → �
 AreParts write Is most [] = Unit {0}
 AreParts write Is most (c ∷ cs) = IsPart write Is most c.0 c.1 × AreParts write Is most cs
 
--- a place, what reads behind it, and that it does
+-- a place, what reads after it, and that it does
 pub record Part {C : Type 0} (write : C → List ℕ) (Is : C → Type 0) (most : ℕ) : Type 0 where
   pub place : ℕ
   pub read : List ℕ → Read C
@@ -138,9 +138,9 @@ by_place-takes {C} write Is most (c ∷ cs) b bytes y parts fits e =
       | inr later ↦ by_place-takes write Is most cs b bytes y parts.1 fits later
     ]
 
-near_behind : {C : Type 0} (m size : ℕ) (r : Read C) → EndsNear m size r → EndsNear (1 + m) (suc size) r
-near_behind m size (Ok x) p = record { within = omega (arith, p.within); near = omega (arith, p.near) }
-near_behind m size (Err left) p = record { within = omega (arith, p.within); near = omega (arith, p.near) }
+near_after : {C : Type 0} (m size : ℕ) (r : Read C) → EndsNear m size r → EndsNear (1 + m) (suc size) r
+near_after m size (Ok x) p = record { within = omega (arith, p.within); near = omega (arith, p.near) }
+near_after m size (Err left) p = record { within = omega (arith, p.within); near = omega (arith, p.near) }
 
 pub chosen_one : {A : Type 0} (P : A → Type 0) (b : Bool) (x y : A) → P x → P y → P (cond b x y)
 chosen_one P true x y p q = p
@@ -150,7 +150,7 @@ by_place-near : {C : Type 0} (write : C → List ℕ) (Is : C → Type 0) (most 
 by_place-near write Is most [] b bytes parts = record { within = omega arith; near = omega arith }
 by_place-near {C} write Is most (c ∷ cs) b bytes parts =
     chosen_one (λ (r : Read C). EndsNear (1 + most) (suc (length bytes)) r) (b == c.0) (c.1 bytes) (by_place cs b bytes)
-    (near_behind most (length bytes) (c.1 bytes) (parts.0.near bytes)) (by_place-near write Is most cs b bytes parts.1)
+    (near_after most (length bytes) (c.1 bytes) (parts.0.near bytes)) (by_place-near write Is most cs b bytes parts.1)
 
 -- an enum that is read by its places
 pub tagged : {C : Type 0} {write : C → List ℕ} {Is : C → Type 0} {read : List ℕ → Read C} (most : ℕ) (cs : Choices C) → AreParts write Is most cs → read [] ≡ Err 0 → ((b : ℕ) (bytes : List ℕ) → read (b ∷ bytes) ≡ by_place cs b bytes) → ((x : C) (rest : List ℕ) → Is x → read (write x ++ rest) ≡ Ok (x, rest)) → IsFormat write Any Is read (1 + most)

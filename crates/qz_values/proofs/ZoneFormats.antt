@@ -20,7 +20,7 @@ use Rattle.qz_values.proofs.ListFormats.{AreItems, IsList, list_format}
 abbrev start : Option Stretch → Option ℤ
 start before = option_map (λ s. s.from) before
 
--- a stretch right behind this one
+-- a stretch right after this one
 pub record IsNext (before : Option Stretch) (s : Stretch) : Type 0 where
   pub from : IsNumber w64 (may_begin (start before)) s.from
   pub offset : IsNumber w32 is_offset s.offset

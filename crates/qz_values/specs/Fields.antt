@@ -1,7 +1,7 @@
 -- Single fields: their bytes, which values have some, and how they are read. Numbers are big-endian of their type's
 -- width, and signed ones in two's complement.
 --
--- A reader goes from left to right. It answers the value and the bytes behind it, or how many bytes are left from the
+-- A reader goes from left to right. It answers the value and the bytes after it, or how many bytes are left from the
 -- first byte of the first wrong field on. A field is wrong where it isn't whole, is out of its range or breaks a rule
 -- together with the fields before it.
 use Rattle.std.specs.Prelude.{◌≡◌, ℕ, ℤ, List, length, true, FitsSigned, [], ◌∷◌, ◌++◌, take, drop, nat_lt, nat_le, ◌==◌, ◌&&◌, Bool, false, Option, Some, None, Result, Ok, Err, if◌then◌else◌}

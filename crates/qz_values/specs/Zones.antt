@@ -9,11 +9,11 @@ use Rattle.qz_values.specs.Fields.{integer, ◌>>=◌, Read, checked, integer_at
 unfoldable pub stretch : Stretch → List ℕ
 stretch s = integer w64 s.from ++ integer w32 s.offset
 
--- a stretch begins there, right behind one that begins at `before`
+-- a stretch begins there, right after one that begins at `before`
 abbrev pub may_begin : Option ℤ → ℤ → Bool
 may_begin before from = is_timestamp from && is_apart before from
 
--- a stretch right behind this one
+-- a stretch right after this one
 unfoldable pub next_stretch_at : Option Stretch → List ℕ → Read Stretch
 next_stretch_at before bytes = do
   from ← checked (may_begin (option_map (λ s. s.from) before)) (integer_at w64) bytes

@@ -16,7 +16,7 @@ use crate::numbers::{bool_at, put_bool, put_u8, put_u16, put_u32, u8_at, u16_at,
 use qz_civil::{ANNUAL_LIMIT, CalendarKind, HOLIDAY_LIMIT, List, is_annual_day, is_holiday};
 use std::alloc::{AllocError, Global};
 
-fn is_day_behind(before: Option<u16>, day: u16) -> bool
+fn is_next_day(before: Option<u16>, day: u16) -> bool
     ensures { result ≡ format.is_next spec.is_annual_day before day }
 {
     is_annual_day(day)
@@ -26,7 +26,7 @@ fn is_day_behind(before: Option<u16>, day: u16) -> bool
         }
 }
 
-fn is_date_behind(before: Option<u32>, date: u32) -> bool
+fn is_next_date(before: Option<u32>, date: u32) -> bool
     ensures { result ≡ format.is_next spec.is_holiday before date }
 {
     is_holiday(date)
@@ -50,7 +50,7 @@ impl Item for u16 {
         ensures { Gives (λ x. (x.0, x.1.now)) result (format.next_day_at before bytes.now) }
     {
         match u16_at(bytes) {
-            Ok((day, _)) if !is_day_behind(before, day) => Err(Fault::at(bytes)),
+            Ok((day, _)) if !is_next_day(before, day) => Err(Fault::at(bytes)),
             read => read,
         }
     }
@@ -70,7 +70,7 @@ impl Item for u32 {
         ensures { Gives (λ x. (x.0, x.1.now)) result (format.next_date_at before bytes.now) }
     {
         match u32_at(bytes) {
-            Ok((date, _)) if !is_date_behind(before, date) => Err(Fault::at(bytes)),
+            Ok((date, _)) if !is_next_date(before, date) => Err(Fault::at(bytes)),
             read => read,
         }
     }
@@ -162,6 +162,7 @@ fn day_part_of(bytes: &[u8]) -> Result<(CalendarKind, &[u8]), Fault>
     Ok((CalendarKind::Daily { from, to, inverted }, rest))
 }
 
+/// What a calendar excludes: the place of its kind in one byte, then what the kind has.
 #[tactic(auto, unfolding(crate::specs::Calendars::calendar_kind_at))]
 pub fn calendar_kind_of(alloc: Global, bytes: &[u8]) -> Result<(CalendarKind, &[u8]), Fault>
     ensures exact { Gives (λ x. (x.0, x.1.now)) result (format.calendar_kind_at bytes.now) }
@@ -187,6 +188,7 @@ fn put_day_part(out: &mut Vec<u8>, from: u32, to: u32, inverted: bool) -> Result
     put_bool(out, inverted)
 }
 
+/// Puts what a calendar excludes.
 #[tactic(auto, unfolding(crate::specs::Calendars::calendar_kind), using(crate::proofs::Signs::signs))]
 pub fn put_calendar_kind(out: &mut Vec<u8>, kind: &CalendarKind) -> Result<(), AllocError>
     requires { IsTrue (spec.is_calendar_kind kind.now) }

@@ -187,12 +187,12 @@ fn years_of(bytes: &[u8]) -> Result<([u64; 4], &[u8]), Fault>
     let (first, rest) = u64_at(bytes)?;
     let (second, rest) = u64_at(rest)?;
     let (third, rest) = third_word_of(rest)?;
-    let (fourth, behind) = u64_at(rest)?;
+    let (fourth, after) = u64_at(rest)?;
     let years = [first, second, third, fourth];
     if !is_year_set(years) {
         return Err(Fault::at(rest));
     }
-    Ok((years, behind))
+    Ok((years, after))
 }
 
 #[tactic(auto, unfolding(crate::specs::CronFields::cron_fields_at, qz_civil::specs::Fields::is_time_fields, qz_civil::specs::Fields::is_date_fields))]

@@ -1,8 +1,8 @@
 //! Records of single values, both ways: numbers, texts, lists, times, the fields of a cron text, timings of triggers,
 //! kinds of calendars and stretches of zones. `docs/specification/records.md` has the format.
 //!
-//! A function that writes puts the bytes of a value behind those that are there. A function that reads takes a value
-//! from the front of some bytes, and answers it with the bytes behind it.
+//! A function that writes puts the bytes of a value after those that are there. A function that reads takes a value
+//! from the front of some bytes, and answers it with the bytes after it.
 #![tactic(auto)]
 
 mod calendars;

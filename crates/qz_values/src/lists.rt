@@ -18,7 +18,7 @@ pub(crate) trait Item: Copy {
     /// The bytes of an item.
     ghost item: { Self → List ℕ };
 
-    /// What is read at the front of these bytes, right behind the item before.
+    /// What is read at the front of these bytes, right after the item before.
     ghost item_at: { Option Self → List ℕ → Read Self };
 
     fn put_item(self, out: &mut Vec<u8>) -> Result<(), AllocError>
@@ -36,10 +36,10 @@ fn counted_of<I: Item>(alloc: Global, count: usize, bytes: &[u8]) -> Result<(Lis
     let mut before = None;
     let mut rest = bytes;
     for _ in 0..count {
-        let (item, behind) = I::item_of(before, rest)?;
+        let (item, after) = I::item_of(before, rest)?;
         items.push(item)?;
         before = Some(item);
-        rest = behind;
+        rest = after;
     }
     Ok((List::from_vec(items), rest))
 }

@@ -1,4 +1,4 @@
-//! Numbers and flags, both ways. Each reader answers the value and the bytes behind it.
+//! Numbers and flags, both ways. Each reader answers the value and the bytes after it.
 ghost use Rattle.std.specs.Prelude.{◌≡◌, ℕ, ℤ, ◌<◌, ◌^◌, ◌++◌, ◌∷◌, [], OnOk, true, FitsSigned};
 ghost use Rattle.std.specs.Int.{w8, w16, w32, w64};
 ghost use Rattle.qz_values.specs.Fields.{byte_at, number_at, integer_at, small_at, flag_at, number, integer, small, flag};
@@ -7,6 +7,7 @@ ghost use Rattle.qz_values.specs.Reading.{Gives};
 use crate::faults::Fault;
 use std::alloc::AllocError;
 
+/// The first byte.
 #[tactic(auto, unfolding(crate::specs::Fields::byte_at))]
 pub fn u8_at(bytes: &[u8]) -> Result<(u8, &[u8]), Fault>
     ensures { Gives (λ x. (x.0, x.1.now)) result (byte_at bytes.now) }
@@ -18,7 +19,7 @@ pub fn u8_at(bytes: &[u8]) -> Result<(u8, &[u8]), Fault>
 }
 
 #[tactic(auto, unfolding(crate::specs::Fields::number_at))]
-pub fn u16_at(bytes: &[u8]) -> Result<(u16, &[u8]), Fault>
+pub(crate) fn u16_at(bytes: &[u8]) -> Result<(u16, &[u8]), Fault>
     ensures { Gives (λ x. (x.0, x.1.now)) result (number_at w16 bytes.now) }
 {
     if bytes.len() < 2 {
@@ -28,6 +29,7 @@ pub fn u16_at(bytes: &[u8]) -> Result<(u16, &[u8]), Fault>
     Ok((u16::from_be_bytes([front[0], front[1]]), rest))
 }
 
+/// The first four bytes as a number, the greatest place first.
 #[tactic(auto, unfolding(crate::specs::Fields::number_at))]
 pub fn u32_at(bytes: &[u8]) -> Result<(u32, &[u8]), Fault>
     ensures { Gives (λ x. (x.0, x.1.now)) result (number_at w32 bytes.now) }
@@ -42,6 +44,7 @@ pub fn u32_at(bytes: &[u8]) -> Result<(u32, &[u8]), Fault>
     ))
 }
 
+/// The first eight bytes as a number, the greatest place first.
 #[tactic(auto, unfolding(crate::specs::Fields::number_at))]
 pub fn u64_at(bytes: &[u8]) -> Result<(u64, &[u8]), Fault>
     ensures { Gives (λ x. (x.0, x.1.now)) result (number_at w64 bytes.now) }
@@ -64,6 +67,7 @@ pub(crate) fn i8_at(bytes: &[u8]) -> Result<(i8, &[u8]), Fault>
     Ok((byte.cast_signed(), rest))
 }
 
+/// The first four bytes as a number, the greatest place first, in two's complement.
 #[tactic(auto, unfolding(crate::specs::Fields::integer_at))]
 pub fn i32_at(bytes: &[u8]) -> Result<(i32, &[u8]), Fault>
     ensures { Gives (λ x. (x.0, x.1.now)) result (integer_at w32 bytes.now) }
@@ -72,6 +76,7 @@ pub fn i32_at(bytes: &[u8]) -> Result<(i32, &[u8]), Fault>
     Ok((number.cast_signed(), rest))
 }
 
+/// The first eight bytes as a number, the greatest place first, in two's complement.
 #[tactic(auto, unfolding(crate::specs::Fields::integer_at))]
 pub fn i64_at(bytes: &[u8]) -> Result<(i64, &[u8]), Fault>
     ensures { Gives (λ x. (x.0, x.1.now)) result (integer_at w64 bytes.now) }
@@ -80,6 +85,7 @@ pub fn i64_at(bytes: &[u8]) -> Result<(i64, &[u8]), Fault>
     Ok((number.cast_signed(), rest))
 }
 
+/// The first byte as a flag: `00` for false, `01` for true, and no other.
 #[tactic(auto, unfolding(crate::specs::Fields::flag_at))]
 pub fn bool_at(bytes: &[u8]) -> Result<(bool, &[u8]), Fault>
     ensures { Gives (λ x. (x.0, x.1.now)) result (flag_at bytes.now) }
@@ -92,6 +98,7 @@ pub fn bool_at(bytes: &[u8]) -> Result<(bool, &[u8]), Fault>
     }
 }
 
+/// Puts one byte.
 pub fn put_u8(out: &mut Vec<u8>, n: u8) -> Result<(), AllocError>
     ensures { OnOk result (out.new.items ≡ out.old.items ++ n ∷ []) }
 {
@@ -106,6 +113,7 @@ pub(crate) fn put_u16(out: &mut Vec<u8>, n: u16) -> Result<(), AllocError>
     out.extend_from_slice(&n.to_be_bytes())
 }
 
+/// Puts a number in four bytes, the greatest place first.
 #[tactic(auto, unfolding(crate::specs::Fields::number))]
 pub fn put_u32(out: &mut Vec<u8>, n: u32) -> Result<(), AllocError>
     ensures bytes { OnOk result (out.new.items ≡ out.old.items ++ number w32 n) }
@@ -114,6 +122,7 @@ pub fn put_u32(out: &mut Vec<u8>, n: u32) -> Result<(), AllocError>
     out.extend_from_slice(&n.to_be_bytes())
 }
 
+/// Puts a number in eight bytes, the greatest place first.
 #[tactic(auto, unfolding(crate::specs::Fields::number))]
 pub fn put_u64(out: &mut Vec<u8>, n: u64) -> Result<(), AllocError>
     ensures bytes { OnOk result (out.new.items ≡ out.old.items ++ number w64 n) }
@@ -130,6 +139,7 @@ pub(crate) fn put_i8(out: &mut Vec<u8>, n: i8) -> Result<(), AllocError>
     out.extend_from_slice(&n.to_be_bytes())
 }
 
+/// Puts a number in four bytes, the greatest place first, in two's complement.
 #[tactic(auto, unfolding(crate::specs::Fields::integer, crate::specs::Fields::number))]
 pub fn put_i32(out: &mut Vec<u8>, n: i32) -> Result<(), AllocError>
     ensures bytes { OnOk result (out.new.items ≡ out.old.items ++ integer w32 n) }
@@ -138,6 +148,7 @@ pub fn put_i32(out: &mut Vec<u8>, n: i32) -> Result<(), AllocError>
     out.extend_from_slice(&n.to_be_bytes())
 }
 
+/// Puts a number in eight bytes, the greatest place first, in two's complement.
 #[tactic(auto, unfolding(crate::specs::Fields::integer, crate::specs::Fields::number))]
 pub fn put_i64(out: &mut Vec<u8>, n: i64) -> Result<(), AllocError>
     ensures bytes { OnOk result (out.new.items ≡ out.old.items ++ integer w64 n) }
@@ -146,6 +157,7 @@ pub fn put_i64(out: &mut Vec<u8>, n: i64) -> Result<(), AllocError>
     out.extend_from_slice(&n.to_be_bytes())
 }
 
+/// Puts a flag: `00` for false, `01` for true.
 pub fn put_bool(out: &mut Vec<u8>, b: bool) -> Result<(), AllocError>
     ensures { OnOk result (out.new.items ≡ out.old.items ++ flag b) }
 {

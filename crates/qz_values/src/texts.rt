@@ -34,7 +34,8 @@ pub(crate) fn length_of(bytes: &[u8], least: u16, most: u16) -> Result<(usize, &
     Ok((length as usize, rest))
 }
 
-/// A text of `least` to `most` bytes.
+/// A text of `least` to `most` bytes, as it stands in these bytes: its length in two bytes, then its bytes, which are
+/// UTF-8. The length is wrong where it is out of its range, and what follows it where it is cut or not UTF-8.
 #[tactic(auto, unfolding(crate::specs::Fields::text_at))]
 pub fn str_at(bytes: &[u8], least: u16, most: u16) -> Result<(&str, &[u8]), Fault>
     ensures exact { Gives (λ x. (x.0.now, x.1.now)) result (text_at least most bytes.now) }
@@ -44,13 +45,14 @@ pub fn str_at(bytes: &[u8], least: u16, most: u16) -> Result<(&str, &[u8]), Faul
     if rest.len() < length {
         return Err(Fault::at(rest));
     }
-    let (text, behind) = rest.split_at(length);
+    let (text, after) = rest.split_at(length);
     match utf8(text) {
-        Some(text) => Ok((text, behind)),
+        Some(text) => Ok((text, after)),
         None => Err(Fault::at(rest)),
     }
 }
 
+/// A name of 1 to `NAME_LIMIT` bytes, as it stands in these bytes.
 pub fn name_of(bytes: &[u8]) -> Result<(&str, &[u8]), Fault>
     ensures exact { Gives (λ x. (x.0.now, x.1.now)) result (name_at bytes.now) }
     ensures valid { IfOk result (λ x. IsTrue (is_name x.0.now)) }
@@ -75,6 +77,7 @@ pub fn make_texts(alloc: Global, first: &str, second: &str) -> Result<(Text, Tex
     beside(first, Text::from_str(alloc, second))
 }
 
+/// Puts a text: its length in two bytes, then its bytes.
 #[tactic(auto, unfolding(crate::specs::Fields::text, crate::specs::Fields::number))]
 pub fn put_str(out: &mut Vec<u8>, s: &str) -> Result<(), AllocError>
     requires { length s.now < 2 ^ 16 }
@@ -85,6 +88,7 @@ pub fn put_str(out: &mut Vec<u8>, s: &str) -> Result<(), AllocError>
     out.extend_from_slice(s.as_bytes())
 }
 
+/// Puts a name, as a text.
 pub fn put_name(out: &mut Vec<u8>, name: &Text) -> Result<(), AllocError>
     requires { IsTrue (is_name name.now) }
     ensures bytes { OnOk result (out.new.items ≡ out.old.items ++ text name.now) }

@@ -40,6 +40,7 @@ pub(crate) fn end_of(bytes: &[u8]) -> Result<(Option<i64>, &[u8]), Fault>
     Ok((Some(end), rest))
 }
 
+/// A time in ms, which may be any number, where there is one: a flag, then the time.
 pub fn time_of(bytes: &[u8]) -> Result<(Option<i64>, &[u8]), Fault>
     ensures { Gives (λ x. (x.0, x.1.now)) result (optional_at (integer_at w64) bytes.now) }
 {
@@ -66,6 +67,7 @@ pub(crate) fn put_end(out: &mut Vec<u8>, end: &Option<i64>) -> Result<(), AllocE
     }
 }
 
+/// Puts a flag, and the time in ms where there is one.
 #[tactic(auto, using(crate::proofs::Signs::signs))]
 pub fn put_time(out: &mut Vec<u8>, time: &Option<i64>) -> Result<(), AllocError>
     ensures bytes { OnOk result (out.new.items ≡ out.old.items ++ optional (integer w64) time.now) }

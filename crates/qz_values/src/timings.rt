@@ -28,6 +28,7 @@ pub(crate) fn misfire_of<'a>(kind: &Kind, bytes: &'a [u8]) -> Result<(i8, &'a [u
     Ok((code, rest))
 }
 
+/// A timing: its kind, its misfire instruction in one byte, its start in ms, and its end in ms where it has one.
 #[tactic(auto, unfolding(crate::specs::Timings::timing_at))]
 pub fn timing_of(alloc: Global, bytes: &[u8]) -> Result<(Timing, &[u8]), Fault>
     ensures exact { Gives (λ x. (x.0, x.1.now)) result (timing_at bytes.now) }
@@ -47,6 +48,7 @@ pub fn timing_of(alloc: Global, bytes: &[u8]) -> Result<(Timing, &[u8]), Fault>
     Ok((timing, rest))
 }
 
+/// Puts a timing.
 #[tactic(auto, unfolding(crate::specs::Timings::timing), using(crate::proofs::Signs::signs))]
 pub fn put_timing(out: &mut Vec<u8>, t: &Timing) -> Result<(), AllocError>
     requires { IsTrue (is_timing t.now) }

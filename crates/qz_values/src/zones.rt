@@ -14,7 +14,7 @@ use crate::numbers::{i32_at, i64_at, put_i32, put_i64};
 use qz_civil::{List, STRETCH_LIMIT, Stretch, is_offset, may_begin};
 use std::alloc::{AllocError, Global};
 
-/// Where a stretch begins, right behind one that begins at `before`.
+/// Where a stretch begins, right after one that begins at `before`.
 fn from_of(before: Option<i64>, bytes: &[u8]) -> Result<(i64, &[u8]), Fault>
     ensures { Gives (λ x. (x.0, x.1.now)) result (checked (format.may_begin before) (integer_at w64) bytes.now) }
 {

@@ -11,7 +11,7 @@ returns-in_err-item g c =
 
 pub loop-preserved : goal.loop-preserved
 loop-preserved g c =
-    rw c.in_ok-push.ensures.items (goes_on g.I.Item.item_at c.loop.items.items c.args.count c.loop.counter c.loop.before c.loop.rest.now c.in_ok-item.item c.in_ok-item.behind.now (items_at g.I.Item.item_at c.args.count None c.args.bytes.now) c.loop-test.true c.in_ok-item.ensures c.loop.invariant)
+    rw c.in_ok-push.ensures.items (goes_on g.I.Item.item_at c.loop.items.items c.args.count c.loop.counter c.loop.before c.loop.rest.now c.in_ok-item.item c.in_ok-item.after.now (items_at g.I.Item.item_at c.args.count None c.args.bytes.now) c.loop-test.true c.in_ok-item.ensures c.loop.invariant)
 
 pub returns : goal.returns
 returns g c =
