@@ -1,7 +1,8 @@
 -- The job at the place of a class is the first one of it. The crate that has the jobs as a list executes by these lemmas.
-use Rattle.std.proofs.Common.{◌≡◌, ℕ, zero, suc, ◌+◌, ◌<◌, Bool, true, false, ◌||◌, if◌then◌else◌, List, [], ◌∷◌, length, map, set, get_or, position, refl, sym, ap, ◌∙◌, arith, rules, subst}
+use Rattle.std.proofs.Common.{◌≡◌, ℕ, zero, suc, ◌+◌, ◌<◌, Bool, true, false, ◌||◌, if◌then◌else◌, List, [], ◌∷◌, ◌≤◌, length, map, set, drop, get_or, position, refl, sym, ap, ◌∙◌, arith, rules, subst}
 use Rattle.std.specs.Prelude.{Option, Some, None}
 use Rattle.std.specs.List.{list_any, position_from}
+use Rattle.std.proofs.lemmas.List.{drop_all}
 use Rattle.std.proofs.lemmas.List.Quantifiers.{position-Some}
 use Rattle.std.proofs.lemmas.Iterator.Adapters.{position_from-zero}
 use Rattle.qz_types.specs.declared.commands.Code.{Code}
@@ -21,9 +22,13 @@ module _ {A : Type 0} (means : A → JobMeaning) where
   none_from class [] j is = refl
   none_from class (x ∷ xs) j is = none_of (is_of_class class (means x)) (position_from (λ y. is_of_class class (means y)) (j + 1) xs) j (list_any (is_of_class class) (map means xs)) (none_from class xs (j + 1)) is
 
-  -- where no place is found, no job is of the class
-  pub no_job : (class : List ℕ) (xs : List A) → position (λ x. is_of_class class (means x)) xs ≡ None → list_any (is_of_class class) (map means xs) ≡ false
-  no_job class xs is = none_from class xs 0 (sym (position_from-zero (λ x. is_of_class class (means x)) xs) ∙ is)
+  none_past : (class : List ℕ) (xs ys : List A) (n : ℕ) → ys ≡ [] → position (λ x. is_of_class class (means x)) xs ≡ position_from (λ x. is_of_class class (means x)) n ys → list_any (is_of_class class) (map means xs) ≡ false
+  none_past class xs ys n empty found =
+      none_from class xs 0 (sym (position_from-zero (λ x. is_of_class class (means x)) xs) ∙ found ∙ ap (λ l. position_from (λ x. is_of_class class (means x)) n l) empty)
+
+  -- where the search has come to the end, no job is of the class
+  pub no_job : (class : List ℕ) (xs : List A) (n : ℕ) → length xs ≤ n → position (λ x. is_of_class class (means x)) xs ≡ position_from (λ x. is_of_class class (means x)) n (drop n xs) → list_any (is_of_class class) (map means xs) ≡ false
+  no_job class xs n past found = none_past class xs (drop n xs) n (drop_all n xs past) found
 
 module _ {A : Type 0} (means : A → JobMeaning) (context : JobContext) (code : Code) where
   called_at : (xs : List A) (n : ℕ) (a b : A) → n < length xs → a ≡ get_or xs n a → is_of_class context.job.class (means (get_or xs n a)) ≡ true → ((k : ℕ) → k < n → is_of_class context.job.class (means (get_or xs k a)) ≡ false) → IsCounted context code (means a) (means b) → CallsFirst context code (map means xs) (map means (set xs n b))
@@ -39,7 +44,3 @@ module _ {A : Type 0} (means : A → JobMeaning) (context : JobContext) (code : 
   calls_first xs n a b found at counts =
       let p = position-Some (λ x. is_of_class context.job.class (means x)) xs n a found in
       called_at xs n a b p.0 at p.1 p.2 counts
-
--- a place that is found is within the list
-pub place_within : {A : Type 0} (means : A → JobMeaning) (class : List ℕ) (xs : List A) (n : ℕ) (a : A) → position (λ x. is_of_class class (means x)) xs ≡ Some n → n < length xs
-place_within means class xs n a found = (position-Some (λ x. is_of_class class (means x)) xs n a found).0

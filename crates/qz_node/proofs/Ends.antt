@@ -14,6 +14,7 @@ use Rattle.qz_node.specs.declared.turns.Heard.TheVariants as hears
 use Rattle.qz_node.specs.declared.turns.Want.TheVariants as want
 use Rattle.qz_node.specs.Turns.{TurnData, learnt, learnt_reply, refused_with, ends_at_refusal, ended, IsIdle, CanHear, CanHearReply, is_fenced, wanted}
 use Rattle.qz_node.proofs.Cases.{of_wanted}
+use Rattle.qz_node.proofs.Keeping.{Keeps, heard_keeps}
 use Rattle.qz_node.specs.TurnRuns.{turn_of, CouldHear, misfired_in, acquired_in, misfired_by, acquired_by, is_fencing, last_misfired, last_acquired, was_fenced, IsDone}
 
 -- what was heard last, by what an idle node does next
@@ -21,11 +22,6 @@ abbrev Agrees : Idle → Option (List MovedRow) → Option (List Taken) → Type
 Agrees idle.Misfires moved taken = ⊤
 Agrees idle.Acquire moved taken = moved ≡ Some []
 Agrees idle.Rest moved taken = (moved ≡ Some []) × (taken ≡ Some [])
-
--- what a turn keeps of its time, and whether it was fenced
-record Keeps (turn : TurnData) (end : ℤ) (was : Bool) : Type 0 where
-  pub until : turn.until ≡ end
-  pub fenced : turn.fenced ≡ was
 
 reply_agrees : (t : TurnData) (r : Reply) (moved : Option (List MovedRow)) (taken : Option (List Taken)) → CanHearReply t r → Agrees t.idle moved taken → Agrees (learnt_reply t r).idle (option_or (misfired_in r) moved) (option_or (acquired_in r) taken)
 reply_agrees t (reply.Misfired []) moved taken can a = refl
@@ -52,27 +48,6 @@ heard_agrees t hears.Rested moved taken can a = tt
 agrees : (until : ℤ) (heard : List Heard) → CouldHear until heard → Agrees (turn_of until heard).idle (last_misfired heard) (last_acquired heard)
 agrees until [] could = tt
 agrees until (h ∷ past) could = heard_agrees (turn_of until past) h (last_misfired past) (last_acquired past) could.0 (agrees until past could.1)
-
-reply_keeps : (t : TurnData) (r : Reply) → Keeps (learnt_reply t r) t.until t.fenced
-reply_keeps t (reply.Misfired []) = record { until = refl; fenced = refl }
-reply_keeps t (reply.Misfired (m ∷ ms)) = record { until = refl; fenced = refl }
-reply_keeps t (reply.Acquired []) = record { until = refl; fenced = refl }
-reply_keeps t (reply.Acquired (x ∷ xs)) = record { until = refl; fenced = refl }
-reply_keeps t other = record { until = refl; fenced = refl }
-
-ended_keeps : (t : TurnData) (b : Bool) → Keeps (if b then ended t else t) t.until t.fenced
-ended_keeps t true = record { until = refl; fenced = refl }
-ended_keeps t false = record { until = refl; fenced = refl }
-
-refused_keeps : (t : TurnData) (h : Option Held) → Keeps (refused_with h t) t.until t.fenced
-refused_keeps t None = record { until = refl; fenced = refl }
-refused_keeps t (Some held) = ended_keeps t (ends_at_refusal held.last)
-
-heard_keeps : (t : TurnData) (h : Heard) → Keeps (learnt t h) t.until (is_fencing h || t.fenced)
-heard_keeps t (hears.Reply r) = reply_keeps t r.now
-heard_keeps t (hears.Refused r) = refused_keeps (record t { fenced = is_fenced r.now || t.fenced }) t.held
-heard_keeps t (hears.Executed entry code) = record { until = refl; fenced = refl }
-heard_keeps t hears.Rested = record { until = refl; fenced = refl }
 
 keeps : (until : ℤ) (heard : List Heard) → Keeps (turn_of until heard) until (was_fenced heard)
 keeps until [] = record { until = refl; fenced = refl }

@@ -1,5 +1,6 @@
 //! The execution of a firing by the first job of its class.
-ghost use Rattle.std.specs.Prelude.{◌≡◌, ◌<◌, map, position};
+ghost use Rattle.std.specs.Prelude.{◌≡◌, ◌<◌, map, position, vec_len, IfSome, IfNone, false};
+ghost use Rattle.std.specs.List.{list_any};
 ghost use Rattle.qz_node.specs.Jobs.{is_of_class, counted, IsCounted};
 
 use crate::{Job, JobContext};
@@ -13,7 +14,9 @@ pub type Jobs = Vec<Box<dyn Job + Send>>;
 
 /// The place of the first job of this class.
 pub fn place_of_class(jobs: &Jobs, class: &str) -> Option<usize>
-    ensures { result ≡ position (λ job. is_of_class class.now (means job)) jobs.now.items }
+    ensures first { result ≡ position (λ job. is_of_class class.now (means job)) jobs.now.items }
+    ensures within { IfSome result (λ place. place < vec_len jobs.now) }
+    ensures none { IfNone result (list_any (is_of_class class.now) (map means jobs.now.items) ≡ false) }
 {
     for place in 0..jobs.len() {
         if is_of_class(&jobs[place], class) {

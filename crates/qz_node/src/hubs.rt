@@ -61,6 +61,7 @@ pub fn ask<H: Hub>(
     ensures answers { H.answers hub.old at command result hub.new }
     ensures reply { IfOk result (IsReplyTo command) }
     ensures learnt { turn.new ≡ learnt_answer turn.old result }
+    ensures kept { turn.new.until ≡ turn.old.until }
 {
     match hub.submit(at, command) {
         Ok(reply) => {

@@ -116,9 +116,11 @@ impl Turn {
 
     /// Takes in what was heard. It takes no memory. What is heard belongs to what was wanted: a Misfired comes while Misfires is
     /// wanted, an Acquired of at most one trigger while Acquire is, and what is heard of an entry is of the one that is held.
+    #[tactic(auto, using(crate::proofs::Keeping::until_kept))]
     pub fn learn(&mut self, heard: Heard<'_>)
         requires { CanHear self.old heard }
-        ensures { self.new ≡ learnt self.old heard.entry }
+        ensures learnt { self.new ≡ learnt self.old heard.entry }
+        ensures until { self.new.until ≡ self.old.until }
     {
         match heard {
             Heard::Reply(reply) => self.learn_reply(reply),
