@@ -5,7 +5,7 @@ use Rattle.std.specs.Ordering.{is_eq, is_gt, ordering_reverse}
 use Rattle.std.specs.Cmp.{IsTotalOrder}
 use Rattle.std.specs.declared.cmp.Ordering.{Ordering}
 use Rattle.std.specs.declared.cmp.Ordering.TheVariants.{Less, Equal, Greater}
-use Rattle.qz_types.specs.Sorted.{place_of, row_of, IsBefore, IsAscending}
+use Rattle.qz_types.specs.Sorted.{place_of, row_of, put, IsBefore, IsAscending}
 use Rattle.qz_tables.specs.Ids.{changed_at, without}
 
 module _ {R K : Type 0} (cmp : K → K → Ordering) (id : R → K) where
@@ -119,3 +119,49 @@ module _ {R K : Type 0} (cmp : K → K → Ordering) (id : R → K) where
         → is_eq (cmp k (id (get_or xs (place_of cmp id k xs) d))) ≡ true → remove xs (place_of cmp id k xs) ≡ without cmp id k xs
     remove-place k [] d up lt same = absurd (omega arith)
     remove-place k (x ∷ xs) d up lt same = remove_step (cmp k (id x)) k x d xs _ refl up.0 (remove-place k xs d up.1) lt same
+
+    put-before : (r : R) (xs : List R) → IsBefore cmp id (id r) xs → put cmp id r xs ≡ r ∷ xs
+    put-before r [] b = refl
+    put-before r (x ∷ xs) b = rw b.0 refl
+
+    absent_before : (k : K) (xs : List R) → IsBefore cmp id k xs → row_of cmp id k xs ≡ None
+    absent_before k [] b = refl
+    absent_before k (x ∷ xs) b = rw b.0 (absent_before k xs b.1)
+
+    before_further : (k y : K) (xs : List R) → cmp k y ≡ Less → IsBefore cmp id y xs → IsBefore cmp id k xs
+    before_further k y [] e b = tt
+    before_further k y (x ∷ xs) e b = (laws.trans k y (id x) e b.0, before_further k y xs e b.1)
+
+    put_step : (o : Ordering) (r q x : R) (xs : List R) → cmp (id r) (id x) ≡ o
+        → IsBefore cmp id (id x) xs
+        → (row_of cmp id (id r) xs ≡ Some q → put cmp id r (without cmp id (id r) xs) ≡ changed_at cmp id (id r) (λ _. r) xs)
+        → (if is_eq o then Some x else row_of cmp id (id r) xs) ≡ Some q
+        → put cmp id r (cond (not (is_eq o)) (x ∷ without cmp id (id r) xs) (without cmp id (id r) xs)) ≡ (if is_eq o then r else x) ∷ changed_at cmp id (id r) (λ _. r) xs
+    put_step Less r q x xs e b more found = absurd (let n = absent_before (id r) xs (before_further (id r) (id x) xs e b) in cc)
+    put_step Equal r q x xs e b more found =
+        let before = before-same (id r) (id x) xs e b in
+        ap (put cmp id r) (without-before (id r) xs before) ∙ put-before r xs before ∙ ap (λ ys. r ∷ ys) (sym (changed_at-before (id r) (λ _. r) xs before))
+    put_step Greater r q x xs e b more found = rw e (ap (λ ys. x ∷ ys) (more found))
+
+    -- a row that is taken out and put in again
+    pub put-without : (r q : R) (xs : List R) → IsAscending cmp id xs → row_of cmp id (id r) xs ≡ Some q → put cmp id r (without cmp id (id r) xs) ≡ changed_at cmp id (id r) (λ _. r) xs
+    put-without r q [] up found = absurd (cc)
+    put-without r q (x ∷ xs) up found = put_step (cmp (id r) (id x)) r q x xs refl up.0 (put-without r q xs up.1) found
+
+  pub absent-without : (k : K) (xs : List R) → row_of cmp id k (without cmp id k xs) ≡ None
+  absent-without k [] = refl
+  absent-without k (x ∷ xs) = elim (is_eq (cmp k (id x))) as (λ b. is_eq (cmp k (id x)) ≡ b → row_of cmp id k (cond (not b) (x ∷ without cmp id k xs) (without cmp id k xs)) ≡ None) [
+    | true ↦ λ e. absent-without k xs
+    | false ↦ λ e. rw e (absent-without k xs)
+  ] refl
+
+  some_same : (x y : R) → Some x ≡ Some y → x ≡ y
+  some_same x y e = cc
+
+  -- the row that is found has the id
+  pub found_id : (k : K) (r : R) (xs : List R) → row_of cmp id k xs ≡ Some r → is_eq (cmp k (id r)) ≡ true
+  found_id k r [] e = absurd (cc)
+  found_id k r (x ∷ xs) e = elim (is_eq (cmp k (id x))) as (λ b. is_eq (cmp k (id x)) ≡ b → (if b then Some x else row_of cmp id k xs) ≡ Some r → is_eq (cmp k (id r)) ≡ true) [
+    | true ↦ λ is h. ap (λ y. is_eq (cmp k (id y))) (sym (some_same x r h)) ∙ is
+    | false ↦ λ is h. found_id k r xs h
+  ] refl e

@@ -1,6 +1,7 @@
 -- Keys that the order doesn't tell apart are the same.
-use Rattle.std.proofs.Common.{◌≡◌, ◌≢◌, List, ℕ, Bool, true, false, refl, sym, ap, subst, ◌∙◌}
+use Rattle.std.proofs.Common.{◌≡◌, ◌≢◌, List, ℕ, true, false, refl, subst}
 use Rattle.std.specs.Ordering.{is_eq, nat_cmp, ordering_then, ordering_reverse}
+use Rattle.std.specs.Cmp.{IsTotalOrder, then_total, on_total}
 use Rattle.std.specs.Cmp.Lexicographic.{slice_cmp}
 use Rattle.std.specs.declared.cmp.Ordering.{Ordering}
 use Rattle.std.specs.declared.cmp.Ordering.TheVariants.{Less, Equal, Greater}
@@ -46,3 +47,6 @@ key_differs a b differs = elim (is_eq (key_cmp a b)) as (λ t. is_eq (key_cmp a 
   | true ↦ λ e. absurd (differs (key_exact a b e))
   | false ↦ λ e. refl
 ] refl
+
+pub key_total : IsTotalOrder key_cmp
+key_total = then_total (on_total (λ k. k.group) nat_list_cmp_total) (on_total (λ k. k.name) nat_list_cmp_total)

@@ -1,6 +1,11 @@
 pub mod ByIds
-pub mod Edits
+mod Counts
+mod DueLemmas
 pub mod Filled
+mod FiredWords
+mod Firsts
+mod JobLemmas
 pub mod Keys
 pub mod LinkLemmas
 pub mod Places
+pub mod SlotEdits

@@ -1,16 +1,21 @@
 -- What linking does to the keys of each job.
-use Rattle.std.proofs.Common.{◌≡◌, ◌≢◌, ℕ, zero, suc, ◌+◌, ◌<◌, ◌≤◌, List, [], ◌∷◌, ◌++◌, length, map, filter, cond, get_or, Bool, true, false, if◌then◌else◌, Option, Some, None, refl, sym, ap, subst, ◌∙◌, arith, inl, inr}
-use Rattle.std.specs.Prelude.{IsSome, is_some, nat_eq}
+use Rattle.std.proofs.Common.{◌≡◌, ◌≢◌, ℕ, zero, suc, ◌+◌, ◌<◌, List, [], ◌∷◌, ◌++◌, length, map, filter, cond, get_or, Bool, true, false, if◌then◌else◌, Option, Some, None, refl, sym, ap, subst, ◌∙◌, arith, inl, inr}
+use Rattle.std.specs.Prelude.{IsSome, IfSome, is_some, nat_eq, option_map}
 use Rattle.std.specs.List.{remove, slice_get}
 use Rattle.std.specs.Ordering.{is_eq}
 use Rattle.std.proofs.lemmas.Bool.{cases_eq, eq-eqb, ne_eqb}
 use Rattle.qz_types.specs.Rows.{TriggerData}
+use Rattle.qz_types.specs.Sorted.{row_of}
 use Rattle.qz_types.specs.Words.{key_cmp}
 use Rattle.qz_types.specs.declared.keys.Key.{Key}
-use Rattle.qz_tables.specs.Slots.{rows_at, with_found, AreFilled, IsWritten}
+use Rattle.qz_tables.specs.Slots.{rows_at, with_found, AreFilled, AreEdited, IsWritten}
+use Rattle.qz_tables.specs.Changes.{trigger_edited}
+use Rattle.qz_tables.specs.declared.edits.TriggerEdit.{TriggerEdit}
+use Rattle.qz_tables.specs.declared.edits.TriggerEdit.TheVariants.{State, Fire}
 use Rattle.qz_tables.specs.Linking.{keys_of, links_of, times, AreLinkedOnce}
-use Rattle.qz_tables.specs.Links.{linked, KeepsLinks, KeepsOtherLinks, IsTakenOut, IsLinked, IsUnlinked, IsMoved}
+use Rattle.qz_tables.specs.Links.{linked, KeepsLinks, IsTakenOut, IsLinked, IsUnlinked, IsMoved}
 use Rattle.qz_tables.proofs.Filled.{Keep, rows-kept, rows-remove, nth_slot, rows_at-append}
+use Rattle.qz_tables.proofs.ByIds.{found_id}
 use Rattle.qz_tables.proofs.Keys.{key_exact, key_itself, key_differs}
 
 -- ---- how often a number stands in a list
@@ -150,10 +155,12 @@ module _ (old new : List (Option TriggerData)) (order : List ℕ) (slot : ℕ) (
     never = none_count (get_or old slot None) (times slot order) (once.once slot) vacant
 
     pub once-insert : AreLinkedOnce new (order ++ slot ∷ [])
-    once-insert = record { once = λ s. elim (cases_eq s slot) [
-      | inl same ↦ count_some (get_or new s None) r _ (ap (λ y. times y (order ++ slot ∷ [])) same ∙ (omega (arith, times-snoc slot slot order, never, once_here slot))) (ap (λ y. get_or new y None) same ∙ written.changed)
-      | inr differs ↦ subst (λ o. times s (order ++ slot ∷ []) ≡ (if is_some o then 1 else 0)) (sym (written.others s differs)) (omega (arith, times-snoc s slot order, never_here s slot differs) ∙ once.once s)
-    ] }
+    once-insert = record {
+      once = λ s. elim (cases_eq s slot) [
+        | inl same ↦ count_some (get_or new s None) r _ (ap (λ y. times y (order ++ slot ∷ [])) same ∙ (omega (arith, times-snoc slot slot order, never, once_here slot))) (ap (λ y. get_or new y None) same ∙ written.changed)
+        | inr differs ↦ subst (λ o. times s (order ++ slot ∷ []) ≡ (if is_some o then 1 else 0)) (sym (written.others s differs)) (omega (arith, times-snoc s slot order, never_here s slot differs) ∙ once.once s)
+      ];
+    }
 
     rows-insert : rows_at new (order ++ slot ∷ []) ≡ rows_at old order ++ r ∷ []
     rows-insert =
@@ -172,10 +179,12 @@ module _ (old new : List (Option TriggerData)) (order : List ℕ) (slot : ℕ) (
     gone = omega (arith, times-remove slot slot i order at, some_count (get_or old slot None) r (times slot order) (once.once slot) was, once_here slot)
 
     pub once-remove : AreLinkedOnce new (remove order i)
-    once-remove = record { once = λ s. elim (cases_eq s slot) [
-      | inl same ↦ count_none (get_or new s None) _ (ap (λ y. times y (remove order i)) same ∙ gone) (ap (λ y. get_or new y None) same ∙ written.changed)
-      | inr differs ↦ subst (λ o. times s (remove order i) ≡ (if is_some o then 1 else 0)) (sym (written.others s differs)) (omega (arith, times-remove s slot i order at, never_here s slot differs) ∙ once.once s)
-    ] }
+    once-remove = record {
+      once = λ s. elim (cases_eq s slot) [
+        | inl same ↦ count_none (get_or new s None) _ (ap (λ y. times y (remove order i)) same ∙ gone) (ap (λ y. get_or new y None) same ∙ written.changed)
+        | inr differs ↦ subst (λ o. times s (remove order i) ≡ (if is_some o then 1 else 0)) (sym (written.others s differs)) (omega (arith, times-remove s slot i order at, never_here s slot differs) ∙ once.once s)
+      ];
+    }
 
     rows-removed : rows_at new (remove order i) ≡ remove (rows_at old order) i
     rows-removed =
@@ -190,3 +199,89 @@ module _ (old new : List (Option TriggerData)) (order : List ℕ) (slot : ℕ) (
       here = rw (linked-links r.spec.job (rows_at old order), linked-links r.spec.job (rows_at new (remove order i)), rows-removed) (keys-taken r.spec.job r i (rows_at old order) at_row (key_itself r.spec.job));
       others = λ other differs. linked-links other _ ∙ ap (keys_of other) rows-removed ∙ keys-untaken other r i (rows_at old order) at_row (key_differs other r.spec.job differs) ∙ sym (linked-links other (rows_at old order));
     }
+
+-- ---- triggers that keep their keys and jobs
+
+abbrev pub tie : TriggerData → Key × Key
+tie r = (r.spec.job, r.spec.key)
+
+-- each slot has a trigger of the same key and job as before, or none as before
+abbrev pub AreAlike : List (Option TriggerData) → List (Option TriggerData) → Type 0
+AreAlike old new = (s : ℕ) → option_map tie (get_or new s None) ≡ option_map tie (get_or old s None)
+
+some_tie : (a b : Key × Key) → Some a ≡ Some b → a ≡ b
+some_tie a b e = cc
+
+alike_step : (k : Key) (o n : Option TriggerData) (xs ys : List TriggerData) → option_map tie n ≡ option_map tie o → keys_of k ys ≡ keys_of k xs → keys_of k (with_found n ys) ≡ keys_of k (with_found o xs)
+alike_step k None None xs ys e h = h
+alike_step k None (Some b) xs ys e h = absurd (cc)
+alike_step k (Some a) None xs ys e h = absurd (cc)
+alike_step k (Some a) (Some b) xs ys e h =
+    let t = some_tie (tie b) (tie a) e in
+    keys-cons k b ys ∙ ap (λ p. if is_eq (key_cmp k p.0) then p.1 ∷ keys_of k ys else keys_of k ys) t ∙ same_step (is_eq (key_cmp k a.spec.job)) a.spec.key _ _ h ∙ sym (keys-cons k a xs)
+
+keys-alike : (k : Key) (old new : List (Option TriggerData)) (order : List ℕ) → AreAlike old new → keys_of k (rows_at new order) ≡ keys_of k (rows_at old order)
+keys-alike k old new [] alike = refl
+keys-alike k old new (s ∷ ss) alike = alike_step k (get_or old s None) (get_or new s None) (rows_at old ss) (rows_at new ss) (alike s) (keys-alike k old new ss alike)
+
+pub links-alike : (old new : List (Option TriggerData)) (order : List ℕ) → AreAlike old new → KeepsLinks (links_of (rows_at old order)) (links_of (rows_at new order))
+links-alike old new order alike k = linked-links k (rows_at new order) ∙ keys-alike k old new order alike ∙ sym (linked-links k (rows_at old order))
+
+some_alike : (o n : Option TriggerData) → option_map tie n ≡ option_map tie o → is_some n ≡ is_some o
+some_alike None None e = refl
+some_alike None (Some b) e = absurd (cc)
+some_alike (Some a) None e = absurd (cc)
+some_alike (Some a) (Some b) e = refl
+
+pub once-alike : (old new : List (Option TriggerData)) (order : List ℕ) → AreAlike old new → AreLinkedOnce old order → AreLinkedOnce new order
+once-alike old new order alike once = record { once = λ s. once.once s ∙ ap (λ b. if b then 1 else 0) (sym (some_alike (get_or old s None) (get_or new s None) (alike s))) }
+
+edited_tie : (e : TriggerEdit) (o : Option TriggerData) → option_map tie (option_map (trigger_edited e) o) ≡ option_map tie o
+edited_tie (State state) None = refl
+edited_tie (State state) (Some r) = refl
+edited_tie (Fire next state) None = refl
+edited_tie (Fire next state) (Some r) = refl
+
+-- an edit of a trigger keeps its key and its job
+pub alike-edited : (e : TriggerEdit) (old new : List (Option TriggerData)) → AreEdited (λ o n. n ≡ option_map (trigger_edited e) o) old new → AreAlike old new
+alike-edited e old new edited s = elim (edited s) [
+  | inl same ↦ ap (option_map tie) same
+  | inr is ↦ ap (option_map tie) is ∙ edited_tie e (get_or old s None)
+]
+
+-- so does a trigger of the same key and job in its place
+pub alike-replaced : (a b : TriggerData) (old new : List (Option TriggerData)) → tie b ≡ tie a → AreEdited (λ o n. (o ≡ Some a) × (n ≡ Some b)) old new → AreAlike old new
+alike-replaced a b old new same edited s = elim (edited s) [
+  | inl kept ↦ ap (option_map tie) kept
+  | inr is ↦ ap (option_map tie) is.1 ∙ ap Some same ∙ sym (ap (option_map tie) is.0)
+]
+
+-- a key that is taken out of the list of one job and then put last in that of another
+pub moved : (from to key : Key) (old mid new : List (Key × List Key)) → from ≢ to → IsUnlinked from key old mid → IsLinked to key mid new → IsMoved from to key old new
+moved from to key old mid new differ out in_ = record {
+  here = rw (in_.others from differ) out.here;
+  there = in_.here ∙ ap (λ xs. xs ++ key ∷ []) (out.others to (λ e. differ (sym e)));
+  others = λ other f t. in_.others other t ∙ out.others other f;
+}
+
+-- ---- the trigger of a key
+
+pub trigger_key : (k : Key) (r : TriggerData) (rows : List TriggerData) → row_of key_cmp (λ (t : TriggerData). t.spec.key) k rows ≡ Some r → k ≡ r.spec.key
+trigger_key k r rows e = key_exact k r.spec.key (found_id key_cmp (λ (t : TriggerData). t.spec.key) k r rows e)
+
+pub if_found : (o : Option TriggerData) (r : TriggerData) (P : TriggerData → Type 0) → Some r ≡ o → IfSome o P → P r
+if_found o r P e h = rw (← e) at h
+
+pub same_job : (job : Key) (o : Option TriggerData) → IfSome o (λ r. true ≡ is_eq (key_cmp r.spec.job job)) → IfSome o (λ r. r.spec.job ≡ job)
+same_job job None h = tt
+same_job job (Some r) h = key_exact r.spec.job job (sym h)
+
+true_false : (b : Bool) → false ≡ b → b ≡ true → ⊥
+true_false b e f = cc
+
+pub other_job : (job : Key) (o : Option TriggerData) → IfSome o (λ r. false ≡ is_eq (key_cmp r.spec.job job)) → IfSome o (λ r. r.spec.job ≢ job)
+other_job job None h = tt
+other_job job (Some r) h = λ e. true_false (is_eq (key_cmp r.spec.job job)) h (ap (λ j. is_eq (key_cmp j job)) e ∙ key_itself job)
+
+pub tie_is : (a b : TriggerData) → b.spec.job ≡ a.spec.job → b.spec.key ≡ a.spec.key → tie b ≡ tie a
+tie_is a b e f = ap (λ (j : Key). (j, b.spec.key)) e ∙ ap (λ (k : Key). (a.spec.job, k)) f

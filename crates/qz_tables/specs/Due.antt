@@ -38,9 +38,13 @@ abbrev pub is_later : Option TriggerData → TriggerData → Bool
 is_later None t = true
 is_later (Some u) t = is_gt (due_cmp t u)
 
--- the triggers that wait, and come after this one, if one is given; in due order
+-- the trigger waits, and comes after this one, if one is given
+abbrev pub waits_after : Option TriggerData → TriggerData → Bool
+waits_after after t = is_waiting t.state && is_later after t
+
+-- these triggers in due order
 unfoldable pub waiting : Option TriggerData → List TriggerData → List TriggerData
-waiting after triggers = in_due_order (filter (λ t. is_waiting t.state && is_later after t) triggers)
+waiting after triggers = in_due_order (filter (waits_after after) triggers)
 
 -- the first trigger that waits
 unfoldable pub due_first : List TriggerData → Option TriggerData

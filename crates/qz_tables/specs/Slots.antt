@@ -1,6 +1,6 @@
 -- Rows in slots, in the order of a list of slots.
 use Rattle.std.specs.declared.cmp.Ordering.{Ordering}
-use Rattle.std.specs.Prelude.{◌≢◌, ◌<◌, ◌≡◌, ⊤, ℕ, List, [], ◌∷◌, Option, Some, None, IsSome, slice_index_or, length}
+use Rattle.std.specs.Prelude.{◌≢◌, ◌<◌, ◌≡◌, ◌⊎◌, ⊤, ℕ, List, [], ◌∷◌, Option, Some, None, IsSome, slice_index_or, length}
 use Rattle.qz_types.specs.Sorted.{place_of, row_of}
 
 -- what contracts see of the rows of a kind: the rows, in the order of their ids; the row of each slot; and how many rows
@@ -40,3 +40,7 @@ module _ {R : Type 0} where
   pub record IsWritten (old new : List (Option R)) (slot : ℕ) (here : Option R) : Type 0 where
     pub changed : slice_index_or new slot None ≡ here
     pub others : (other : ℕ) → other ≢ slot → slice_index_or new other None ≡ slice_index_or old other None
+
+  -- each slot has what it had, or was edited in this way
+  abbrev pub AreEdited : (Option R → Option R → Type 0) → List (Option R) → List (Option R) → Type 0
+  AreEdited Edit old new = (s : ℕ) → (slice_index_or new s None ≡ slice_index_or old s None) ⊎ Edit (slice_index_or old s None) (slice_index_or new s None)

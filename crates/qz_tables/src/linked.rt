@@ -1,12 +1,14 @@
 //! The triggers, with the order in which each became one of its job's.
-ghost use Rattle.std.specs.Prelude.{[], ◌≡◌, ◌≢◌, ◌≤◌, ◌<◌, ◌+◌, ℕ, None, Some, IsSome, IfSome, IfNone, IfOk, OnOk, OnErr, OnSome, option_copied, length, map, slice_get};
+ghost use Rattle.std.specs.Prelude.{[], ◌≡◌, ◌≢◌, ◌≤◌, ◌<◌, ◌+◌, ℕ, None, Some, IsSome, IfSome, IfNone, IfOk, OnOk, OnErr, IsOk, OnSome, option_copied, length, map, slice_get};
 ghost use Rattle.std.specs.Ordering.{nat_cmp, is_eq};
 ghost use Rattle.qz_types.specs.Sorted.{row_of, put, IsAscending};
 ghost use Rattle.qz_types.specs.Words.{key_cmp};
+ghost use Rattle.qz_tables.specs.Changes.{trigger_edited};
 ghost use Rattle.qz_tables.specs.Ids.{changed_at, without};
 ghost use Rattle.qz_tables.specs.Linking.{times};
 ghost use Rattle.qz_tables.specs.Links.{KeepsLinks, IsLinked, IsUnlinked, IsMoved};
 
+use crate::edits::TriggerEdit;
 use crate::indexed::Indexed;
 use qz_types::{Key, TriggerRow};
 use std::alloc::{AllocError, Global};
@@ -93,11 +95,23 @@ impl Linked {
         self.rows.sorted(alloc)
     }
 
+    /// The same triggers, linked in the same order, in memory of their own.
+    pub fn copy(&self) -> Result<Self, AllocError>
+        ensures rows { IfOk result (λ copy. copy.rows ≡ self.now.rows) }
+        ensures links { IfOk result (λ copy. copy.links ≡ self.now.links) }
+    {
+        Ok(Linked {
+            rows: self.rows.copy()?,
+            linked: self.linked.clone()?,
+        })
+    }
+
     /// Makes room for so many triggers more.
     pub fn reserve(&mut self, more: usize) -> Result<(), AllocError>
         ensures rows { self.new.rows ≡ self.old.rows }
         ensures links { self.new.links ≡ self.old.links }
         ensures room { OnOk result (more ≤ self.new.spare) }
+        ensures succeeds { more ≤ self.old.spare → IsOk result }
         ensures spare { self.old.spare ≤ self.new.spare }
     {
         self.rows.reserve(more)?;
@@ -122,6 +136,7 @@ impl Linked {
         ensures none { IfNone result (self.new ≡ self.old) }
         ensures rows { self.new.rows ≡ without key_cmp (λ r. r.spec.key) key.now self.old.rows }
         ensures links { IfSome result (λ r. IsUnlinked r.spec.job r.spec.key self.old.links self.new.links) }
+        ensures sorted { IsAscending key_cmp (λ r. r.spec.key) self.old.rows }
         ensures freed { OnSome result (self.old.spare + 1 ≤ self.new.spare) }
         ensures spare { self.old.spare ≤ self.new.spare }
     {
@@ -135,5 +150,69 @@ impl Linked {
             },
             None => None,
         }
+    }
+
+    /// Changes the trigger of this key in place, if it is stored.
+    pub fn edit(&mut self, key: &Key, edit: &TriggerEdit)
+        ensures rows { self.new.rows ≡ changed_at key_cmp (λ r. r.spec.key) key.now (trigger_edited edit.now) self.old.rows }
+        ensures links { KeepsLinks self.old.links self.new.links }
+        ensures spare { self.old.spare ≤ self.new.spare }
+    {
+        self.rows.edit(key, edit);
+    }
+
+    /// Puts a trigger in place of that of its key, and gives the old one. A trigger of another job than before is linked
+    /// last to it.
+    pub fn change(&mut self, row: TriggerRow) -> TriggerRow
+        requires { IsSome (row_of key_cmp (λ r. r.spec.key) row.spec.key self.old.rows) }
+        ensures row { Some result ≡ row_of key_cmp (λ r. r.spec.key) row.spec.key self.old.rows }
+        ensures rows { self.new.rows ≡ changed_at key_cmp (λ r. r.spec.key) row.spec.key (λ _. row) self.old.rows }
+        ensures stays { result.spec.job ≡ row.spec.job → KeepsLinks self.old.links self.new.links }
+        ensures moves { result.spec.job ≢ row.spec.job → IsMoved result.spec.job row.spec.job row.spec.key self.old.links self.new.links }
+        ensures spare { self.old.spare ≤ self.new.spare }
+    {
+        if self.has_job(&row.spec.key, &row.spec.job) {
+            self.replace(row)
+        } else {
+            self.relink(row)
+        }
+    }
+
+    // Whether the trigger of this key has this job.
+    fn has_job(&self, key: &Key, job: &Key) -> bool
+        ensures { IfSome (row_of key_cmp (λ r. r.spec.key) key.now self.now.rows) (λ r. result ≡ is_eq (key_cmp r.spec.job job.now)) }
+    {
+        match self.get(key) {
+            Some(row) => row.spec.job.cmp(job) == Ordering::Equal,
+            None => false,
+        }
+    }
+
+    // Puts a trigger in place of that of its key, which has the same job.
+    fn replace(&mut self, row: TriggerRow) -> TriggerRow
+        requires present { IsSome (row_of key_cmp (λ r. r.spec.key) row.spec.key self.old.rows) }
+        requires job { IfSome (row_of key_cmp (λ r. r.spec.key) row.spec.key self.old.rows) (λ r. r.spec.job ≡ row.spec.job) }
+        ensures row { Some result ≡ row_of key_cmp (λ r. r.spec.key) row.spec.key self.old.rows }
+        ensures rows { self.new.rows ≡ changed_at key_cmp (λ r. r.spec.key) row.spec.key (λ _. row) self.old.rows }
+        ensures links { KeepsLinks self.old.links self.new.links }
+        ensures spare { self.old.spare ≤ self.new.spare }
+    {
+        self.rows.change(row)
+    }
+
+    // Puts a trigger in place of that of its key, which has another job.
+    fn relink(&mut self, row: TriggerRow) -> TriggerRow
+        requires present { IsSome (row_of key_cmp (λ r. r.spec.key) row.spec.key self.old.rows) }
+        requires job { IfSome (row_of key_cmp (λ r. r.spec.key) row.spec.key self.old.rows) (λ r. r.spec.job ≢ row.spec.job) }
+        ensures row { Some result ≡ row_of key_cmp (λ r. r.spec.key) row.spec.key self.old.rows }
+        ensures rows { self.new.rows ≡ changed_at key_cmp (λ r. r.spec.key) row.spec.key (λ _. row) self.old.rows }
+        ensures links { IsMoved result.spec.job row.spec.job row.spec.key self.old.links self.new.links }
+        ensures spare { self.old.spare ≤ self.new.spare }
+    {
+        let Some(old) = self.remove(&row.spec.key) else {
+            unreachable!()
+        };
+        self.insert(row);
+        old
     }
 }

@@ -3,7 +3,7 @@ use Rattle.std.proofs.lemmas.Grind.{common_steps}
 use Rattle.qz_tables.specs.Slots.{rows_at}
 use Rattle.qz_types.proofs.SortedLemmas.{place_le}
 use Rattle.qz_tables.proofs.Filled.{length-rows, filled_at}
-use Rattle.qz_tables.proofs.Edits.{found, absent, absent_end}
+use Rattle.qz_tables.proofs.SlotEdits.{found, absent, absent_end}
 use Rattle.qz_tables.proofs.indexed.find.Goals as goal
 
 pub returns-then-at-order-clause-absent : goal.returns-then-at-order-clause-absent

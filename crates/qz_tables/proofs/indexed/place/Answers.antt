@@ -2,7 +2,7 @@ use Rattle.std.proofs.Common.{◌+◌, ◌-◌, ◌/◌, ◌<◌, length, arith}
 use Rattle.qz_tables.specs.Slots.{rows_at}
 use Rattle.qz_types.proofs.SortedLemmas.{place_le}
 use Rattle.qz_tables.proofs.Filled.{length-rows, filled_at}
-use Rattle.qz_tables.proofs.Edits.{further, not_further}
+use Rattle.qz_tables.proofs.SlotEdits.{further, not_further}
 use Rattle.qz_tables.proofs.indexed.place.Goals as goal
 
 pub loop-low-init : goal.loop-low-init

@@ -1,10 +1,10 @@
-use Rattle.std.specs.Prelude.{IsSome, None}
-use Rattle.std.proofs.Common.{Option, ◌≡◌, get_or, Some, sym, ap, ◌∙◌}
+use Rattle.std.specs.Prelude.{IsSome, None, option_map}
+use Rattle.std.proofs.Common.{Option, ◌≡◌, refl, subst, set, get_or, Some, sym, ap, ◌∙◌}
 use Rattle.qz_tables.specs.Ids.{changed_at}
-use Rattle.qz_tables.specs.Slots.{rows_at, IsFound}
+use Rattle.qz_tables.specs.Slots.{rows_at, IsFound, AreEdited}
 use Rattle.qz_tables.proofs.ByIds.{own_id, changed_at-absent}
 use Rattle.qz_tables.proofs.Filled.{any_default, filled_at}
-use Rattle.qz_tables.proofs.Edits.{set_in_place}
+use Rattle.qz_tables.proofs.SlotEdits.{set_in_place, one_edited}
 use Rattle.qz_tables.proofs.indexed.Indexed.edit.Goals as goal
 
 none_some : {X : Type 0} (o : Option X) → IsSome o → o ≡ None → ⊥
@@ -40,3 +40,10 @@ returns-in_default-clause-rows g c =
     let n = rw c.deref.ensures.value at c.in_default.ensures.absent.absent in
     let w = changed_at-absent g.R.Id.Ord.cmp g.R.Keyed.id c.args.id.now (g.E.Edit.edited c.args.edit.now) (rows_at c.self.inside.rows.slots c.self.inside.order.items) n in
     sym (ap (λ v. changed_at g.R.Id.Ord.cmp g.R.Keyed.id c.args.id.now (g.E.Edit.edited c.args.edit.now) v.rows) (sym c.self.view_is) ∙ w ∙ ap (λ v. v.rows) c.self.view_is)
+
+pub returns-in-Some-get_mut-clause-slots : goal.returns-in-Some-get_mut-clause-slots
+returns-in-Some-get_mut-clause-slots g c =
+    let value : Some c.in-Some-get_mut.row.now ≡ get_or c.self.inside.rows.slots c.index.result.now None = c.in-Some-get_mut.ensures.value in
+    let filled : IsSome (get_or c.self.inside.rows.slots c.index.result.now None) = rw (← value) refl in
+    let h = one_edited g.R.Id.Ord.cmp g.R.Keyed.id g.met.R.Id.Ord.total c.self.inside.rows.slots (λ o n. n ≡ option_map (g.E.Edit.edited c.args.edit.now) o) c.index.result.now c.edit.new.row filled (rw (← value) (ap Some c.edit.ensures)) in
+    subst (λ v. AreEdited (λ o n. n ≡ option_map (g.E.Edit.edited c.args.edit.now) o) v.slots (set c.self.inside.rows.slots c.index.result.now (Some c.edit.new.row))) c.self.view_is h

@@ -3,7 +3,7 @@ use Rattle.qz_types.specs.Sorted.{put}
 use Rattle.qz_tables.specs.Slots.{rows_at}
 use Rattle.qz_types.proofs.SortedLemmas.{place_le}
 use Rattle.qz_tables.proofs.Filled.{length-rows}
-use Rattle.qz_tables.proofs.Edits.{inserted}
+use Rattle.qz_tables.proofs.SlotEdits.{inserted}
 use Rattle.qz_tables.proofs.indexed.Indexed.insert.Goals as goal
 
 pub insert-requires : goal.insert-requires

@@ -4,7 +4,7 @@ use Rattle.qz_tables.specs.Ids.{without}
 use Rattle.qz_tables.specs.Slots.{rows_at, IsFound}
 use Rattle.qz_tables.proofs.ByIds.{without-absent}
 use Rattle.qz_tables.proofs.Filled.{filled_at, any_default}
-use Rattle.qz_tables.proofs.Edits.{removed}
+use Rattle.qz_tables.proofs.SlotEdits.{removed}
 use Rattle.qz_tables.proofs.indexed.Indexed.take.Goals as goal
 
 pub invariant_of-self : goal.invariant_of-self

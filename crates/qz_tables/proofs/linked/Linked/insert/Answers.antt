@@ -1,4 +1,4 @@
-use Rattle.std.proofs.Common.{◌++◌, ◌∷◌, [], ◌≡◌, ap, subst}
+use Rattle.std.proofs.Common.{◌++◌, ◌∷◌, [], ap, subst}
 use Rattle.qz_types.specs.Rows.{TriggerData}
 use Rattle.qz_types.specs.Sorted.{put}
 use Rattle.qz_types.specs.Words.{key_cmp}

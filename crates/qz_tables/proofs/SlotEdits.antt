@@ -1,17 +1,18 @@
 -- What an edit of slots makes of the rows.
-use Rattle.std.proofs.Common.{◌≡◌, ◌≢◌, ℕ, zero, suc, ◌<◌, ◌≤◌, List, [], ◌∷◌, length, get_or, set, Bool, true, false, if◌then◌else◌, Option, Some, None, refl, sym, ap, ◌∙◌, arith}
+use Rattle.std.proofs.Common.{◌≡◌, ◌≢◌, ℕ, zero, suc, ◌<◌, ◌≤◌, List, [], ◌∷◌, length, get_or, set, Bool, true, false, if◌then◌else◌, Option, Some, None, refl, sym, ap, subst, ◌∙◌, arith, inl, inr}
 use Rattle.std.specs.Prelude.{IsSome, IfSome}
 use Rattle.std.specs.List.{insert, remove}
 use Rattle.std.specs.Ordering.{is_eq, is_gt}
 use Rattle.std.specs.Cmp.{IsTotalOrder}
 use Rattle.std.specs.declared.cmp.Ordering.{Ordering}
 use Rattle.std.specs.declared.cmp.Ordering.TheVariants.{Less, Equal, Greater}
+use Rattle.std.proofs.lemmas.Bool.{cases_eq}
 use Rattle.std.proofs.lemmas.List.{get_or-set_same, get_or-set_other}
 use Rattle.qz_types.specs.Sorted.{place_of, row_of, put, IsAscending}
 use Rattle.qz_types.proofs.SortedLemmas.{place_le, insert-place}
 use Rattle.qz_types.proofs.Ascending.{IsAscending-put}
 use Rattle.qz_tables.specs.Ids.{changed_at, without}
-use Rattle.qz_tables.specs.Slots.{rows_at, AreFilled, IsFound, IsAbsent}
+use Rattle.qz_tables.specs.Slots.{rows_at, AreFilled, AreEdited, IsFound, IsAbsent}
 use Rattle.qz_tables.proofs.Places.{place_after, place_here, row_at_place, row_absent}
 use Rattle.qz_tables.proofs.ByIds.{IsAscending-without, IsAscending-changed, set-place, remove-place}
 use Rattle.qz_tables.proofs.Filled.{length-rows, filled_at, row_here, rows-kept, filled-kept, keep-vacant, rows-insert, filled-insert, rows-remove, filled-remove, others-at, rows-set, filled-set, keep-removed}
@@ -180,3 +181,10 @@ module _ {R K : Type 0} (cmp : K → K → Ordering) (id : R → K) (laws : IsTo
       written old (set old slot (Some (f r))) order i k f r filled up keeps is was
       (get_or-set_same old slot (Some (f r)) None (within_slots old slot (filled_at old order i filled is.in_range)))
       (λ other differs. get_or-set_other old slot other (Some (f r)) None differs)
+
+  -- one slot that is edited
+  pub one_edited : (old : List (Option R)) (Edit : Option R → Option R → Type 0) (slot : ℕ) (r : R) → IsSome (get_or old slot None) → Edit (get_or old slot None) (Some r) → AreEdited Edit old (set old slot (Some r))
+  one_edited old Edit slot r filled e s = elim (cases_eq s slot) [
+    | inl same ↦ inr (subst (λ i. Edit (get_or old i None) (get_or (set old slot (Some r)) i None)) (sym same) (rw (get_or-set_same old slot (Some r) None (within_slots old slot filled)) e))
+    | inr differs ↦ inl (get_or-set_other old slot s (Some r) None differs)
+  ]
