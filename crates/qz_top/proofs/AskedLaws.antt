@@ -1,11 +1,12 @@
 -- What a call did, by what its words ask for, and the causes of its status.
 use Rattle.std.proofs.Common.{◌≡◌, ◌⊎◌, inl, inr, List, Result, subst, refl}
-use Rattle.std.specs.Prelude.{Err}
+use Rattle.std.specs.Prelude.{Ok, Err}
 use Rattle.qz_civil.specs.Causes.{Rose}
 use Rattle.qz_disk.specs.declared.disk.Disk.{Ghosts}
 use Rattle.qz_io.specs.Outside.{Outside}
 use Rattle.qz_words.specs.declared.wishes.WordFault.{WordFault}
 use Rattle.qz_words.specs.declared.wishes.Wish.{Wish}
+use Rattle.qz_words.specs.declared.wishes.Wish.TheVariants as wish
 use Rattle.qz_cluster.specs.Steps.{ClusterState}
 use Rattle.qz_top.specs.Asked.{DidAsAsked}
 use Rattle.qz_top.specs.Calls.{OwnDone, RanOnDisk, NotOpened, IsOfOpening}

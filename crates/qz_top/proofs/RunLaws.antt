@@ -1,6 +1,6 @@
 -- What a run of steps tells of the store: its disk's count of faults, whether it is open, and a plain scheduler's replies.
 use Rattle.std.proofs.Common.{◌≡◌, ◌≤◌, ℕ, ℤ, List, [], ◌∷◌, ◌++◌, length, take, Bool, true, false, not, Option, Some, None, refl, sym, ap, subst, ◌∙◌, arith}
-use Rattle.std.specs.Prelude.{Ok, Err}
+use Rattle.std.specs.Prelude.{Result, Ok, Err}
 use Rattle.std.specs.List.{AllByRecursion}
 use Rattle.qz_civil.specs.Causes.{Rose}
 use Rattle.qz_types.specs.Rows.{MemberData}
@@ -18,7 +18,7 @@ use Rattle.qz_types.specs.declared.steps.StepReply.{StepReply}
 use Rattle.qz_types.specs.declared.steps.StepReply.TheVariants as reply
 use Rattle.qz_model.specs.History.{History, with_entry, replay}
 use Rattle.qz_model.specs.Transaction.{transaction}
-use Rattle.qz_model.specs.Script.{TimedStep, StepEffect, held_after_join, entry_of, effect_of, submit, effect_of_node, step_effect, with_optional, effect_in, after_step, step_replies}
+use Rattle.qz_model.specs.Script.{ScriptState, TimedStep, StepEffect, held_after_join, entry_of, effect_of, submit, effect_of_node, step_effect, with_optional, effect_in, after_step, step_replies}
 use Rattle.qz_trigger_store.specs.Entries.{answer_of}
 use Rattle.qz_cluster.specs.Steps.{ClusterState, is_closed, is_closed_for, entry_of_member, entry_of_step, held_after, StepCase, IsStep}
 use Rattle.qz_cluster.proofs.Sound.{step_sound}
