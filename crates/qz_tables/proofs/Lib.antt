@@ -1,0 +1,13 @@
+pub mod ByIds
+mod Counts
+mod DueLemmas
+pub mod DueWalk
+pub mod Filled
+mod FiredWords
+mod Firsts
+mod JobLemmas
+pub mod Keys
+pub mod LinkLemmas
+pub mod Places
+pub mod SlotEdits
+pub mod SortLaws

@@ -1,0 +1,11 @@
+use Rattle.std.proofs.Common.{◌≡◌, ◌≤◌, length, drop, filter, option_copied}
+use Rattle.std.specs.List.{slice_get}
+use Rattle.qz_tables.specs.Due.{waits_after, in_due_order}
+use Rattle.qz_tables.proofs.due.first_waiting.Given as goal
+
+abbrev pub decreases-loop-place : goal.decreases-loop-place
+decreases-loop-place l = l.place
+
+abbrev pub invariant-loop-place : goal.invariant-loop-place
+invariant-loop-place l = (l.place ≤ length l.triggers.rows)
+    × (option_copied l.first ≡ slice_get (in_due_order (filter (waits_after (option_copied l.after)) (drop l.place l.triggers.rows))) 0)

@@ -1,0 +1,291 @@
+//! The rows of one kind: a slab, and the slots of its rows in the order of their ids.
+ghost use Rattle.std.specs.Prelude.{slice_index_or, slice_get, ◌≢◌, IfNone, option_map, [], ◌≡◌, ◌+◌, ◌≤◌, ◌<◌, ℕ, Some, None, IfSome, IfOk, IfErr, OnOk, OnErr, IsOk, IsSome, OnSome, option_copied, length, map, min, ◌-◌};
+ghost use Rattle.std.specs.Ordering.{is_gt, is_eq};
+ghost use Rattle.slab.specs.Slab.{get, slab_len};
+ghost use Rattle.qz_types.specs.Sorted.{place_of, row_of, put, IsAscending};
+ghost use Rattle.qz_tables.specs.Ids.{changed_at, without};
+ghost use Rattle.qz_tables.specs.Slots.{rows_at, AreFilled, AreEdited, IsFound, IsAbsent, IsWritten};
+
+use crate::copies::Row;
+use qz_types::Keyed;
+use slab::Slab;
+use std::alloc::{AllocError, Global};
+use std::cmp::Ordering;
+use std::marker::Model;
+use std::mem;
+
+/// A change of a row in place, which keeps its id.
+pub trait Edit<R: Keyed> {
+    ghost edited: { Self → R → R };
+
+    fn edit(&self, row: &mut R)
+        ensures { row.new ≡ edited self.now row.old };
+
+    ghost keeps_id: { (e : Self) → (r : R) → R.id (edited e r) ≡ R.id r };
+}
+
+/// The rows of one kind, in the order of their ids. A row is found by binary search. It stays in its slot while it is
+/// stored, so an insertion or a removal moves no row, and of each other row at most the number of its slot.
+#[derive(Drop)]
+pub struct Indexed<R: Keyed> {
+    rows: Slab<R>,
+    order: Vec<usize>,
+}
+
+impl<R: Keyed> Model for Indexed<R> {
+    ghost use Rattle.std.specs.Prelude.{◌-◌, min, vec_len};
+    ghost use Rattle.std.specs.Vec.{vec_capacity};
+    ghost use Rattle.slab.specs.Slab.{slab_len};
+    ghost use Rattle.qz_types.specs.Sorted.{IsAscending};
+    ghost use Rattle.qz_tables.specs.Slots.{rows_at, AreFilled, Kept};
+
+    ghost Value = { Kept R };
+
+    ghost view = { λ a. record {
+      rows = rows_at a.rows.slots a.order.items;
+      slots = a.rows.slots;
+      spare = min (a.rows.capacity - slab_len a.rows) (vec_capacity a.order - vec_len a.order);
+    } };
+
+    ghost invariant = { λ a. IsAscending R.Id.cmp R.id (rows_at a.rows.slots a.order.items) × AreFilled a.rows.slots a.order.items };
+}
+
+// Whether the id comes after that of the row at this slot.
+fn is_after<R: Keyed>(rows: &Slab<R>, slot: usize, id: &R::Id) -> bool
+    requires { IsSome (get rows.now slot) }
+    ensures { IfSome (get rows.now slot) (λ r. result ≡ is_gt (R.Id.cmp id.now (R.id r))) }
+{
+    let Some(row) = rows.get(slot) else {
+        unreachable!()
+    };
+    id.cmp(row.id()) == Ordering::Greater
+}
+
+// Where a row of this id stands, or would be put.
+fn place<R: Keyed>(rows: &Slab<R>, order: &[usize], id: &R::Id) -> usize
+    requires filled { AreFilled rows.now.slots order.now }
+    requires ascending { IsAscending R.Id.cmp R.id (rows_at rows.now.slots order.now) }
+    ensures { result ≡ place_of R.Id.cmp R.id id.now (rows_at rows.now.slots order.now) }
+{
+    let mut low = 0;
+    let mut high = order.len();
+    while low < high {
+        let middle = low + (high - low) / 2;
+        if is_after(rows, order[middle], id) {
+            low = middle + 1;
+        } else {
+            high = middle;
+        }
+    }
+    low
+}
+
+// Whether the row at this slot has the id.
+fn is_at<R: Keyed>(rows: &Slab<R>, slot: usize, id: &R::Id) -> bool
+    requires { IsSome (get rows.now slot) }
+    ensures { IfSome (get rows.now slot) (λ r. result ≡ is_eq (R.Id.cmp id.now (R.id r))) }
+{
+    let Some(row) = rows.get(slot) else {
+        unreachable!()
+    };
+    id.cmp(row.id()) == Ordering::Equal
+}
+
+// The place of the row of this id.
+fn find<R: Keyed>(rows: &Slab<R>, order: &[usize], id: &R::Id) -> Option<usize>
+    requires filled { AreFilled rows.now.slots order.now }
+    requires ascending { IsAscending R.Id.cmp R.id (rows_at rows.now.slots order.now) }
+    ensures found { IfSome result (IsFound R.Id.cmp R.id rows.now.slots order.now id.now) }
+    ensures absent { IfNone result (IsAbsent R.Id.cmp R.id rows.now.slots order.now id.now) }
+{
+    let at = place(rows, order, id);
+    if at == order.len() {
+        return None;
+    }
+    if is_at(rows, order[at], id) {
+        Some(at)
+    } else {
+        None
+    }
+}
+
+// The rows at these slots.
+fn collect<'a, R: Keyed>(
+    alloc: Global,
+    rows: &'a Slab<R>,
+    order: &[usize],
+) -> Result<Vec<&'a R>, AllocError>
+    requires { AreFilled rows.now.slots order.now }
+    ensures { IfOk result (λ v. map (λ r. r.now) v.items ≡ rows_at rows.now.slots order.now) }
+{
+    let mut list = Vec::with_capacity(alloc, order.len())?;
+    for slot in order {
+        match rows.get(*slot) {
+            Some(row) => list.push(row)?,
+            None => unreachable!(),
+        }
+    }
+    Ok(list)
+}
+
+impl<R: Keyed> Indexed<R> {
+    /// No rows.
+    pub fn new(alloc: Global) -> Self
+        ensures rows { result.rows ≡ [] }
+        ensures slots { result.slots ≡ [] }
+    {
+        Indexed {
+            rows: Slab::new(alloc),
+            order: Vec::new(alloc),
+        }
+    }
+
+    /// The row of this id.
+    pub fn get(&self, id: &R::Id) -> Option<&R>
+        ensures row { option_copied result ≡ row_of R.Id.cmp R.id id.now self.now.rows }
+        ensures sorted { IsAscending R.Id.cmp R.id self.now.rows }
+    {
+        match find(&self.rows, &self.order, id) {
+            Some(at) => self.rows.get(self.order[at]),
+            None => None,
+        }
+    }
+
+    /// The row at this place in the order of the ids, counted from 0.
+    pub fn nth(&self, place: usize) -> Option<&R>
+        ensures { option_copied result ≡ slice_get self.now.rows place }
+    {
+        match self.order.get(place) {
+            Some(slot) => self.rows.get(*slot),
+            None => None,
+        }
+    }
+
+    /// How many rows there are.
+    pub fn len(&self) -> usize
+        ensures { result ≡ length self.now.rows }
+    {
+        let slots = self.order.as_slice();
+        slots.len()
+    }
+
+    /// The rows in the order of their ids.
+    pub fn sorted(&self, alloc: Global) -> Result<Vec<&R>, AllocError>
+        ensures { IfOk result (λ v. map (λ r. r.now) v.items ≡ self.now.rows) }
+    {
+        collect(alloc, &self.rows, &self.order)
+    }
+
+    /// Makes room for so many rows more.
+    pub fn reserve(&mut self, more: usize) -> Result<(), AllocError>
+        ensures rows { self.new.rows ≡ self.old.rows }
+        ensures slots { self.new.slots ≡ self.old.slots }
+        ensures room { OnOk result (more ≤ self.new.spare) }
+        ensures succeeds { more ≤ self.old.spare → IsOk result }
+        ensures spare { self.old.spare ≤ self.new.spare }
+    {
+        if self.rows.capacity() - self.rows.len() < more {
+            self.rows.reserve(more)?;
+        }
+        self.order.reserve(more)
+    }
+
+    /// Puts in a row of a new id, in the room that is left, and gives its slot.
+    pub fn insert(&mut self, row: R) -> usize
+        requires absent { row_of R.Id.cmp R.id (R.id row) self.old.rows ≡ None }
+        requires room { 0 < self.old.spare }
+        ensures rows { self.new.rows ≡ put R.Id.cmp R.id row self.old.rows }
+        ensures spare { self.old.spare ≤ self.new.spare + 1 }
+        ensures vacant { slice_index_or self.old.slots result None ≡ None }
+        ensures slot { IsWritten self.old.slots self.new.slots result (Some row) }
+    {
+        let at = place(&self.rows, &self.order, row.id());
+        let slot = self.rows.insert_reserved(row);
+        let Ok(()) = self.order.insert(at, slot) else {
+            unreachable!()
+        };
+        slot
+    }
+
+    /// Takes out the row of this id, with the slot that it had.
+    pub fn take(&mut self, id: &R::Id) -> Option<(usize, R)>
+        ensures row { option_map (λ p. p.1) result ≡ row_of R.Id.cmp R.id id.now self.old.rows }
+        ensures slot { IfSome result (λ p. IsWritten self.old.slots self.new.slots p.0 None) }
+        ensures was { IfSome result (λ p. slice_index_or self.old.slots p.0 None ≡ Some p.1) }
+        ensures none { IfNone result (self.new ≡ self.old) }
+        ensures rows { self.new.rows ≡ without R.Id.cmp R.id id.now self.old.rows }
+        ensures sorted { IsAscending R.Id.cmp R.id self.old.rows }
+        ensures freed { OnSome result (self.old.spare + 1 ≤ self.new.spare) }
+        ensures spare { self.old.spare ≤ self.new.spare }
+    {
+        match find(&self.rows, &self.order, id) {
+            Some(at) => {
+                let slot = self.order.remove(at);
+                match self.rows.try_remove(slot) {
+                    Some(row) => Some((slot, row)),
+                    None => unreachable!(),
+                }
+            }
+            None => None,
+        }
+    }
+
+    /// Takes out the row of this id.
+    pub fn remove(&mut self, id: &R::Id) -> Option<R>
+        ensures row { result ≡ row_of R.Id.cmp R.id id.now self.old.rows }
+        ensures none { IfNone result (self.new ≡ self.old) }
+        ensures rows { self.new.rows ≡ without R.Id.cmp R.id id.now self.old.rows }
+        ensures sorted { IsAscending R.Id.cmp R.id self.old.rows }
+        ensures freed { OnSome result (self.old.spare + 1 ≤ self.new.spare) }
+        ensures spare { self.old.spare ≤ self.new.spare }
+    {
+        match self.take(id) {
+            Some((_, row)) => Some(row),
+            None => None,
+        }
+    }
+
+    /// Puts a row in place of that of its id, and gives the old one.
+    pub fn change(&mut self, row: R) -> R
+        requires { IsSome (row_of R.Id.cmp R.id (R.id row) self.old.rows) }
+        ensures row { Some result ≡ row_of R.Id.cmp R.id (R.id row) self.old.rows }
+        ensures rows { self.new.rows ≡ changed_at R.Id.cmp R.id (R.id row) (λ _. row) self.old.rows }
+        ensures slots { AreEdited (λ old new. (old ≡ Some result) × (new ≡ Some row)) self.old.slots self.new.slots }
+        ensures spare { self.new.spare ≡ self.old.spare }
+    {
+        let Some(at) = find(&self.rows, &self.order, row.id()) else {
+            unreachable!()
+        };
+        let Some(place) = self.rows.get_mut(self.order[at]) else {
+            unreachable!()
+        };
+        mem::replace(place, row)
+    }
+
+    /// Changes the row of this id in place, if it is stored.
+    pub fn edit<E: Edit<R>>(&mut self, id: &R::Id, edit: &E)
+        ensures rows { self.new.rows ≡ changed_at R.Id.cmp R.id id.now (E.edited edit.now) self.old.rows }
+        ensures slots { AreEdited (λ old new. new ≡ option_map (E.edited edit.now) old) self.old.slots self.new.slots }
+        ensures spare { self.new.spare ≡ self.old.spare }
+    {
+        if let Some(at) = find(&self.rows, &self.order, id) {
+            let Some(row) = self.rows.get_mut(self.order[at]) else {
+                unreachable!()
+            };
+            edit.edit(row);
+        }
+    }
+}
+
+impl<R: Row> Indexed<R> {
+    /// The same rows in the same slots, in memory of their own.
+    pub fn copy(&self) -> Result<Self, AllocError>
+        ensures rows { IfOk result (λ copy. copy.rows ≡ self.now.rows) }
+        ensures slots { IfOk result (λ copy. copy.slots ≡ self.now.slots) }
+    {
+        Ok(Indexed {
+            rows: self.rows.clone()?,
+            order: self.order.clone()?,
+        })
+    }
+}

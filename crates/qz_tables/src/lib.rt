@@ -1,0 +1,22 @@
+//! The tables of the trigger store: rows of seven kinds, each in the order of its ids, numbers, and the order in which
+//! triggers were linked to their jobs.
+#![tactic(auto)]
+
+mod calendars;
+mod copies;
+mod due;
+mod edits;
+mod fired;
+mod groups;
+mod indexed;
+mod job_triggers;
+mod jobs;
+mod linked;
+mod members;
+mod tables;
+mod triggers;
+mod zones;
+
+pub use edits::Begin;
+pub use job_triggers::JobTriggers;
+pub use tables::Tables;

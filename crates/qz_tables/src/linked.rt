@@ -1,0 +1,218 @@
+//! The triggers, with the order in which each became one of its job's.
+ghost use Rattle.std.specs.Prelude.{[], ◌≡◌, ◌≢◌, ◌≤◌, ◌<◌, ◌+◌, ℕ, None, Some, IsSome, IfSome, IfNone, IfOk, OnOk, OnErr, IsOk, OnSome, option_copied, length, map, slice_get};
+ghost use Rattle.std.specs.Ordering.{nat_cmp, is_eq};
+ghost use Rattle.qz_types.specs.Sorted.{row_of, put, IsAscending};
+ghost use Rattle.qz_types.specs.Words.{key_cmp};
+ghost use Rattle.qz_tables.specs.Changes.{trigger_edited};
+ghost use Rattle.qz_tables.specs.Ids.{changed_at, without};
+ghost use Rattle.qz_tables.specs.Linking.{times};
+ghost use Rattle.qz_tables.specs.Links.{KeepsLinks, IsLinked, IsUnlinked, IsMoved};
+
+use crate::edits::TriggerEdit;
+use crate::indexed::Indexed;
+use qz_types::{Key, TriggerRow};
+use std::alloc::{AllocError, Global};
+use std::cmp::Ordering;
+use std::marker::Model;
+
+/// The triggers in the order of their keys, and their slots in the order of linking.
+#[derive(Drop)]
+pub struct Linked {
+    rows: Indexed<TriggerRow>,
+    linked: Vec<usize>,
+}
+
+impl Model for Linked {
+    ghost use Rattle.std.specs.Prelude.{◌-◌, min, vec_len};
+    ghost use Rattle.std.specs.Vec.{vec_capacity};
+    ghost use Rattle.qz_tables.specs.Slots.{rows_at};
+    ghost use Rattle.qz_tables.specs.Linking.{LinkedData, links_of, AreLinkedOnce};
+
+    ghost Value = { LinkedData };
+
+    ghost view = { λ a. record {
+      rows = a.rows.rows;
+      links = links_of (rows_at a.rows.slots a.linked.items);
+      spare = min a.rows.spare (vec_capacity a.linked - vec_len a.linked);
+    } };
+
+    ghost invariant = { λ a. AreLinkedOnce a.rows.slots a.linked.items };
+}
+
+// The place of this slot.
+fn place_in(linked: &[usize], slot: usize) -> Option<usize>
+    ensures found { IfSome result (λ at. slice_get linked.now at ≡ Some slot) }
+    ensures none { IfNone result (times slot linked.now ≡ 0) }
+{
+    let mut at = 0;
+    for other in linked {
+        if *other == slot {
+            return Some(at);
+        }
+        at += 1;
+    }
+    None
+}
+
+impl Linked {
+    /// No triggers.
+    pub fn new(alloc: Global) -> Self
+        ensures rows { result.rows ≡ [] }
+        ensures links { result.links ≡ [] }
+    {
+        Linked {
+            rows: Indexed::new(alloc),
+            linked: Vec::new(alloc),
+        }
+    }
+
+    /// The trigger of this key.
+    pub fn get(&self, key: &Key) -> Option<&TriggerRow>
+        ensures row { option_copied result ≡ row_of key_cmp (λ r. r.spec.key) key.now self.now.rows }
+        ensures sorted { IsAscending key_cmp (λ r. r.spec.key) self.now.rows }
+    {
+        self.rows.get(key)
+    }
+
+    /// The trigger at this place in the order of the keys, counted from 0.
+    pub fn nth(&self, place: usize) -> Option<&TriggerRow>
+        ensures { option_copied result ≡ slice_get self.now.rows place }
+    {
+        self.rows.nth(place)
+    }
+
+    /// How many triggers there are.
+    pub fn len(&self) -> usize
+        ensures { result ≡ length self.now.rows }
+    {
+        self.rows.len()
+    }
+
+    /// The triggers in the order of their keys.
+    pub fn sorted(&self, alloc: Global) -> Result<Vec<&TriggerRow>, AllocError>
+        ensures { IfOk result (λ v. map (λ r. r.now) v.items ≡ self.now.rows) }
+    {
+        self.rows.sorted(alloc)
+    }
+
+    /// The same triggers, linked in the same order, in memory of their own.
+    pub fn copy(&self) -> Result<Self, AllocError>
+        ensures rows { IfOk result (λ copy. copy.rows ≡ self.now.rows) }
+        ensures links { IfOk result (λ copy. copy.links ≡ self.now.links) }
+    {
+        Ok(Linked {
+            rows: self.rows.copy()?,
+            linked: self.linked.clone()?,
+        })
+    }
+
+    /// Makes room for so many triggers more.
+    pub fn reserve(&mut self, more: usize) -> Result<(), AllocError>
+        ensures rows { self.new.rows ≡ self.old.rows }
+        ensures links { self.new.links ≡ self.old.links }
+        ensures room { OnOk result (more ≤ self.new.spare) }
+        ensures succeeds { more ≤ self.old.spare → IsOk result }
+        ensures spare { self.old.spare ≤ self.new.spare }
+    {
+        self.rows.reserve(more)?;
+        self.linked.reserve(more)
+    }
+
+    /// Puts in a trigger of a new key, in the room that is left.
+    pub fn insert(&mut self, row: TriggerRow)
+        requires absent { row_of key_cmp (λ r. r.spec.key) row.spec.key self.old.rows ≡ None }
+        requires room { 0 < self.old.spare }
+        ensures rows { self.new.rows ≡ put key_cmp (λ r. r.spec.key) row self.old.rows }
+        ensures links { IsLinked row.spec.job row.spec.key self.old.links self.new.links }
+        ensures spare { self.old.spare ≤ self.new.spare + 1 }
+    {
+        let slot = self.rows.insert(row);
+        self.linked.push_reserved(slot);
+    }
+
+    /// Takes out the trigger of this key.
+    pub fn remove(&mut self, key: &Key) -> Option<TriggerRow>
+        ensures row { result ≡ row_of key_cmp (λ r. r.spec.key) key.now self.old.rows }
+        ensures none { IfNone result (self.new ≡ self.old) }
+        ensures rows { self.new.rows ≡ without key_cmp (λ r. r.spec.key) key.now self.old.rows }
+        ensures links { IfSome result (λ r. IsUnlinked r.spec.job r.spec.key self.old.links self.new.links) }
+        ensures sorted { IsAscending key_cmp (λ r. r.spec.key) self.old.rows }
+        ensures freed { OnSome result (self.old.spare + 1 ≤ self.new.spare) }
+        ensures spare { self.old.spare ≤ self.new.spare }
+    {
+        match self.rows.take(key) {
+            Some((slot, row)) => match place_in(&self.linked, slot) {
+                Some(at) => {
+                    self.linked.remove(at);
+                    Some(row)
+                }
+                None => unreachable!(),
+            },
+            None => None,
+        }
+    }
+
+    /// Changes the trigger of this key in place, if it is stored.
+    pub fn edit(&mut self, key: &Key, edit: &TriggerEdit)
+        ensures rows { self.new.rows ≡ changed_at key_cmp (λ r. r.spec.key) key.now (trigger_edited edit.now) self.old.rows }
+        ensures links { KeepsLinks self.old.links self.new.links }
+        ensures spare { self.old.spare ≤ self.new.spare }
+    {
+        self.rows.edit(key, edit);
+    }
+
+    /// Puts a trigger in place of that of its key, and gives the old one. A trigger of another job than before is linked
+    /// last to it.
+    pub fn change(&mut self, row: TriggerRow) -> TriggerRow
+        requires { IsSome (row_of key_cmp (λ r. r.spec.key) row.spec.key self.old.rows) }
+        ensures row { Some result ≡ row_of key_cmp (λ r. r.spec.key) row.spec.key self.old.rows }
+        ensures rows { self.new.rows ≡ changed_at key_cmp (λ r. r.spec.key) row.spec.key (λ _. row) self.old.rows }
+        ensures stays { result.spec.job ≡ row.spec.job → KeepsLinks self.old.links self.new.links }
+        ensures moves { result.spec.job ≢ row.spec.job → IsMoved result.spec.job row.spec.job row.spec.key self.old.links self.new.links }
+        ensures spare { self.old.spare ≤ self.new.spare }
+    {
+        if self.has_job(&row.spec.key, &row.spec.job) {
+            self.replace(row)
+        } else {
+            self.relink(row)
+        }
+    }
+
+    // Whether the trigger of this key has this job.
+    fn has_job(&self, key: &Key, job: &Key) -> bool
+        ensures { IfSome (row_of key_cmp (λ r. r.spec.key) key.now self.now.rows) (λ r. result ≡ is_eq (key_cmp r.spec.job job.now)) }
+    {
+        match self.get(key) {
+            Some(row) => row.spec.job.cmp(job) == Ordering::Equal,
+            None => false,
+        }
+    }
+
+    // Puts a trigger in place of that of its key, which has the same job.
+    fn replace(&mut self, row: TriggerRow) -> TriggerRow
+        requires present { IsSome (row_of key_cmp (λ r. r.spec.key) row.spec.key self.old.rows) }
+        requires job { IfSome (row_of key_cmp (λ r. r.spec.key) row.spec.key self.old.rows) (λ r. r.spec.job ≡ row.spec.job) }
+        ensures row { Some result ≡ row_of key_cmp (λ r. r.spec.key) row.spec.key self.old.rows }
+        ensures rows { self.new.rows ≡ changed_at key_cmp (λ r. r.spec.key) row.spec.key (λ _. row) self.old.rows }
+        ensures links { KeepsLinks self.old.links self.new.links }
+        ensures spare { self.old.spare ≤ self.new.spare }
+    {
+        self.rows.change(row)
+    }
+
+    // Puts a trigger in place of that of its key, which has another job.
+    fn relink(&mut self, row: TriggerRow) -> TriggerRow
+        requires present { IsSome (row_of key_cmp (λ r. r.spec.key) row.spec.key self.old.rows) }
+        requires job { IfSome (row_of key_cmp (λ r. r.spec.key) row.spec.key self.old.rows) (λ r. r.spec.job ≢ row.spec.job) }
+        ensures row { Some result ≡ row_of key_cmp (λ r. r.spec.key) row.spec.key self.old.rows }
+        ensures rows { self.new.rows ≡ changed_at key_cmp (λ r. r.spec.key) row.spec.key (λ _. row) self.old.rows }
+        ensures links { IsMoved result.spec.job row.spec.job row.spec.key self.old.links self.new.links }
+        ensures spare { self.old.spare ≤ self.new.spare }
+    {
+        let Some(old) = self.remove(&row.spec.key) else {
+            unreachable!()
+        };
+        self.insert(row);
+        old
+    }
+}
