@@ -1,11 +1,11 @@
--- Which of the triggers that wait come next in due order.
+-- Which triggers come next in due order.
 use Rattle.std.specs.Prelude.{◌≡◌, ℕ, suc, List, Bool, true, ◌&&◌, filter, Option, Some, None, option_and_then}
 use Rattle.std.specs.List.{slice_get}
 use Rattle.std.specs.Ordering.{is_gt}
+use Rattle.qz_types.specs.Due.{is_waiting, due_cmp, in_due_order}
 use Rattle.qz_types.specs.Rows.{TriggerData}
 use Rattle.qz_types.specs.declared.keys.Key.{Key}
 use Rattle.qz_types.specs.Words.{trigger_of}
-use Rattle.qz_types.specs.Due.{is_waiting, due_cmp, in_due_order}
 
 -- the trigger comes after this one, if one is given
 abbrev pub is_later : Option TriggerData → TriggerData → Bool
