@@ -3,6 +3,8 @@ mod Counts
 mod DueLemmas
 pub mod Filled
 mod FiredWords
+mod Firsts
+mod JobLemmas
 pub mod Keys
 pub mod LinkLemmas
 pub mod Places

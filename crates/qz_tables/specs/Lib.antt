@@ -1,7 +1,9 @@
+pub mod Acquired
 pub mod Changes
 pub mod Contents
 pub mod Due
 pub mod Ids
+pub mod Jobs
 pub mod Linking
 pub mod Links
 pub mod Slots

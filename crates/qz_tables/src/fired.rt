@@ -1,15 +1,18 @@
 //! The fired rows of the tables.
-ghost use Rattle.std.specs.Prelude.{◌≡◌, ◌≤◌, ◌<◌, ◌+◌, None, Some, IsSome, IfSome, IfNone, OnSome, IfOk, option_copied, length, map, slice_get};
+ghost use Rattle.std.specs.Prelude.{◌≡◌, ◌≤◌, ◌<◌, ◌+◌, None, Some, IsSome, IfSome, IfNone, OnSome, IfOk, option_copied, length, map, slice_get, filter};
 ghost use Rattle.std.specs.Ordering.{nat_cmp};
 ghost use Rattle.qz_types.specs.Sorted.{IsAscending};
 ghost use Rattle.qz_types.specs.Words.{fired_of, put_fired, without_fired, with_fired};
 ghost use Rattle.qz_tables.specs.Contents.{KeepsSpare, one_fired};
+ghost use Rattle.qz_tables.specs.Acquired.{is_acquired_for, acquired_row_of};
 ghost use Rattle.qz_tables.specs.Changes.{begun};
 
 use crate::edits::Begin;
+use crate::indexed::Indexed;
 use crate::tables::Tables;
-use qz_types::{FiredRow, NoMemory};
+use qz_types::{FiredRow, FiredState, Key, NoMemory};
 use std::alloc::Global;
+use std::cmp::Ordering;
 
 impl Tables {
     /// The fired row of this entry number.
@@ -88,4 +91,38 @@ impl Tables {
     {
         self.fired.edit(&entry, &begin);
     }
+
+    /// The row of an acquired trigger of this key: of several that of the least entry number.
+    ///
+    /// It looks at every fired row.
+    #[tactic(auto, unfolding(crate::specs::Acquired::acquired_row_of))]
+    pub fn acquired_row(&self, trigger: &Key) -> Option<&FiredRow>
+        ensures { option_copied result ≡ acquired_row_of trigger.now self.now.tables.fired }
+    {
+        first_acquired(&self.fired, trigger)
+    }
+}
+
+fn first_acquired<'a>(rows: &'a Indexed<FiredRow>, trigger: &Key) -> Option<&'a FiredRow>
+    ensures { option_copied result ≡ slice_get (filter (is_acquired_for trigger.now) rows.now.rows) 0 }
+{
+    let mut place = 0;
+    let count = rows.len();
+    while place < count {
+        let Some(row) = rows.nth(place) else {
+            unreachable!()
+        };
+        if is_acquired_for(row, trigger) {
+            return Some(row);
+        }
+        place += 1;
+    }
+    None
+}
+
+#[tactic(auto, unfolding(crate::specs::Acquired::is_acquired_for, qz_types::specs::Words::same_key))]
+fn is_acquired_for(row: &FiredRow, trigger: &Key) -> bool
+    ensures { result ≡ is_acquired_for trigger.now row.now }
+{
+    matches!(row.state, FiredState::Acquired) && trigger.cmp(&row.trigger) == Ordering::Equal
 }

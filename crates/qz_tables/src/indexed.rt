@@ -6,6 +6,7 @@ ghost use Rattle.qz_types.specs.Sorted.{place_of, row_of, put, IsAscending};
 ghost use Rattle.qz_tables.specs.Ids.{changed_at, without};
 ghost use Rattle.qz_tables.specs.Slots.{rows_at, AreFilled, AreEdited, IsFound, IsAbsent, IsWritten};
 
+use crate::copies::Row;
 use qz_types::Keyed;
 use slab::Slab;
 use std::alloc::{AllocError, Global};
@@ -150,25 +151,6 @@ impl<R: Keyed> Indexed<R> {
         }
     }
 
-    /// The row at this slot.
-    pub fn at(&self, slot: usize) -> Option<&R>
-        ensures { option_copied result ≡ slice_index_or self.now.slots slot None }
-    {
-        self.rows.get(slot)
-    }
-
-    /// The slot of the row of this id.
-    pub fn slot(&self, id: &R::Id) -> Option<usize>
-        ensures row { IfSome result (λ s. row_of R.Id.cmp R.id id.now self.now.rows ≡ slice_index_or self.now.slots s None) }
-        ensures filled { IfSome result (λ s. IsSome (slice_index_or self.now.slots s None)) }
-        ensures none { IfNone result (row_of R.Id.cmp R.id id.now self.now.rows ≡ None) }
-    {
-        match find(&self.rows, &self.order, id) {
-            Some(at) => Some(self.order[at]),
-            None => None,
-        }
-    }
-
     /// The row at this place in the order of the ids, counted from 0.
     pub fn nth(&self, place: usize) -> Option<&R>
         ensures { option_copied result ≡ slice_get self.now.rows place }
@@ -199,9 +181,12 @@ impl<R: Keyed> Indexed<R> {
         ensures rows { self.new.rows ≡ self.old.rows }
         ensures slots { self.new.slots ≡ self.old.slots }
         ensures room { OnOk result (more ≤ self.new.spare) }
+        ensures succeeds { more ≤ self.old.spare → IsOk result }
         ensures spare { self.old.spare ≤ self.new.spare }
     {
-        self.rows.reserve(more)?;
+        if self.rows.capacity() - self.rows.len() < more {
+            self.rows.reserve(more)?;
+        }
         self.order.reserve(more)
     }
 
@@ -289,5 +274,18 @@ impl<R: Keyed> Indexed<R> {
             };
             edit.edit(row);
         }
+    }
+}
+
+impl<R: Row> Indexed<R> {
+    /// The same rows in the same slots, in memory of their own.
+    pub fn copy(&self) -> Result<Self, AllocError>
+        ensures rows { IfOk result (λ copy. copy.rows ≡ self.now.rows) }
+        ensures slots { IfOk result (λ copy. copy.slots ≡ self.now.slots) }
+    {
+        Ok(Indexed {
+            rows: self.rows.clone()?,
+            order: self.order.clone()?,
+        })
     }
 }

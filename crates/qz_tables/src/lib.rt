@@ -3,11 +3,13 @@
 #![tactic(auto)]
 
 mod calendars;
+mod copies;
 mod due;
 mod edits;
 mod fired;
 mod groups;
 mod indexed;
+mod job_triggers;
 mod jobs;
 mod linked;
 mod members;
@@ -16,4 +18,5 @@ mod triggers;
 mod zones;
 
 pub use edits::Begin;
+pub use job_triggers::JobTriggers;
 pub use tables::Tables;

@@ -1,5 +1,5 @@
 //! The triggers, with the order in which each became one of its job's.
-ghost use Rattle.std.specs.Prelude.{[], ◌≡◌, ◌≢◌, ◌≤◌, ◌<◌, ◌+◌, ℕ, None, Some, IsSome, IfSome, IfNone, IfOk, OnOk, OnErr, OnSome, option_copied, length, map, slice_get};
+ghost use Rattle.std.specs.Prelude.{[], ◌≡◌, ◌≢◌, ◌≤◌, ◌<◌, ◌+◌, ℕ, None, Some, IsSome, IfSome, IfNone, IfOk, OnOk, OnErr, IsOk, OnSome, option_copied, length, map, slice_get};
 ghost use Rattle.std.specs.Ordering.{nat_cmp, is_eq};
 ghost use Rattle.qz_types.specs.Sorted.{row_of, put, IsAscending};
 ghost use Rattle.qz_types.specs.Words.{key_cmp};
@@ -95,11 +95,23 @@ impl Linked {
         self.rows.sorted(alloc)
     }
 
+    /// The same triggers, linked in the same order, in memory of their own.
+    pub fn copy(&self) -> Result<Self, AllocError>
+        ensures rows { IfOk result (λ copy. copy.rows ≡ self.now.rows) }
+        ensures links { IfOk result (λ copy. copy.links ≡ self.now.links) }
+    {
+        Ok(Linked {
+            rows: self.rows.copy()?,
+            linked: self.linked.clone()?,
+        })
+    }
+
     /// Makes room for so many triggers more.
     pub fn reserve(&mut self, more: usize) -> Result<(), AllocError>
         ensures rows { self.new.rows ≡ self.old.rows }
         ensures links { self.new.links ≡ self.old.links }
         ensures room { OnOk result (more ≤ self.new.spare) }
+        ensures succeeds { more ≤ self.old.spare → IsOk result }
         ensures spare { self.old.spare ≤ self.new.spare }
     {
         self.rows.reserve(more)?;

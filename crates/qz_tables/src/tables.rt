@@ -1,5 +1,5 @@
 //! The tables whole: their numbers, and the room for rows.
-ghost use Rattle.std.specs.Prelude.{◌≡◌, [], OnOk};
+ghost use Rattle.std.specs.Prelude.{◌≡◌, [], IsOk, OnOk};
 ghost use Rattle.qz_types.specs.Tables.{new_tables};
 ghost use Rattle.qz_tables.specs.Contents.{KeepsSpare, HasSpare};
 
@@ -87,12 +87,13 @@ impl Tables {
         }
     }
 
-    /// Makes room for so many rows more of each kind.
+    /// Makes room for so many rows more of each kind. It takes no memory for a kind that has that room already.
     pub fn reserve(&mut self, rows: usize) -> Result<(), NoMemory>
         ensures tables { self.new.tables ≡ self.old.tables }
         ensures links { self.new.links ≡ self.old.links }
         ensures spare { KeepsSpare self.old.spare self.new.spare }
         ensures room { OnOk result (HasSpare rows self.new.spare) }
+        ensures succeeds { HasSpare rows self.old.spare → IsOk result }
     {
         self.jobs.reserve(rows)?;
         self.triggers.reserve(rows)?;
