@@ -60,7 +60,7 @@ daily from to inverted day milli lt =
 pub first-daily : (from to : ℕ) (inverted : Bool) (day low : ℕ) (r : Option ℕ) → IsFirst (λ milli. not (if inverted then not (is_from_to from to milli) else is_from_to from to milli)) low 86400000 r → IsFirst (is_free_on (Daily from to inverted) day) low 86400000 r
 first-daily from to inverted day low r = first_same _ _ _ _ r (λ milli a b. daily from to inverted day milli b)
 
-cron : (fields : CronFields) (day milli : ℕ) → milli < 86400000 → is_free_on (Cron fields) day milli ≡ not (meets_date fields (date_of day) (weekday_of day) && meets_time fields (milli / 1000))
+pub cron : (fields : CronFields) (day milli : ℕ) → milli < 86400000 → is_free_on (Cron fields) day milli ≡ not (meets_date fields (date_of day) (weekday_of day) && meets_time fields (milli / 1000))
 unfolding excludes
 cron fields day milli lt =
     let p = part day milli lt in

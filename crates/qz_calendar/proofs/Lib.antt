@@ -1,4 +1,6 @@
+pub mod ClockLaws
+pub mod ClockSets
+pub mod SkipLaws
+pub mod DayTimes
 pub mod Lacking
 pub mod ListLaws
-pub mod DayTimes
-pub mod ClockLaws

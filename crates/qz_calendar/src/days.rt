@@ -74,9 +74,9 @@ fn next_in_unmet(fields: &CronFields, low: u64) -> Option<u64>
     Some(low.max(second * 1000))
 }
 
-// Whether the day, counted from 1969-12-31 on, meets the fields on the date.
+/// Whether the day, counted from 1969-12-31 on, meets the fields on the date.
 #[tactic(auto, using(qz_civil::proofs::DateLemmas::date_facts))]
-fn meets_day(fields: &CronFields, day: u64) -> bool
+pub fn meets_day(fields: &CronFields, day: u64) -> bool
     requires { day ≤ LAST_DAY }
     ensures { result ≡ meets_date fields.now (date_after day) (weekday_after day) }
 {

@@ -4,10 +4,12 @@
 mod bits;
 mod calendars;
 mod chains;
+mod clocks;
 mod days;
 mod listed;
 mod moments;
 mod seconds;
+mod skips;
 mod spans;
 
 pub use chains::{CHAIN_LIMIT, Chain, ChainFull, included, next_included};

@@ -7,6 +7,7 @@ ghost use Rattle.qz_calendar.specs.Search.{are_free_at, is_free_at, is_free_in};
 
 use crate::calendars::Calendar;
 use crate::days::{is_free_local, next_free_local};
+use crate::skips::{has_several_crons, skip};
 use crate::spans::{END, Span, span_from};
 use qz_civil::{CalendarKind, LAST, Zone};
 
@@ -64,12 +65,20 @@ pub fn next_of_all(calendars: &[Calendar], from: u64) -> Option<u64>
     requires { from < END }
     ensures { IsFirst (are_free_at calendars.now) from END result }
 {
+    let has_several_crons = has_several_crons(calendars);
     let mut moment = from;
     while let Some(next) = after_each(calendars, moment) {
         if next == moment {
             return Some(moment);
         }
-        moment = next;
+        moment = if has_several_crons {
+            skip(calendars, next)
+        } else {
+            next
+        };
+        if moment >= END {
+            return None;
+        }
     }
     None
 }

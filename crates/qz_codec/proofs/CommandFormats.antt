@@ -10,17 +10,17 @@ use Rattle.qz_types.specs.declared.commands.Code.{Code}
 use Rattle.qz_types.specs.declared.commands.Code.TheVariants as code
 use Rattle.qz_types.specs.declared.commands.Command.{Command}
 use Rattle.qz_types.specs.declared.commands.Command.TheVariants.{AddJob, DeleteJob, AddTrigger, DeleteTrigger, PauseTrigger, ResumeTrigger, PauseGroup, ResumeGroup, AddCalendar, DeleteCalendar, AddZone, DeleteZone, TriggerNow, Threshold, Join, Leave, Acquire, Release, Fire, Complete, Misfires, Recover}
-use Rattle.qz_codec.specs.Layout.{number, integer, flag, text, key, code_place, command}
+use Rattle.qz_values.specs.Fields.{number, integer, flag, text, is_long, IsText, IsName, IsNumber, IsSpan, Read, as_variant, checked, byte_at, number_at, flag_at, name_at, span_at}
+use Rattle.qz_codec.specs.Layout.{key, code_place, command}
 use Rattle.qz_codec.specs.Zones.{zone_row, IsZoneRow, zone_row_at}
-use Rattle.qz_codec.specs.Values.{is_long, IsText, IsName, IsNumber, IsSpan, IsKey, IsCommand}
-use Rattle.qz_codec.specs.Reading.{Read, as_variant, checked, byte_at, number_at, flag_at, name_at, node_at, span_at, threshold_at, key_at, code_of, chosen, code_at, replacing_at, acquire_at, complete_at, client_command_at, node_command_at}
-use Rattle.qz_codec.proofs.Formats.{IsBytes, EndsNear, Takes, IsFormat, Any, Both, Passes, ok_is, no_value, those}
-use Rattle.qz_codec.proofs.SingleFields.{IsBytes-rest, wide32, wide64, number_format, flag_format}
-use Rattle.qz_codec.proofs.NameFormats.{name_format, node_format, span_format, tested}
-use Rattle.qz_codec.proofs.RowFormats.{key_format, job_format, spec_format}
-use Rattle.qz_codec.proofs.ZoneFormats.{zone_row_format}
-use Rattle.qz_codec.proofs.CalendarFormats.{calendar_row_format}
-use Rattle.qz_codec.proofs.VariantFormats.{IsVariant, variant, read_so, pair, regroup, Part, part, bare, choices_of, are_parts, tagged, choice}
+use Rattle.qz_codec.specs.Values.{IsKey, IsCommand}
+use Rattle.qz_codec.specs.Reading.{node_at, threshold_at, key_at, code_of, chosen, code_at, replacing_at, acquire_at, complete_at, client_command_at, node_command_at}
+use Rattle.qz_values.specs.Formats.{IsBytes, EndsNear, Takes, IsFormat, Any}
+use Rattle.qz_values.proofs.Formats.{Both, Passes, ok_is, no_value, those}
+use Rattle.qz_values.proofs.SingleFields.{IsBytes-rest, wide32, wide64, number_format, flag_format}
+use Rattle.qz_values.proofs.NameFormats.{name_format, span_format, tested}
+use Rattle.qz_codec.proofs.RowFormats.{node_format, key_format, job_format, spec_format, zone_row_format, calendar_row_format}
+use Rattle.qz_values.proofs.VariantFormats.{IsVariant, variant, read_so, pair, regroup, Part, part, bare, choices_of, are_parts, tagged, choice}
 
 -- ---- codes
 
@@ -176,7 +176,7 @@ again (Recover node) rest is = (of_node Recover).again node rest is
 given_again : (by_node : Bool) (c : Command) (rest : List ℕ) → IsGiven by_node c → given_at by_node (command c ++ rest) ≡ Ok (c, rest)
 given_again by_node c rest is = subst (λ (b : Bool). given_at b (command c ++ rest) ≡ Ok (c, rest)) is.actor (again c rest is.valid)
 
--- A command behind its place, whose fields are all that it asks for.
+-- A command after its place, whose fields are all that it asks for.
 abbrev given : {A : Type 0} {make : A → Command} {write : A → List ℕ} {Is : A → Type 0} {read : List ℕ → Read Command} {m : ℕ} {by_node : Bool} (place : ℕ)
     → IsVariant make write Is read m → m ≤ 16995 → ((x : A) → place ∷ write x ≡ command (make x)) → ((x : A) → Is x → IsGiven by_node (make x)) → Part command (IsGiven by_node) 16995
 given {A} {make} {write} {Is} {read} {m} {by_node} place v le spelled valid = record { place = place; read = read; is = part place v le spelled valid }

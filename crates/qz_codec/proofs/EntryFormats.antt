@@ -7,12 +7,14 @@ use Rattle.qz_types.specs.declared.commands.Actor.{Actor}
 use Rattle.qz_types.specs.declared.commands.Actor.TheVariants.{Client, Node}
 use Rattle.qz_codec.specs.Layout.{actor, command, entry, record_of}
 use Rattle.qz_codec.specs.Values.{IsActor, IsCommand, IsEntry}
-use Rattle.qz_codec.specs.Reading.{◌>>=◌, Read, as_variant, byte_at, flag_at, member_at, actor_at, command_at, entry_at}
-use Rattle.qz_codec.proofs.Formats.{IsBytes, EndsNear, Takes, IsFormat, Any, Also, ok_is, no_value, near_then, field, last, same}
-use Rattle.qz_codec.proofs.SingleFields.{IsBytes-rest, other_flag, flag_format, wide32, wide64, same64, number_format, integer_format}
+use Rattle.qz_values.specs.Fields.{◌>>=◌, Read, as_variant, byte_at, flag_at}
+use Rattle.qz_codec.specs.Reading.{member_at, actor_at, command_at, entry_at}
+use Rattle.qz_values.specs.Formats.{IsBytes, EndsNear, Takes, IsFormat, Any}
+use Rattle.qz_values.proofs.Formats.{Also, ok_is, no_value, near_then, field, last, same}
+use Rattle.qz_values.proofs.SingleFields.{IsBytes-rest, other_flag, flag_format, wide32, wide64, same64, number_format, integer_format}
 use Rattle.qz_codec.proofs.RecordFormats.{record_unique}
 use Rattle.qz_codec.proofs.RowFormats.{member_format}
-use Rattle.qz_codec.proofs.VariantFormats.{variant}
+use Rattle.qz_values.proofs.VariantFormats.{variant}
 use Rattle.qz_codec.proofs.CommandFormats.{client_format, node_command_format}
 
 -- ---- actors

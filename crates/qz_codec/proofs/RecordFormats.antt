@@ -1,15 +1,17 @@
--- Whole records: what holds of a record, from the format of what stands behind its version.
+-- Whole records: what holds of a record, from the format of what stands after its version.
 use Rattle.std.proofs.Common.{◌≡◌, ℕ, suc, ◌+◌, ◌≤◌, ◌-◌, Bool, true, false, cond, List, [], ◌∷◌, ◌++◌, length, Result, Ok, Err, refl, sym, ap, subst, ◌∙◌, arith, ◌==◌}
 use Rattle.std.specs.Prelude.{IfOk}
 use Rattle.std.proofs.lemmas.Bool.{eqb-true}
 use Rattle.std.proofs.lemmas.List.{append-nil, nil_from_length}
 use Rattle.qz_codec.specs.Layout.{recorded}
-use Rattle.qz_codec.specs.Reading.{◌>>=◌, Read, byte_at, whole_at, placed, reading_by, Answers}
+use Rattle.qz_values.specs.Fields.{◌>>=◌, Read, byte_at}
+use Rattle.qz_codec.specs.Reading.{whole_at, placed, reading_by, Answers}
 use Rattle.qz_codec.specs.declared.errors.ReadError.{ReadError}
-use Rattle.qz_codec.proofs.Formats.{IsBytes, IsNear, EndsNear, IsFormat, Any, bind_ok, done, ok_is, no_value, guard_ok}
-use Rattle.qz_codec.proofs.SingleFields.{IsBytes-rest}
+use Rattle.qz_values.specs.Formats.{IsBytes, IsNear, EndsNear, IsFormat, Any}
+use Rattle.qz_values.proofs.Formats.{bind_ok, done, ok_is, no_value, guard_ok}
+use Rattle.qz_values.proofs.SingleFields.{IsBytes-rest}
 
--- what is answered where nothing is left behind the value
+-- what is answered where nothing is left after the value
 abbrev ended : {A : Type 0} → A × List ℕ → Result A ℕ
 ended x = cond (length x.1 == 0) (Ok x.0) (Err (length x.1))
 

@@ -1,20 +1,30 @@
--- Rows: each that is valid is written and read so, and none else is read.
-use Rattle.std.proofs.Common.{◌≡◌, refl, sym, subst}
-use Rattle.std.specs.Prelude.{IfSome}
-use Rattle.std.specs.Int.{w8}
-use Rattle.qz_civil.specs.Timings.{is_misfire}
-use Rattle.qz_civil.specs.declared.timings.Kind.{Kind}
-use Rattle.qz_civil.specs.declared.timings.Timing.{Timing}
-use Rattle.qz_types.specs.Rows.{JobData, MemberData}
+-- Names, other texts and spans of time.
+use Rattle.std.proofs.Common.{◌≡◌, Bool, true, refl, arith, false, ◌&&◌, Option, None, Some}
+use Rattle.qz_types.specs.declared.limits.TheConstants.{NODE_LIMIT, PAYLOAD_LIMIT}
+use Rattle.qz_values.specs.Fields.{text, IsText, text_at}
+use Rattle.qz_codec.specs.Reading.{node_at, key_at, job_at, spec_at, member_at}
+use Rattle.qz_values.specs.Formats.{IsFormat, Any}
+use Rattle.qz_values.proofs.Formats.{same, Also, field, last}
+use Rattle.qz_values.proofs.SingleFields.{number_format, wide64, integer_format, text_format, wide32, same32, flag_format, optional_format}
+use Rattle.std.specs.Prelude.{is_none, IsTrue}
+use Rattle.qz_types.specs.Rows.{JobData, MemberData, ZoneData, CalendarData}
 use Rattle.qz_types.specs.declared.keys.Key.{Key}
 use Rattle.qz_types.specs.declared.triggers.TriggerSpec.{TriggerSpec}
-use Rattle.qz_codec.specs.Layout.{small, key, job, timing, spec, member}
-use Rattle.qz_codec.specs.Values.{IsNumber, IsSpan, IsKey, IsJob, IsTiming, IsSpec, IsMember}
-use Rattle.qz_codec.specs.Reading.{checked, small_at, key_at, job_at, timing_at, spec_at, member_at}
-use Rattle.qz_codec.proofs.Formats.{IsFormat, Any, Also, field, last, same, those}
-use Rattle.qz_codec.proofs.SingleFields.{wide32, wide64, same32, number_format, integer_format, small_format, flag_format, optional_format}
-use Rattle.qz_codec.proofs.NameFormats.{name_format, node_format, payload_format, span_format}
-use Rattle.qz_codec.proofs.KindFormats.{kind_format}
+use Rattle.qz_codec.specs.Layout.{key, job, spec, member}
+use Rattle.qz_codec.specs.Values.{IsKey, IsJob, IsSpec, IsMember}
+use Rattle.qz_values.proofs.NameFormats.{name_format}
+use Rattle.qz_civil.specs.declared.stretches.BadZone.{BadZone}
+use Rattle.qz_codec.specs.Zones.{zone_row, IsZoneRow, zone_row_at}
+use Rattle.qz_codec.specs.Calendars.{calendar_row, IsCalendarRow, calendar_row_at}
+use Rattle.qz_values.proofs.ZoneFormats.{table_format}
+use Rattle.qz_values.proofs.CalendarFormats.{calendar_kind_format}
+use Rattle.qz_values.proofs.TimingFormats.{timing_format}
+
+pub node_format : IsFormat text Any (IsText 1 NODE_LIMIT) node_at 122
+node_format = text_format 1 NODE_LIMIT (omega arith)
+
+pub payload_format : IsFormat text Any (IsText 0 PAYLOAD_LIMIT) (text_at 0 PAYLOAD_LIMIT) 4098
+payload_format = text_format 0 PAYLOAD_LIMIT (omega arith)
 
 abbrev Free : {A : Type 0} → A → Type 0
 Free x = Unit {0}
@@ -49,33 +59,6 @@ job_format = same {write' = job} {Is' = IsJob}
     (λ j h p. record { key = p.first; class = p.others.first; payload = p.others.others.others.others.others })
     (λ j h p. record { first = p.key; others = record { first = p.class; others = record { first = tt; others = record { first = tt; others = record { first = tt; others = p.payload } } } } })
 
--- ---- triggers
-
-misfire_format : (k : Kind) → IsFormat small Any (IsNumber w8 (is_misfire k)) (checked (is_misfire k) small_at) 1
-misfire_format k = same (those (is_misfire k) small_format) (λ z h. refl) (λ z h p. record { fits = p.fits; passed = p.passed }) (λ z h p. record { fits = p.fits; passed = p.passed })
-
-pub record IsRestOfTiming (t : Timing) : Type 0 where
-  pub misfire : IsNumber w8 (is_misfire t.kind) t.misfire
-  pub start : IsSpan t.start
-  pub end : IfSome t.end IsSpan
-
-pub timing_format : IsFormat timing Any IsTiming timing_at 283
-unfolding timing timing_at
-timing_format = same {write' = timing} {Is' = IsTiming}
-    (field Free (λ (t : Timing). t.kind) kind_format (λ k. same {Is' = IsRestOfTiming}
-    (field (λ (t : Timing). Also (Unit {0}) (t.kind ≡ k)) (λ (t : Timing). t.misfire) (misfire_format k) (λ misfire.
-    field (λ (t : Timing). Also (Also (Unit {0}) (t.kind ≡ k)) (t.misfire ≡ misfire)) (λ (t : Timing). t.start) span_format (λ start.
-    last (λ (t : Timing). Also (Also (Also (Unit {0}) (t.kind ≡ k)) (t.misfire ≡ misfire)) (t.start ≡ start)) (λ (t : Timing). t.end) (optional_format span_format)
-    (λ end. record { kind = k; misfire = misfire; start = start; end = end })
-    (λ end. record { before = record { before = record { before = tt; now = refl }; now = refl }; now = refl })
-    (λ end. refl) (λ t h. rw (← h.now, ← h.before.now, ← h.before.before.now) refl))))
-    (λ t h. refl)
-    (λ t h p. record { misfire = subst (λ (kind : Kind). IsNumber w8 (is_misfire kind) t.misfire) (sym h.now) p.first; start = p.others.first; end = p.others.others })
-    (λ t h p. record { first = subst (λ (kind : Kind). IsNumber w8 (is_misfire kind) t.misfire) h.now p.misfire; others = record { first = p.start; others = p.end } })))
-    (λ t h. refl)
-    (λ t h p. record { kind = p.first; misfire = p.others.misfire; start = p.others.start; end = p.others.end })
-    (λ t h p. record { first = p.kind; others = record { misfire = p.misfire; start = p.start; end = p.end } })
-
 pub spec_format : IsFormat spec Any IsSpec spec_at 1298
 unfolding spec spec_at
 spec_format = same {write' = spec} {Is' = IsSpec}
@@ -90,3 +73,30 @@ spec_format = same {write' = spec} {Is' = IsSpec}
     (λ s h. refl)
     (λ s h p. record { key = p.first; job = p.others.first; priority = p.others.others.first; calendar = p.others.others.others.first; timing = p.others.others.others.others })
     (λ s h p. record { first = p.key; others = record { first = p.job; others = record { first = p.priority; others = record { first = p.calendar; others = p.timing } } } })
+
+pub zone_row_format : IsFormat zone_row Any IsZoneRow zone_row_at 6348
+unfolding zone_row zone_row_at
+zone_row_format = same {write' = zone_row} {Is' = IsZoneRow}
+    (field (λ (z : ZoneData). Unit {0}) (λ (z : ZoneData). z.name) name_format (λ name.
+    last (λ (z : ZoneData). Also (Unit {0}) (z.name ≡ name)) (λ (z : ZoneData). z.stretches) table_format (λ stretches. record { name = name; stretches = stretches }) (λ stretches. record { before = tt; now = refl }) (λ stretches. refl) (λ z h. rw (← h.now) refl)))
+    (λ z h. refl) (λ z h p. record { name = p.first; stretches = p.others }) (λ z h p. record { first = p.name; others = p.stretches })
+
+-- a row's table
+pub row-table : (o : Option BadZone) (a : Bool) → IsTrue (a && is_none o) → o ≡ None
+row-table None a h = refl
+row-table (Some bad) true h = absurd (grind arith)
+row-table (Some bad) false h = absurd (grind arith)
+
+pub calendar_row_format : IsFormat calendar_row Any IsCalendarRow calendar_row_at 16994
+unfolding calendar_row calendar_row_at
+calendar_row_format = same {write' = calendar_row} {Is' = IsCalendarRow}
+    (field (λ (c : CalendarData). Unit {0}) (λ (c : CalendarData). c.name) name_format (λ name.
+    field (λ (c : CalendarData). Also (Unit {0}) (c.name ≡ name)) (λ (c : CalendarData). c.base) (optional_format name_format) (λ base.
+    field (λ (c : CalendarData). Also (Also (Unit {0}) (c.name ≡ name)) (c.base ≡ base)) (λ (c : CalendarData). c.zone) name_format (λ zone.
+    last (λ (c : CalendarData). Also (Also (Also (Unit {0}) (c.name ≡ name)) (c.base ≡ base)) (c.zone ≡ zone)) (λ (c : CalendarData). c.kind) calendar_kind_format
+    (λ kind. record { name = name; base = base; zone = zone; kind = kind })
+    (λ kind. record { before = record { before = record { before = tt; now = refl }; now = refl }; now = refl })
+    (λ kind. refl) (λ c h. rw (← h.now, ← h.before.now, ← h.before.before.now) refl)))))
+    (λ c h. refl)
+    (λ c h p. record { name = p.first; base = p.others.first; zone = p.others.others.first; kind = p.others.others.others })
+    (λ c h p. record { first = p.name; others = record { first = p.base; others = record { first = p.zone; others = p.kind } } })

@@ -10,14 +10,14 @@ use Rattle.qz_types.specs.declared.fired.FiredState.{FiredState}
 use Rattle.qz_types.specs.declared.fired.FiredState.TheVariants as fired_states
 use Rattle.qz_types.specs.declared.triggers.TriggerState.{TriggerState}
 use Rattle.qz_types.specs.declared.triggers.TriggerState.TheVariants as trigger_states
-use Rattle.qz_codec.specs.Layout.{number}
-use Rattle.qz_codec.specs.Reading.{checked, byte_at, number_at}
-use Rattle.qz_codec.specs.Rows.{trigger_state_place, fired_state_place, trigger, fired, state, IsTrigger, IsFired, IsState, trigger_state_at, fired_state_at, trigger_at, fired_behind, fired_at, state_at}
-use Rattle.qz_codec.proofs.Formats.{IsFormat, Any, Also, field, last, same}
-use Rattle.qz_codec.proofs.SingleFields.{wide32, wide64, same32, same64, number_format, integer_format, flag_format, optional_format}
-use Rattle.qz_codec.proofs.NameFormats.{node_format, tested, narrowed}
-use Rattle.qz_codec.proofs.RowFormats.{key_format, spec_format}
-use Rattle.qz_codec.proofs.VariantFormats.{Choices, bare, tagged}
+use Rattle.qz_values.specs.Fields.{number, checked, byte_at, number_at}
+use Rattle.qz_codec.specs.Rows.{trigger_state_place, fired_state_place, trigger, fired, state, IsTrigger, IsFired, IsState, trigger_state_at, fired_state_at, trigger_at, progress_at, fired_at, state_at}
+use Rattle.qz_values.specs.Formats.{IsFormat, Any}
+use Rattle.qz_values.proofs.Formats.{Also, field, last, same}
+use Rattle.qz_values.proofs.SingleFields.{wide32, wide64, same32, same64, number_format, integer_format, flag_format, optional_format}
+use Rattle.qz_codec.proofs.RowFormats.{node_format, key_format, spec_format}
+use Rattle.qz_values.proofs.NameFormats.{tested, narrowed}
+use Rattle.qz_values.proofs.VariantFormats.{Choices, bare, tagged}
 
 abbrev Free : {A : Type 0} → A → Type 0
 Free x = Unit {0}
@@ -138,7 +138,7 @@ abbrev UptoAlone : ℕ → List ℕ → ℕ → Key → Key → ℤ → FiredSta
 UptoAlone entry node epoch trigger job priority state scheduled at alone f = Also (UptoFired entry node epoch trigger job priority state scheduled at f) (f.no_concurrent ≡ alone)
 
 pub fired_format : IsFormat fired Any IsFired fired_at 970
-unfolding fired fired_at fired_behind
+unfolding fired fired_at progress_at
 fired_format = same {write' = fired} {Is' = IsFired}
     (field Free (λ (f : FiredData). f.entry) (number_format wide64) (λ entry.
     field (UptoEntry entry) (λ (f : FiredData). f.node) node_format (λ node.

@@ -7,14 +7,15 @@ use Rattle.qz_types.specs.Entries.{StateEntryData}
 use Rattle.qz_types.specs.declared.limits.TheConstants.{NODE_LIMIT}
 use Rattle.qz_types.specs.declared.states.StateCommand.{StateCommand}
 use Rattle.qz_types.specs.declared.states.StateCommand.TheVariants.{CheckIn, Forget}
-use Rattle.qz_codec.specs.Layout.{integer, text}
-use Rattle.qz_codec.specs.Values.{IsText, IsNumber}
-use Rattle.qz_codec.specs.Reading.{checked, byte_at, integer_at, node_at}
+use Rattle.qz_values.specs.Fields.{integer, text, IsText, IsNumber, checked, byte_at, integer_at}
+use Rattle.qz_codec.specs.Reading.{node_at}
 use Rattle.qz_codec.specs.States.{state_command, state_entry, IsStateCommand, IsStateEntry, check_in_at, forget_at, state_command_at, state_entry_at}
-use Rattle.qz_codec.proofs.Formats.{IsFormat, Any, Also, Both, field, last, same}
-use Rattle.qz_codec.proofs.SingleFields.{wide32, wide64, same64, number_format, integer_format}
-use Rattle.qz_codec.proofs.NameFormats.{node_format, tested}
-use Rattle.qz_codec.proofs.VariantFormats.{IsVariant, variant, read_so, pair, regroup, Choices, part, tagged}
+use Rattle.qz_values.specs.Formats.{IsFormat, Any}
+use Rattle.qz_values.proofs.Formats.{Also, Both, field, last, same}
+use Rattle.qz_values.proofs.SingleFields.{wide32, wide64, same64, number_format, integer_format}
+use Rattle.qz_codec.proofs.RowFormats.{node_format}
+use Rattle.qz_values.proofs.NameFormats.{tested}
+use Rattle.qz_values.proofs.VariantFormats.{IsVariant, variant, read_so, pair, regroup, Choices, part, tagged}
 
 abbrev Free : {A : Type 0} → A → Type 0
 Free x = Unit {0}

@@ -1,11 +1,6 @@
--- The bytes of an entry's record, type by type. `Fields` has those of single fields.
+-- The bytes of an entry's record, type by type. `Fields` of qz_values has those of single fields.
 use Rattle.std.specs.Prelude.{ℕ, List, [], ◌∷◌, ◌++◌}
 use Rattle.std.specs.Int.{w32, w64}
-use Rattle.qz_civil.specs.declared.timings.Kind.{Kind}
-use Rattle.qz_civil.specs.declared.timings.Kind.TheVariants.{Simple, Cron, Interval, Daily}
-use Rattle.qz_civil.specs.declared.timings.Timing.{Timing}
-use Rattle.qz_civil.specs.declared.timings.Unit.{Unit as Units}
-use Rattle.qz_civil.specs.declared.timings.Unit.TheVariants as units
 use Rattle.qz_types.specs.Rows.{JobData, MemberData}
 use Rattle.qz_types.specs.Entries.{EntryData}
 use Rattle.qz_types.specs.declared.keys.Key.{Key}
@@ -18,8 +13,8 @@ use Rattle.qz_types.specs.declared.commands.Actor.{Actor}
 use Rattle.qz_types.specs.declared.commands.Actor.TheVariants.{Client, Node}
 use Rattle.qz_codec.specs.Zones.{zone_row}
 use Rattle.qz_codec.specs.Calendars.{calendar_row}
-unfoldable pub use Rattle.qz_codec.specs.Fields.{number, integer, small, flag, text, optional}
-unfoldable pub use Rattle.qz_codec.specs.CronFields.{day_field, week_field, words, cron_fields}
+use Rattle.qz_values.specs.Fields.{number, integer, flag, text, optional}
+use Rattle.qz_values.specs.Timings.{timing}
 
 -- a key: the group, then the name
 unfoldable pub key : Key → List ℕ
@@ -30,28 +25,6 @@ unfoldable pub job : JobData → List ℕ
 job j =
     key j.key
     ++ (text j.class ++ (flag j.durable ++ (flag j.no_concurrent ++ (flag j.requests_recovery ++ text j.payload))))
-
--- the place of a unit among all units
-abbrev pub unit_place : Units → ℕ
-unit_place units.Second = 0
-unit_place units.Minute = 1
-unit_place units.Hour = 2
-unit_place units.Day = 3
-unit_place units.Week = 4
-unit_place units.Month = 5
-unit_place units.Year = 6
-
--- a kind: its place among the four, and what it has
-unfoldable pub kind : Kind → List ℕ
-kind (Simple interval count) = 0 ∷ (integer w64 interval ++ integer w64 count)
-kind (Cron fields zone) = 1 ∷ (cron_fields fields ++ text zone)
-kind (Interval unit every zone) = 2 ∷ unit_place unit ∷ (number w32 every ++ text zone)
-kind (Daily unit every from to days zone) =
-    3 ∷ unit_place unit ∷ (number w32 every ++ (number w32 from ++ (number w32 to ++ (days ∷ text zone))))
-
--- a timing: its kind, its misfire instruction in one byte, its start, and its end if it has one
-unfoldable pub timing : Timing → List ℕ
-timing t = kind t.kind ++ (small t.misfire ++ (integer w64 t.start ++ optional (integer w64) t.end))
 
 -- a trigger as it is stored: its key, its job's, its priority, its calendar if it has one, its timing
 unfoldable pub spec : TriggerSpec → List ℕ
@@ -134,7 +107,7 @@ command c = command_place c ∷ command_fields c
 unfoldable pub entry : EntryData → List ℕ
 entry e = integer w64 e.at ++ (actor e.actor ++ (number w32 e.seat ++ command e.command))
 
--- a record: the byte of its version, and what is written behind it
+-- a record: the byte of its version, and what is written after it
 abbrev pub recorded : {A : Type 0} → (A → List ℕ) → A → List ℕ
 recorded write x = 1 ∷ write x
 

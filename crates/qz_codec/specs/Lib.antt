@@ -1,11 +1,7 @@
-pub mod Formats
-pub mod Fields
-pub mod CronFields
 pub mod Layout
-pub mod Reading
 pub mod Values
+pub mod Reading
 pub mod Rows
 pub mod States
-pub mod Lists
 pub mod Zones
 pub mod Calendars

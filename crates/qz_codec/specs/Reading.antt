@@ -1,17 +1,10 @@
--- Reading a record from left to right. `Fields` says what a reader answers.
-use Rattle.std.specs.Prelude.{◌≡◌, ℕ, ◌-◌, List, length, nat_lt, nat_le, is_some, ◌==◌, ◌&&◌, Bool, Option, Some, None, Result, Ok, Err, if◌then◌else◌}
-use Rattle.std.specs.Int.{w32, w64}
+-- Reading a record from left to right. `Fields` of qz_values says what a reader answers.
+use Rattle.std.specs.Prelude.{◌≡◌, ℕ, ℤ, List, length, ◌==◌, Bool, Option, Some, None, Result, Ok, Err, if◌then◌else◌, ◌-◌}
+use Rattle.std.specs.Int.{w64, w32}
+use Rattle.qz_types.specs.Rows.{is_interval, JobData, MemberData}
+use Rattle.qz_types.specs.declared.limits.TheConstants.{NODE_LIMIT, ACQUIRE_LIMIT, PAYLOAD_LIMIT}
 use Rattle.qz_civil.specs.Fields.{size}
-use Rattle.qz_civil.specs.Timings.{is_kind, is_misfire, is_every, is_day_set, is_step, seconds}
-use Rattle.qz_civil.specs.declared.timings.Kind.{Kind}
-use Rattle.qz_civil.specs.declared.timings.Kind.TheVariants.{Simple, Cron, Interval, Daily}
-use Rattle.qz_civil.specs.declared.timings.Timing.{Timing}
-use Rattle.qz_civil.specs.declared.timings.Unit.{Unit as Units}
-use Rattle.qz_civil.specs.declared.timings.Unit.TheVariants as units
-use Rattle.qz_types.specs.Rows.{JobData, MemberData}
 use Rattle.qz_types.specs.Entries.{EntryData}
-use Rattle.qz_civil.specs.declared.limits.TheConstants.{DAY_SECONDS}
-use Rattle.qz_types.specs.declared.limits.TheConstants.{ACQUIRE_LIMIT, PAYLOAD_LIMIT}
 use Rattle.qz_types.specs.declared.keys.Key.{Key}
 use Rattle.qz_types.specs.declared.triggers.TriggerSpec.{TriggerSpec}
 use Rattle.qz_types.specs.declared.commands.Code.{Code}
@@ -20,24 +13,18 @@ use Rattle.qz_types.specs.declared.commands.Command.{Command}
 use Rattle.qz_types.specs.declared.commands.Command.TheVariants.{AddJob, DeleteJob, AddTrigger, DeleteTrigger, PauseTrigger, ResumeTrigger, PauseGroup, ResumeGroup, AddCalendar, DeleteCalendar, AddZone, DeleteZone, TriggerNow, Threshold, Join, Leave, Acquire, Release, Fire, Complete, Misfires, Recover}
 use Rattle.qz_types.specs.declared.commands.Actor.{Actor}
 use Rattle.qz_types.specs.declared.commands.Actor.TheVariants.{Client, Node}
-use Rattle.qz_codec.specs.Values.{is_long}
+use Rattle.qz_values.specs.Fields.{is_long, ◌>>=◌, Read, checked, byte_at, number_at, integer_at, flag_at, text_at, name_at, span_at, optional_at, as_variant}
 use Rattle.qz_codec.specs.declared.errors.ReadError.{ReadError}
 use Rattle.qz_codec.specs.declared.errors.ReadError.TheVariants as errors
-use Rattle.qz_codec.specs.declared.errors.Fault.{Fault}
-use Rattle.qz_codec.specs.declared.errors.Fault.TheVariants as faults
 use Rattle.qz_codec.specs.Zones.{zone_row_at}
 use Rattle.qz_codec.specs.Calendars.{calendar_row_at}
-unfoldable pub use Rattle.qz_codec.specs.Fields.{◌>>=◌, Read, checked, byte_at, number_at, integer_at, small_at, flag_at, text_at, name_at, node_at, span_at, threshold_at, optional_at, as_variant}
-unfoldable pub use Rattle.qz_codec.specs.CronFields.{set_at, day_at, nth_at, named_week_at, any_week_at, week_at, years_at, cron_fields_at}
+use Rattle.qz_values.specs.Timings.{timing_at}
 
--- What a function answered is what reading gives, unless memory ran out.
-abbrev pub Fails : {Y : Type 0} → Fault → Result Y ℕ → Type 0
-Fails faults.NoMemory read = Unit {0}
-Fails (faults.Wrong left) read = read ≡ Err left
+abbrev pub node_at : List ℕ → Read (List ℕ)
+node_at bytes = text_at 1 NODE_LIMIT bytes
 
-abbrev pub Gives : {X Y : Type 0} → (X → Y) → Result X Fault → Result Y ℕ → Type 0
-Gives view (Ok x) read = read ≡ Ok (view x)
-Gives view (Err e) read = Fails e read
+abbrev pub threshold_at : List ℕ → Read ℤ
+threshold_at bytes = checked is_interval (integer_at w64) bytes
 
 unfoldable pub key_at : List ℕ → Read Key
 key_at bytes = do
@@ -64,72 +51,6 @@ job_at bytes = do
     },
     payload.1,
   )
-
-unfoldable pub unit_at : List ℕ → Read Units
-unit_at bytes = do
-  place ← byte_at bytes
-  if place.0 == 0 then Ok (units.Second, place.1)
-      else if place.0 == 1 then Ok (units.Minute, place.1)
-      else if place.0 == 2 then Ok (units.Hour, place.1)
-      else if place.0 == 3 then Ok (units.Day, place.1)
-      else if place.0 == 4 then Ok (units.Week, place.1)
-      else if place.0 == 5 then Ok (units.Month, place.1)
-      else if place.0 == 6 then Ok (units.Year, place.1)
-      else Err (length bytes)
-
-unfoldable pub simple_at : List ℕ → Read Kind
-simple_at bytes = do
-  interval ← span_at bytes
-  count ← checked (λ n. is_kind (Simple interval.0 n)) (integer_at w64) interval.1
-  Ok (Simple interval.0 count.0, count.1)
-
-unfoldable pub cron_at : List ℕ → Read Kind
-cron_at bytes = do
-  fields ← cron_fields_at bytes
-  zone ← name_at fields.1
-  Ok (Cron fields.0 zone.0, zone.1)
-
-unfoldable pub interval_at : List ℕ → Read Kind
-interval_at bytes = do
-  unit ← unit_at bytes
-  every ← checked is_every (number_at w32) unit.1
-  zone ← name_at every.1
-  Ok (Interval unit.0 every.0 zone.0, zone.1)
-
--- a second, a minute or an hour
-abbrev pub is_even : Units → Bool
-is_even unit = is_some (seconds unit)
-
--- a second of the day that isn't before `from`
-abbrev pub is_second_from : ℕ → ℕ → Bool
-is_second_from from n = nat_le from n && nat_lt n DAY_SECONDS
-
-unfoldable pub daily_at : List ℕ → Read Kind
-daily_at bytes = do
-  unit ← checked is_even unit_at bytes
-  every ← checked (is_step unit.0) (number_at w32) unit.1
-  from ← checked (is_second_from 0) (number_at w32) every.1
-  to ← checked (is_second_from from.0) (number_at w32) from.1
-  days ← checked is_day_set byte_at to.1
-  zone ← name_at days.1
-  Ok (Daily unit.0 every.0 from.0 to.0 days.0 zone.0, zone.1)
-
-unfoldable pub kind_at : List ℕ → Read Kind
-kind_at bytes = do
-  place ← byte_at bytes
-  if place.0 == 0 then simple_at place.1
-      else if place.0 == 1 then cron_at place.1
-      else if place.0 == 2 then interval_at place.1
-      else if place.0 == 3 then daily_at place.1
-      else Err (length bytes)
-
-unfoldable pub timing_at : List ℕ → Read Timing
-timing_at bytes = do
-  kind ← kind_at bytes
-  misfire ← checked (is_misfire kind.0) small_at kind.1
-  start ← span_at misfire.1
-  end ← optional_at span_at start.1
-  Ok (record { kind = kind.0; misfire = misfire.0; start = start.0; end = end.0 }, end.1)
 
 unfoldable pub spec_at : List ℕ → Read TriggerSpec
 spec_at bytes = do
@@ -239,7 +160,7 @@ entry_at bytes = do
   command ← command_at actor.0 seat.1
   Ok (record { at = at.0; actor = actor.0; seat = seat.0; command = command.0 }, command.1)
 
--- a whole record: its version, what is read behind it, and nothing more
+-- a whole record: its version, what is read after it, and nothing more
 unfoldable pub whole_at : {A : Type 0} → (List ℕ → Read A) → List ℕ → Result A ℕ
 whole_at read bytes = do
   version ← checked (λ n. n == 1) byte_at bytes

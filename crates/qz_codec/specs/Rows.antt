@@ -8,9 +8,10 @@ use Rattle.qz_types.specs.declared.fired.FiredState.TheVariants as fired_states
 use Rattle.qz_types.specs.declared.keys.Key.{Key}
 use Rattle.qz_types.specs.declared.triggers.TriggerState.{TriggerState}
 use Rattle.qz_types.specs.declared.triggers.TriggerState.TheVariants as trigger_states
-use Rattle.qz_codec.specs.Layout.{number, integer, flag, text, optional, key, spec}
-use Rattle.qz_codec.specs.Values.{IsText, IsNumber, IsKey, IsSpec}
-use Rattle.qz_codec.specs.Reading.{◌>>=◌, Read, checked, byte_at, number_at, integer_at, flag_at, optional_at, node_at, key_at, spec_at}
+use Rattle.qz_values.specs.Fields.{number, integer, flag, text, optional, IsText, IsNumber, ◌>>=◌, Read, checked, byte_at, number_at, integer_at, flag_at, optional_at}
+use Rattle.qz_codec.specs.Layout.{key, spec}
+use Rattle.qz_codec.specs.Values.{IsKey, IsSpec}
+use Rattle.qz_codec.specs.Reading.{node_at, key_at, spec_at}
 
 -- ---- bytes
 
@@ -76,7 +77,7 @@ pub record IsState (s : StateData) : Type 0 where
   pub last : FitsSigned w64 s.last
   pub interval : IsNumber w64 is_interval s.interval
 
--- ---- reading, field by field: the value and the bytes behind it, or how many bytes are left at the first wrong field
+-- ---- reading, field by field: the value and the bytes after it, or how many bytes are left at the first wrong field
 
 unfoldable pub trigger_state_at : List ℕ → Read TriggerState
 trigger_state_at bytes = do
@@ -107,8 +108,8 @@ trigger_at bytes = do
   Ok (record { spec = spec.0; next = next.0; prev = prev.0; times = times.0; state = state.0 }, state.1)
 
 -- a fired row, of which what stands before its priority is given
-unfoldable pub fired_behind : ℕ → List ℕ → ℕ → Key → Key → List ℕ → Read FiredData
-fired_behind entry node epoch trigger job bytes = do
+unfoldable pub progress_at : ℕ → List ℕ → ℕ → Key → Key → List ℕ → Read FiredData
+progress_at entry node epoch trigger job bytes = do
   priority ← integer_at w32 bytes
   state ← fired_state_at priority.1
   scheduled ← integer_at w64 state.1
@@ -139,7 +140,7 @@ fired_at bytes = do
   epoch ← number_at w64 node.1
   trigger ← key_at epoch.1
   job ← key_at trigger.1
-  fired_behind entry.0 node.0 epoch.0 trigger.0 job.0 job.1
+  progress_at entry.0 node.0 epoch.0 trigger.0 job.0 job.1
 
 unfoldable pub state_at : List ℕ → Read StateData
 state_at bytes = do

@@ -6,9 +6,8 @@ use Rattle.qz_types.specs.Entries.{StateEntryData}
 use Rattle.qz_types.specs.declared.limits.TheConstants.{NODE_LIMIT}
 use Rattle.qz_types.specs.declared.states.StateCommand.{StateCommand}
 use Rattle.qz_types.specs.declared.states.StateCommand.TheVariants.{CheckIn, Forget}
-use Rattle.qz_codec.specs.Layout.{number, integer, text}
-use Rattle.qz_codec.specs.Values.{IsText, IsNumber}
-use Rattle.qz_codec.specs.Reading.{◌>>=◌, Read, checked, byte_at, number_at, integer_at, node_at}
+use Rattle.qz_values.specs.Fields.{number, integer, text, IsText, IsNumber, ◌>>=◌, Read, checked, byte_at, number_at, integer_at}
+use Rattle.qz_codec.specs.Reading.{node_at}
 
 -- ---- bytes
 
@@ -32,7 +31,7 @@ pub record IsStateEntry (e : StateEntryData) : Type 0 where
   pub seat : e.seat < 2 ^ 32
   pub command : IsStateCommand e.command
 
--- ---- reading, field by field: the value and the bytes behind it, or how many bytes are left at the first wrong field
+-- ---- reading, field by field: the value and the bytes after it, or how many bytes are left at the first wrong field
 
 unfoldable pub check_in_at : List ℕ → Read StateCommand
 check_in_at bytes = do

@@ -1,13 +1,6 @@
 -- Which entries have a record: numbers fit their types, texts are UTF-8, and everything is within its limits.
-use Rattle.std.specs.Prelude.{◌≡◌, ℕ, ℤ, ◌^◌, ◌<◌, List, length, true, IfSome, FitsSigned}
-use Rattle.std.specs.Int.{w8, w32, w64}
-use Rattle.qz_civil.specs.declared.fields.CronFields.{CronFields}
-use Rattle.qz_civil.specs.Fields.{is_cron_fields}
-use Rattle.qz_civil.specs.Timings.{is_span, is_kind, is_misfire, is_every, is_daily_time, is_day_set}
-use Rattle.qz_civil.specs.declared.timings.Kind.{Kind}
-use Rattle.qz_civil.specs.declared.timings.Kind.TheVariants.{Simple, Cron, Interval, Daily}
-use Rattle.qz_civil.specs.declared.timings.Timing.{Timing}
-use Rattle.qz_civil.specs.declared.timings.Unit.{Unit as Units}
+use Rattle.std.specs.Prelude.{◌≡◌, ◌^◌, ◌<◌, true, IfSome, FitsSigned}
+use Rattle.std.specs.Int.{w32, w64}
 use Rattle.qz_types.specs.Rows.{JobData, MemberData, is_interval}
 use Rattle.qz_types.specs.Entries.{EntryData, has_actor, is_of_node}
 use Rattle.qz_types.specs.declared.limits.TheConstants.{ACQUIRE_LIMIT, NODE_LIMIT, PAYLOAD_LIMIT}
@@ -19,11 +12,8 @@ use Rattle.qz_types.specs.declared.commands.Actor.{Actor}
 use Rattle.qz_types.specs.declared.commands.Actor.TheVariants.{Client, Node}
 use Rattle.qz_codec.specs.Zones.{IsZoneRow}
 use Rattle.qz_codec.specs.Calendars.{IsCalendarRow}
-pub use Rattle.qz_codec.specs.Fields.{is_long, IsText, IsName, IsNumber}
-
--- a start, an end or a span of time
-abbrev pub IsSpan : ℤ → Type 0
-IsSpan z = IsNumber w64 is_span z
+use Rattle.qz_values.specs.Fields.{is_long, IsText, IsName, IsNumber, IsSpan}
+use Rattle.qz_values.specs.Timings.{IsTiming}
 
 -- A row has a record where each of its texts and numbers has.
 pub record IsKey (k : Key) : Type 0 where
@@ -34,35 +24,6 @@ pub record IsJob (j : JobData) : Type 0 where
   pub key : IsKey j.key
   pub class : IsName j.class
   pub payload : IsText 0 PAYLOAD_LIMIT j.payload
-
--- what each kind of trigger has
-pub record IsCron (f : CronFields) (z : List ℕ) : Type 0 where
-  pub fields : is_cron_fields f ≡ true
-  pub words : length f.years ≡ 4
-  pub zone : IsName z
-
-pub record IsInterval (n : ℕ) (z : List ℕ) : Type 0 where
-  pub every : is_every n ≡ true
-  pub zone : IsName z
-
-pub record IsDaily (unit : Units) (every from to set : ℕ) (z : List ℕ) : Type 0 where
-  pub time : is_daily_time unit every from to ≡ true
-  pub days : is_day_set set ≡ true
-  pub zone : IsName z
-
--- a kind; a simple trigger's count goes with its interval
-abbrev pub IsKind : Kind → Type 0
-IsKind (Simple interval count) = IsSpan interval × IsNumber w64 (λ n. is_kind (Simple interval n)) count
-IsKind (Cron fields zone) = IsCron fields zone
-IsKind (Interval unit every zone) = IsInterval every zone
-IsKind (Daily unit every from to days zone) = IsDaily unit every from to days zone
-
--- the misfire instruction is one of the kind's
-pub record IsTiming (t : Timing) : Type 0 where
-  pub kind : IsKind t.kind
-  pub misfire : IsNumber w8 (is_misfire t.kind) t.misfire
-  pub start : IsSpan t.start
-  pub end : IfSome t.end IsSpan
 
 pub record IsSpec (s : TriggerSpec) : Type 0 where
   pub key : IsKey s.key

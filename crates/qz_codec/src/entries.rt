@@ -1,19 +1,49 @@
-//! Reading a record.
-ghost use Rattle.std.specs.Prelude.{◌≡◌, IfOk, Ok};
+//! Entries, both ways: a transaction of the trigger store, with its reading of the clock and its caller.
+ghost use Rattle.std.specs.Prelude.{◌≡◌, ℕ, ℤ, IfOk, ◌≤◌, ◌++◌, length, OnOk, true, Ok};
+ghost use Rattle.qz_types.specs.Rows.{is_node};
+ghost use Rattle.qz_types.specs.declared.commands.Actor.TheVariants.{Client, Node};
+ghost use Rattle.qz_values.specs.Reading.{Gives};
+ghost use Rattle.qz_values.specs.Fields.{number};
+ghost use Rattle.qz_codec.specs.Reading.{actor_at, Answers, entry_at, reading};
 ghost use Rattle.qz_types.specs.Entries.{EntryData, is_entry};
-ghost use Rattle.qz_codec.specs.Values.{IsEntry};
-ghost use Rattle.qz_codec.specs.Layout.{entry, record_of};
-ghost use Rattle.qz_codec.specs.Reading.{Gives, Answers, entry_at, reading};
+ghost use Rattle.qz_codec.specs.declared.limits.TheConstants.{RECORD_LIMIT};
+ghost use Rattle.qz_codec.specs.Values.{IsActor, IsEntry};
+ghost use Rattle.qz_codec.specs.Layout.{member, actor, command, entry, record_of};
 
-use crate::commands::command_of;
-use crate::errors::{Fault, ReadError};
-use crate::fields::{i64_at, u32_at};
-use crate::records::{Recorded, read};
-use crate::rows::actor_of;
-use crate::writing::put_entry;
+use crate::commands::{command_of, put_whole_command};
+use crate::errors::ReadError;
+use crate::members::{member_of, put_member};
+use crate::records::{Recorded, read, write};
 use qz_civil::beside;
-use qz_types::Entry;
+use qz_types::{Actor, Entry, List, NoMemory};
+use qz_values::{Fault, bool_at, i64_at, put_bool, put_i64, put_u32, u32_at};
 use std::alloc::{AllocError, Global};
+
+#[tactic(auto, unfolding(crate::specs::Reading::actor_at))]
+fn actor_of(alloc: Global, bytes: &[u8]) -> Result<(Actor, &[u8]), Fault>
+    ensures { Gives (λ x. (x.0, x.1.now)) result (actor_at bytes.now) }
+{
+    let (is_node, rest) = bool_at(bytes)?;
+    if !is_node {
+        return Ok((Actor::Client, rest));
+    }
+    let (member, rest) = member_of(alloc, rest)?;
+    Ok((Actor::Node(member), rest))
+}
+
+#[tactic(auto, unfolding(crate::specs::Layout::actor))]
+fn put_actor(out: &mut Vec<u8>, who: &Actor) -> Result<(), AllocError>
+    ensures bytes { OnOk result (out.new.items ≡ out.old.items ++ actor who.now) }
+    ensures valid { OnOk result (IsActor who.now) }
+{
+    match who {
+        Actor::Client => put_bool(out, false),
+        Actor::Node(row) => {
+            put_bool(out, true)?;
+            put_member(out, row)
+        }
+    }
+}
 
 #[tactic(auto, unfolding(crate::specs::Reading::entry_at, qz_types::specs::Entries::is_entry))]
 fn entry_of(alloc: Global, bytes: &[u8]) -> Result<(Entry, &[u8]), Fault>
@@ -31,6 +61,17 @@ fn entry_of(alloc: Global, bytes: &[u8]) -> Result<(Entry, &[u8]), Fault>
         command,
     };
     Ok((entry, rest))
+}
+
+#[tactic(auto, unfolding(crate::specs::Layout::entry, qz_types::specs::Entries::is_entry), using(qz_values::proofs::Signs::signs))]
+fn put_entry(out: &mut Vec<u8>, e: &Entry) -> Result<(), AllocError>
+    ensures bytes { OnOk result (out.new.items ≡ out.old.items ++ entry e.now) }
+    ensures valid { OnOk result (IsEntry e.now) }
+{
+    put_i64(out, e.at)?;
+    put_actor(out, &e.actor)?;
+    put_u32(out, e.seat)?;
+    put_whole_command(out, &e.command)
 }
 
 impl Recorded for Entry {
@@ -53,6 +94,18 @@ impl Recorded for Entry {
     }
 
     fn is_format() {}
+}
+
+/// The record of an entry.
+pub fn put_command(alloc: Global, entry: &Entry) -> Result<List<u8>, NoMemory>
+    ensures bytes { IfOk result (λ bytes. bytes ≡ record_of entry.now) }
+    ensures size { IfOk result (λ bytes. (1 ≤ length bytes) × (length bytes ≤ RECORD_LIMIT)) }
+    // So its record is read as this entry.
+    ensures valid { OnOk result (IsEntry entry.now) }
+    // No other entry has this record.
+    ensures unique { OnOk result ((e : EntryData) → IsEntry e → record_of e ≡ record_of entry.now → e ≡ entry.now) }
+{
+    write(alloc, entry)
 }
 
 /// Reads the record of an entry from any number of bytes. `BadRecord` comes only where they are no such record, at the

@@ -1,26 +1,28 @@
-//! Records: the version, and what stands behind it, once for all that has a record.
+//! Records: the version, and what stands after it, once for all that has a record.
 ghost use Rattle.std.specs.Prelude.{◌≡◌, ◌==◌, ◌≤◌, ◌++◌, ℕ, length, IfOk, OnOk, Ok};
 ghost use Rattle.qz_codec.specs.declared.limits.TheConstants.{RECORD_LIMIT};
 ghost use Rattle.qz_codec.specs.Layout.{recorded};
-ghost use Rattle.qz_codec.specs.Reading.{Gives, Answers, checked, byte_at, whole_at, reading_by};
+ghost use Rattle.qz_values.specs.Reading.{Gives};
+ghost use Rattle.qz_codec.specs.Reading.{Answers, whole_at, reading_by};
+ghost use Rattle.qz_values.specs.Fields.{checked, byte_at};
 
-use crate::errors::{Fault, ReadError};
-use crate::fields::u8_at;
+use crate::errors::ReadError;
 use crate::limits::VERSION;
 use qz_types::{List, NoMemory};
+use qz_values::{Fault, u8_at};
 use std::alloc::{AllocError, Global};
 
 /// Bytes that most records have room in, so that few buffers grow.
 const USUAL_SIZE: usize = 256;
 
-/// What has a record: the fields that stand behind its version.
-pub(crate) trait Recorded: Sized + Drop {
+/// What has a record: the fields that stand after its version.
+pub trait Recorded: Sized + Drop {
     ghost use Rattle.std.specs.Prelude.{ℕ, ◌<◌, List};
     ghost use Rattle.qz_codec.specs.declared.limits.TheConstants.{RECORD_LIMIT};
-    ghost use Rattle.qz_codec.specs.Reading.{Read};
-    ghost use Rattle.qz_codec.specs.Formats.{IsFormat, Any};
+    ghost use Rattle.qz_values.specs.Fields.{Read};
+    ghost use Rattle.qz_values.specs.Formats.{IsFormat, Any};
 
-    /// Which values may be written.
+    /// Which values may be written. A value that is valid by its type always may.
     ghost can_put: { Self → Type 0 };
 
     /// The bytes of the fields.
@@ -35,11 +37,13 @@ pub(crate) trait Recorded: Sized + Drop {
     /// The most bytes that the fields have.
     ghost most: { ℕ };
 
+    /// Puts the fields after what is there.
     fn put_fields(&self, out: &mut Vec<u8>) -> Result<(), AllocError>
         requires { can_put self.now }
         ensures bytes { OnOk result (out.new.items ≡ out.old.items ++ fields self.now) }
         ensures valid { OnOk result (has_record self.now) };
 
+    /// Reads the fields at the front, and answers the bytes after them too.
     fn fields_of(alloc: Global, bytes: &[u8]) -> Result<(Self, &[u8]), Fault>
         ensures { Gives (λ x. (x.0, x.1.now)) result (fields_at bytes.now) };
 
@@ -107,4 +111,31 @@ pub(crate) fn write<R: Recorded>(alloc: Global, value: &R) -> Result<List<u8>, N
     out.push(VERSION)?;
     value.put_fields(&mut out)?;
     Ok(List::from_vec(out))
+}
+
+/// The record of a row.
+pub fn put_row<R: Recorded>(alloc: Global, row: &R) -> Result<List<u8>, NoMemory>
+    requires { R.can_put row.now }
+    ensures bytes { IfOk result (λ bytes. bytes ≡ recorded R.fields row.now) }
+    ensures size { IfOk result (λ bytes. (1 ≤ length bytes) × (length bytes ≤ RECORD_LIMIT)) }
+    // So its record is read as this row.
+    ensures valid { OnOk result (R.has_record row.now) }
+    // No other row has this record.
+    ensures unique { OnOk result ((other : R) → R.has_record other → recorded R.fields other ≡ recorded R.fields row.now → other ≡ row.now) }
+{
+    write(alloc, row)
+}
+
+/// Reads the record of a row of this type from any number of bytes. `BadRecord` comes only where they are no such
+/// record, at the first wrong field, or at the record's end where bytes follow it; those aren't looked at. `NoMemory`
+/// may come at any time.
+pub fn get_row<R: Recorded>(alloc: Global, bytes: &[u8]) -> Result<R, ReadError>
+    // What is read has these bytes as its record.
+    ensures found { IfOk result (λ row. R.has_record row × (bytes.now ≡ recorded R.fields row)) }
+    // The record of a row is read as that row, unless memory runs out.
+    ensures only { (row : R) → R.has_record row → bytes.now ≡ recorded R.fields row → Answers result (Ok row) }
+    // Which place is the fault's.
+    ensures exact { Answers result (reading_by R.fields_at bytes.now) }
+{
+    read(alloc, bytes)
 }

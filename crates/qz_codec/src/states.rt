@@ -1,20 +1,18 @@
 //! Records of state entries.
-ghost use Rattle.std.specs.Prelude.{◌≡◌, ◌≤◌, ◌++◌, ◌∷◌, ℕ, length, IfOk, OnOk, IsTrue, Ok};
-ghost use Rattle.std.specs.Int.{w64};
-ghost use Rattle.qz_types.specs.Rows.{is_interval};
+ghost use Rattle.std.specs.Prelude.{◌≡◌, ◌≤◌, ◌++◌, ℕ, length, IfOk, OnOk, IsTrue, Ok};
 ghost use Rattle.qz_types.specs.Entries.{StateEntryData, is_state_command};
 ghost use Rattle.qz_codec.specs.declared.limits.TheConstants.{RECORD_LIMIT};
-ghost use Rattle.qz_codec.specs.Layout.{integer, recorded};
-ghost use Rattle.qz_codec.specs.Values.{IsNumber};
-ghost use Rattle.qz_codec.specs.Reading.{Gives, Answers, reading_by};
+ghost use Rattle.qz_codec.specs.Layout.{recorded};
+ghost use Rattle.qz_values.specs.Reading.{Gives};
+ghost use Rattle.qz_codec.specs.Reading.{Answers, reading_by};
 ghost use Rattle.qz_codec.specs.States.{state_command, state_entry, IsStateCommand, IsStateEntry, check_in_at, forget_at, state_command_at, state_entry_at};
 
-use crate::errors::{Fault, ReadError};
-use crate::fields::{i64_at, interval_of, u8_at, u32_at};
+use crate::check_ins::{interval_of, put_interval};
+use crate::errors::ReadError;
+use crate::members::{node_of, put_node};
 use crate::records::{Recorded, read, write};
-use crate::rows::node_of;
-use crate::writing::{put_i64, put_node, put_u8, put_u32};
 use qz_types::{List, NoMemory, StateCommand, StateEntry, Text};
+use qz_values::{Fault, i64_at, put_i64, put_u8, put_u32, u8_at, u32_at};
 use std::alloc::{AllocError, Global};
 
 #[tactic(auto, unfolding(crate::specs::States::check_in_at))]
@@ -62,15 +60,7 @@ fn state_entry_of(alloc: Global, bytes: &[u8]) -> Result<(StateEntry, &[u8]), Fa
     Ok((StateEntry { at, seat, command }, rest))
 }
 
-pub(crate) fn put_interval(out: &mut Vec<u8>, interval: i64) -> Result<(), AllocError>
-    requires { IsTrue (is_interval interval) }
-    ensures bytes { OnOk result (out.new.items ≡ out.old.items ++ integer w64 interval) }
-    ensures valid { IsNumber w64 is_interval interval }
-{
-    put_i64(out, interval)
-}
-
-#[tactic(auto, unfolding(crate::specs::States::state_command), using(crate::proofs::Signs::signs))]
+#[tactic(auto, unfolding(crate::specs::States::state_command), using(qz_values::proofs::Signs::signs))]
 fn put_state_command(out: &mut Vec<u8>, command: &StateCommand) -> Result<(), AllocError>
     requires { IsTrue (is_state_command command.now) }
     ensures bytes { OnOk result (out.new.items ≡ out.old.items ++ state_command command.now) }
@@ -90,7 +80,7 @@ fn put_state_command(out: &mut Vec<u8>, command: &StateCommand) -> Result<(), Al
     }
 }
 
-#[tactic(auto, unfolding(crate::specs::States::state_entry), using(crate::proofs::Signs::signs))]
+#[tactic(auto, unfolding(crate::specs::States::state_entry), using(qz_values::proofs::Signs::signs))]
 fn put_state_entry(out: &mut Vec<u8>, entry: &StateEntry) -> Result<(), AllocError>
     ensures bytes { OnOk result (out.new.items ≡ out.old.items ++ state_entry entry.now) }
     ensures valid { OnOk result (IsStateEntry entry.now) }

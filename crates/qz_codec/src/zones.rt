@@ -1,88 +1,16 @@
-//! Records of zones, both ways.
-ghost use Rattle.std.specs.Prelude.{◌≡◌, ◌++◌, IfOk, OnOk, None, option_map};
-ghost use Rattle.std.specs.Int.{w32, w64};
-ghost use Rattle.qz_civil.specs.Zones as spec;
-ghost use Rattle.qz_civil.specs.declared.limits.TheConstants.{STRETCH_LIMIT};
-ghost use Rattle.qz_codec.specs.Lists.{list_at};
-ghost use Rattle.qz_codec.specs.Reading.{Gives, checked, integer_at};
-ghost use Rattle.qz_codec.specs.Zones as format;
+//! Zones, both ways.
+ghost use Rattle.std.specs.Prelude.{◌≡◌, ◌++◌, OnOk};
+ghost use Rattle.qz_values.specs.Reading.{Gives};
+ghost use Rattle.qz_codec.specs.Zones.{zone_row, IsZoneRow, zone_row_at};
 
-use crate::errors::Fault;
-use crate::fields::{i32_at, i64_at};
-use crate::lists::{Item, list_of, put_list};
-use crate::rows::name_of;
-use crate::writing::{put_i32, put_i64, put_name};
-use qz_civil::{STRETCH_LIMIT, is_offset, may_begin};
-use qz_types::{List, Stretch, Text, ZoneRow};
+use crate::records::Recorded;
+use qz_types::{Text, ZoneRow};
+use qz_values::{Fault, name_of, put_name, put_stretches, stretches_of};
 use std::alloc::{AllocError, Global};
-
-/// Where a stretch begins, right behind one that begins at `before`.
-fn from_of(before: Option<i64>, bytes: &[u8]) -> Result<(i64, &[u8]), Fault>
-    ensures { Gives (λ x. (x.0, x.1.now)) result (checked (format.may_begin before) (integer_at w64) bytes.now) }
-{
-    match i64_at(bytes) {
-        Ok((from, _)) if !may_begin(before, from) => Err(Fault::at(bytes)),
-        read => read,
-    }
-}
-
-fn offset_of(bytes: &[u8]) -> Result<(i32, &[u8]), Fault>
-    ensures { Gives (λ x. (x.0, x.1.now)) result (checked spec.is_offset (integer_at w32) bytes.now) }
-{
-    match i32_at(bytes) {
-        Ok((offset, _)) if !is_offset(offset) => Err(Fault::at(bytes)),
-        read => read,
-    }
-}
-
-fn start_of(stretch: Option<Stretch>) -> Option<i64>
-    ensures { result ≡ option_map (λ s. s.from) stretch }
-{
-    match stretch {
-        None => None,
-        Some(stretch) => Some(stretch.from),
-    }
-}
-
-#[tactic(auto, unfolding(crate::specs::Zones::stretch), using(crate::proofs::Signs::signs))]
-fn put_stretch(out: &mut Vec<u8>, stretch: Stretch) -> Result<(), AllocError>
-    ensures { OnOk result (out.new.items ≡ out.old.items ++ format.stretch stretch) }
-{
-    put_i64(out, stretch.from)?;
-    put_i32(out, stretch.offset)
-}
-
-/// A stretch of a zone's table.
-impl Item for Stretch {
-    ghost item = { format.stretch };
-
-    ghost item_at = { format.next_stretch_at };
-
-    fn put_item(self, out: &mut Vec<u8>) -> Result<(), AllocError> {
-        put_stretch(out, self)
-    }
-
-    #[tactic(auto, unfolding(crate::specs::Zones::next_stretch_at))]
-    fn item_of(before: Option<Stretch>, bytes: &[u8]) -> Result<(Stretch, &[u8]), Fault>
-        ensures { Gives (λ x. (x.0, x.1.now)) result (format.next_stretch_at before bytes.now) }
-    {
-        let (from, rest) = from_of(start_of(before), bytes)?;
-        let (offset, rest) = offset_of(rest)?;
-        Ok((Stretch { from, offset }, rest))
-    }
-}
-
-/// The stretches of a zone's table.
-fn stretches_of(alloc: Global, bytes: &[u8]) -> Result<(List<Stretch>, &[u8]), Fault>
-    ensures exact { Gives (λ x. (x.0, x.1.now)) result (list_at 1 STRETCH_LIMIT format.next_stretch_at bytes.now) }
-    ensures valid { IfOk result (λ x. spec.bad_zone x.0 ≡ None) }
-{
-    list_of(alloc, bytes, 1, STRETCH_LIMIT as u16)
-}
 
 #[tactic(auto, unfolding(crate::specs::Zones::zone_row_at))]
 pub(crate) fn zone_row_of(alloc: Global, bytes: &[u8]) -> Result<(ZoneRow, &[u8]), Fault>
-    ensures { Gives (λ x. (x.0, x.1.now)) result (format.zone_row_at bytes.now) }
+    ensures { Gives (λ x. (x.0, x.1.now)) result (zone_row_at bytes.now) }
 {
     let (name, rest) = name_of(bytes)?;
     let (stretches, rest) = stretches_of(alloc, rest)?;
@@ -95,9 +23,31 @@ pub(crate) fn zone_row_of(alloc: Global, bytes: &[u8]) -> Result<(ZoneRow, &[u8]
 
 #[tactic(auto, unfolding(crate::specs::Zones::zone_row))]
 pub(crate) fn put_zone_row(out: &mut Vec<u8>, row: &ZoneRow) -> Result<(), AllocError>
-    ensures bytes { OnOk result (out.new.items ≡ out.old.items ++ format.zone_row row.now) }
-    ensures valid { OnOk result (format.IsZoneRow row.now) }
+    ensures bytes { OnOk result (out.new.items ≡ out.old.items ++ zone_row row.now) }
+    ensures valid { OnOk result (IsZoneRow row.now) }
 {
     put_name(out, &row.name)?;
-    put_list(out, row.stretches.as_slice())
+    put_stretches(out, &row.stretches)
+}
+
+impl Recorded for ZoneRow {
+    ghost can_put = { λ row. Unit {0} };
+
+    ghost fields = { zone_row };
+
+    ghost has_record = { IsZoneRow };
+
+    ghost fields_at = { zone_row_at };
+
+    ghost most = { 6348 };
+
+    fn put_fields(&self, out: &mut Vec<u8>) -> Result<(), AllocError> {
+        put_zone_row(out, self)
+    }
+
+    fn fields_of(alloc: Global, bytes: &[u8]) -> Result<(ZoneRow, &[u8]), Fault> {
+        zone_row_of(alloc, bytes)
+    }
+
+    fn is_format() {}
 }

@@ -5,3 +5,4 @@ pub mod Handle
 pub mod Memory
 pub mod MemoryLaws
 pub mod Recorded
+pub mod System

@@ -1,8 +1,9 @@
 //! A file of the system.
-ghost use Rattle.std.specs.Prelude.{◌≡◌, ◌≤◌, ◌+◌, ◌<◌, ◌^◌, length, max, is_err, Err, OnOk, OnErr, IfOk, if◌then◌else◌};
+ghost use Rattle.std.specs.Prelude.{◌≡◌, ◌≤◌, ◌+◌, ◌<◌, ◌^◌, length, max, is_err, true, Err, OnOk, OnErr, IfOk, if◌then◌else◌};
 ghost use Rattle.qz_civil.specs.Causes.{HasCause};
 ghost use Rattle.qz_disk.specs.Counts.{counted};
 ghost use Rattle.qz_disk.specs.Disk.{untold};
+ghost use Rattle.qz_disk.specs.System.{IsRefusedIf, KeepsFailing};
 
 use crate::{FileHandle, HandleError};
 use qz_civil::Text;
@@ -20,8 +21,9 @@ use std::rt::HostRuntime;
 /// a write that takes nothing, is a failure. After a write or a sync that failed the length is unknown, and passes for 0
 /// until `len` is called. `restart` closes the file and opens it again.
 ///
-/// After a sync that failed, Linux may show what never reached the device, and call a later sync done. Only what is read
-/// after the file system was mounted again, or after its cache was dropped, is what the device has.
+/// After a sync that failed, Linux may show what never reached the device, and call a later sync done. So each later call
+/// of this object fails, `restart` too. A new object over the same path doesn't know of it: only what is read after the
+/// file system was mounted again, or after its cache was dropped, is what the device has.
 #[derive(Drop)]
 pub struct SystemFile {
     rt: HostRuntime,
@@ -30,6 +32,8 @@ pub struct SystemFile {
     file: Option<File>,
     // The folder was synced since the file was opened.
     is_named: bool,
+    // A sync failed, so that no later call can be believed.
+    is_lost: bool,
     len: u64,
     faults: u64,
 }
@@ -45,6 +49,7 @@ impl SystemFile {
             path,
             file: None,
             is_named: false,
+            is_lost: false,
             len: 0,
             faults: 0,
         }
@@ -108,11 +113,15 @@ fn counted<T: Drop>(faults: &mut u64, outcome: Result<T, HandleError>) -> Result
 }
 
 impl SystemFile {
-    // Opens the file, if it isn't open yet.
+    // Opens the file, if it isn't open yet. Fails after a sync that failed.
     fn attach(&mut self, make: bool) -> Result<(), HandleError>
         ensures len { self.new.len ≡ self.old.len }
         ensures faults { self.new.faults ≡ self.old.faults }
+        ensures lost { IsRefusedIf self.old.is_lost self.new.is_lost result }
     {
+        if self.is_lost {
+            return Err(HandleError::Failed);
+        }
         if self.file.is_none() {
             self.file = open_file(&self.rt, self.path.as_str(), make)?;
         }
@@ -122,6 +131,7 @@ impl SystemFile {
     fn measure(&mut self) -> Result<u64, HandleError>
         ensures len { self.new.len ≡ self.old.len }
         ensures faults { self.new.faults ≡ self.old.faults }
+        ensures lost { IsRefusedIf self.old.is_lost self.new.is_lost result }
     {
         self.attach(false)?;
         match &self.file {
@@ -139,6 +149,7 @@ impl SystemFile {
         ensures some { 0 < length into.old → IfOk result (λ n. 0 < n) }
         ensures len { self.new.len ≡ self.old.len }
         ensures faults { self.new.faults ≡ self.old.faults }
+        ensures lost { IsRefusedIf self.old.is_lost self.new.is_lost result }
     {
         self.attach(false)?;
         match &self.file {
@@ -153,6 +164,7 @@ impl SystemFile {
         ensures fits { IfOk result (λ n. at + n < 2 ^ 64) }
         ensures len { self.new.len ≡ self.old.len }
         ensures faults { self.new.faults ≡ self.old.faults }
+        ensures lost { IsRefusedIf self.old.is_lost self.new.is_lost result }
     {
         if at.checked_add(from.len() as u64).is_none() {
             return Err(HandleError::Failed);
@@ -167,6 +179,7 @@ impl SystemFile {
     fn settle(&mut self) -> Result<(), HandleError>
         ensures len { self.new.len ≡ self.old.len }
         ensures faults { self.new.faults ≡ self.old.faults }
+        ensures lost { IsRefusedIf self.old.is_lost self.new.is_lost result }
     {
         self.attach(false)?;
         let Some(file) = &self.file else {
@@ -186,7 +199,7 @@ impl SystemFile {
 }
 
 impl FileHandle for SystemFile {
-    ghost use Rattle.qz_disk.specs.declared.handle.HandleError.TheVariants.{Interrupted};
+    ghost use Rattle.qz_disk.specs.declared.handle.HandleError.TheVariants.{Failed, Interrupted};
 
     ghost honest = { ⊥ };
 
@@ -205,6 +218,7 @@ impl FileHandle for SystemFile {
         ensures length_err { OnErr result (self.new.len ≡ self.old.len) }
         ensures cause { HasCause self.old.faults self.new.faults result }
         ensures counts { self.new.faults ≡ (if is_err result then counted self.old.faults else self.old.faults) }
+        ensures lost { KeepsFailing self.old.is_lost self.new.is_lost result }
     {
         let measured = self.measure();
         if let Ok(len) = measured {
@@ -221,6 +235,7 @@ impl FileHandle for SystemFile {
         ensures length { self.new.len ≡ self.old.len }
         ensures cause { HasCause self.old.faults self.new.faults result }
         ensures counts { self.new.faults ≡ (if is_err result then counted self.old.faults else self.old.faults) }
+        ensures lost { KeepsFailing self.old.is_lost self.new.is_lost result }
     {
         let _len = self.len;
         let filled = self.fill(at, into);
@@ -236,6 +251,7 @@ impl FileHandle for SystemFile {
         ensures interrupted_length { result ≡ Err Interrupted → self.new.len ≡ self.old.len }
         ensures cause { HasCause self.old.faults self.new.faults result }
         ensures counts { self.new.faults ≡ (if is_err result then counted self.old.faults else self.old.faults) }
+        ensures lost { KeepsFailing self.old.is_lost self.new.is_lost result }
     {
         let wrote = self.put(at, from);
         match wrote {
@@ -251,10 +267,13 @@ impl FileHandle for SystemFile {
         ensures interrupted_length { result ≡ Err Interrupted → self.new.len ≡ self.old.len }
         ensures cause { HasCause self.old.faults self.new.faults result }
         ensures counts { self.new.faults ≡ (if is_err result then counted self.old.faults else self.old.faults) }
+        ensures lost { KeepsFailing self.old.is_lost self.new.is_lost result }
+        ensures loses { result ≡ Err Failed → self.new.is_lost ≡ true }
     {
         let synced = self.settle();
         if synced == Err(HandleError::Failed) {
             self.len = 0;
+            self.is_lost = true;
         }
         counted(&mut self.faults, synced)
     }
@@ -262,6 +281,7 @@ impl FileHandle for SystemFile {
     fn restart(&mut self) -> Result<(), HandleError>
         ensures cause { HasCause self.old.faults self.new.faults result }
         ensures counts { self.new.faults ≡ (if is_err result then counted self.old.faults else self.old.faults) }
+        ensures lost { KeepsFailing self.old.is_lost self.new.is_lost result }
     {
         self.file = None;
         self.is_named = false;

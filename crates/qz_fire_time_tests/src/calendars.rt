@@ -14,7 +14,7 @@ use std::test::Fail;
 
 // A kind of calendar as plain data.
 #[derive(Clone, Copy, Debug)]
-enum Plain {
+pub enum Plain {
     Annual(&'static [u16]),
     Holiday(&'static [u32]),
     Weekly(u8),
@@ -482,6 +482,45 @@ const CHAINS: &[ChainRow] = &[
         1704067200000,
         Some(1704153600000),
     ),
+    // Cron calendars that leave each other's seconds, on one local clock and on two.
+    (
+        &[(Cron("0/2 * * * * ?"), UTC), (Cron("1/2 * * * * ?"), UTC)],
+        0,
+        None,
+    ),
+    (
+        &[
+            (Cron("0/2 * * * * ?"), FARTHEST_EAST),
+            (Cron("1/2 * * * * ?"), FARTHEST_EAST),
+        ],
+        0,
+        Some(4102380000000),
+    ),
+    (
+        &[
+            (Cron("0/2 0/2 * * * ?"), UTC),
+            (Cron("* 1/2 0-22 * * ?"), UTC),
+            (Cron("1/2 0/2 * * * ?"), UTC),
+        ],
+        1704067200000,
+        Some(1704150060000),
+    ),
+    (
+        &[
+            (Cron("0/2 * 0 1 1 ? 2024"), UTC),
+            (Cron("0/2 * 0 1 1 ? 2024"), &[(0, 1)]),
+        ],
+        1704067200000,
+        Some(1704070799000),
+    ),
+    (
+        &[
+            (Cron("0/2 * * * * ?"), UTC),
+            (Cron("1/2 * * * * ?"), &[(0, 1)]),
+        ],
+        1704067200000,
+        Some(1704067201000),
+    ),
 ];
 
 const TABLES: &[&[ChainRow]] = &[
@@ -562,7 +601,7 @@ fn kind_of(alloc: Global, plain: Plain) -> Result<CalendarKind, Fail>
     }
 }
 
-fn chain_of(alloc: Global, links: &[(Plain, &'static [Begin])]) -> Result<Chain, Fail> {
+pub fn chain_of(alloc: Global, links: &[(Plain, &'static [Begin])]) -> Result<Chain, Fail> {
     let mut chain = Chain::empty();
     for &(plain, stretches) in links {
         chain.push(kind_of(alloc, plain)?, zone_of(alloc, stretches)?)?;

@@ -16,6 +16,8 @@ mod interval;
 #[cfg(test)]
 mod misfires;
 #[cfg(test)]
+mod planned;
+#[cfg(test)]
 mod simple;
 #[cfg(test)]
 mod zoned;

@@ -14,7 +14,7 @@ type Trigger = (i64, i8, Option<i64>);
 type Misfire = (i64, u64, i64);
 
 // The new start and next fire time, count, and how often it has fired.
-type Wanted = (i64, Option<i64>, i64, u64);
+pub type Wanted = (i64, Option<i64>, i64, u64);
 
 // The trigger, the misfire, and what is wanted.
 type Row = (Trigger, Misfire, Wanted);
@@ -58,7 +58,7 @@ const MISFIRES: &[Row] = &[
     ((-1, 4, None), (4000, 3, LAST), (1000, None, -1, 3)),
 ];
 
-fn is_end(end: Option<i64>) -> bool
+pub fn is_end(end: Option<i64>) -> bool
     ensures { result ≡ is_end end }
 {
     match end {

@@ -1,28 +1,33 @@
 -- What a line of `times` says, and which fault it has.
-use Rattle.std.specs.Prelude.{ℕ, List, Bool, ◌||◌, is_some, if◌then◌else◌, Option, None, Result, Ok, Err, option_and_then, codes}
+use Rattle.std.specs.Prelude.{ℕ, List, Bool, true, ◌||◌, is_some, if◌then◌else◌, Option, None, Result, Ok, Err, option_and_then, codes}
 use Rattle.serde_json.specs.Data.{Data}
 use Rattle.serde_json.specs.Find.{get}
-use Rattle.qz_civil.specs.Timings.{is_name}
+use Rattle.qz_civil.specs.declared.stretches.Stretch.{Stretch}
 use Rattle.qz_types.specs.Rows.{is_trigger_spec}
 use Rattle.qz_job_json.specs.declared.asked.Asked.{Asked}
-use Rattle.qz_job_json.specs.declared.asked.Asked.TheVariants.{AddZone, AddTrigger}
-use Rattle.qz_job_json.specs.declared.forms.Form.TheVariants.{ZoneLine, TriggerLine}
+use Rattle.qz_job_json.specs.declared.asked.Asked.TheVariants.{AddZone, AddCalendar, AddTrigger}
+use Rattle.qz_job_json.specs.declared.forms.Form.TheVariants.{ZoneLine, CalendarLine, TriggerLine}
 use Rattle.qz_job_json.specs.declared.faults.LineFault.{LineFault}
 use Rattle.qz_job_json.specs.declared.faults.LineFault.TheVariants.{NotHere, Shape}
 use Rattle.qz_job_json.specs.Faults.{◌>>=◌, or_shape}
 use Rattle.qz_job_json.specs.Forms.{built, unbuilt_words, word_of}
 use Rattle.qz_job_json.specs.Lines.{json_of, said_by}
-use Rattle.qz_job_json.specs.Members.{is_text, is_among, has_only, both, text_at, name_at, optional_integer_at, optional_bool_at}
+use Rattle.qz_job_json.specs.Members.{is_text, is_among, has_only, both, text_at, name_at, optional_integer_at, optional_bool_at, flag_at}
+use Rattle.qz_job_json.specs.Calendars.{calendar_by_kind}
 use Rattle.qz_job_json.specs.Schedules.{trigger_by_kind}
 use Rattle.qz_job_json.specs.Zones.{zone_of}
 
--- the name and the trigger are valid
+-- the trigger is valid; a zone and a calendar always are
 abbrev pub is_asked : Asked → Bool
-is_asked (AddZone name zone) = is_name name
+is_asked (AddZone zone) = true
+is_asked (AddCalendar calendar replace) = true
 is_asked (AddTrigger spec) = is_trigger_spec spec
 
+abbrev pub make_zone : List ℕ → List Stretch → Asked
+make_zone name stretches = AddZone (record { name = name; stretches = stretches })
+
 abbrev pub add_zone : Data → Option Asked
-add_zone d = both (λ name zone. AddZone name zone) (name_at (codes "name") d) (option_and_then zone_of (get (codes "stretches") d))
+add_zone d = both make_zone (name_at (codes "name") d) (option_and_then zone_of (get (codes "stretches") d))
 
 -- its member `at` is right and has no meaning
 unfoldable pub zone_line : Data → Option Asked
@@ -30,6 +35,17 @@ zone_line d =
     if has_only (built ZoneLine) d
     then both (λ at asked. asked) (optional_integer_at (codes "at") d) (add_zone d)
     else None
+
+-- its member `at` is right and has no meaning
+unfoldable pub calendar_line : Data → Result Asked LineFault
+calendar_line d =
+    if has_only (built CalendarLine) d
+    then (or_shape (optional_integer_at (codes "at") d) >>= λ at.
+    or_shape (flag_at (codes "replace") d) >>= λ replace.
+    or_shape (get (codes "calendar") d) >>= λ object.
+    calendar_by_kind object >>= λ calendar.
+    Ok (AddCalendar calendar replace))
+    else Err Shape
 
 -- its members `at` and `replace` are right and have no meaning
 unfoldable pub trigger_line : Data → Result Asked LineFault
@@ -53,6 +69,7 @@ fault_of_word text = if is_word text then NotHere else Shape
 abbrev pub asked_by : List ℕ → Data → Result Asked LineFault
 asked_by text d =
     if is_text text (codes "add_zone") then or_shape (zone_line d)
+    else if is_text text (codes "add_calendar") then calendar_line d
     else if is_text text (codes "add_trigger") then trigger_line d
     else Err (fault_of_word text)
 

@@ -1,4 +1,4 @@
--- Times of the day and days of the week, as triggers have them.
+-- Times of the day and sets of days, as triggers and calendars have them.
 use Rattle.std.specs.Prelude.{ℕ, ◌+◌, ◌-◌, ◌*◌, List, [], ◌∷◌, length, slice_index, Bool, ◌&&◌, ◌==◌, nat_le, nat_lt, if◌then◌else◌, Option, Some, None, option_map, option_and_then, codes}
 use Rattle.std.specs.List.{list_any}
 use Rattle.serde_json.specs.Data.{Data, Items, no_items, item}
@@ -39,25 +39,29 @@ second_of d = option_and_then second_of_day (as_str d)
 abbrev pub second_or : ℕ → List ℕ → Data → Option ℕ
 second_or default name d = said_or default second_of (get name d)
 
--- 1 is Sunday
-abbrev pub is_day : ℕ → Bool
-is_day day = nat_le 1 day && nat_le day 7
+-- a whole number from 1 to the last one
+abbrev pub is_number_to : ℕ → ℕ → Bool
+is_number_to last n = nat_le 1 n && nat_le n last
 
-abbrev pub day_of : Data → Option ℕ
-day_of d = kept is_day (option_and_then as_u64 (as_number d))
+abbrev pub number_to : ℕ → Data → Option ℕ
+number_to last d = kept (is_number_to last) (option_and_then as_u64 (as_number d))
 
--- the days of a list, in which each item is one
-abbrev pub listed_days : Items → Option (List ℕ)
-listed_days no_items = Some []
-listed_days (item d ds) = both (λ day days. day ∷ days) (day_of d) (listed_days ds)
+-- what the items of a list are, where each of them is one
+abbrev pub listed : (Data → Option ℕ) → Items → Option (List ℕ)
+listed number_of no_items = Some []
+listed number_of (item d ds) = both (λ n ns. n ∷ ns) (number_of d) (listed number_of ds)
 
--- bit 0 is that of day 1: a bit is set exactly where its day is among these
-abbrev pub set_of_days : List ℕ → ℕ
-set_of_days days = set_of (λ i. list_any (λ day. day == i + 1) days) 7
+-- bit 0 is that of number 1: a bit is set exactly where its number is among these
+abbrev pub set_of_numbers : ℕ → List ℕ → ℕ
+set_of_numbers last ns = set_of (λ i. list_any (λ n. n == i + 1) ns) last
 
--- the set of the days of a list that isn't empty
+-- the set of the numbers of a list, each from 1 to the last one
+abbrev pub set_to : ℕ → Items → Option ℕ
+set_to last items = option_map (set_of_numbers last) (listed (number_to last) items)
+
+-- the set of the days of a list that isn't empty: 1 is Sunday
 unfoldable pub days_of : Items → Option ℕ
-days_of items = kept is_day_set (option_map set_of_days (listed_days items))
+days_of items = kept is_day_set (set_to 7 items)
 
 -- the set of the days, which are all seven where there is no such member
 abbrev pub days_at : Data → Option ℕ

@@ -1,13 +1,15 @@
 -- The table of the format: which members each object has. An object is a line, named by the word of its member
--- `do`, or the job or the trigger in one.
+-- `do`, or the job, the calendar or the trigger in one.
 use Rattle.std.specs.Prelude.{ℕ, List, [], ◌∷◌, ◌++◌, if◌then◌else◌, Option, Some, None, codes}
 use Rattle.qz_job_json.specs.Members.{is_text}
 use Rattle.qz_job_json.specs.declared.forms.Word.{Word}
 use Rattle.qz_job_json.specs.declared.forms.Word.TheVariants.{AddJob, AddTrigger, Join, Acquire, Fire, Complete}
 use Rattle.qz_job_json.specs.declared.forms.KindWord.{KindWord}
 use Rattle.qz_job_json.specs.declared.forms.KindWord.TheVariants.{Simple, Cron, Interval, Daily}
+use Rattle.qz_job_json.specs.declared.forms.CalendarWord.{CalendarWord}
+use Rattle.qz_job_json.specs.declared.forms.CalendarWord.TheVariants as calendar
 use Rattle.qz_job_json.specs.declared.forms.Form.{Form}
-use Rattle.qz_job_json.specs.declared.forms.Form.TheVariants.{Line, Job, Trigger, ZoneLine, TriggerLine, TriggerOf}
+use Rattle.qz_job_json.specs.declared.forms.Form.TheVariants.{Line, Job, Trigger, ZoneLine, CalendarLine, CalendarOf, TriggerLine, TriggerOf}
 
 -- the members of a trigger in a line of `times`, of whichever kind
 abbrev pub shared : List (List ℕ)
@@ -22,6 +24,19 @@ own Cron = codes "cron" ∷ codes "zone" ∷ []
 own Interval = codes "unit" ∷ codes "every" ∷ codes "zone" ∷ []
 own Daily = codes "unit" ∷ codes "every" ∷ codes "from" ∷ codes "to" ∷ codes "days" ∷ codes "zone" ∷ []
 
+-- the members of a calendar, of whichever kind
+abbrev pub calendar_shared : List (List ℕ)
+calendar_shared = codes "name" ∷ codes "base" ∷ codes "zone" ∷ codes "kind" ∷ []
+
+-- those of one kind
+abbrev pub calendar_own : CalendarWord → List (List ℕ)
+calendar_own calendar.Annual = codes "days" ∷ []
+calendar_own calendar.Holiday = codes "dates" ∷ []
+calendar_own calendar.Weekly = codes "days" ∷ []
+calendar_own calendar.Monthly = codes "days" ∷ []
+calendar_own calendar.Daily = codes "from" ∷ codes "to" ∷ codes "inverted" ∷ []
+calendar_own calendar.Cron = codes "cron" ∷ []
+
 -- the members that are read
 abbrev pub built : Form → List (List ℕ)
 built (Line AddJob) = codes "do" ∷ codes "at" ∷ codes "job" ∷ []
@@ -34,6 +49,8 @@ built Job = codes "name" ∷ codes "group" ∷ codes "class" ∷ []
 built Trigger =
     codes "name" ∷ codes "group" ∷ codes "job" ∷ codes "job_group" ∷ codes "start" ∷ codes "kind" ∷ []
 built ZoneLine = codes "do" ∷ codes "at" ∷ codes "name" ∷ codes "stretches" ∷ []
+built CalendarLine = codes "do" ∷ codes "at" ∷ codes "calendar" ∷ codes "replace" ∷ []
+built (CalendarOf kind) = calendar_shared ++ calendar_own kind
 built TriggerLine = codes "do" ∷ codes "at" ∷ codes "trigger" ∷ codes "replace" ∷ []
 built (TriggerOf kind) = shared ++ own kind
 
@@ -50,6 +67,8 @@ unbuilt Trigger =
     codes "priority" ∷ codes "calendar" ∷ codes "misfire" ∷ codes "end" ∷ codes "interval" ∷ codes "count"
     ∷ codes "cron" ∷ codes "zone" ∷ codes "unit" ∷ codes "every" ∷ codes "from" ∷ codes "to" ∷ codes "days" ∷ []
 unbuilt ZoneLine = []
+unbuilt CalendarLine = []
+unbuilt (CalendarOf kind) = []
 unbuilt TriggerLine = []
 unbuilt (TriggerOf kind) = []
 
@@ -91,4 +110,15 @@ kind_word_of text =
     else if is_text text (codes "cron") then Some Cron
     else if is_text text (codes "interval") then Some Interval
     else if is_text text (codes "daily") then Some Daily
+    else None
+
+-- the kind of calendars that a text names
+unfoldable pub calendar_word_of : List ℕ → Option CalendarWord
+calendar_word_of text =
+    if is_text text (codes "annual") then Some calendar.Annual
+    else if is_text text (codes "holiday") then Some calendar.Holiday
+    else if is_text text (codes "weekly") then Some calendar.Weekly
+    else if is_text text (codes "monthly") then Some calendar.Monthly
+    else if is_text text (codes "daily") then Some calendar.Daily
+    else if is_text text (codes "cron") then Some calendar.Cron
     else None

@@ -1,4 +1,5 @@
 pub mod Asked
+pub mod Calendars
 pub mod Clocks
 pub mod Faults
 pub mod Forms

@@ -1,6 +1,6 @@
 -- What the members of an object say. None is a member that is missing, or whose value is of another type or out
 -- of its range.
-use Rattle.std.specs.Prelude.{ℕ, ℤ, List, [], ◌∷◌, Bool, if◌then◌else◌, nat_eq, Option, Some, None, option_map, option_and_then, codes}
+use Rattle.std.specs.Prelude.{ℕ, ℤ, List, [], ◌∷◌, Bool, false, if◌then◌else◌, nat_eq, Option, Some, None, option_map, option_and_then, codes}
 use Rattle.std.specs.Cmp.Lexicographic.{pointwise}
 use Rattle.std.specs.List.{list_any, list_all}
 use Rattle.serde_json.specs.Data.{Data, Members, no_members, member}
@@ -107,3 +107,7 @@ optional_name_at name d = said_if name_of (get name d)
 
 abbrev pub optional_bool_at : List ℕ → Data → Option (Option Bool)
 optional_bool_at name d = said_if as_bool (get name d)
+
+-- a truth value, false only where there is no such member
+abbrev pub flag_at : List ℕ → Data → Option Bool
+flag_at name d = said_or false as_bool (get name d)

@@ -6,24 +6,34 @@ ghost use Rattle.qz_job_json.specs.Asked as spec;
 ghost use Rattle.qz_job_json.specs.Faults.{ReadsAs, or_shape};
 ghost use Rattle.qz_job_json.specs.Lines.{ReadsLineAs};
 
+use crate::calendars::calendar_by_kind;
 use crate::faults::{LineError, LineFault};
 use crate::forms::{Form, Word, is_unbuilt_word};
 use crate::lines::json_of;
-use crate::members::{has_only, name_at, optional_bool_at, optional_integer_at, text_at};
+use crate::members::{flag_at, has_only, name_at, optional_bool_at, optional_integer_at, text_at};
 use crate::schedules::trigger_by_kind;
 use crate::zones::zone_of;
-use qz_civil::Zone;
-use qz_types::{Text, TriggerSpec};
+use qz_civil::beside;
+use qz_types::{CalendarRow, Text, TriggerSpec, ZoneRow};
 use serde_json::Value;
 use std::alloc::Global;
 
 /// What a line of `times` asks for.
 #[derive(Drop)]
 pub enum Asked {
-    /// A zone by name.
-    AddZone { name: Text, zone: Zone },
+    /// A zone.
+    AddZone {
+        zone: ZoneRow,
+    },
+    /// A calendar, in place of one of its name if that is wanted.
+    AddCalendar {
+        calendar: CalendarRow,
+        replace: bool,
+    },
     /// The fire times of a trigger.
-    AddTrigger { spec: TriggerSpec },
+    AddTrigger {
+        spec: TriggerSpec,
+    },
 }
 
 /// Reads a line of `times`, which has no line feed. None is a blank line: it has only spaces, tabs and carriage returns.
@@ -44,6 +54,7 @@ fn read_value(alloc: Global, value: &Value) -> Result<Asked, LineError>
 {
     match text_at(value, "do").ok_or(LineFault::Shape)? {
         "add_zone" => zone_line(alloc, value),
+        "add_calendar" => calendar_line(alloc, value),
         "add_trigger" => trigger_line(alloc, value),
         text => Err(LineError::Bad(fault_of_word(text))),
     }
@@ -60,7 +71,7 @@ fn fault_of_word(text: &str) -> LineFault
     }
 }
 
-/// A zone by name.
+/// A zone.
 #[tactic(auto, unfolding(crate::specs::Asked::zone_line))]
 fn zone_line(alloc: Global, value: &Value) -> Result<Asked, LineError>
     ensures value { ReadsAs result (or_shape (spec.zone_line (view value.now))) }
@@ -71,9 +82,25 @@ fn zone_line(alloc: Global, value: &Value) -> Result<Asked, LineError>
     }
     let name = name_at(value, "name").ok_or(LineFault::Shape)?;
     let table = value.get("stretches").ok_or(LineFault::Shape)?;
-    let zone = zone_of(alloc, table)?;
-    let name = Text::from_str(alloc, name)?;
-    Ok(Asked::AddZone { name, zone })
+    let stretches = zone_of(alloc, table)?;
+    let (stretches, name) = beside(stretches, Text::from_str(alloc, name))?;
+    let zone = ZoneRow { name, stretches };
+    Ok(Asked::AddZone { zone })
+}
+
+/// A calendar.
+#[tactic(auto, unfolding(crate::specs::Asked::calendar_line))]
+fn calendar_line(alloc: Global, value: &Value) -> Result<Asked, LineError>
+    ensures value { ReadsAs result (spec.calendar_line (view value.now)) }
+    ensures valid { IfOk result (λ asked. IsTrue (spec.is_asked asked)) }
+{
+    if !has_only(value, Form::CalendarLine) || optional_integer_at(value, "at").is_none() {
+        return Err(LineError::Bad(LineFault::Shape));
+    }
+    let replace = flag_at(value, "replace").ok_or(LineFault::Shape)?;
+    let object = value.get("calendar").ok_or(LineFault::Shape)?;
+    let calendar = calendar_by_kind(alloc, object)?;
+    Ok(Asked::AddCalendar { calendar, replace })
 }
 
 /// A trigger.

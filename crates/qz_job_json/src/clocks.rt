@@ -1,5 +1,5 @@
-//! Times of the day and days of the week, as triggers have them.
-ghost use Rattle.std.specs.Prelude.{◌≡◌, ◌+◌, ◌<◌, ◌≤◌, length, IsTrue, IfSome};
+//! Times of the day and sets of days, as triggers and calendars have them.
+ghost use Rattle.std.specs.Prelude.{◌≡◌, ◌+◌, ◌<◌, ◌≤◌, ◌^◌, length, IsTrue, IfSome};
 ghost use Rattle.serde_json.specs.View.{view, items_view};
 ghost use Rattle.qz_civil.specs.Timings.{is_day_set};
 ghost use Rattle.qz_job_json.specs.Clocks as spec;
@@ -10,7 +10,7 @@ use serde_json::Value;
 const ALL_DAYS: u8 = 127;
 
 /// The number below the limit that two digits stand for.
-fn two_digits(text: &[u8], at: usize, limit: u32) -> Option<u32>
+pub(crate) fn two_digits(text: &[u8], at: usize, limit: u32) -> Option<u32>
     requires { at + 1 < length text.now }
     ensures value { result ≡ spec.two_digits limit at text.now }
     ensures small { IfSome result (λ n. n < limit) }
@@ -47,31 +47,42 @@ pub(crate) fn second_or(value: &Value, name: &str, default: u32) -> Option<u32>
     }
 }
 
-/// The day of the week that the value is: 1 is Sunday.
-fn day_of(value: &Value) -> Option<u32>
-    ensures value { result ≡ spec.day_of (view value.now) }
-    ensures low { IfSome result (λ day. 1 ≤ day) }
-    ensures high { IfSome result (λ day. day ≤ 7) }
+/// The number from 1 to the last one that the value is.
+pub(crate) fn number_to(value: &Value, last: u32) -> Option<u32>
+    ensures value { result ≡ spec.number_to last (view value.now) }
+    ensures low { IfSome result (λ n. 1 ≤ n) }
+    ensures high { IfSome result (λ n. n ≤ last) }
 {
-    let day = value.as_u64()?;
-    if 1 <= day && day <= 7 {
-        Some(day as u32)
+    let number = value.as_u64()?;
+    if 1 <= number && number <= u64::from(last) {
+        Some(number as u32)
     } else {
         None
     }
 }
 
-/// The set of the days of a list, in any order and however often each. An empty list is none.
+/// The set of the numbers of a list, each from 1 to the last one, in any order and however often each. Bit 0 is that of 1.
+pub(crate) fn set_to(items: &[Value], last: u32) -> Option<u32>
+    requires { last ≤ 31 }
+    ensures value { result ≡ spec.set_to last (items_view items.now) }
+    ensures small { IfSome result (λ set. set < 2 ^ last) }
+{
+    let mut set = 0;
+    for item in items {
+        let number = number_to(item, last)?;
+        set |= 1 << (number - 1);
+    }
+    Some(set)
+}
+
+/// The set of the days of a list. An empty list is none.
+#[tactic(auto, unfolding(crate::specs::Clocks::days_of))]
 fn days_of(items: &[Value]) -> Option<u8>
     ensures value { result ≡ spec.days_of (items_view items.now) }
     ensures valid { IfSome result (λ set. IsTrue (is_day_set set)) }
 {
-    let mut set = 0;
-    for item in items {
-        let day = day_of(item)?;
-        set |= 1 << (day - 1);
-    }
-    if set != 0 { Some(set) } else { None }
+    let set = set_to(items, 7)?;
+    if set != 0 { Some(set as u8) } else { None }
 }
 
 /// The set of the days of the member `days`, and all days where there is none.

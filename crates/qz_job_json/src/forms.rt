@@ -1,6 +1,6 @@
 //! The table of the format: which members each object has.
 ghost use Rattle.std.specs.Prelude.{◌≡◌};
-ghost use Rattle.qz_job_json.specs.Forms.{built, unbuilt, unbuilt_kinds, unbuilt_client_words, unbuilt_node_words, unbuilt_words, word_of, shared, own, kind_word_of};
+ghost use Rattle.qz_job_json.specs.Forms.{built, unbuilt, unbuilt_kinds, unbuilt_client_words, unbuilt_node_words, unbuilt_words, word_of, shared, own, kind_word_of, calendar_shared, calendar_own, calendar_word_of};
 ghost use Rattle.qz_job_json.specs.Members.{is_among};
 
 /// The lines that are built, by the word of their member `do`.
@@ -90,7 +90,55 @@ fn is_shared(name: &str) -> bool
     )
 }
 
-/// An object of the format: a line, or the job or the trigger in one.
+/// The kinds of calendars, by the word of the member `kind`.
+#[derive(Clone, Copy)]
+pub(crate) enum CalendarWord {
+    Annual,
+    Holiday,
+    Weekly,
+    Monthly,
+    Daily,
+    Cron,
+}
+
+impl CalendarWord {
+    /// The kind that a text names.
+    #[tactic(auto, unfolding(crate::specs::Forms::calendar_word_of))]
+    pub(crate) fn of(text: &str) -> Option<CalendarWord>
+        ensures { result ≡ calendar_word_of text.now }
+    {
+        match text {
+            "annual" => Some(CalendarWord::Annual),
+            "holiday" => Some(CalendarWord::Holiday),
+            "weekly" => Some(CalendarWord::Weekly),
+            "monthly" => Some(CalendarWord::Monthly),
+            "daily" => Some(CalendarWord::Daily),
+            "cron" => Some(CalendarWord::Cron),
+            _ => None,
+        }
+    }
+
+    /// Whether calendars of this kind have a member of this name, which not all calendars have.
+    fn has_own(self, name: &str) -> bool
+        ensures { result ≡ is_among (calendar_own self) name.now }
+    {
+        match self {
+            CalendarWord::Annual | CalendarWord::Weekly | CalendarWord::Monthly => name == "days",
+            CalendarWord::Holiday => name == "dates",
+            CalendarWord::Daily => matches!(name, "from" | "to" | "inverted"),
+            CalendarWord::Cron => name == "cron",
+        }
+    }
+}
+
+/// Whether calendars of each kind have a member of this name.
+fn is_calendar_shared(name: &str) -> bool
+    ensures { result ≡ is_among calendar_shared name.now }
+{
+    matches!(name, "name" | "base" | "zone" | "kind")
+}
+
+/// An object of the format: a line, or the job, the calendar or the trigger in one.
 #[derive(Clone, Copy)]
 pub(crate) enum Form {
     Line(Word),
@@ -98,6 +146,10 @@ pub(crate) enum Form {
     Trigger,
     /// A line of `times` with a zone.
     ZoneLine,
+    /// A line of `times` with a calendar.
+    CalendarLine,
+    /// The calendar of this kind in such a line.
+    CalendarOf(CalendarWord),
     /// A line of `times` with a trigger.
     TriggerLine,
     /// The trigger of this kind in such a line.
@@ -126,6 +178,8 @@ impl Form {
                 )
             }
             Form::ZoneLine => matches!(name, "do" | "at" | "name" | "stretches"),
+            Form::CalendarLine => matches!(name, "do" | "at" | "calendar" | "replace"),
+            Form::CalendarOf(kind) => is_calendar_shared(name) || kind.has_own(name),
             Form::TriggerLine => matches!(name, "do" | "at" | "trigger" | "replace"),
             Form::TriggerOf(kind) => is_shared(name) || kind.has_own(name),
         }
@@ -148,7 +202,11 @@ impl Form {
                 )
             }
             Form::Trigger => is_unbuilt_in_trigger(name),
-            Form::ZoneLine | Form::TriggerLine | Form::TriggerOf(_) => false,
+            Form::ZoneLine
+            | Form::CalendarLine
+            | Form::CalendarOf(_)
+            | Form::TriggerLine
+            | Form::TriggerOf(_) => false,
         }
     }
 }

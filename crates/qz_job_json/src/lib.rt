@@ -2,6 +2,7 @@
 #![tactic(auto)]
 
 mod asked;
+mod calendars;
 mod clocks;
 mod faults;
 mod forms;

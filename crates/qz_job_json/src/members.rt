@@ -4,9 +4,9 @@ ghost use Rattle.std.specs.List.{list_all, list_any};
 ghost use Rattle.std.specs.BTreeMap.{keys};
 ghost use Rattle.serde_json.specs.View.{view};
 ghost use Rattle.qz_civil.specs.Timings.{is_span, is_name, is_end};
-ghost use Rattle.qz_types.specs.Rows.{is_node};
+ghost use Rattle.qz_types.specs.Rows.{is_calendar, is_node};
 ghost use Rattle.qz_job_json.specs.Forms.{built, unbuilt};
-ghost use Rattle.qz_job_json.specs.Members.{is_among, has_any, has_only, text_at, number_at, span_at, name_at, node_at, name_or, group_at, integer_in, integer_or, optional_integer_at, optional_span_at, optional_bool_at};
+ghost use Rattle.qz_job_json.specs.Members.{is_among, has_any, has_only, text_at, number_at, span_at, name_at, node_at, name_or, group_at, integer_in, integer_or, optional_integer_at, optional_span_at, optional_name_at, optional_bool_at, flag_at};
 
 use crate::forms::Form;
 use qz_types::{LONGEST, NAME_LIMIT, NODE_LIMIT};
@@ -171,6 +171,27 @@ pub(crate) fn optional_span_at(value: &Value, name: &str) -> Option<Option<i64>>
     match value.get(name) {
         Some(_) => span_at(value, name).map(Some),
         None => Some(None),
+    }
+}
+
+/// The name under this name, which may be missing. None is a member that is no name.
+pub(crate) fn optional_name_at<'v>(value: &'v Value, name: &str) -> Option<Option<&'v str>>
+    ensures value { option_map (λ found. option_map (λ text. text.now) found) result ≡ optional_name_at name.now (view value.now) }
+    ensures valid { IfSome result (λ found. IsTrue (is_calendar (option_map (λ text. text.now) found))) }
+{
+    match value.get(name) {
+        Some(_) => name_at(value, name).map(Some),
+        None => Some(None),
+    }
+}
+
+/// The truth value under this name, false where there is no such member. None is a member that is none.
+pub(crate) fn flag_at(value: &Value, name: &str) -> Option<bool>
+    ensures { result ≡ flag_at name.now (view value.now) }
+{
+    match value.get(name) {
+        Some(member) => member.as_bool(),
+        None => Some(false),
     }
 }
 

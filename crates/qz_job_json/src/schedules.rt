@@ -2,7 +2,7 @@
 ghost use Rattle.std.specs.Prelude.{◌≡◌, ◌⊎◌, ◌≤ℤ◌, pos, negsuc, Err, IsTrue, IfOk, IfSome, option_map};
 ghost use Rattle.serde_json.specs.View.{view};
 ghost use Rattle.qz_civil.specs.Timings.{is_name, is_every, is_kind, is_misfire, is_timing, is_daily_time};
-ghost use Rattle.qz_types.specs.Rows.{is_calendar, is_trigger_spec};
+ghost use Rattle.qz_types.specs.Rows.{is_trigger_spec};
 ghost use Rattle.qz_job_json.specs.Faults.{ReadsAs};
 ghost use Rattle.qz_job_json.specs.Objects.{make_key};
 ghost use Rattle.qz_job_json.specs.Schedules as spec;
@@ -11,7 +11,7 @@ use crate::clocks::{days_at, second_or};
 use crate::faults::{LineError, LineFault};
 use crate::forms::{Form, KindWord};
 use crate::members::{
-    has_only, integer_or, name_at, name_or, number_at, optional_span_at, span_at, text_at,
+    has_only, integer_or, name_or, number_at, optional_name_at, optional_span_at, span_at, text_at,
 };
 use crate::objects::{make_keys, names_at};
 use qz_civil::{COUNT_LIMIT, DAY_SECONDS, EVERY_LIMIT, Kind, LONGEST, Timing, Unit, beside};
@@ -53,7 +53,7 @@ fn every_at(value: &Value) -> Option<u32>
     }
 }
 
-fn zone_at(value: &Value) -> Option<&str>
+pub(crate) fn zone_at(value: &Value) -> Option<&str>
     ensures value { option_map (λ text. text.now) result ≡ spec.zone_at (view value.now) }
     ensures valid { IfSome result (λ text. IsTrue (is_name text.now)) }
 {
@@ -184,18 +184,8 @@ fn priority_at(value: &Value) -> Option<i32>
     Some(priority as i32)
 }
 
-fn calendar_at(value: &Value) -> Option<Option<&str>>
-    ensures value { option_map (λ calendar. option_map (λ text. text.now) calendar) result ≡ spec.calendar_at (view value.now) }
-    ensures valid { IfSome result (λ calendar. IsTrue (is_calendar (option_map (λ text. text.now) calendar))) }
-{
-    match value.get("calendar") {
-        Some(_) => name_at(value, "calendar").map(Some),
-        None => Some(None),
-    }
-}
-
 /// Memory for the name of a calendar, if there is one.
-fn make_calendar(alloc: Global, name: Option<&str>) -> Result<Option<Text>, AllocError>
+pub(crate) fn make_calendar(alloc: Global, name: Option<&str>) -> Result<Option<Text>, AllocError>
     ensures { IfOk result (λ calendar. calendar ≡ option_map (λ text. text.now) name.entry) }
 {
     match name {
@@ -228,7 +218,7 @@ fn timed_trigger_of(alloc: Global, value: &Value, word: KindWord) -> Result<Trig
     let key = names_at(value, "group", "name").ok_or(LineFault::Shape)?;
     let job = names_at(value, "job_group", "job").ok_or(LineFault::Shape)?;
     let priority = priority_at(value).ok_or(LineFault::Shape)?;
-    let calendar = calendar_at(value).ok_or(LineFault::Shape)?;
+    let calendar = optional_name_at(value, "calendar").ok_or(LineFault::Shape)?;
     let timing = timing_of(alloc, value, word)?;
     let (timing, (calendar, (key, job))) = beside(timing, make_names(alloc, key, job, calendar))?;
     Ok(TriggerSpec {

@@ -1,57 +1,62 @@
 -- What the groups of device calls leave, from what each call does.
-use Rattle.std.proofs.Common.{◌≡◌, ℕ, List, length, drop, Result, false, sym, ◌∙◌, subst, ap, arith, length-take, length-drop}
+use Rattle.std.proofs.Common.{◌≡◌, ℕ, ◌+◌, ◌≤◌, List, length, Result, refl, sym, ◌∙◌, subst, arith}
 use Rattle.std.specs.Prelude.{Ok, Err, OnOk}
-use Rattle.std.specs.Result.{is_err, IsErr}
-use Rattle.qz_disk.specs.Disk.{DiskState, Torn, Only, Stays, LeavesOnly, IsLawful, Measured, Reads, Writes, Syncs, written}
-use Rattle.qz_disk.proofs.Moments.{started, goes_on, torn_same}
-use Rattle.qz_journal.specs.Through.{PutsThrough, OnlyReads, OnlyReadsUnless}
-use Rattle.qz_journal.proofs.Append.{on_ok}
+use Rattle.std.specs.Result.{IsErr}
+use Rattle.qz_disk.specs.Disk.{DiskState, Torn, Only, LeavesOnly, IsLawful, Reads, Writes, Syncs, written}
+use Rattle.qz_disk.proofs.Moments.{started, goes_on, then_leaves, torn_same}
+use Rattle.qz_journal.specs.Through.{PutsThrough, OnlyReads, OnlyReadsUnless, ReadsBetween}
 use Rattle.qz_journal.proofs.Undecided.{was_image}
-
-always : {T E : Type 0} (r : Result T E) (P : Type 0) → P → OnOk r P
-always (Ok x) P p = p
-always (Err e) P p = tt
-
-pub sync_leaves : {T E : Type 0} (r : Result T E) (s t : DiskState) → IsLawful s → Syncs r s t → LeavesOnly s t s.IsImage
-sync_leaves r s t lawful told = goes_on s s t s.IsImage (started s s.IsImage lawful (λ b is. is)) told.time told.images
-
--- a sync, and the length
-pub synced_length_leaves : {T E : Type 0} (r : Result T E) (s m t : DiskState) → IsLawful s → IsLawful m → Syncs r s m → Measured m t → LeavesOnly s t s.IsImage
-synced_length_leaves r s m t before between synced told =
-    let leaves = sync_leaves r s m before synced in
-    goes_on s m t s.IsImage leaves told.time (λ b is. was_image s m between leaves b ((told.same.images b).0 is))
-
-pub synced_length_durable : {T E U F : Type 0} (q : Result T E) (r : Result U F) (s m t : DiskState) → is_err q ≡ false → Syncs q s m → Measured m t → OnOk r (Only t.content t)
-synced_length_durable q r s m t ok synced told =
-    always r (Only t.content t) (λ b is. on_ok q _ ok synced.durable b ((told.same.images b).0 is) ∙ sym (on_ok q _ ok synced.content) ∙ sym told.same.content)
-
-pub synced_length_content : {T E U F : Type 0} (q : Result T E) (r : Result U F) (s m t : DiskState) → is_err q ≡ false → Syncs q s m → Measured m t → OnOk r (t.content ≡ s.content)
-synced_length_content q r s m t ok synced told = always r (t.content ≡ s.content) (told.same.content ∙ on_ok q _ ok synced.content)
-
--- and then a read from the first byte on
-pub read_reads : {T E : Type 0} (x : T) (into : List ℕ) (s m t : DiskState) → IsLawful m → m.content ≡ s.content → LeavesOnly s m s.IsImage → m.bytes_read ≡ s.bytes_read → Reads {E = E} 0 (Ok x) into m t → OnlyReads s t
-read_reads x into s m t lawful content leaves none told = record {
-  content = told.same.content ∙ content;
-  any_moment = goes_on s m t s.IsImage leaves told.time (λ b is. was_image s m lawful leaves b ((told.same.images b).0 is));
-  bytes_read = omega (arith, none, told.bytes_read, ap length told.bytes, length-take (length into) (drop 0 m.content), length-drop 0 m.content, ap length content);
-}
-
-pub read_fails : {T E : Type 0} (P : Type 0) (e : E) (into : List ℕ) (s m t : DiskState) → IsLawful m → m.content ≡ s.content → LeavesOnly s m s.IsImage → m.bytes_read ≡ s.bytes_read → length into ≡ length m.content → Reads {T = T} 0 (Err e) into m t → OnlyReadsUnless P s t
-read_fails P e into s m t lawful content leaves none long told = record {
-  content = λ _. told.same.content ∙ content;
-  any_moment = goes_on s m t s.IsImage leaves told.time (λ b is. was_image s m lawful leaves b ((told.same.images b).0 is));
-  bytes_read = omega (arith, none, told.failed, long, ap length content);
-}
 
 -- nothing was read
 pub reads_nothing : (P : Type 0) (s t : DiskState) → ((P → ⊥) → t.content ≡ s.content) → LeavesOnly s t s.IsImage → t.bytes_read ≡ s.bytes_read → OnlyReadsUnless P s t
 reads_nothing P s t content leaves none = record { content = content; any_moment = leaves; bytes_read = omega (arith, none) }
 
-pub unless : (P : Type 0) (s t : DiskState) → OnlyReads s t → OnlyReadsUnless P s t
-unless P s t reads = record { content = λ _. reads.content; any_moment = reads.any_moment; bytes_read = reads.bytes_read }
+-- one read, whether it failed or not
+pub read_between : {T E : Type 0} (r : Result T E) (at : ℕ) (into : List ℕ) (s t : DiskState) → IsLawful s → Reads at r into s t → ReadsBetween at (at + length into) s t
+read_between r at into s t lawful told = record {
+  content = told.same.content;
+  any_moment = goes_on s s t s.IsImage (started s s.IsImage lawful (λ b is. is)) told.time (λ b is. (told.same.images b).0 is);
+  bytes_read = most r told;
+}
+  where
+    most : {T E : Type 0} (r : Result T E) → Reads at r into s t → t.bytes_read + at ≤ s.bytes_read + (at + length into)
+    most (Ok x) told = omega (arith, told.bytes_read)
+    most (Err e) told = omega (arith, told.failed.1)
+
+-- no call
+pub none_between : (from until : ℕ) (s : DiskState) → IsLawful s → from ≤ until → ReadsBetween from until s s
+none_between from until s lawful le = record { content = refl; any_moment = started s s.IsImage lawful (λ b is. is); bytes_read = omega (arith, le) }
+
+-- one run of reads after another
+pub between_then : (from mid until : ℕ) (s m t : DiskState) → IsLawful m → ReadsBetween from mid s m → ReadsBetween mid until m t → ReadsBetween from until s t
+between_then from mid until s m t lawful first second = record {
+  content = second.content ∙ first.content;
+  any_moment = then_leaves s m t s.IsImage m.IsImage s.IsImage first.any_moment second.any_moment (λ b is. is) (λ b is. was_image s m lawful first.any_moment b is);
+  bytes_read = omega (arith, first.bytes_read, second.bytes_read);
+}
+
+pub between_more : (from until more : ℕ) (s t : DiskState) → until ≤ more → ReadsBetween from until s t → ReadsBetween from more s t
+between_more from until more s t le reads = record { content = reads.content; any_moment = reads.any_moment; bytes_read = omega (arith, le, reads.bytes_read) }
+
+-- a sync and the length, and then reads
+pub synced_then : (until : ℕ) (s m t : DiskState) → IsLawful m → m.content ≡ s.content → LeavesOnly s m s.IsImage → m.bytes_read ≡ s.bytes_read → ReadsBetween 0 until m t → ReadsBetween 0 until s t
+synced_then until s m t lawful content leaves none reads =
+    between_then 0 0 until s m t lawful (record { content = content; any_moment = leaves; bytes_read = omega (arith, none) }) reads
+
+pub only_reads : (until : ℕ) (s t : DiskState) → until ≤ length s.content → ReadsBetween 0 until s t → OnlyReads s t
+only_reads until s t le reads = record { content = reads.content; any_moment = reads.any_moment; bytes_read = omega (arith, le, reads.bytes_read) }
+
+pub only_reads_unless : (P : Type 0) (until : ℕ) (s t : DiskState) → until ≤ length s.content → ReadsBetween 0 until s t → OnlyReadsUnless P s t
+only_reads_unless P until s t le reads = record { content = λ _. reads.content; any_moment = reads.any_moment; bytes_read = omega (arith, le, reads.bytes_read) }
+
+pub still_only : (from until : ℕ) (s t : DiskState) → IsLawful t → ReadsBetween from until s t → Only s.content s → Only t.content t
+still_only from until s t lawful reads only b is = only b (was_image s t lawful reads.any_moment b is) ∙ sym reads.content
 
 pub unless_by : (P Q : Type 0) (s t : DiskState) → (P → Q) → OnlyReadsUnless P s t → OnlyReadsUnless Q s t
 unless_by P Q s t by reads = record { content = λ not_q. reads.content (λ p. not_q (by p)); any_moment = reads.any_moment; bytes_read = reads.bytes_read }
+
+pub unless : (P : Type 0) (s t : DiskState) → OnlyReads s t → OnlyReadsUnless P s t
+unless P s t reads = record { content = λ _. reads.content; any_moment = reads.any_moment; bytes_read = reads.bytes_read }
 
 pub write_leaves : {T E : Type 0} (r : Result T E) (at : ℕ) (bytes from : List ℕ) (s t : DiskState) → IsLawful s → Writes at bytes r s t → Only from s → LeavesOnly s t (Torn at (length bytes) from)
 write_leaves r at bytes from s t lawful told only =
@@ -87,16 +92,3 @@ puts x r at bytes s m t before between wrote synced = record {
     wrote_through : {T E : Type 0} (r : Result T E) → Syncs r m t → OnOk r (t.content ≡ written at bytes s.content)
     wrote_through (Ok y) synced = synced.content ∙ wrote.content
     wrote_through (Err e) synced = tt
-
-pub both_stay : (s m t : DiskState) → Stays s m → Stays m t → Stays s t
-both_stay s m t first second = record {
-  content = second.content ∙ first.content;
-  images = λ b. (λ is. (first.images b).0 ((second.images b).0 is), λ is. (second.images b).1 ((first.images b).1 is));
-}
-
-pub len_leaves : (s t : DiskState) → IsLawful s → Measured s t → LeavesOnly s t s.IsImage
-len_leaves s t lawful told = goes_on s s t s.IsImage (started s s.IsImage lawful (λ b is. is)) told.time (λ b is. (told.same.images b).0 is)
-
--- the length, and a read
-pub front_leaves : {T E : Type 0} (r : Result T E) (at : ℕ) (into : List ℕ) (s m t : DiskState) → IsLawful s → Measured s m → Reads at r into m t → LeavesOnly s t s.IsImage
-front_leaves r at into s m t lawful measured told = goes_on s m t s.IsImage (len_leaves s m lawful measured) told.time (λ b is. (measured.same.images b).0 ((told.same.images b).0 is))

@@ -1,5 +1,5 @@
 -- What an opening or a creation finds in the bytes of a disk.
-use Rattle.std.specs.Prelude.{⊤, ◌≡◌, ◌≢◌, ◌⊎◌, ℕ, List, [], ◌∷◌, ◌++◌, take, drop, All, Ok, Err}
+use Rattle.std.specs.Prelude.{⊤, Bool, true, false, ◌≡◌, ◌≢◌, ◌⊎◌, ℕ, List, [], ◌∷◌, ◌++◌, take, drop, All, Ok, Err}
 use Rattle.std.specs.declared.result.Result.{Result}
 use Rattle.qz_journal.specs.declared.errors.CreateError.{CreateError}
 use Rattle.qz_journal.specs.declared.errors.CreateError.TheVariants as create
@@ -15,6 +15,10 @@ IsCut bytes = (payload rest : List ℕ) → IsPayload payload → bytes ≢ body
 abbrev pub IsBad : List ℕ → Type 0
 IsBad tail = (tail ≡ []) ⊎ ((rest : List ℕ) × (tail ≡ open_gate ∷ rest) × IsCut rest)
 
+-- a gate that isn't open
+abbrev pub IsShut : List ℕ → Type 0
+IsShut tail = (gate : ℕ) × (rest : List ℕ) × (tail ≡ gate ∷ rest) × (gate ≢ open_gate)
+
 -- Behind the blocks of these payloads, at this offset, the gate is missing, or it is open and what follows it is cut.
 pub record IsDamagedBehind (bytes : List ℕ) (kind : ℕ) (payloads : List (List ℕ)) (at : ℕ) : Type 0 where
   pub sizes : All IsPayload payloads
@@ -23,6 +27,13 @@ pub record IsDamagedBehind (bytes : List ℕ) (kind : ℕ) (payloads : List (Lis
   pub whole : drop 16 bytes ≡ blocks payloads ++ tail
   pub at_is : at ≡ end_of payloads
   pub bad : IsBad tail
+
+-- After the header and the blocks of these payloads a gate is closed, or else it is missing or what follows it is cut.
+pub record EndsAt (bytes : List ℕ) (payloads : List (List ℕ)) (is_whole : Bool) : Type 0 where
+  pub tail : List ℕ
+  pub whole : drop 16 bytes ≡ blocks payloads ++ tail
+  pub shut : is_whole ≡ true → IsShut tail
+  pub stuck : is_whole ≡ false → IsBad tail
 
 -- Behind the blocks of some payloads the bytes are damaged, at this offset. Since all before it is whole, it is the
 -- least such place.

@@ -5,7 +5,7 @@ ghost use Rattle.qz_journal.specs.Opening.{IsDamaged};
 
 use crate::layout::{
     CLOSED_GATE, FRAME_LENGTH, HEADER_LENGTH, MAX_BYTES, MAX_PAYLOAD, MAX_PAYLOADS, OPEN_GATE,
-    STATES, TRIGGERS, VERSION,
+    STATES, TRIGGERS, VERSION, WINDOW,
 };
 
 /// Bytes hold at most one list of payloads, or are damaged at one offset, and never both; and they begin as a store of
@@ -18,7 +18,7 @@ pub fn layout_is_unique()
     ensures header { (bytes : List ℕ) (kind : ℕ) → IsHeader kind (take 16 bytes) → IsStore kind bytes }
 {}
 
-/// The numbers of the format, each as a literal.
+/// The numbers of the format, and how far an opening looks past a gate, each as a literal.
 pub fn format_is()
     ensures kinds { (TRIGGERS ≡ 84) × (STATES ≡ 83) }
     ensures front { (kind : ℕ) → front_of VERSION kind ≡ 81 ∷ 90 ∷ 50 ∷ 51 ∷ 1 ∷ kind ∷ [] }
@@ -27,4 +27,5 @@ pub fn format_is()
     ensures payload { MAX_PAYLOAD ≡ 32768 }
     ensures frame { FRAME_LENGTH ≡ 5 }
     ensures limits { (MAX_BYTES ≡ 2 ^ 28) × (MAX_PAYLOADS ≡ 2 ^ 22) }
+    ensures window { WINDOW ≡ 65536 }
 {}

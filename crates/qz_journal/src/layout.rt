@@ -29,6 +29,12 @@ pub(crate) const FRAME_LENGTH: usize = 5;
 // The length of the longest commit: the length of a payload, the payload and a gate.
 pub(crate) const MAX_COMMIT: usize = MAX_PAYLOAD + FRAME_LENGTH;
 
+// The length of the longest block: a gate, the length of a payload and the payload.
+pub(crate) const MAX_BLOCK: usize = FRAME_LENGTH + MAX_PAYLOAD;
+
+// How many bytes of a store an opening looks at in one piece: more than the longest block has.
+pub(crate) const WINDOW: usize = 1 << 16;
+
 pub(crate) const OPEN_GATE: u8 = 0xa5;
 
 pub(crate) const CLOSED_GATE: u8 = 0;

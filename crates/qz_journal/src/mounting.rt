@@ -6,47 +6,12 @@ ghost use Rattle.qz_journal.specs.Layout.{Holds, end_of};
 ghost use Rattle.qz_journal.specs.Opening.{IsRefused, IsRefusedBehind};
 ghost use Rattle.qz_journal.specs.Through.{OnlyReads, OnlyReadsUnless};
 
-use crate::layout::MAX_COMMIT;
-use crate::parsing::{Parsed, parse};
+use crate::layout::{MAX_COMMIT, WINDOW};
+use crate::reading::{Found, read_payloads};
 use crate::{Journal, MountError};
 use qz_civil::{Failed, List};
 use qz_disk::Disk;
 use std::alloc::Global;
-
-// Syncs, and asks for the length.
-fn synced_length<D: Disk>(disk: &mut D) -> Result<u64, Failed>
-    ensures length { IfOk result (λ n. n ≡ D.len disk.new) }
-    ensures durable { D.honest → OnOk result (Only (D.state disk.new).content (D.state disk.new)) }
-    ensures content { D.honest → OnOk result ((D.state disk.new).content ≡ (D.state disk.old).content) }
-    ensures any_moment { D.honest → LeavesOnly (D.state disk.old) (D.state disk.new) (D.state disk.old).IsImage }
-    ensures bytes_read { D.honest → (D.state disk.new).bytes_read ≡ (D.state disk.old).bytes_read }
-    ensures cause { HasCause (D.faults disk.old) (D.faults disk.new) result }
-{
-    disk.sync()?;
-    disk.len()
-}
-
-// Syncs, and reads all in one call.
-fn read_all<D: Disk>(alloc: Global, disk: &mut D) -> Result<Vec<u8>, MountError>
-    ensures bytes { D.honest → IfOk result (λ bytes. bytes.items ≡ (D.state disk.old).content) }
-    ensures length { IfOk result (λ bytes. length bytes.items ≡ D.len disk.new) }
-    ensures durable { D.honest → OnOk result (Only (D.state disk.new).content (D.state disk.new)) }
-    ensures reads { D.honest → OnOk result (OnlyReads (D.state disk.old) (D.state disk.new)) }
-    ensures reads_err { D.honest → IfErr result (λ e. OnlyReadsUnless (e ≡ MountError.Fault) (D.state disk.old) (D.state disk.new)) }
-    ensures later { D.faults disk.old ≤ D.faults disk.new }
-    ensures fault { IfErr result (λ e. (e ≡ MountError.NoMemory) ⊎ ((e ≡ MountError.Fault) × Rose (D.faults disk.old) (D.faults disk.new))) }
-{
-    let Ok(len) = synced_length(disk) else {
-        return Err(MountError::Fault);
-    };
-    let Ok(mut bytes) = vec![in alloc; 0; len as usize] else {
-        return Err(MountError::NoMemory);
-    };
-    if disk.read(0, &mut bytes).is_err() {
-        return Err(MountError::Fault);
-    }
-    Ok(bytes)
-}
 
 impl<D: Disk> Journal<D> {
     /// Opens the journal of this kind, `TRIGGERS` or `STATES`, on a disk, and gives its payloads. It syncs
@@ -60,6 +25,8 @@ impl<D: Disk> Journal<D> {
         ensures ground { IfOk result (λ r. (r.0.kind ≡ kind) × (r.0.closed ≡ None)
             × (r.0.gate ≡ end_of r.1) × (r.0.count ≡ length r.1)) }
         ensures reads { D.honest → IfOk result (λ r. OnlyReads (D.state disk) (D.state r.0.disk)) }
+        // No more is read than the gates lead to, and so far past the closed one.
+        ensures reads_ahead { D.honest → IfOk result (λ r. (D.state r.0.disk).bytes_read ≤ (D.state disk).bytes_read + (end_of r.1 + WINDOW)) }
         ensures reads_err { D.honest → IfErr result (λ e. OnlyReadsUnless (e.0 ≡ MountError.Fault) (D.state disk) (D.state e.1)) }
         ensures refused { D.honest → IfErr result (λ e. IsRefused (D.state disk).content kind e.0) }
         // If the bytes hold a list, it is that list, or memory or the disk fails.
@@ -87,6 +54,7 @@ impl<D: Disk> Journal<D> {
         ensures ground { IfOk result (λ r. (r.0.kind ≡ kind) × (r.0.closed ≡ None)
             × (r.0.gate ≡ end_of r.1) × (r.0.count ≡ length r.1)) }
         ensures reads { D.honest → IfOk result (λ r. OnlyReads (D.state disk) (D.state r.0.disk)) }
+        ensures reads_ahead { D.honest → IfOk result (λ r. (D.state r.0.disk).bytes_read ≤ (D.state disk).bytes_read + (end_of r.1 + WINDOW)) }
         ensures reads_err { D.honest → IfErr result (λ e. OnlyReadsUnless (e.0 ≡ MountError.Fault) (D.state disk) (D.state e.2)) }
         ensures refused { D.honest → IfErr result (λ e. IsRefusedBehind (D.state disk).content kind e.1 e.0) }
         // the place after the payloads is an offset
@@ -95,19 +63,15 @@ impl<D: Disk> Journal<D> {
         ensures fault { IfErr result (λ e. (D.faults disk ≤ D.faults e.2)
             × (e.0 ≡ MountError.Fault → Rose (D.faults disk) (D.faults e.2))) }
     {
-        let bytes = match read_all(alloc, &mut disk) {
-            Ok(bytes) => bytes,
+        let found = match read_payloads(alloc, &mut disk, kind) {
+            Ok(found) => found,
             Err(error) => return Err((error, List::new(alloc), disk)),
         };
-        let parsed = match parse(alloc, &bytes, kind) {
-            Ok(parsed) => parsed,
-            Err(error) => return Err((error, List::new(alloc), disk)),
-        };
-        let Parsed {
+        let Found {
             payloads,
             gate,
             is_whole,
-        } = parsed;
+        } = found;
         if !is_whole {
             return Err((MountError::Damaged { at: gate }, payloads, disk));
         }
@@ -150,6 +114,7 @@ impl<D: Disk> Journal<D> {
             × (self.new.gate ≡ self.old.gate) × (self.new.count ≡ self.old.count)) }
         ensures same_kind { self.new.kind ≡ self.old.kind }
         ensures reads { D.honest → OnOk result (OnlyReads (D.state self.old.disk) (D.state self.new.disk)) }
+        ensures reads_ahead { D.honest → IfOk result (λ payloads. (D.state self.new.disk).bytes_read ≤ (D.state self.old.disk).bytes_read + (end_of payloads + WINDOW)) }
         ensures reads_err { D.honest → IfErr result (λ e. OnlyReadsUnless (e ≡ MountError.Fault) (D.state self.old.disk) (D.state self.new.disk)) }
         ensures refused { D.honest → IfErr result (λ e. IsRefused (D.state self.old.disk).content self.old.kind e) }
         ensures whole { D.honest → (payloads : List (List ℕ)) → Holds (D.state self.old.disk).content self.old.kind payloads
@@ -158,12 +123,11 @@ impl<D: Disk> Journal<D> {
         ensures fault { result ≡ Err MountError.Fault → Rose (D.faults self.old.disk) (D.faults self.new.disk) }
     {
         self.closed = Some(self.gate);
-        let bytes = read_all(alloc, &mut self.disk)?;
-        let Parsed {
+        let Found {
             payloads,
             gate,
             is_whole,
-        } = parse(alloc, &bytes, self.kind)?;
+        } = read_payloads(alloc, &mut self.disk, self.kind)?;
         if !is_whole {
             return Err(MountError::Damaged { at: gate });
         }

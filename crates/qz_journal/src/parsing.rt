@@ -1,69 +1,40 @@
-//! The bytes of a store file, read gate by gate.
-ghost use Rattle.std.specs.Prelude.{◌≡◌, ◌⊎◌, ◌+◌, ◌≤◌, ◌++◌, ◌∷◌, [], ℕ, length, take, IfOk, IfErr, OnOk, true, false};
-ghost use Rattle.qz_journal.specs.Layout.{IsHeader, Holds, end_of};
-ghost use Rattle.qz_journal.specs.Opening.{IsDamagedBehind};
+//! The blocks of a store, taken gate by gate.
+ghost use Rattle.std.specs.Prelude.{◌≡◌, ◌≤◌, ◌++◌, ◌∷◌, [], ℕ, All, length, IfOk, IfErr, OnOk, true, false};
+ghost use Rattle.qz_journal.specs.Layout.{IsPayload, blocks};
+ghost use Rattle.qz_journal.specs.Opening.{IsShut, IsBad};
 
 use crate::MountError;
-use crate::layout::{FRAME_LENGTH, HEADER_LENGTH, is_header, is_open, split_block};
+use crate::layout::{is_open, split_block};
 use qz_civil::List;
 use std::alloc::Global;
 
-// What the bytes of a store hold: payloads, and after them a closed gate or a bad place, at the offset `gate`.
-#[derive(Drop)]
-pub(crate) struct Parsed {
-    pub(crate) payloads: List<List<u8>>,
-    pub(crate) gate: u64,
-    pub(crate) is_whole: bool,
-}
-
-// The payloads in these bytes, up to a closed gate or to the first bad place.
-pub(crate) fn parse(alloc: Global, bytes: &[u8], kind: u8) -> Result<Parsed, MountError>
-    ensures whole { IfOk result (λ p. p.is_whole ≡ true → Holds bytes.now kind p.payloads) }
-    ensures damaged { IfOk result (λ p. p.is_whole ≡ false → IsDamagedBehind bytes.now kind p.payloads p.gate) }
-    ensures gate { IfOk result (λ p. p.gate ≡ end_of p.payloads) }
-    ensures err { IfErr result (λ e. (e ≡ MountError.NoMemory) ⊎ ((e ≡ MountError.NotAStore) × (IsHeader kind (take 16 bytes.now) → ⊥))) }
+// Adds the payloads of the whole blocks that these bytes begin with. Gives the bytes after them, and whether a closed gate
+// stands there; else the gate is missing, or what follows it isn't a whole block.
+pub(crate) fn take_blocks<'a>(
+    alloc: Global,
+    payloads: &mut List<List<u8>>,
+    bytes: &'a [u8],
+) -> Result<(&'a [u8], bool), MountError>
+    ensures whole { IfOk result (λ r. blocks payloads.old ++ bytes.now ≡ blocks payloads.new ++ r.0.now) }
+    ensures shorter { IfOk result (λ r. length r.0.now ≤ length bytes.now) }
+    ensures sizes { All IsPayload payloads.old → OnOk result (All IsPayload payloads.new) }
+    ensures shut { IfOk result (λ r. r.1 ≡ true → IsShut r.0.now) }
+    ensures stuck { IfOk result (λ r. r.1 ≡ false → IsBad r.0.now) }
+    ensures err { IfErr result (λ e. e ≡ MountError.NoMemory) }
 {
-    if bytes.len() < HEADER_LENGTH {
-        return Err(MountError::NotAStore);
-    }
-    let (front, behind) = bytes.split_at(HEADER_LENGTH);
-    if !is_header(kind, front) {
-        return Err(MountError::NotAStore);
-    }
-    let mut payloads = List::new(alloc);
-    let mut gate = HEADER_LENGTH as u64;
-    let mut rest = behind;
+    let mut rest = bytes;
     'walk: while let Some((first, behind)) = rest.split_first() {
         let open = is_open(*first);
         if !open {
-            return Ok(Parsed {
-                payloads,
-                gate,
-                is_whole: true,
-            });
+            return Ok((rest, true));
         }
         let Some((payload, after)) = split_block(behind) else {
-            return Ok(Parsed {
-                payloads,
-                gate,
-                is_whole: false,
-            });
+            return Ok((rest, false));
         };
-        match add(alloc, &mut payloads, payload) {
-            Ok(()) => {}
-            Err(error) => {
-                drop(payloads);
-                return Err(error);
-            }
-        }
-        gate += (FRAME_LENGTH + payload.len()) as u64;
+        add(alloc, payloads, payload)?;
         rest = after;
     }
-    Ok(Parsed {
-        payloads,
-        gate,
-        is_whole: false,
-    })
+    Ok((rest, false))
 }
 
 // Adds a copy of a payload at the end.

@@ -160,6 +160,106 @@ fn inputs_end_in_their_ways(rt: HostRuntime) -> Result<(), AllocError> {
     check(&rt, rt.alloc(), ENDS)
 }
 
+// Lines of calendars and of triggers that name them, with their replies.
+const CALENDARS: &[EndRow] = &[
+    // A weekly calendar excludes Saturdays and Sundays, and the holiday calendar over it Monday, 2024-01-08.
+    (
+        r#"{"do":"add_calendar","calendar":{"name":"w","kind":"weekly"}}
+{"do":"add_calendar","calendar":{"name":"h","base":"w","kind":"holiday","dates":["2024-01-08"]}}
+{"do":"add_trigger","trigger":{"name":"t","job":"j","start":1704499200000,"kind":"simple","interval":86400000,"count":-1,"calendar":"h"}}
+{"do":"add_trigger","trigger":{"name":"u","job":"j","start":1704499200000,"kind":"simple","interval":86400000,"count":-1,"calendar":"w"}}
+"#,
+        "ok\nok\ntimes DEFAULT/t 1704758400000\ntimes DEFAULT/u 1704672000000\n",
+        TimesEnd::Done,
+    ),
+    // A calendar is read in its own zone. Its zone and its base are known before it.
+    (
+        r#"{"do":"add_zone","name":"E","stretches":[[0,64800]]}
+{"do":"add_calendar","calendar":{"name":"a","zone":"E","kind":"weekly","days":[2,3,4,5,6,7]}}
+{"do":"add_calendar","calendar":{"name":"b","zone":"F","kind":"weekly"}}
+{"do":"add_calendar","calendar":{"name":"b","base":"b","zone":"F","kind":"weekly"}}
+{"do":"add_trigger","trigger":{"name":"t","job":"j","start":1704067200000,"kind":"cron","cron":"0 0 * * * ?","calendar":"a"}}
+{"do":"add_trigger","trigger":{"name":"t","job":"j","start":0,"kind":"cron","cron":"0 0 * * * ?","zone":"F","calendar":"b"}}
+{"do":"add_trigger","trigger":{"name":"t","job":"j","start":0,"kind":"cron","cron":"0 0 * * * ?","zone":"F","calendar":"a"}}
+"#,
+        "ok\nok\nrefused 6\nrefused 5\ntimes DEFAULT/t 1704520800000\nrefused 5\nrefused 6\n",
+        TimesEnd::Done,
+    ),
+    // One of its name is replaced where that is asked, unless it would be below itself. The others' chains follow.
+    (
+        r#"{"do":"add_calendar","calendar":{"name":"a","kind":"weekly","days":[]}}
+{"do":"add_calendar","calendar":{"name":"a","kind":"weekly","days":[]}}
+{"do":"add_calendar","calendar":{"name":"b","base":"a","kind":"weekly","days":[]}}
+{"do":"add_calendar","calendar":{"name":"a","base":"b","kind":"weekly"}}
+{"do":"add_calendar","calendar":{"name":"a","base":"b","kind":"weekly"},"replace":true}
+{"do":"add_calendar","calendar":{"name":"a","base":"a","kind":"weekly"},"replace":true}
+{"do":"add_calendar","calendar":{"name":"a","kind":"weekly","days":[5]},"replace":true}
+{"do":"add_trigger","trigger":{"name":"t","job":"j","start":604800000,"kind":"simple","interval":86400000,"count":-1,"calendar":"b"}}
+"#,
+        "ok\nrefused 9\nok\nrefused 9\nrefused 12 at 1\nrefused 12 at 0\nok\ntimes DEFAULT/t 691200000\n",
+        TimesEnd::Done,
+    ),
+    // A chain has at most eight calendars, also where one in its middle or at its end is replaced.
+    (
+        r#"{"do":"add_calendar","calendar":{"name":"1","kind":"weekly","days":[]}}
+{"do":"add_calendar","calendar":{"name":"2","base":"1","kind":"weekly","days":[]}}
+{"do":"add_calendar","calendar":{"name":"3","base":"2","kind":"weekly","days":[]}}
+{"do":"add_calendar","calendar":{"name":"4","base":"3","kind":"weekly","days":[]}}
+{"do":"add_calendar","calendar":{"name":"5","base":"4","kind":"weekly","days":[]}}
+{"do":"add_calendar","calendar":{"name":"6","base":"5","kind":"weekly","days":[]}}
+{"do":"add_calendar","calendar":{"name":"7","base":"6","kind":"weekly","days":[]}}
+{"do":"add_calendar","calendar":{"name":"8","base":"7","kind":"weekly","days":[]}}
+{"do":"add_calendar","calendar":{"name":"9","base":"8","kind":"weekly","days":[]}}
+{"do":"add_calendar","calendar":{"name":"x","kind":"weekly"}}
+{"do":"add_calendar","calendar":{"name":"1","base":"x","kind":"weekly","days":[]},"replace":true}
+{"do":"add_calendar","calendar":{"name":"2","base":"x","kind":"weekly","days":[]},"replace":true}
+{"do":"add_calendar","calendar":{"name":"1","base":"x","kind":"weekly","days":[]},"replace":true}
+{"do":"add_trigger","trigger":{"name":"t","job":"j","start":172800000,"kind":"simple","interval":86400000,"count":-1,"calendar":"8"}}
+"#,
+        "ok\nok\nok\nok\nok\nok\nok\nok\nrefused 22 count 8\nok\nrefused 22 count 8\nok\nok\ntimes DEFAULT/t 345600000\n",
+        TimesEnd::Done,
+    ),
+];
+
+#[test]
+fn calendars_are_stored_or_refused(rt: HostRuntime) -> Result<(), AllocError> {
+    check(&rt, rt.alloc(), CALENDARS)
+}
+
+// Lines of 4097 calendars.
+fn many_calendars(alloc: Global) -> Result<String, AllocError> {
+    let mut lines = String::new(alloc);
+    for number in 0..4097 {
+        let line = format!(in alloc;
+            "{{\"do\":\"add_calendar\",\"calendar\":{{\"name\":\"{number}\",\"kind\":\"weekly\"}}}}\n"
+        )?;
+        lines.push_str(line.as_str())?;
+    }
+    Ok(lines)
+}
+
+fn many_replies(alloc: Global) -> Result<String, AllocError> {
+    let mut replies = String::new(alloc);
+    for _ in 0..4096 {
+        replies.push_str("ok\n")?;
+    }
+    replies.push_str("refused 22 count 4096\n")?;
+    Ok(replies)
+}
+
+fn end_of_many(alloc: Global) -> Result<Option<TimesEnd>, AllocError> {
+    let lines = many_calendars(alloc)?;
+    let lines = bytes_of(alloc, lines.as_str())?;
+    let (lines, replies) = beside(lines, many_replies(alloc))?;
+    Ok(end_of(alloc, lines, replies.as_str(), FIRST))
+}
+
+#[test]
+fn at_most_4096_calendars(rt: HostRuntime) -> Result<(), AllocError> {
+    assert!(rt; end_of_many(rt.alloc())? == Some(TimesEnd::Done));
+    Ok(())
+}
+
 const FIRST: Query = Query { after: 0, count: 1 };
 
 // The plan of failures in which this call fails.

@@ -37,7 +37,7 @@ fn place(fault: Option<ReadError>) -> Option<u32> {
     }
 }
 
-fn row_place<R: Packed + Drop>(alloc: Global, bytes: &[u8]) -> Option<u32> {
+fn row_place<R: Recorded>(alloc: Global, bytes: &[u8]) -> Option<u32> {
     place(get_row::<R>(alloc, bytes).err())
 }
 
@@ -71,8 +71,8 @@ fn state_entry_again(alloc: Global, record: &[u8]) -> Option<List<u8>> {
     bytes
 }
 
-fn row_again<R: Packed + Drop>(alloc: Global, record: &[u8]) -> Option<List<u8>>
-    requires { (row : R) → R.can_pack row }
+fn row_again<R: Recorded>(alloc: Global, record: &[u8]) -> Option<List<u8>>
+    requires { (row : R) → R.can_put row }
 {
     let row = get_row::<R>(alloc, record).ok()?;
     let bytes = put_row(alloc, &row).ok();

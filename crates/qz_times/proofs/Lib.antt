@@ -1,3 +1,4 @@
+pub mod ChainSteps
 pub mod ChainLaws
 pub mod SaidLaws
 pub mod RunLaws

@@ -22,6 +22,7 @@ use Rattle.qz_times.specs.declared.ends.LineEnd.TheVariants as ends
 use Rattle.qz_times.specs.declared.ends.TimesEnd.{TimesEnd}
 use Rattle.qz_times.specs.declared.ends.TimesEnd.TheVariants as times
 use Rattle.qz_times.specs.Runs.{IsRun}
+use Rattle.qz_times.specs.Known.{kept, nothing}
 use Rattle.qz_times.specs.Said.{line_meaning, AllSaid}
 use Rattle.qz_times.specs.Answers.{Answers, Finishes, end_of}
 use Rattle.qz_times.proofs.SaidLaws.{AllSaid-none, AllSaid-one}
@@ -49,7 +50,7 @@ module _ {K : Type 0} (k : sink.Ghosts K) where
   pub record AllAnswered (lines : List (List ℕ)) (old new : State) : Type 0 where
     pub query : new.handler.query ≡ old.handler.query
     pub text : List ℕ
-    pub said : AllSaid old.handler.query old.handler.zones.entries lines text new.handler.zones.entries
+    pub said : AllSaid old.handler.query (kept old.handler.known) lines text (kept new.handler.known)
     pub written : Appends (k.held old.out) (k.held new.out) text
     pub later : k.faults old.out ≤ k.faults new.out
 
@@ -57,7 +58,7 @@ module _ {K : Type 0} (k : sink.Ghosts K) where
   all_answered [] old new same = subst (AllAnswered [] old) (sym same) (record {
     query = refl;
     text = [];
-    said = AllSaid-none old.handler.query old.handler.zones.entries;
+    said = AllSaid-none old.handler.query (kept old.handler.known);
     written = Appends-nil (k.held old.out);
     later = omega arith;
   })
@@ -69,9 +70,9 @@ module _ {K : Type 0} (k : sink.Ghosts K) where
         said = (
           one.done.0,
           more.text,
-          between.handler.zones.entries,
+          (kept between.handler.known),
           one.done.1,
-          subst (λ q. AllSaid q between.handler.zones.entries lines more.text new.handler.zones.entries) one.query more.said,
+          subst (λ q. AllSaid q (kept between.handler.known) lines more.text (kept new.handler.known)) one.query more.said,
           refl,
         );
         written = Appends-trans (k.held old.out) (k.held between.out) (k.held new.out) one.done.0 more.text one.done.2 more.written;
@@ -82,19 +83,19 @@ module _ {K : Type 0} (k : sink.Ghosts K) where
   abbrev at : Option (List ℕ) → K → Outside
   at left out = record { left = left; held = k.held out; handed = k.handed out; readings = None }
 
-  -- what was said to the lines, where the first of them found no zone
-  said_first : (lines : List (List ℕ)) (a s : State) (answered : AllAnswered lines a s) → a.handler.zones.entries ≡ [] → AllSaid a.handler.query [] lines answered.text s.handler.zones.entries
-  said_first lines a s answered empty = subst (λ zs. AllSaid a.handler.query zs lines answered.text s.handler.zones.entries) empty answered.said
+  -- what was said to the lines, where the first of them found nothing known
+  said_first : (lines : List (List ℕ)) (a s : State) (answered : AllAnswered lines a s) → kept a.handler.known ≡ nothing → AllSaid a.handler.query nothing lines answered.text (kept s.handler.known)
+  said_first lines a s answered empty = subst (λ known. AllSaid a.handler.query known lines answered.text (kept s.handler.known)) empty answered.said
 
   -- All lines were answered, and then all that the output holds was handed on, or that failed.
-  pub IsRun-whole : (e : TimesEnd) (i j : Option (List ℕ)) (a b : State) (out : K) (m n : ℕ) → a.handler.zones.entries ≡ [] → HandlesLines (Answers k) (Ok tt) i j a b
+  pub IsRun-whole : (e : TimesEnd) (i j : Option (List ℕ)) (a b : State) (out : K) (m n : ℕ) → kept a.handler.known ≡ nothing → HandlesLines (Answers k) (Ok tt) i j a b
       → Finishes e (output_alone k b.out) (output_alone k out) m n → IsRun e a.handler.query (at i a.out) (at j out)
   IsRun-whole times.Done i j a b out m n empty lines finishes =
       let answered = all_answered lines.lines a lines.state lines.handled in
       record {
         lines = lines.lines;
         text = answered.text;
-        zones = lines.state.handler.zones.entries;
+        known = kept lines.state.handler.known;
         said = said_first lines.lines a lines.state answered empty;
         ends = record {
           all = lines.ends.all;
@@ -109,14 +110,14 @@ module _ {K : Type 0} (k : sink.Ghosts K) where
       record {
         lines = lines.lines;
         text = answered.text;
-        zones = lines.state.handler.zones.entries;
+        known = kept lines.state.handler.known;
         said = said_first lines.lines a lines.state answered empty;
         ends = record {
           last = [];
           one = omega arith;
           its = [];
-          after = lines.state.handler.zones.entries;
-          said = AllSaid-none a.handler.query lines.state.handler.zones.entries;
+          after = kept lines.state.handler.known;
+          said = AllSaid-none a.handler.query (kept lines.state.handler.known);
           begins = λ bytes is. record { rest = []; all = lines.ends.all bytes is ∙ sym (append-nil lines.lines) ∙ sym (append-nil (lines.lines ++ [])) };
           count = 0;
           written = subst (Appends (k.held a.out) (k.held out)) (sym (append-nil answered.text))
@@ -133,14 +134,14 @@ module _ {K : Type 0} (k : sink.Ghosts K) where
   same_out i s b text same written = subst (λ z. Appends i (k.held z.out) text) (sym same) written
 
   -- The lines ended before the input's end.
-  pub IsRun-stopped : (e : LinesEnd LineEnd) (i j : Option (List ℕ)) (a b : State) → a.handler.zones.entries ≡ [] → HandlesLines (Answers k) (Err e) i j a b
+  pub IsRun-stopped : (e : LinesEnd LineEnd) (i j : Option (List ℕ)) (a b : State) → kept a.handler.known ≡ nothing → HandlesLines (Answers k) (Err e) i j a b
       → IsRun (end_of e) a.handler.query (at i a.out) (at j b.out)
   IsRun-stopped (lines_end.Refused number (ends.Bad f)) i j a b empty lines =
       let answered = all_answered lines.lines a lines.state lines.handled in
       record {
         lines = lines.lines;
         text = answered.text;
-        zones = lines.state.handler.zones.entries;
+        known = kept lines.state.handler.known;
         said = said_first lines.lines a lines.state answered empty;
         ends = record {
           number_is = lines.ends.number_is;
@@ -154,15 +155,15 @@ module _ {K : Type 0} (k : sink.Ghosts K) where
       record {
         lines = lines.lines;
         text = answered.text;
-        zones = lines.state.handler.zones.entries;
+        known = kept lines.state.handler.known;
         said = said_first lines.lines a lines.state answered empty;
         ends = record {
           last = lines.ends.line ∷ [];
           one = omega arith;
           its = part.text;
           after = part.after;
-          said = subst (λ q. AllSaid q lines.state.handler.zones.entries (lines.ends.line ∷ []) part.text part.after) answered.query
-              (AllSaid-one lines.state.handler.query lines.state.handler.zones.entries lines.ends.line part.text part.after part.said);
+          said = subst (λ q. AllSaid q (kept lines.state.handler.known) (lines.ends.line ∷ []) part.text part.after) answered.query
+              (AllSaid-one lines.state.handler.query (kept lines.state.handler.known) lines.ends.line part.text part.after part.said);
           begins = lines.ends.next;
           count = part.count;
           written = Appends-trans (k.held a.out) (k.held lines.state.out) (k.held b.out) answered.text (take part.count part.text) answered.written part.written;
@@ -173,7 +174,7 @@ module _ {K : Type 0} (k : sink.Ghosts K) where
       record {
         lines = lines.lines;
         text = answered.text;
-        zones = lines.state.handler.zones.entries;
+        known = kept lines.state.handler.known;
         said = said_first lines.lines a lines.state answered empty;
         ends = record {
           begins = λ bytes is. begins_more bytes lines.ends.line lines.lines (lines.ends.next bytes is);
@@ -185,7 +186,7 @@ module _ {K : Type 0} (k : sink.Ghosts K) where
       record {
         lines = lines.lines;
         text = answered.text;
-        zones = lines.state.handler.zones.entries;
+        known = kept lines.state.handler.known;
         said = said_first lines.lines a lines.state answered empty;
         ends = record {
           number_is = lines.ends.number_is;
@@ -198,7 +199,7 @@ module _ {K : Type 0} (k : sink.Ghosts K) where
       record {
         lines = lines.lines;
         text = answered.text;
-        zones = lines.state.handler.zones.entries;
+        known = kept lines.state.handler.known;
         said = said_first lines.lines a lines.state answered empty;
         ends = record {
           full = lines.ends.full;
@@ -211,7 +212,7 @@ module _ {K : Type 0} (k : sink.Ghosts K) where
       record {
         lines = lines.lines;
         text = answered.text;
-        zones = lines.state.handler.zones.entries;
+        known = kept lines.state.handler.known;
         said = said_first lines.lines a lines.state answered empty;
         ends = record {
           part = lines.ends.part;
@@ -225,7 +226,7 @@ module _ {K : Type 0} (k : sink.Ghosts K) where
       record {
         lines = lines.lines;
         text = answered.text;
-        zones = lines.state.handler.zones.entries;
+        known = kept lines.state.handler.known;
         said = said_first lines.lines a lines.state answered empty;
         ends = record {
           begins = λ bytes is. record { rest = lines_of bytes; all = sym (ap (λ l. l ++ lines_of bytes) lines.ends.no_line) };

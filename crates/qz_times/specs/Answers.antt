@@ -15,7 +15,8 @@ use Rattle.qz_times.specs.declared.ends.LineEnd.TheVariants as ends
 use Rattle.qz_times.specs.declared.ends.TimesEnd.{TimesEnd}
 use Rattle.qz_times.specs.declared.ends.TimesEnd.TheVariants as times
 use Rattle.qz_times.specs.declared.queries.Query.{Query}
-use Rattle.qz_times.specs.Said.{line_meaning, LineSaid, Zones}
+use Rattle.qz_times.specs.Known.{Known, kept}
+use Rattle.qz_times.specs.Said.{line_meaning, LineSaid}
 
 -- why nothing is said to a line
 abbrev pub NotSaid : LineEnd → List ℕ → Type 0
@@ -24,15 +25,15 @@ NotSaid ends.NoMemory line = ⊤
 NotSaid ends.WriteFault line = ⊥
 
 -- a part of what is said to a line was written
-pub record PartSaid (q : Query) (zs : Zones) (line : List ℕ) (old new : Outside) : Type 0 where
+pub record PartSaid (q : Query) (known : Known) (line : List ℕ) (old new : Outside) : Type 0 where
   pub text : List ℕ
-  pub after : Zones
-  pub said : LineSaid q zs line text after
+  pub after : Known
+  pub said : LineSaid q known line text after
   pub count : ℕ
   pub written : Appends old.held new.held (take count text)
 
 -- what was made of a line
-abbrev pub LineDone : Result (Unit {0}) LineEnd → Query → Zones → Zones → List ℕ → Outside → Outside → Type 0
+abbrev pub LineDone : Result (Unit {0}) LineEnd → Query → Known → Known → List ℕ → Outside → Outside → Type 0
 LineDone (Ok x) q before after line old new = (text : List ℕ) × LineSaid q before line text after × Appends old.held new.held text
 LineDone (Err (ends.Bad fault)) q before after line old new = (line_meaning line ≡ Err fault) × Appends old.held new.held []
 LineDone (Err ends.WriteFault) q before after line old new = PartSaid q before line old new
@@ -42,7 +43,7 @@ LineDone (Err ends.NoMemory) q before after line old new = Appends old.held new.
 pub record Answers {K : Type 0} (k : sink.Ghosts K) (line : List ℕ) (result : Result (Unit {0}) LineEnd)
     (old new : LineState Answering K (Unit {0})) : Type 0 where
   pub query : new.handler.query ≡ old.handler.query
-  pub done : LineDone result old.handler.query old.handler.zones.entries new.handler.zones.entries line (output_alone k old.out) (output_alone k new.out)
+  pub done : LineDone result old.handler.query (kept old.handler.known) (kept new.handler.known) line (output_alone k old.out) (output_alone k new.out)
   pub later : k.faults old.out ≤ k.faults new.out
   pub rose : result ≡ Err ends.WriteFault → Rose (k.faults old.out) (k.faults new.out)
 

@@ -1,5 +1,5 @@
 -- What was made of an input, by how it ended.
-use Rattle.std.specs.Prelude.{◌≡◌, ◌≤◌, ℕ, List, [], ◌++◌, length, take, Err}
+use Rattle.std.specs.Prelude.{◌≡◌, ◌≤◌, ℕ, List, ◌++◌, length, take, Err}
 use Rattle.std.specs.Io.KnownBytes.{Consumes, Appends, IsAtEnd}
 use Rattle.qz_io.specs.declared.limits.TheConstants.{LINE_COUNT_LIMIT}
 use Rattle.qz_io.specs.Ahead.{BeginWith}
@@ -10,7 +10,8 @@ use Rattle.qz_job_json.specs.declared.faults.LineFault.{LineFault}
 use Rattle.qz_times.specs.declared.queries.Query.{Query}
 use Rattle.qz_times.specs.declared.ends.TimesEnd.{TimesEnd}
 use Rattle.qz_times.specs.declared.ends.TimesEnd.TheVariants as ends
-use Rattle.qz_times.specs.Said.{line_meaning, AllSaid, Zones}
+use Rattle.qz_times.specs.Known.{Known, nothing}
+use Rattle.qz_times.specs.Said.{line_meaning, AllSaid}
 
 -- all lines of the input were answered, and all that the output holds was handed on
 pub record EndsDone (old new : Outside) (lines : List (List ℕ)) (text : List ℕ) : Type 0 where
@@ -46,12 +47,12 @@ pub record EndsUnread (old new : Outside) (lines : List (List ℕ)) (text : List
   pub written : Appends old.held new.held text
 
 -- after the answers to these lines a part of the answer to the next line was written, if there is a next one
-pub record EndsUnwritten (q : Query) (zs : Zones) (old new : Outside) (lines : List (List ℕ)) (text : List ℕ) : Type 0 where
+pub record EndsUnwritten (q : Query) (known : Known) (old new : Outside) (lines : List (List ℕ)) (text : List ℕ) : Type 0 where
   pub last : List (List ℕ)
   pub one : length last ≤ 1
   pub its : List ℕ
-  pub after : Zones
-  pub said : AllSaid q zs last its after
+  pub after : Known
+  pub said : AllSaid q known last its after
   pub begins : IfKnown old.left (λ bytes. BeginWith (lines ++ last) (lines_of bytes))
   pub count : ℕ
   pub written : Appends old.held new.held (text ++ take count its)
@@ -62,18 +63,18 @@ pub record EndsStarved (old new : Outside) (lines : List (List ℕ)) (text : Lis
   pub written : Appends old.held new.held text
 
 -- what was made of an input that ended so
-abbrev pub Ends : TimesEnd → Query → Zones → Outside → Outside → List (List ℕ) → List ℕ → Type 0
-Ends ends.Done q zs old new lines text = EndsDone old new lines text
-Ends (ends.Bad number fault) q zs old new lines text = EndsBad old new lines text number fault
-Ends ends.TooManyLines q zs old new lines text = EndsMany old new lines text
-Ends ends.ReadFault q zs old new lines text = EndsUnread old new lines text
-Ends ends.WriteFault q zs old new lines text = EndsUnwritten q zs old new lines text
-Ends ends.NoMemory q zs old new lines text = EndsStarved old new lines text
+abbrev pub Ends : TimesEnd → Query → Known → Outside → Outside → List (List ℕ) → List ℕ → Type 0
+Ends ends.Done q known old new lines text = EndsDone old new lines text
+Ends (ends.Bad number fault) q known old new lines text = EndsBad old new lines text number fault
+Ends ends.TooManyLines q known old new lines text = EndsMany old new lines text
+Ends ends.ReadFault q known old new lines text = EndsUnread old new lines text
+Ends ends.WriteFault q known old new lines text = EndsUnwritten q known old new lines text
+Ends ends.NoMemory q known old new lines text = EndsStarved old new lines text
 
 -- These lines of the input, from the first one on, are right and were answered, and then it ended so.
 pub record IsRun (e : TimesEnd) (q : Query) (old new : Outside) : Type 0 where
   pub lines : List (List ℕ)
   pub text : List ℕ
-  pub zones : Zones
-  pub said : AllSaid q [] lines text zones
-  pub ends : Ends e q zones old new lines text
+  pub known : Known
+  pub said : AllSaid q nothing lines text known
+  pub ends : Ends e q known old new lines text

@@ -3,18 +3,18 @@ ghost use Rattle.std.specs.Prelude.{negsuc, ◌≤ℤ◌};
 ghost use Rattle.qz_civil.specs.declared.limits.TheConstants.{LAST};
 
 use crate::ends::LineEnd;
+use crate::known::Known;
 use crate::queries::Query;
 use crate::said::answer_to;
-use crate::zones::Zones;
 use qz_io::{LineHandler, Sink, write_all};
 use std::alloc::Global;
 
-/// The lines of an input being answered: what is asked for, and the zones that the lines so far have stored.
+/// The lines of an input being answered: what is asked for, and what the lines so far have stored.
 #[derive(Drop)]
 pub(crate) struct Answering {
     pub(crate) alloc: Global,
     pub(crate) query: Query,
-    pub(crate) zones: Zones,
+    pub(crate) known: Known,
     ghost low: { negsuc 0 ≤ℤ query.after },
     ghost high: { query.after ≤ℤ LAST },
 }
@@ -27,7 +27,7 @@ impl<K: Sink> LineHandler<K, ()> for Answering {
     ghost handles = { Answers K.Sink };
 
     fn handle(&mut self, line: &[u8], out: &mut K, _rest: &mut ()) -> Result<(), LineEnd> {
-        let text = answer_to(self.alloc, line, &mut self.zones, self.query)?;
+        let text = answer_to(self.alloc, line, &mut self.known, self.query)?;
         match write_all(out, text.as_str().as_bytes()) {
             Ok(()) => Ok(()),
             Err(_) => Err(LineEnd::WriteFault),

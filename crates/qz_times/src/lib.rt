@@ -2,7 +2,10 @@
 #![tactic(auto)]
 
 mod answers;
+mod calendars;
+mod chains;
 mod ends;
+mod known;
 mod queries;
 mod runs;
 mod said;

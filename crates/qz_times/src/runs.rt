@@ -7,15 +7,15 @@ ghost use Rattle.qz_times.specs.Runs.{IsRun};
 
 use crate::answers::Answering;
 use crate::ends::{LineEnd, TimesEnd};
+use crate::known::Known;
 use crate::queries::Query;
-use crate::zones::Zones;
 use qz_civil::LAST;
 use qz_io::{LinesEnd, Sink, Source, handle_lines};
 use qz_job_json::LineFault;
 use std::alloc::Global;
 
-/// Answers the lines of the input one by one: `ok` or a refusal to a zone, and to a trigger its first fire times or a
-/// refusal. Each answer is written before the next line is looked at, and the output is flushed after the last one.
+/// Answers the lines of the input one by one: `ok` or a refusal to a zone or a calendar, and to a trigger its first fire times
+/// or a refusal. Each answer is written before the next line is looked at, and the output is flushed after the last one.
 pub fn run_times<S: Source, K: Sink>(
     alloc: Global,
     input: &mut S,
@@ -31,7 +31,7 @@ pub fn run_times<S: Source, K: Sink>(
     let mut answering = Answering {
         alloc,
         query,
-        zones: Zones::new(alloc),
+        known: Known::nothing(alloc),
     };
     let ended = handle_lines(alloc, input, &mut answering, out, &mut ());
     drop(answering);

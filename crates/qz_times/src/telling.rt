@@ -1,56 +1,54 @@
-//! What is said to a line.
-ghost use Rattle.std.specs.Prelude.{◌≡◌, negsuc, ◌≤ℤ◌, Some, IsTrue, IfOk, option_map, unwrap_or, codes};
+//! What is said to what a line asks for.
+ghost use Rattle.std.specs.Prelude.{◌≡◌, negsuc, ◌≤ℤ◌, Some, None, IsTrue, IfOk, is_some, option_map, unwrap_or, codes};
 ghost use Rattle.qz_civil.specs.Timings.{is_timing};
 ghost use Rattle.qz_types.specs.Rows.{is_trigger_spec};
 ghost use Rattle.qz_job_json.specs.Asked.{is_asked};
 ghost use Rattle.qz_types.specs.declared.steps.StepReply.TheVariants as reply;
 ghost use Rattle.qz_report.specs.Replies.{reply_text};
 ghost use Rattle.qz_plan.specs.FireTimes.{IsFireTime};
-ghost use Rattle.qz_times.specs.Said.{AreFirst, IsTold, IsToldIn, Said, zone_name};
+ghost use Rattle.qz_times.specs.Known.{kept, known_zone, zone_or_utc};
+ghost use Rattle.qz_times.specs.Said.{AreFirst, IsTold, IsToldUnless, Said, stored_text, trigger_refusal, zone_name};
 
+use crate::calendars::{add_calendar, is_known_calendar};
+use crate::chains::zoned_chain;
+use crate::known::{Known, Zones};
 use crate::queries::Query;
-use crate::zones::{Zones, add_zone};
+use crate::zones::{add_zone, is_known_zone, zone_or_utc};
 use qz_calendar::Chain;
-use qz_civil::{Kind, LAST, NoMemory, Text, Timing, Zone};
+use qz_civil::{Kind, LAST, NoMemory, Text, Timing, Zone, beside};
 use qz_job_json::Asked;
 use qz_report::{reply_line, times_line};
-use qz_types::{Refusal, StepReply, TriggerSpec};
+use qz_types::{Refusal, Reply, StepReply, TriggerSpec};
 use std::alloc::Global;
 
-/// Says what a line asks for. Where there is no memory, the zones are not to be used further.
+/// Says what a line asks for. Where there is no memory, what is known is not to be used further.
 pub(crate) fn say(
     alloc: Global,
     asked: Asked,
-    zones: &mut Zones,
+    known: &mut Known,
     query: Query,
 ) -> Result<Text, NoMemory>
     requires asked { IsTrue (is_asked asked) }
     requires low { negsuc 0 ≤ℤ query.after }
     requires high { query.after ≤ℤ LAST }
-    ensures { IfOk result (λ text. Said query zones.old.entries (Some asked) text zones.new.entries) }
+    ensures { IfOk result (λ text. Said query (kept known.old) (Some asked) text (kept known.new)) }
 {
     match asked {
-        Asked::AddZone { name, zone } => add_zone(alloc, zones, name, zone),
-        Asked::AddTrigger { spec } => tell(alloc, zones, &spec, query),
+        Asked::AddZone { zone } => stored_line(alloc, add_zone(known, zone)?),
+        Asked::AddCalendar { calendar, replace } => {
+            stored_line(alloc, add_calendar(known, calendar, replace)?)
+        }
+        Asked::AddTrigger { spec } => tell(alloc, known, &spec, query),
     }
 }
 
-// The line of a trigger.
-fn tell(alloc: Global, zones: &Zones, spec: &TriggerSpec, query: Query) -> Result<Text, NoMemory>
-    requires spec { IsTrue (is_trigger_spec spec.now) }
-    requires low { negsuc 0 ≤ℤ query.after }
-    requires high { query.after ≤ℤ LAST }
-    ensures { IfOk result (IsTold zones.now.entries query spec.now) }
+// The reply to a line that stores something.
+fn stored_line(alloc: Global, refusal: Option<Refusal>) -> Result<Text, NoMemory>
+    ensures { IfOk result (λ text. text ≡ stored_text refusal) }
 {
-    if spec.calendar.is_some() {
-        return refused(alloc, Refusal::UnknownCalendar);
-    }
-    match zone_name(&spec.timing.kind) {
-        Some(name) if name.as_str() != "UTC" => match zones.get(name) {
-            Some(zone) => tell_in(alloc, zone, spec, query),
-            None => refused(alloc, Refusal::UnknownZone),
-        },
-        _ => tell_in(alloc, &Zone::utc(), spec, query),
+    match refusal {
+        None => reply_line(alloc, &StepReply::Ok(Reply::Done)),
+        Some(refusal) => refused(alloc, refusal),
     }
 }
 
@@ -58,6 +56,32 @@ fn refused(alloc: Global, refusal: Refusal) -> Result<Text, NoMemory>
     ensures { IfOk result (λ text. text ≡ reply_text (reply.Refused refusal)) }
 {
     reply_line(alloc, &StepReply::Refused(refusal))
+}
+
+// The line of a trigger.
+fn tell(alloc: Global, known: &Known, spec: &TriggerSpec, query: Query) -> Result<Text, NoMemory>
+    requires spec { IsTrue (is_trigger_spec spec.now) }
+    requires low { negsuc 0 ≤ℤ query.after }
+    requires high { query.after ≤ℤ LAST }
+    ensures { IfOk result (IsTold (kept known.now) query spec.now) }
+{
+    match trigger_refusal(known, spec) {
+        Some(refusal) => refused(alloc, refusal),
+        None => tell_times(alloc, known, spec, query),
+    }
+}
+
+// Why a trigger isn't told its times.
+fn trigger_refusal(known: &Known, spec: &TriggerSpec) -> Option<Refusal>
+    ensures { result ≡ trigger_refusal (kept known.now) spec.now }
+{
+    if !is_known_calendar(&known.calendars, spec.calendar.as_ref()) {
+        Some(Refusal::UnknownCalendar)
+    } else if !is_known_zone_of(&known.zones, &spec.timing.kind) {
+        Some(Refusal::UnknownZone)
+    } else {
+        None
+    }
 }
 
 // The zone that a kind names; one without a zone is timed in UTC.
@@ -72,15 +96,39 @@ fn zone_name(kind: &Kind) -> Option<&Text>
     }
 }
 
-// The line of a trigger whose zone is known.
-fn tell_in(alloc: Global, zone: &Zone, spec: &TriggerSpec, query: Query) -> Result<Text, NoMemory>
+fn is_known_zone_of(zones: &Zones, kind: &Kind) -> bool
+    ensures { result ≡ is_some (known_zone zones.now.entries (zone_name kind.now)) }
+{
+    match zone_name(kind) {
+        Some(name) => is_known_zone(zones, name),
+        None => true,
+    }
+}
+
+fn zone_of(zones: &Zones, kind: &Kind) -> Result<Zone, NoMemory>
+    ensures { IfOk result (λ zone. zone ≡ zone_or_utc zones.now.entries (zone_name kind.now)) }
+{
+    match zone_name(kind) {
+        Some(name) => zone_or_utc(zones, name),
+        None => Ok(Zone::utc()),
+    }
+}
+
+// The times of a trigger that isn't refused.
+fn tell_times(
+    alloc: Global,
+    known: &Known,
+    spec: &TriggerSpec,
+    query: Query,
+) -> Result<Text, NoMemory>
     requires spec { IsTrue (is_trigger_spec spec.now) }
     requires low { negsuc 0 ≤ℤ query.after }
     requires high { query.after ≤ℤ LAST }
-    ensures { IfOk result (IsToldIn (Some zone.now) query spec.now) }
+    ensures { IfOk result (IsToldUnless None (kept known.now) query spec.now) }
 {
-    let chain = Chain::empty();
-    let times = first_times(alloc, &spec.timing, zone, &chain, query)?;
+    let zone = zone_of(&known.zones, &spec.timing.kind)?;
+    let (zone, chain) = beside(zone, zoned_chain(known, spec.calendar.as_ref()))?;
+    let times = first_times(alloc, &spec.timing, &zone, &chain, query)?;
     times_line(alloc, &spec.key, &times)
 }
 

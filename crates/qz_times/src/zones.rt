@@ -1,54 +1,82 @@
 //! Zones by their names.
-ghost use Rattle.std.specs.Prelude.{◌≡◌, IfOk, OnOk};
-ghost use Rattle.qz_times.specs.Said.{zone_refusal, zones_behind, zone_text};
+ghost use Rattle.std.specs.Prelude.{◌≡◌, None, IfOk, OnOk, OnErr, is_some};
+ghost use Rattle.qz_times.specs.Known as spec;
 
-use qz_civil::{NoMemory, Text, Zone};
-use qz_report::reply_line;
-use qz_types::{Refusal, Reply, StepReply, ZONE_LIMIT};
-use std::alloc::Global;
-use std::collections::BTreeMap;
+use crate::known::{Known, Zones};
+use qz_civil::{List, NoMemory, Stretch, Text, Zone};
+use qz_types::{Refusal, ZONE_LIMIT, ZoneRow};
+use std::alloc::{AllocError, Global};
 
-/// The zones that lines have stored, by their names.
-pub(crate) type Zones = BTreeMap<Text, Zone>;
+/// Whether a zone of this name is known. `UTC` always is.
+pub(crate) fn is_known_zone(zones: &Zones, name: &Text) -> bool
+    ensures { result ≡ is_some (spec.known_zone zones.now.entries name.now) }
+{
+    name.as_str() == "UTC" || zones.contains_key(name)
+}
 
 /// Why a zone isn't stored.
-pub(crate) fn zone_refusal(zones: &Zones, name: &Text) -> Option<Refusal>
-    ensures { result ≡ zone_refusal zones.now.entries name.now }
+fn zone_refusal(known: &Known, zone: &ZoneRow) -> Option<Refusal>
+    ensures { result ≡ spec.zone_refusal (spec.kept known.now) zone.now }
 {
-    if name.as_str() == "UTC" || zones.contains_key(name) {
+    if is_known_zone(&known.zones, &zone.name) {
         Some(Refusal::ZoneExists)
-    } else if zones.len() as u64 >= ZONE_LIMIT {
+    } else if known.zones.len() as u64 >= ZONE_LIMIT {
         Some(Refusal::TooMany { count: ZONE_LIMIT })
     } else {
         None
     }
 }
 
-fn refusal_line(alloc: Global, refusal: Option<Refusal>) -> Result<Text, NoMemory>
-    ensures { IfOk result (λ text. text ≡ zone_text refusal) }
+/// Stores a zone, unless it is refused. Where there is no memory, what is known is not to be used further.
+pub(crate) fn add_zone(known: &mut Known, zone: ZoneRow) -> Result<Option<Refusal>, NoMemory>
+    ensures refusal { IfOk result (λ refusal. refusal ≡ spec.zone_refusal (spec.kept known.old) zone) }
+    ensures known { OnOk result (spec.kept known.new ≡ spec.with_zone (spec.zone_refusal (spec.kept known.old) zone) (spec.kept known.old) zone) }
+    ensures memory { OnErr result (spec.zone_refusal (spec.kept known.old) zone ≡ None) }
 {
-    match refusal {
-        None => reply_line(alloc, &StepReply::Ok(Reply::Done)),
-        Some(refusal) => reply_line(alloc, &StepReply::Refused(refusal)),
+    match zone_refusal(known, &zone) {
+        Some(refusal) => Ok(Some(refusal)),
+        None => {
+            insert_zone(&mut known.zones, zone)?;
+            Ok(None)
+        }
     }
 }
 
-/// Stores a zone, unless it is refused, and says so. Where there is no memory, the zones are not to be used further.
-pub(crate) fn add_zone(
-    alloc: Global,
-    zones: &mut Zones,
-    name: Text,
-    zone: Zone,
-) -> Result<Text, NoMemory>
-    ensures text { IfOk result (λ text. text ≡ zone_text (zone_refusal zones.old.entries name)) }
-    ensures zones { OnOk result (zones.new.entries ≡ zones_behind (zone_refusal zones.old.entries name) zones.old.entries name zone) }
+fn insert_zone(zones: &mut Zones, zone: ZoneRow) -> Result<(), NoMemory>
+    ensures { OnOk result (zones.new.entries ≡ spec.put_zone zones.old.entries zone) }
 {
-    match zone_refusal(zones, &name) {
-        Some(refusal) => refusal_line(alloc, Some(refusal)),
-        None => {
-            let text = refusal_line(alloc, None)?;
-            zones.insert(name, zone)?;
-            Ok(text)
-        }
+    let name = zone.name.clone()?;
+    zones.insert(name, zone)?;
+    Ok(())
+}
+
+/// The same stretches again.
+#[tactic(auto, using(qz_civil::proofs::CloneLaws::same_items))]
+fn copy_stretches(stretches: &List<Stretch>) -> Result<List<Stretch>, AllocError>
+    ensures { IfOk result (λ copy. copy ≡ stretches.now) }
+{
+    stretches.clone()
+}
+
+/// The zone of a table that is stored.
+fn zone_of(row: &ZoneRow) -> Result<Zone, NoMemory>
+    ensures { IfOk result (λ zone. zone ≡ row.now.stretches) }
+{
+    match Zone::table(copy_stretches(&row.stretches)?) {
+        Ok(zone) => Ok(zone),
+        Err(_) => unreachable!(),
+    }
+}
+
+/// A zone that is known, by its name.
+pub(crate) fn zone_or_utc(zones: &Zones, name: &Text) -> Result<Zone, NoMemory>
+    ensures { IfOk result (λ zone. zone ≡ spec.zone_or_utc zones.now.entries name.now) }
+{
+    if name.as_str() == "UTC" {
+        return Ok(Zone::utc());
+    }
+    match zones.get(name) {
+        Some(row) => zone_of(row),
+        None => Ok(Zone::utc()),
     }
 }

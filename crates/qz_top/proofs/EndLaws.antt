@@ -1,6 +1,6 @@
 -- How a script ends: the run that its lines make, by what ended them.
 use Rattle.std.proofs.Common.{◌≡◌, ◌≤◌, ◌<◌, ℕ, ◌+◌, ℤ, Bool, true, false, not, List, [], ◌∷◌, ◌++◌, length, take, drop, Option, Some, None, refl, sym, ap, ◌∙◌, subst, arith, append_assoc}
-use Rattle.std.specs.Prelude.{Ok, Err, nat_lt}
+use Rattle.std.specs.Prelude.{⊤, Ok, Err, nat_lt}
 use Rattle.std.specs.List.{AllByRecursion}
 use Rattle.std.specs.Io.KnownBytes.{Appends}
 use Rattle.std.proofs.KnownBytes.{Appends-trans}
@@ -29,14 +29,16 @@ use Rattle.qz_top.specs.declared.statuses.Status.{Status}
 use Rattle.qz_top.specs.declared.statuses.Status.TheVariants as status
 use Rattle.qz_top.specs.Handling.{Does}
 use Rattle.qz_top.specs.Lines.{line_meaning, IsGood, readings_of, first_bad, first_bad_from}
+use Rattle.qz_top.specs.Moments.{Shows}
 use Rattle.qz_top.specs.Runs.{ReadToBad, WrotePart, Clocked, IsOfScript, IsRun}
-use Rattle.qz_top.specs.Seen.{run_of}
+use Rattle.qz_top.specs.Seen.{view}
 use Rattle.qz_top.specs.Statuses.{Finishes}
 use Rattle.qz_top.specs.Trails.{texts, RunState}
-use Rattle.qz_top.specs.Turns.{Ran, RanPart, IsBad, Idles, LineFull}
+use Rattle.qz_top.specs.LineOutcomes.{Ran, RanPart, IsBad, NothingDone, LineFull}
 use Rattle.qz_top.proofs.LineLaws.{first_bad_from-append, first_bad_from-bad, first_bad_from-many}
-use Rattle.qz_top.proofs.TrailLaws.{Idles-none}
-use Rattle.qz_top.proofs.TurnLaws.{Ran-none, Ran-more}
+use Rattle.qz_top.proofs.MomentLaws.{Shows-none, Shows-more, Shows-less}
+use Rattle.qz_top.proofs.TrailLaws.{NothingDone-none}
+use Rattle.qz_top.proofs.OutcomeLaws.{Ran-none, Ran-more}
 
 -- Readings and replies.
 
@@ -131,8 +133,8 @@ reads_many bytes line lines next good full =
     }
 
 -- a step that finds no room changes nothing
-pub full_idles : (line : List ℕ) (need room : ℕ) (R S : RunState) (a b : Outside) → LineFull line need room R S a b → Idles R S
-full_idles line need room R S a b full = record {
+pub full_does_nothing : (line : List ℕ) (need room : ℕ) (R S : RunState) (a b : Outside) → LineFull line need room R S a b → NothingDone R S
+full_does_nothing line need room R S a b full = record {
   trail = full.full.trail;
   own = full.full.is_own;
   stays = λ not_own. record { triggers = full.full.full.triggers.same; held = full.full.full.held };
@@ -159,16 +161,16 @@ module _ {D K C : Type 0} (g : Ghosts D) (k : sink.Ghosts K) (c : clock.Ghosts C
   -- lines that were done and answered
   pub record AllRan (lines : List (List ℕ)) (a b : State) : Type 0 where
     pub readings : List ℤ
-    pub ran : Ran lines readings (run_of a.handler) (run_of b.handler) (beside a) (beside b)
+    pub ran : Ran lines readings (view a.handler) (view b.handler) (beside a) (beside b)
     pub later : k.faults a.out ≤ k.faults b.out
 
   pub all_ran : (lines : List (List ℕ)) (a b : State) → AllHandled (Does {g = g} k c) lines a b → AllRan lines a b
-  all_ran [] a b same = subst (AllRan [] a) (sym same) (record { readings = []; ran = Ran-none (run_of a.handler) (beside a); later = omega arith })
+  all_ran [] a b same = subst (AllRan [] a) (sym same) (record { readings = []; ran = Ran-none (view a.handler) (beside a); later = omega arith })
   all_ran (line ∷ lines) a b (between, one, others) =
       let more = all_ran lines between b others in
       record {
         readings = one.done.0 ++ more.readings;
-        ran = Ran-more (line ∷ []) lines one.done.0 more.readings (run_of a.handler) (run_of between.handler) (run_of b.handler) (beside a) (beside between) (beside b) one.done.1 more.ran;
+        ran = Ran-more (line ∷ []) lines one.done.0 more.readings (view a.handler) (view between.handler) (view b.handler) (beside a) (beside between) (beside b) one.done.1 more.ran;
         later = omega (arith, one.later, more.later);
       }
 
@@ -178,8 +180,8 @@ module _ {D K C : Type 0} (g : Ghosts D) (k : sink.Ghosts K) (c : clock.Ghosts C
 
   -- All lines were done, and then the output was flushed, or that failed.
   pub IsRun-whole : (s : Status) (closed : Bool) (i j : Option (List ℕ)) (a b : State) (out : K) (m n : ℕ) → HandlesLines (Does {g = g} k c) (Ok tt) i j a b
-      → closed ≡ is_closed (run_of b.handler).cluster → Finishes s closed (output_alone k b.out) (output_alone k out) m n
-      → SomeRun s (run_of a.handler) (run_of b.handler) (around i a.out a.rest) (around j out b.rest)
+      → closed ≡ is_closed (view b.handler).cluster → Finishes s closed (output_alone k b.out) (output_alone k out) m n
+      → SomeRun s (view a.handler) (view b.handler) (around i a.out a.rest) (around j out b.rest)
   IsRun-whole status.Ok closed i j a b out m n lines tells finishes =
       let all = ran_to lines.lines a lines.state b lines.ends.state_is lines.handled in (
         lines.lines,
@@ -188,9 +190,9 @@ module _ {D K C : Type 0} (g : Ghosts D) (k : sink.Ghosts K) (c : clock.Ghosts C
         record {
           called = tt;
           good = all.ran.did.good;
-          behind = run_of b.handler;
-          went = all.ran.did.went;
-          idles = Idles-none (run_of b.handler);
+          last = view b.handler;
+          steps = all.ran.did.steps;
+          nothing = NothingDone-none (view b.handler);
           full = tt;
           closed = sym tells ∙ finishes.0;
           reads = λ bytes is. let whole = lines.ends.all bytes is in record { all = whole; no_bad = ap first_bad whole ∙ none_bad lines.lines all.ran.did.good lines.ends.within; ended = lines.ends.ended };
@@ -207,9 +209,9 @@ module _ {D K C : Type 0} (g : Ghosts D) (k : sink.Ghosts K) (c : clock.Ghosts C
         record {
           called = tt;
           good = all.ran.did.good;
-          behind = run_of b.handler;
-          went = all.ran.did.went;
-          idles = Idles-none (run_of b.handler);
+          last = view b.handler;
+          steps = all.ran.did.steps;
+          nothing = NothingDone-none (view b.handler);
           full = tt;
           closed = sym tells ∙ finishes.0;
           reads = λ bytes is. let whole = lines.ends.all bytes is in record { all = whole; no_bad = ap first_bad whole ∙ none_bad lines.lines all.ran.did.good lines.ends.within; ended = lines.ends.ended };
@@ -226,9 +228,9 @@ module _ {D K C : Type 0} (g : Ghosts D) (k : sink.Ghosts K) (c : clock.Ghosts C
         record {
           called = tt;
           good = all.ran.did.good;
-          behind = run_of b.handler;
-          went = all.ran.did.went;
-          idles = Idles-none (run_of b.handler);
+          last = view b.handler;
+          steps = all.ran.did.steps;
+          nothing = NothingDone-none (view b.handler);
           full = tt;
           closed = tt;
           reads = λ bytes is. record { rest = []; all = lines.ends.all bytes is ∙ sym (append-nil lines.lines) };
@@ -254,6 +256,19 @@ module _ {D K C : Type 0} (g : Ghosts D) (k : sink.Ghosts K) (c : clock.Ghosts C
       → s ≡ status.WriteFault → Rose (k.faults a.out) n
   finish_rose s closed i j a b old new n lines finishes is =
       rose_later _ _ _ (faults_later i j a b lines) (subst (λ t. Finishes t closed old new (k.faults b.out) n) is finishes).1
+
+  -- the clusters that were shown while lines were done
+  pub all_shown : (lines : List (List ℕ)) (a b : State) → AllHandled (Does {g = g} k c) lines a b → Shows ⊤ a.handler b.handler
+  all_shown [] a b same = subst (λ (x : State). Shows ⊤ a.handler x.handler) (sym same) (Shows-none ⊤ a.handler)
+  all_shown (line ∷ lines) a b (between, one, others) =
+      Shows-more ⊤ a.handler between.handler b.handler (Shows-less _ ⊤ a.handler between.handler one.shows (λ is. refl)) (all_shown lines between b others)
+
+  pub shown_to : (lines : List (List ℕ)) (a s b : State) → b ≡ s → AllHandled (Does {g = g} k c) lines a s → Shows ⊥ a.handler b.handler
+  shown_to lines a s b same handled =
+      subst (λ (x : State). Shows ⊥ a.handler x.handler) (sym same) (Shows-less ⊤ ⊥ a.handler s.handler (all_shown lines a s handled) (λ is. tt))
+
+  pub whole_shown : (i j : Option (List ℕ)) (a b : State) → HandlesLines (Does {g = g} k c) (Ok tt) i j a b → Shows ⊥ a.handler b.handler
+  whole_shown i j a b lines = shown_to lines.lines a lines.state b lines.ends.state_is lines.handled
 
 pub finish_called : (s : Status) (closed : Bool) (old new : Outside) (m n : ℕ) → Finishes s closed old new m n → IsOfScript s
 finish_called status.Ok closed old new m n finishes = tt

@@ -1,10 +1,12 @@
+pub mod AskedLaws
 pub mod EndLaws
 pub mod LineLaws
+pub mod MakingLaws
+pub mod MomentLaws
 pub mod OpenedLaws
+pub mod OutcomeLaws
 pub mod Pieces
 pub mod RunLaws
 pub mod ShownLaws
 pub mod StopLaws
 pub mod TrailLaws
-pub mod TurnLaws
-pub mod WorkLaws

@@ -31,7 +31,7 @@ meaning_goes_on (Err fault) rs qs n rest more good len whole go = absurd good
 meaning_goes_on (Ok None) rs qs n rest more good len whole go = go rs (omega arith)
 meaning_goes_on (Ok (Some given)) rs qs n rest more good len whole go = timed_goes_on given.at given.step rs qs n rest more len whole go
 
--- the steps of lines and of those behind them
+-- the steps of lines and of those after them
 pub steps_of-append : (xs ys : List (List ℕ)) (rs qs : List ℤ) → AllByRecursion IsGood xs → length rs ≡ readings_of xs
     → steps_of (xs ++ ys) (rs ++ qs) ≡ steps_of xs rs ++ steps_of ys qs
 steps_of-append [] ys [] qs good len = refl
@@ -44,14 +44,14 @@ pub readings_of-append : (xs ys : List (List ℕ)) → readings_of (xs ++ ys) �
 readings_of-append [] ys = omega arith
 readings_of-append (x ∷ xs) ys = omega (arith, readings_of-append xs ys)
 
-bad_behind : (m : Meaning) (number : ℕ) (rest rest' : Option Status) → IsGoodMeaning m → rest ≡ rest' → bad_by_meaning m number rest ≡ rest'
-bad_behind (Ok given) number rest rest' good same = same
-bad_behind (Err fault) number rest rest' good same = absurd good
+bad_after : (m : Meaning) (number : ℕ) (rest rest' : Option Status) → IsGoodMeaning m → rest ≡ rest' → bad_by_meaning m number rest ≡ rest'
+bad_after (Ok given) number rest rest' good same = same
+bad_after (Err fault) number rest rest' good same = absurd good
 
 not_past : (number : ℕ) → number ≤ LINE_COUNT_LIMIT → nat_lt LINE_COUNT_LIMIT number ≡ false
 not_past number low = grind (arith, nat_tests)
 
--- the first bad line stands behind the good ones
+-- the first bad line stands after the good ones
 pub first_bad_from-append : (number : ℕ) (xs ys : List (List ℕ)) → AllByRecursion IsGood xs → number + length xs ≤ LINE_COUNT_LIMIT + 1
     → first_bad_from number (xs ++ ys) ≡ first_bad_from (number + length xs) ys
 first_bad_from-append number [] ys good low = ap (λ n. first_bad_from n ys) (omega arith)
@@ -59,7 +59,7 @@ first_bad_from-append number (x ∷ xs) ys good low =
     let here : nat_lt LINE_COUNT_LIMIT number ≡ false = not_past number (omega arith) in
     let low' : number + 1 + length xs ≤ LINE_COUNT_LIMIT + 1 = omega arith in
     let same : number + 1 + length xs ≡ number + suc (length xs) = omega arith in
-    rw here (bad_behind (line_meaning x) number (first_bad_from (number + 1) (xs ++ ys)) _ good.0
+    rw here (bad_after (line_meaning x) number (first_bad_from (number + 1) (xs ++ ys)) _ good.0
     (first_bad_from-append (number + 1) xs ys good.1 low' ∙ ap (λ n. first_bad_from n ys) same))
 
 bad_here : (m : Meaning) (fault : LineFault) (number : ℕ) (rest : Option Status) → m ≡ Err fault → bad_by_meaning m number rest ≡ Some (BadLine number (kind_of fault))

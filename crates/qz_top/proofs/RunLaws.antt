@@ -1,5 +1,5 @@
 -- What a run of steps tells of the store: its disk's count of faults, whether it is open, and a plain scheduler's replies.
-use Rattle.std.proofs.Common.{◌≡◌, ◌≤◌, ℕ, ℤ, List, [], ◌∷◌, Bool, true, false, not, Option, Some, None, refl, sym, ap, subst, ◌∙◌, arith}
+use Rattle.std.proofs.Common.{◌≡◌, ◌≤◌, ℕ, ℤ, List, [], ◌∷◌, ◌++◌, length, take, Bool, true, false, not, Option, Some, None, refl, sym, ap, subst, ◌∙◌, arith}
 use Rattle.std.specs.Prelude.{Result, Ok, Err}
 use Rattle.std.specs.List.{AllByRecursion}
 use Rattle.qz_civil.specs.Causes.{Rose}
@@ -21,6 +21,8 @@ use Rattle.qz_model.specs.Transaction.{transaction}
 use Rattle.qz_model.specs.Script.{ScriptState, TimedStep, StepEffect, held_after_join, entry_of, effect_of, submit, effect_of_node, step_effect, with_optional, effect_in, after_step, step_replies}
 use Rattle.qz_trigger_store.specs.Entries.{answer_of}
 use Rattle.qz_cluster.specs.Steps.{ClusterState, is_closed, is_closed_for, entry_of_member, entry_of_step, held_after, StepCase, IsStep}
+use Rattle.qz_cluster.proofs.Sound.{step_sound}
+use Rattle.qz_top.specs.Calls.{script_of, HasSoundStore}
 use Rattle.qz_top.specs.Trails.{StepsDone, last_of, is_fault, IsNoFault}
 
 -- The count of faults.
@@ -174,10 +176,6 @@ case_plain (Join node interval) at r S S' case was no_fault =
     submitted_plain (entry_of actor.Client (command.Join node) at) (held_after_join node S.held) (Join node interval) at r S S' refl (λ y. refl) case was no_fault
 case_plain (Node node c) at r S S' case was no_fault = node_plain (member_of node S.held) node c at r S S' refl case was no_fault
 
--- what a script shows of a cluster
-abbrev pub script_of : ClusterState → ScriptState
-script_of S = record { history = S.triggers.history; held = S.held }
-
 step_plain : (S S' : ClusterState) (t : TimedStep) (r : StepReply) → IsStep t r S S' → is_closed S ≡ false → is_fault r ≡ false
     → (r ≡ (effect_in (script_of S) t).reply) × (script_of S' ≡ after_step (script_of S) t)
 step_plain S S' t r step was no_fault =
@@ -196,3 +194,26 @@ run_plain S [] (r ∷ rs) states p was no_fault = absurd p
 run_plain S [] [] (x ∷ states) p was no_fault = absurd p
 run_plain S (t ∷ ts) [] states p was no_fault = absurd p
 run_plain S (t ∷ ts) (r ∷ rs) [] p was no_fault = absurd p
+
+-- Before the first fault they are.
+pub run_plain_first : (S : ClusterState) (ts : List TimedStep) (first rest : List StepReply) (states : List ClusterState) → StepsDone S ts (first ++ rest) states
+    → is_closed S ≡ false → AllByRecursion IsNoFault first → first ≡ take (length first) (step_replies (script_of S) ts)
+run_plain_first S ts [] rest states p was no_fault = refl
+run_plain_first S (t ∷ ts) (r ∷ first) rest (S' ∷ states) p was no_fault =
+    let one = step_plain S S' t r p.0 was no_fault.0 in
+    let more = run_plain_first S' ts first rest states p.1 (step_opens_case t r S S' p.0.case was no_fault.0) no_fault.1 in
+    ap (λ x. x ∷ first) one.0 ∙ ap (λ xs. (effect_in (script_of S) t).reply ∷ xs) (more ∙ ap (λ s. take (length first) (step_replies s ts)) one.1)
+run_plain_first S [] (r ∷ first) rest states p was no_fault = absurd p
+run_plain_first S (t ∷ ts) (r ∷ first) rest [] p was no_fault = absurd p
+
+-- Legal histories and valid tables.
+
+-- Each state of a run that began with a sound store has one.
+pub run_sound : (S : ClusterState) (ts : List TimedStep) (rs : List StepReply) (states : List ClusterState) → StepsDone S ts rs states
+    → HasSoundStore S → AllByRecursion HasSoundStore states
+run_sound S [] [] [] p sound = tt
+run_sound S (t ∷ ts) (r ∷ rs) (S' ∷ states) p sound = let next = step_sound t r S S' p.0 sound in (next, run_sound S' ts rs states p.1 next)
+run_sound S [] (r ∷ rs) states p sound = absurd p
+run_sound S [] [] (x ∷ states) p sound = absurd p
+run_sound S (t ∷ ts) [] states p sound = absurd p
+run_sound S (t ∷ ts) (r ∷ rs) [] p sound = absurd p

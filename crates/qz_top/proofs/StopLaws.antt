@@ -14,15 +14,17 @@ use Rattle.qz_io.proofs.Readings.{Tells-trans}
 use Rattle.qz_job_json.specs.declared.faults.LineFault.TheVariants as line_fault
 use Rattle.qz_top.specs.declared.statuses.BadKind.TheVariants as bad
 use Rattle.qz_top.specs.declared.statuses.Status.TheVariants as status
-use Rattle.qz_top.specs.declared.turns.LineEnd.{LineEnd}
-use Rattle.qz_top.specs.declared.turns.LineEnd.TheVariants as ends
+use Rattle.qz_top.specs.declared.line_handler.LineEnd.{LineEnd}
+use Rattle.qz_top.specs.declared.line_handler.LineEnd.TheVariants as ends
 use Rattle.qz_top.specs.Handling.{Does}
-use Rattle.qz_top.specs.Seen.{run_of}
+use Rattle.qz_top.specs.Moments.{Shows}
+use Rattle.qz_top.specs.Seen.{view}
 use Rattle.qz_top.specs.Statuses.{status_at, status_of}
-use Rattle.qz_top.specs.Turns.{taken_reading, Idles, LineDone}
-use Rattle.qz_top.proofs.EndLaws.{exact_readings, told_nothing, wrote_nothing, wrote_whole, wrote_part, begins_before, reads_bad, reads_many, too_long, full_idles, rose_later, State, around, beside, SomeRun, AllRan, all_ran, ran_to}
-use Rattle.qz_top.proofs.TrailLaws.{Idles-none}
-use Rattle.qz_top.proofs.TurnLaws.{at_most_one, Did-more}
+use Rattle.qz_top.specs.LineOutcomes.{taken_reading, NothingDone, LineDone}
+use Rattle.qz_top.proofs.EndLaws.{exact_readings, told_nothing, wrote_nothing, wrote_whole, wrote_part, begins_before, reads_bad, reads_many, too_long, full_does_nothing, rose_later, State, around, beside, SomeRun, AllRan, all_ran, ran_to, all_shown, shown_to}
+use Rattle.qz_top.proofs.MomentLaws.{Shows-more, Shows-less}
+use Rattle.qz_top.proofs.TrailLaws.{NothingDone-none}
+use Rattle.qz_top.proofs.OutcomeLaws.{at_most_one, Did-more}
 
 at_write : (number : ℕ) (e : LineEnd) → status_at number e ≡ status.WriteFault → e ≡ ends.WriteFault
 at_write number ends.WriteFault is = refl
@@ -34,8 +36,8 @@ at_write number (ends.JournalFull need room) is = absurd cc
 module _ {D K C : Type 0} (g : Ghosts D) (k : sink.Ghosts K) (c : clock.Ghosts C) where
   -- The handler refused the next line.
   refused_run : (e : LineEnd) (number : ℕ) (i j : Option (List ℕ)) (lines : List (List ℕ)) (line : List ℕ) (a m b : State g k c) → AllRan g k c lines a m
-      → IfKnown i (IsNextLine lines line) → IsNextNumber lines number → LineDone (Err e) line (run_of m.handler) (run_of b.handler) (beside g k c m) (beside g k c b)
-      → SomeRun g k c (status_at number e) (run_of a.handler) (run_of b.handler) (around g k c i a.out a.rest) (around g k c j b.out b.rest)
+      → IfKnown i (IsNextLine lines line) → IsNextNumber lines number → LineDone (Err e) line (view m.handler) (view b.handler) (beside g k c m) (beside g k c b)
+      → SomeRun g k c (status_at number e) (view a.handler) (view b.handler) (around g k c i a.out a.rest) (around g k c j b.out b.rest)
   unfolding Did-more
   refused_run (ends.Bad kind) number i j lines line a m b all next at done = (
     lines,
@@ -44,9 +46,9 @@ module _ {D K C : Type 0} (g : Ghosts D) (k : sink.Ghosts K) (c : clock.Ghosts C
     record {
       called = tt;
       good = all.ran.did.good;
-      behind = run_of m.handler;
-      went = all.ran.did.went;
-      idles = subst (Idles (run_of m.handler)) (sym done.1.same) (Idles-none (run_of m.handler));
+      last = view m.handler;
+      steps = all.ran.did.steps;
+      nothing = subst (NothingDone (view m.handler)) (sym done.1.same) (NothingDone-none (view m.handler));
       full = tt;
       closed = tt;
       reads = λ bytes is. reads_bad bytes line lines kind number (next bytes is) all.ran.did.good at.is at.within done.0;
@@ -56,40 +58,40 @@ module _ {D K C : Type 0} (g : Ghosts D) (k : sink.Ghosts K) (c : clock.Ghosts C
     },
   )
   refused_run ends.WriteFault number i j lines line a m b all next at part =
-      let did = Did-more lines (line ∷ []) all.readings part.readings (run_of a.handler) (run_of m.handler) (run_of b.handler) (beside g k c a) (beside g k c m) (beside g k c b) all.ran.did part.did in (
+      let did = Did-more lines (line ∷ []) all.readings part.readings (view a.handler) (view m.handler) (view b.handler) (beside g k c a) (beside g k c m) (beside g k c b) all.ran.did part.did in (
         lines ++ line ∷ [],
         all.readings ++ part.readings,
         did.replies,
         record {
           called = tt;
           good = did.good;
-          behind = run_of b.handler;
-          went = did.went;
-          idles = Idles-none (run_of b.handler);
+          last = view b.handler;
+          steps = did.steps;
+          nothing = NothingDone-none (view b.handler);
           full = tt;
           closed = tt;
           reads = next;
           clocked = exact_readings _ _ _ _ _ did.count did.told;
-          writes = wrote_part (beside g k c a) (beside g k c m) (beside g k c b) lines all.readings line (run_of a.handler) (run_of m.handler) (run_of b.handler) all.ran part;
+          writes = wrote_part (beside g k c a) (beside g k c m) (beside g k c b) lines all.readings line (view a.handler) (view m.handler) (view b.handler) all.ran part;
           hands_on = tt;
         },
       )
   refused_run ends.Unanswered number i j lines line a m b all next at part =
-      let did = Did-more lines (line ∷ []) all.readings part.readings (run_of a.handler) (run_of m.handler) (run_of b.handler) (beside g k c a) (beside g k c m) (beside g k c b) all.ran.did part.did in (
+      let did = Did-more lines (line ∷ []) all.readings part.readings (view a.handler) (view m.handler) (view b.handler) (beside g k c a) (beside g k c m) (beside g k c b) all.ran.did part.did in (
         lines ++ line ∷ [],
         all.readings ++ part.readings,
         did.replies,
         record {
           called = tt;
           good = did.good;
-          behind = run_of b.handler;
-          went = did.went;
-          idles = Idles-none (run_of b.handler);
+          last = view b.handler;
+          steps = did.steps;
+          nothing = NothingDone-none (view b.handler);
           full = tt;
           closed = tt;
           reads = next;
           clocked = exact_readings _ _ _ _ _ did.count did.told;
-          writes = wrote_part (beside g k c a) (beside g k c m) (beside g k c b) lines all.readings line (run_of a.handler) (run_of m.handler) (run_of b.handler) all.ran part;
+          writes = wrote_part (beside g k c a) (beside g k c m) (beside g k c b) lines all.readings line (view a.handler) (view m.handler) (view b.handler) all.ran part;
           hands_on = tt;
         },
       )
@@ -100,9 +102,9 @@ module _ {D K C : Type 0} (g : Ghosts D) (k : sink.Ghosts K) (c : clock.Ghosts C
     record {
       called = tt;
       good = all.ran.did.good;
-      behind = run_of m.handler;
-      went = all.ran.did.went;
-      idles = gave_up.idles;
+      last = view m.handler;
+      steps = all.ran.did.steps;
+      nothing = gave_up.nothing;
       full = tt;
       closed = tt;
       reads = λ bytes is. begins_before bytes line lines (next bytes is);
@@ -124,9 +126,9 @@ module _ {D K C : Type 0} (g : Ghosts D) (k : sink.Ghosts K) (c : clock.Ghosts C
     record {
       called = tt;
       good = all.ran.did.good;
-      behind = run_of m.handler;
-      went = all.ran.did.went;
-      idles = full_idles line need room (run_of m.handler) (run_of b.handler) (beside g k c m) (beside g k c b) done;
+      last = view m.handler;
+      steps = all.ran.did.steps;
+      nothing = full_does_nothing line need room (view m.handler) (view b.handler) (beside g k c m) (beside g k c b) done;
       full = record {
         line = line;
         next = next;
@@ -134,6 +136,7 @@ module _ {D K C : Type 0} (g : Ghosts D) (k : sink.Ghosts K) (c : clock.Ghosts C
         meaning = done.meaning;
         at = done.full.at;
         own = done.full.own;
+        read = refl;
         full = done.full.full;
       };
       closed = tt;
@@ -152,7 +155,7 @@ module _ {D K C : Type 0} (g : Ghosts D) (k : sink.Ghosts K) (c : clock.Ghosts C
 
   -- The lines ended before the input's end.
   pub IsRun-stopped : (e : LinesEnd LineEnd) (i j : Option (List ℕ)) (a b : State g k c) → HandlesLines (Does {g = g} k c) (Err e) i j a b
-      → SomeRun g k c (status_of e) (run_of a.handler) (run_of b.handler) (around g k c i a.out a.rest) (around g k c j b.out b.rest)
+      → SomeRun g k c (status_of e) (view a.handler) (view b.handler) (around g k c i a.out a.rest) (around g k c j b.out b.rest)
   IsRun-stopped (lines_end.Refused number e) i j a b lines =
       refused_run e number i j lines.lines lines.ends.line a lines.state b (all_ran g k c lines.lines a lines.state lines.handled) lines.ends.next lines.ends.number_is lines.ends.refused.done
   IsRun-stopped (lines_end.TooLong number) i j a b lines =
@@ -163,9 +166,9 @@ module _ {D K C : Type 0} (g : Ghosts D) (k : sink.Ghosts K) (c : clock.Ghosts C
         record {
           called = tt;
           good = all.ran.did.good;
-          behind = run_of b.handler;
-          went = all.ran.did.went;
-          idles = Idles-none (run_of b.handler);
+          last = view b.handler;
+          steps = all.ran.did.steps;
+          nothing = NothingDone-none (view b.handler);
           full = tt;
           closed = tt;
           reads = λ bytes is.
@@ -185,9 +188,9 @@ module _ {D K C : Type 0} (g : Ghosts D) (k : sink.Ghosts K) (c : clock.Ghosts C
         record {
           called = tt;
           good = all.ran.did.good;
-          behind = run_of b.handler;
-          went = all.ran.did.went;
-          idles = Idles-none (run_of b.handler);
+          last = view b.handler;
+          steps = all.ran.did.steps;
+          nothing = NothingDone-none (view b.handler);
           full = tt;
           closed = tt;
           reads = λ bytes is. let more = lines.ends.next bytes is in reads_many bytes more.line lines.lines more.next all.ran.did.good lines.ends.full;
@@ -204,9 +207,9 @@ module _ {D K C : Type 0} (g : Ghosts D) (k : sink.Ghosts K) (c : clock.Ghosts C
         record {
           called = tt;
           good = all.ran.did.good;
-          behind = run_of b.handler;
-          went = all.ran.did.went;
-          idles = Idles-none (run_of b.handler);
+          last = view b.handler;
+          steps = all.ran.did.steps;
+          nothing = NothingDone-none (view b.handler);
           full = tt;
           closed = tt;
           reads = record { part = lines.ends.part; taken = subst (Consumes i j) lines.ends.got_is lines.taken; no_feed = lines.ends.no_feed };
@@ -223,9 +226,9 @@ module _ {D K C : Type 0} (g : Ghosts D) (k : sink.Ghosts K) (c : clock.Ghosts C
         record {
           called = tt;
           good = all.ran.did.good;
-          behind = run_of b.handler;
-          went = all.ran.did.went;
-          idles = Idles-none (run_of b.handler);
+          last = view b.handler;
+          steps = all.ran.did.steps;
+          nothing = NothingDone-none (view b.handler);
           full = tt;
           closed = tt;
           reads = λ bytes is. record { rest = lines_of bytes; all = sym (ap (λ l. l ++ lines_of bytes) lines.ends.no_line) };
@@ -244,3 +247,13 @@ module _ {D K C : Type 0} (g : Ghosts D) (k : sink.Ghosts K) (c : clock.Ghosts C
   stopped_rose lines_end.TooMany i j a b lines is = absurd cc
   stopped_rose lines_end.ReadFault i j a b lines is = absurd cc
   stopped_rose lines_end.NoMemory i j a b lines is = absurd cc
+
+  -- the clusters that were shown
+  pub stopped_shown : (e : LinesEnd LineEnd) (i j : Option (List ℕ)) (a b : State g k c) → HandlesLines (Does {g = g} k c) (Err e) i j a b → Shows ⊥ a.handler b.handler
+  stopped_shown (lines_end.Refused number e) i j a b lines =
+      Shows-more ⊥ a.handler lines.state.handler b.handler (all_shown g k c lines.lines a lines.state lines.handled)
+      (Shows-less _ ⊥ lines.state.handler b.handler lines.ends.refused.shows (λ is. absurd is))
+  stopped_shown (lines_end.TooLong number) i j a b lines = shown_to g k c lines.lines a lines.state b lines.ends.state_is lines.handled
+  stopped_shown lines_end.TooMany i j a b lines = shown_to g k c lines.lines a lines.state b lines.ends.state_is lines.handled
+  stopped_shown lines_end.ReadFault i j a b lines = shown_to g k c lines.lines a lines.state b lines.ends.state_is lines.handled
+  stopped_shown lines_end.NoMemory i j a b lines = shown_to g k c lines.lines a lines.state b lines.ends.state_is lines.handled

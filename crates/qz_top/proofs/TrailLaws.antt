@@ -10,8 +10,8 @@ use Rattle.qz_trigger_store.specs.Bytes.{Encode}
 use Rattle.qz_trigger_store.specs.Opening.{IsOpened}
 use Rattle.qz_cluster.specs.Steps.{ClusterState, IsStep, Stays}
 use Rattle.qz_io.proofs.TakenLaws.{AllByRecursion-append}
-use Rattle.qz_top.specs.Trails.{StepsDone, last_of, is_fault, IsNoFault, RunState, Went, new_cluster}
-use Rattle.qz_top.specs.Turns.{Idles}
+use Rattle.qz_top.specs.Trails.{StepsDone, last_of, is_fault, IsNoFault, RunState, RanSteps, new_cluster}
+use Rattle.qz_top.specs.LineOutcomes.{NothingDone}
 
 pub last_of-append : (S : ClusterState) (xs ys : List ClusterState) → last_of S (xs ++ ys) ≡ last_of (last_of S xs) ys
 last_of-append S [] ys = refl
@@ -26,11 +26,11 @@ StepsDone-append S [] us [] qs (x ∷ xs) ys p q = absurd p
 StepsDone-append S (t ∷ ts) us [] qs xs ys p q = absurd p
 StepsDone-append S (t ∷ ts) us (r ∷ rs) qs [] ys p q = absurd p
 
-pub Went-none : (R : RunState) → Went [] [] R R
-Went-none R = record { states = []; done = tt; last = refl; trail = sym (append-nil R.trail); own = refl; no_fault = λ own. tt }
+pub RanSteps-none : (R : RunState) → RanSteps [] [] R R
+RanSteps-none R = record { states = []; done = tt; last = refl; trail = sym (append-nil R.trail); own = refl; no_fault = λ own. tt }
 
-pub Went-more : (ts us : List TimedStep) (rs qs : List StepReply) (R S T : RunState) → Went ts rs R S → Went us qs S T → Went (ts ++ us) (rs ++ qs) R T
-Went-more ts us rs qs R S T p q = record {
+pub RanSteps-more : (ts us : List TimedStep) (rs qs : List StepReply) (R S T : RunState) → RanSteps ts rs R S → RanSteps us qs S T → RanSteps (ts ++ us) (rs ++ qs) R T
+RanSteps-more ts us rs qs R S T p q = record {
   states = p.states ++ q.states;
   done = StepsDone-append R.cluster ts us rs qs p.states q.states p.done (subst (λ C. StepsDone C us qs q.states) p.last q.done);
   last = q.last ∙ ap (λ C. last_of C q.states) p.last ∙ sym (last_of-append R.cluster p.states q.states);
@@ -40,9 +40,9 @@ Went-more ts us rs qs R S T p q = record {
 }
 
 -- one step, whose state was shown
-pub Went-one : (t : TimedStep) (r : StepReply) (R S : RunState) → IsStep t r R.cluster S.cluster → S.trail ≡ R.trail ++ S.cluster ∷ []
-    → S.is_own ≡ R.is_own → (R.is_own ≡ true → is_fault r ≡ false) → Went (t ∷ []) (r ∷ []) R S
-Went-one t r R S step trail own no_fault =
+pub RanSteps-one : (t : TimedStep) (r : StepReply) (R S : RunState) → IsStep t r R.cluster S.cluster → S.trail ≡ R.trail ++ S.cluster ∷ []
+    → S.is_own ≡ R.is_own → (R.is_own ≡ true → is_fault r ≡ false) → RanSteps (t ∷ []) (r ∷ []) R S
+RanSteps-one t r R S step trail own no_fault =
     record { states = S.cluster ∷ []; done = (step, tt); last = refl; trail = trail; own = own; no_fault = λ is_own. (no_fault is_own, tt) }
 
 -- a cluster on a new store
@@ -65,5 +65,5 @@ new_state S history opened held =
 pub Stays-none : (S : ClusterState) → Stays S S
 Stays-none S = record { triggers = record { history = refl; gate = refl; payloads = refl; is_open = refl; undecided = refl; later = omega arith }; held = refl }
 
-pub Idles-none : (R : RunState) → Idles R R
-Idles-none R = record { trail = refl; own = refl; stays = λ not_own. Stays-none R.cluster }
+pub NothingDone-none : (R : RunState) → NothingDone R R
+NothingDone-none R = record { trail = refl; own = refl; stays = λ not_own. Stays-none R.cluster }

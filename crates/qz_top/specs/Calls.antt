@@ -1,5 +1,6 @@
 -- What the calls that run scripts did.
-use Rattle.std.specs.Prelude.{⊤, ◌≡◌, ◌⊎◌, ◌≤◌, ℕ, ℤ, true, false, Bool, List, [], ◌∷◌, ◌++◌, None}
+use Rattle.std.specs.Prelude.{⊤, ◌≡◌, ◌⊎◌, ◌≤◌, ℕ, ℤ, true, false, Bool, List, [], ◌∷◌, ◌++◌, length, take, None}
+use Rattle.std.specs.List.{AllByRecursion}
 use Rattle.qz_types.specs.declared.steps.StepReply.{StepReply}
 use Rattle.qz_types.specs.declared.stores.Store.TheVariants as store
 use Rattle.qz_disk.specs.declared.disk.Disk.{Ghosts}
@@ -8,13 +9,14 @@ use Rattle.qz_journal.specs.declared.errors.MountError.{MountError}
 use Rattle.qz_journal.specs.declared.errors.MountError.TheVariants as mount
 use Rattle.qz_journal.specs.Through.{OnlyReadsUnless}
 use Rattle.qz_trigger_store.specs.Bytes.{Stands, MayBe}
-use Rattle.qz_trigger_store.specs.Opening.{IsOpened, IsRefused}
+use Rattle.qz_trigger_store.specs.Opening.{IsOpened, IsSound, IsRefused}
 use Rattle.qz_cluster.specs.Steps.{ClusterState}
-use Rattle.qz_model.specs.Script.{new_script, step_replies}
+use Rattle.qz_model.specs.Script.{ScriptState, new_script, step_replies}
 use Rattle.qz_top.specs.Lines.{steps_of}
+use Rattle.qz_top.specs.Moments.{BeginsWithReads, EachIsKept}
 use Rattle.qz_top.specs.Runs.{IsRun}
 use Rattle.qz_top.specs.Seen.{states_in}
-use Rattle.qz_top.specs.Trails.{RunState, new_cluster}
+use Rattle.qz_top.specs.Trails.{IsNoFault, RunState, new_cluster}
 use Rattle.qz_top.specs.declared.statuses.Status.{Status}
 use Rattle.qz_top.specs.declared.statuses.Status.TheVariants as status
 use Rattle.qz_top.specs.declared.ended.Trail.{Trail}
@@ -32,13 +34,13 @@ begun is_own S = record { cluster = S; trail = S ∷ []; is_own = is_own }
 pub record RanInMemory (s : Status) (trail : List ClusterState)
     (old new : Outside) : Type 0 where
   pub faults : ℕ
-  pub behind : RunState
+  pub end : RunState
   pub lines : List (List ℕ)
   pub readings : List ℤ
   pub replies : List StepReply
-  pub run : IsRun s (begun true (new_cluster faults)) behind old new lines readings replies
+  pub run : IsRun s (begun true (new_cluster faults)) end old new lines readings replies
   pub plain : replies ≡ step_replies (new_script) (steps_of lines readings)
-  pub trail_is : trail ≡ behind.trail
+  pub trail_is : trail ≡ end.trail
   pub no_fault : s ≡ status.DiskFault → ⊥
 
 -- A script on a new store in memory was run, or there was no memory for the store.
@@ -47,24 +49,46 @@ OwnDone s trail old new =
     RanInMemory s trail old new
     ⊎ ((s ≡ status.NoMemory) × (trail ≡ []) × (new ≡ old))
 
+-- what a plain scheduler sees of a cluster
+abbrev pub script_of : ClusterState → ScriptState
+script_of S = record { history = S.triggers.history; held = S.held }
+
+-- the store's history is legal and its tables are valid
+abbrev pub HasSoundStore : ClusterState → Type 0
+HasSoundStore S = IsSound S.triggers
+
 -- The store that stands on the disk was opened, and a script was run on it.
 pub record RanOnDisk {D : Type 0} {g : Ghosts D} (triggers : D) (e : Ended D g)
     (old new : Outside) : Type 0 where
+  -- the history that the bytes represent was opened: it begins with a new store, and it is legal
   pub opened : ClusterState
   pub is_opened : IsOpened opened.triggers
   pub nothing_held : opened.held ≡ []
   pub stands : g.honest → Stands (g.state triggers).content opened.triggers.history
   pub no_earlier : g.faults triggers ≤ opened.triggers.faults
-  pub behind : RunState
+  -- the script, and the states that it went through
+  pub end : RunState
   pub lines : List (List ℕ)
   pub readings : List ℤ
   pub replies : List StepReply
-  pub run : IsRun e.status (begun false opened) behind old new lines readings replies
-  pub trail_is : trail_of e.trail ≡ behind.trail
-  pub faults : g.faults e.triggers ≡ behind.cluster.triggers.faults
-  -- what a crash leaves are the bytes of the history, or of it with the undecided entry
+  pub run : IsRun e.status (begun false opened) end old new lines readings replies
+  pub trail_is : trail_of e.trail ≡ end.trail
+  pub on_disk : states_in e.trail.on_disk.value ≡ end.trail
+  -- each of these states has a legal history and valid tables
+  pub sound : AllByRecursion HasSoundStore (trail_of e.trail)
+  -- without a fault the replies are those of a plain scheduler that goes on from the opened history, and so are those
+  -- before the first fault
+  pub plain : AllByRecursion IsNoFault replies → replies ≡ step_replies (script_of opened) (steps_of lines readings)
+  pub plain_first : (first rest : List StepReply) → replies ≡ first ++ rest → AllByRecursion IsNoFault first
+      → first ≡ take (length first) (step_replies (script_of opened) (steps_of lines readings))
+  pub faults : g.faults e.triggers ≡ end.cluster.triggers.faults
+  -- at the end a crash leaves the bytes of the last history, or of it with the undecided entry
   pub images : g.honest → (b : List ℕ) → (g.state e.triggers).IsImage b
-      → MayBe behind.cluster.triggers.history behind.cluster.triggers.undecided b
+      → MayBe end.cluster.triggers.history end.cluster.triggers.undecided b
+  -- before, at any moment, it leaves what it could have left before the call, until the store is open; and from the
+  -- moment on when a state was reached, that state or a later one
+  pub opening : g.honest → BeginsWithReads (g.state triggers) e.trail.on_disk.value.items
+  pub any_moment : g.honest → EachIsKept e.trail.on_disk.value.items (g.state e.triggers)
 
 -- how a call may end that opened no store
 abbrev pub IsOfOpening : Status → Type 0

@@ -1,11 +1,13 @@
+pub mod Asked
 pub mod Calls
+pub mod Causes
 pub mod Handling
+pub mod LineOutcomes
 pub mod Lines
 pub mod Making
+pub mod Moments
 pub mod Runs
 pub mod Seen
 pub mod Statuses
 pub mod Times
 pub mod Trails
-pub mod Turns
-pub mod Worked

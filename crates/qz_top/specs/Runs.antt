@@ -11,8 +11,8 @@ use Rattle.qz_types.specs.declared.steps.StepReply.{StepReply}
 use Rattle.qz_cluster.specs.Steps.{ClusterState, OverflowedStep, is_closed}
 use Rattle.qz_job_json.specs.declared.lines.Given.{Given}
 use Rattle.qz_top.specs.Lines.{line_meaning, IsGood, readings_of, steps_of, first_bad}
-use Rattle.qz_top.specs.Trails.{texts, RunState, Went}
-use Rattle.qz_top.specs.Turns.{IsOwn, step_at, Idles}
+use Rattle.qz_top.specs.Trails.{texts, RunState, RanSteps}
+use Rattle.qz_top.specs.LineOutcomes.{IsOwn, taken_reading, step_at, NothingDone}
 use Rattle.qz_top.specs.declared.statuses.BadKind.{BadKind}
 use Rattle.qz_top.specs.declared.statuses.Status.{Status}
 use Rattle.qz_top.specs.declared.statuses.Status.TheVariants as status
@@ -53,19 +53,23 @@ Reads (status.JournalFull need room) left left_now lines = ReadFirst left lines
 Reads status.NoMemory left left_now lines = ReadFirst left lines
 Reads status.Exists left left_now lines = ⊥
 
--- The line after those that were done asks for a step that would be accepted, and its record finds no room.
-pub record EndsFull (need room : ℕ) (left : Option (List ℕ)) (lines : List (List ℕ)) (S T : ClusterState) : Type 0 where
+-- The line after those that were done asks for a step that would be accepted, and its record finds no room. The step
+-- was tried at its own reading, or else at the one reading that was taken of the clock after those of these lines.
+pub record EndsFull (need room : ℕ) (left : Option (List ℕ)) (lines : List (List ℕ)) (more : List ℤ)
+    (S T : ClusterState) : Type 0 where
   pub line : List ℕ
   pub next : IfKnown left (IsNextLine lines line)
   pub given : Given
   pub meaning : line_meaning line ≡ Ok (Some given)
   pub at : ℤ
   pub own : IsOwn given.at at
+  pub read : more ≡ taken_reading given.at at
   pub full : OverflowedStep (step_at given at) need room S T
 
-abbrev pub Overflowed : Status → Option (List ℕ) → List (List ℕ) → ClusterState → ClusterState → Type 0
-Overflowed (status.JournalFull need room) left lines S T = EndsFull need room left lines S T
-Overflowed s left lines S T = ⊤
+-- why a journal is full, at that status
+abbrev pub Overflowed : Status → Option (List ℕ) → List (List ℕ) → List ℤ → ClusterState → ClusterState → Type 0
+Overflowed (status.JournalFull need room) left lines more S T = EndsFull need room left lines more S T
+Overflowed s left lines more S T = ⊤
 
 -- After the last line the status says whether the store is closed.
 abbrev pub TellsClosed : Status → ClusterState → Type 0
@@ -119,18 +123,18 @@ IsOfScript (status.Damaged store at) = ⊥
 IsOfScript status.Exists = ⊥
 IsOfScript s = ⊤
 
--- A run of these lines from the first state on, with these readings of the clock, these replies, and the state after
--- the last reply.
+-- A run of these lines from the first state on, with these readings of the clock and these replies. The last state is
+-- the one after the last reply.
 pub record IsRun (s : Status) (before after : RunState) (old new : Outside)
     (lines : List (List ℕ)) (readings : List ℤ) (replies : List StepReply) : Type 0 where
   pub called : IsOfScript s
   pub good : AllByRecursion IsGood lines
-  pub behind : RunState
-  pub went : Went (steps_of lines readings) replies before behind
-  pub idles : Idles behind after
-  pub full : Overflowed s old.left lines behind.cluster after.cluster
-  pub closed : TellsClosed s behind.cluster
-  pub reads : Reads s old.left new.left lines
+  pub last : RunState
+  pub steps : RanSteps (steps_of lines readings) replies before last
+  pub nothing : NothingDone last after
   pub clocked : Clocked s old.readings new.readings lines readings
+  pub full : Overflowed s old.left lines clocked.more last.cluster after.cluster
+  pub closed : TellsClosed s last.cluster
+  pub reads : Reads s old.left new.left lines
   pub writes : Writes s old.held new.held replies
   pub hands_on : HandsOn s new

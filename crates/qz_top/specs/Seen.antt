@@ -5,13 +5,20 @@ use Rattle.std.specs.declared.alloc.Global.{Global}
 use Rattle.qz_disk.specs.declared.disk.Disk.{Ghosts}
 use Rattle.qz_cluster.specs.declared.clusters.Cluster.{Cluster}
 use Rattle.qz_cluster.specs.Steps.{ClusterState}
-use Rattle.qz_cluster.specs.View.{view as state_of}
+use Rattle.qz_cluster.specs.View.{view as cluster_view}
 use Rattle.qz_top.specs.Trails.{RunState}
 use Rattle.qz_top.specs.declared.runs.Run.{Run}
 
+-- clusters as they were shown, one after another
+abbrev pub Shown : (D : Type 0) → Ghosts D → Type 0
+Shown D g = List (Snapshot (Cluster D g))
+
+abbrev pub states_of : {D : Type 0} {g : Ghosts D} → Shown D g → List ClusterState
+states_of shown = map (λ s. cluster_view s.value) shown
+
 -- the states that were shown
 abbrev pub states_in : {D : Type 0} {g : Ghosts D} → Vec (Snapshot (Cluster D g)) Global → List ClusterState
-states_in trail = map (λ s. state_of s.value) trail.items
+states_in trail = states_of trail.items
 
-abbrev pub run_of : {D : Type 0} {g : Ghosts D} → Run D g → RunState
-run_of r = record { cluster = state_of r.cluster; trail = states_in r.trail; is_own = r.is_own }
+abbrev pub view : {D : Type 0} {g : Ghosts D} → Run D g → RunState
+view r = record { cluster = cluster_view r.cluster; trail = states_in r.trail; is_own = r.is_own }

@@ -14,8 +14,8 @@ use Rattle.qz_top.specs.declared.statuses.BadKind.{BadKind}
 use Rattle.qz_top.specs.declared.statuses.BadKind.TheVariants.{TooLong, NotJson, Shape, Cron, TooManyLines, NotHere}
 use Rattle.qz_top.specs.declared.statuses.Status.{Status}
 use Rattle.qz_top.specs.declared.statuses.Status.TheVariants as status
-use Rattle.qz_top.specs.declared.turns.LineEnd.{LineEnd}
-use Rattle.qz_top.specs.declared.turns.LineEnd.TheVariants as ends
+use Rattle.qz_top.specs.declared.line_handler.LineEnd.{LineEnd}
+use Rattle.qz_top.specs.declared.line_handler.LineEnd.TheVariants as ends
 
 abbrev pub exit_number : Status → ℕ
 exit_number status.Ok = 0

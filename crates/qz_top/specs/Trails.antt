@@ -14,7 +14,7 @@ StepsDone S [] [] [] = ⊤
 StepsDone S (t ∷ ts) (r ∷ rs) (S' ∷ states) = IsStep t r S S' × StepsDone S' ts rs states
 StepsDone S ts rs states = ⊥
 
--- the last of these states, which come behind the first
+-- the last of these states, which come after the first
 abbrev pub last_of : ClusterState → List ClusterState → ClusterState
 last_of S [] = S
 last_of S (S' ∷ states) = last_of S' states
@@ -40,9 +40,9 @@ pub record RunState : Type 0 where
   pub trail : List ClusterState
   pub is_own : Bool
 
--- These steps led from one state of a script to the other, with these replies. On a disk of its own it goes on behind
+-- These steps led from one state of a script to the other, with these replies. On a disk of its own it goes on after
 -- no fault.
-pub record Went (steps : List TimedStep) (replies : List StepReply) (before after : RunState) : Type 0 where
+pub record RanSteps (steps : List TimedStep) (replies : List StepReply) (before after : RunState) : Type 0 where
   pub states : List ClusterState
   pub done : StepsDone before.cluster steps replies states
   pub last : after.cluster ≡ last_of before.cluster states

@@ -1,8 +1,10 @@
 //! How a script begins.
-ghost use Rattle.std.specs.Prelude.{◌≡◌, IfOk, IfErr};
-ghost use Rattle.qz_cluster.specs.View.{view as state_of};
+ghost use Rattle.std.specs.Prelude.{◌≡◌, ◌∷◌, [], IfOk, IfErr};
+ghost use Rattle.std.specs.declared.snapshot.Snapshot.{Snapshot};
+ghost use Rattle.qz_cluster.specs.declared.clusters.Cluster.{Cluster};
+ghost use Rattle.qz_cluster.specs.View.{view as cluster_view};
 ghost use Rattle.qz_top.specs.Calls.{begun};
-ghost use Rattle.qz_top.specs.Seen.{run_of};
+ghost use Rattle.qz_top.specs.Seen.{view};
 
 use crate::runs::Run;
 use qz_cluster::Cluster;
@@ -17,7 +19,8 @@ impl<D: Disk> Run<D> {
         cluster: Cluster<D>,
         is_own: bool,
     ) -> Result<Run<D>, Cluster<D>>
-        ensures ok { IfOk result (λ run. (run_of run ≡ begun is_own (state_of cluster)) × (run.cluster ≡ cluster)) }
+        ensures ok { IfOk result (λ run. (view run ≡ begun is_own (cluster_view cluster)) × (run.cluster ≡ cluster)) }
+        ensures shown { IfOk result (λ run. (first : Snapshot (Cluster D D.Disk)) × (run.trail.items ≡ first ∷ []) × (first.value ≡ cluster)) }
         ensures err { IfErr result (λ c. c ≡ cluster) }
     {
         let mut trail = Vec::new(alloc);

@@ -1,20 +1,14 @@
 //! The top call.
-ghost use Rattle.std.specs.Prelude.{◌≡◌, ◌⊎◌, ℕ, ℤ, [], Ok, Err};
-ghost use Rattle.qz_civil.specs.Causes.{Rose};
-ghost use Rattle.qz_io.specs.Around.{outside, without_clock, output_alone};
-ghost use Rattle.qz_top.specs.Calls.{OwnDone, RanOnDisk, NotOpened, trail_of};
-ghost use Rattle.qz_top.specs.Making.{IsInit, IsOfInit, SaysMade};
+ghost use Rattle.qz_io.specs.Around.{outside};
+ghost use Rattle.qz_top.specs.Asked.{DidAsAsked};
+ghost use Rattle.qz_top.specs.Causes.{counts, HasCause};
 ghost use Rattle.qz_top.specs.Statuses.{error_text, Reported};
-ghost use Rattle.qz_top.specs.Times.{TimesDone};
-ghost use Rattle.qz_top.specs.Worked.{Worked};
 ghost use Rattle.qz_words.specs.Wishes.{wish_of};
-ghost use Rattle.qz_words.specs.declared.wishes.WordFault.{WordFault as Fault};
-ghost use Rattle.qz_words.specs.declared.wishes.Wish.TheVariants as wish;
 
 use crate::ended::{Ended, ran_no_script};
+use crate::in_memory::own_script;
 use crate::making::make_stores;
 use crate::on_disk::script_on_disk;
-use crate::own::own_script;
 use crate::times::tell_times;
 use crate::{Status, report};
 use qz_disk::Disk;
@@ -43,41 +37,12 @@ pub fn command<S: Source, K: Sink, E: Sink, D: Disk, C: Clock>(
     states: D,
     clock: &mut C,
 ) -> Ended<D>
-    // Words that no call has are refused, and nothing else is done: nothing is read, written or asked, and the disks
-    // come back as they were.
-    ensures bad_words { (fault : Fault) → wish_of words.now ≡ Err fault → result.status ≡ Status.BadWords fault }
-    ensures bad_words_only { (fault : Fault) → result.status ≡ Status.BadWords fault → wish_of words.now ≡ Err fault }
-    ensures no_wish { (fault : Fault) → wish_of words.now ≡ Err fault
-        → outside S.Source K.Sink C.Clock input.new out.new clock.new ≡ outside S.Source K.Sink C.Clock input.old out.old clock.old }
-    ensures no_wish_disks { (fault : Fault) → wish_of words.now ≡ Err fault → (result.triggers ≡ triggers) × (result.states ≡ states) }
-
-    // Without words out has grown by a plain scheduler's replies to the lines that the status tells were done.
-    ensures own { wish_of words.now ≡ Ok wish.Own
-        → OwnDone result.status (trail_of result.trail) (outside S.Source K.Sink C.Clock input.old out.old clock.old) (outside S.Source K.Sink C.Clock input.new out.new clock.new) }
-    ensures own_disks { wish_of words.now ≡ Ok wish.Own → (result.triggers ≡ triggers) × (result.states ≡ states) }
-
-    // `script` opens the store, if the bytes on the disk are one, and does the same along its history.
-    ensures script { wish_of words.now ≡ Ok wish.Script
-        → RanOnDisk triggers result (outside S.Source K.Sink C.Clock input.old out.old clock.old) (outside S.Source K.Sink C.Clock input.new out.new clock.new)
-        ⊎ NotOpened triggers result (outside S.Source K.Sink C.Clock input.old out.old clock.old) (outside S.Source K.Sink C.Clock input.new out.new clock.new) }
-    ensures script_states { wish_of words.now ≡ Ok wish.Script → result.states ≡ states }
-
-    ensures init { wish_of words.now ≡ Ok wish.Init → D.honest → IsInit result.status (D.state triggers) (D.state result.triggers) (D.state states) (D.state result.states) }
-    ensures init_ends { wish_of words.now ≡ Ok wish.Init → IsOfInit result.status }
-    ensures init_says { wish_of words.now ≡ Ok wish.Init → SaysMade result.status (output_alone K.Sink out.old) (output_alone K.Sink out.new) }
-    ensures init_reads { wish_of words.now ≡ Ok wish.Init → (S.left input.new ≡ S.left input.old) × (C.readings clock.new ≡ C.readings clock.old) }
-    ensures times { (after : ℤ) (count : ℕ) → wish_of words.now ≡ Ok (wish.Times after count)
-        → TimesDone result.status (record { after = after; count = count }) (without_clock S.Source K.Sink input.old out.old) (without_clock S.Source K.Sink input.new out.new) }
-    ensures times_rest { (after : ℤ) (count : ℕ) → wish_of words.now ≡ Ok (wish.Times after count)
-        → (result.triggers ≡ triggers) × (result.states ≡ states) × (C.readings clock.new ≡ C.readings clock.old) }
-    ensures no_script { (wish_of words.now ≡ Ok wish.Own → ⊥) → (wish_of words.now ≡ Ok wish.Script → ⊥) → trail_of result.trail ≡ [] }
-
-    // A fault is answered only where the object's count of faults rose in this call.
-    ensures read { result.status ≡ Status.ReadFault → Rose (S.faults input.old) (S.faults input.new) }
-    ensures write { result.status ≡ Status.WriteFault → Rose (K.faults out.old) (K.faults out.new) }
-    ensures disk { result.status ≡ Status.DiskFault → Rose (D.faults triggers) (D.faults result.triggers) ⊎ Rose (D.faults states) (D.faults result.states) }
-
-    ensures told { Reported (error_text result.status) (E.held err.old) (E.held err.new) (E.faults err.old) (E.faults err.new) }
+    // What was done is what the words ask for: each of the five cases is a definition of its own.
+    ensures done { DidAsAsked (wish_of words.now) triggers states result (outside S.Source K.Sink C.Clock input.old out.old clock.old) (outside S.Source K.Sink C.Clock input.new out.new clock.new) }
+    // Bad words are answered only where the words are refused, and a fault only where the object's count of faults rose.
+    ensures cause { HasCause result.status (wish_of words.now) (counts S.Source K.Sink D.Disk input.old out.old triggers states) (counts S.Source K.Sink D.Disk input.new out.new result.triggers result.states) }
+    // The line on `err` was written, or `err` failed.
+    ensures reported { Reported (error_text result.status) (E.held err.old) (E.held err.new) (E.faults err.old) (E.faults err.new) }
 {
     let ended = work(alloc, words, input, out, triggers, states, clock);
     report(ended.status, err);
@@ -94,11 +59,8 @@ fn work<S: Source, K: Sink, D: Disk, C: Clock>(
     states: D,
     clock: &mut C,
 ) -> Ended<D>
-    ensures worked { Worked (wish_of words.now) triggers states result (outside S.Source K.Sink C.Clock input.old out.old clock.old) (outside S.Source K.Sink C.Clock input.new out.new clock.new) }
-    ensures bad_words_only { (fault : Fault) → result.status ≡ Status.BadWords fault → wish_of words.now ≡ Err fault }
-    ensures read { result.status ≡ Status.ReadFault → Rose (S.faults input.old) (S.faults input.new) }
-    ensures write { result.status ≡ Status.WriteFault → Rose (K.faults out.old) (K.faults out.new) }
-    ensures disk { result.status ≡ Status.DiskFault → Rose (D.faults triggers) (D.faults result.triggers) ⊎ Rose (D.faults states) (D.faults result.states) }
+    ensures done { DidAsAsked (wish_of words.now) triggers states result (outside S.Source K.Sink C.Clock input.old out.old clock.old) (outside S.Source K.Sink C.Clock input.new out.new clock.new) }
+    ensures cause { HasCause result.status (wish_of words.now) (counts S.Source K.Sink D.Disk input.old out.old triggers states) (counts S.Source K.Sink D.Disk input.new out.new result.triggers result.states) }
 {
     match read_words(words) {
         Err(fault) => ran_no_script(alloc, Status::BadWords { fault }, triggers, states),

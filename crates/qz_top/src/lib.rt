@@ -4,15 +4,15 @@
 mod beginning;
 mod commands;
 mod ended;
+mod in_memory;
+mod line_handler;
 mod making;
 mod on_disk;
-mod own;
 mod reports;
 mod runs;
 mod scripts;
 mod statuses;
 mod times;
-mod turns;
 
 pub use commands::command;
 pub use ended::{Ended, Trail};

@@ -3,7 +3,7 @@ ghost use Rattle.std.specs.Prelude.{◌≡◌, ◌⊎◌, ◌≤◌, [], Err};
 ghost use Rattle.qz_civil.specs.Causes.{Rose};
 ghost use Rattle.qz_io.specs.Around.{output_alone};
 ghost use Rattle.qz_top.specs.Calls.{trail_of};
-ghost use Rattle.qz_top.specs.Making.{Makes, IsInit, IsOfInit, SaysMade};
+ghost use Rattle.qz_top.specs.Making.{Makes, IsInit, SaysMade, unmade_status};
 
 use crate::Status;
 use crate::ended::{Ended, ran_no_script};
@@ -28,11 +28,9 @@ pub(crate) fn make_stores<K: Sink, D: Disk>(
     mut triggers: D,
     mut states: D,
 ) -> Ended<D>
-    ensures told { D.honest → IsInit result.status (D.state triggers) (D.state result.triggers) (D.state states) (D.state result.states) }
-    ensures called { IsOfInit result.status }
+    ensures made { IsInit D.Disk result.status triggers result.triggers states result.states }
     ensures written { SaysMade result.status (output_alone K.Sink out.old) (output_alone K.Sink out.new) }
     ensures trail { trail_of result.trail ≡ [] }
-    ensures disk { result.status ≡ Status.DiskFault → Rose (D.faults triggers) (D.faults result.triggers) ⊎ Rose (D.faults states) (D.faults result.states) }
     ensures write { result.status ≡ Status.WriteFault → Rose (K.faults out.old) (K.faults out.new) }
 {
     let status = init(out, &mut triggers, &mut states);
@@ -41,34 +39,32 @@ pub(crate) fn make_stores<K: Sink, D: Disk>(
 
 // The same, on the disks where they are.
 fn init<K: Sink, D: Disk>(out: &mut K, triggers: &mut D, states: &mut D) -> Status
-    ensures told { D.honest → IsInit result (D.state triggers.old) (D.state triggers.new) (D.state states.old) (D.state states.new) }
-    ensures called { IsOfInit result }
+    ensures made { IsInit D.Disk result triggers.old triggers.new states.old states.new }
     ensures written { SaysMade result (output_alone K.Sink out.old) (output_alone K.Sink out.new) }
-    ensures disk { result ≡ Status.DiskFault → Rose (D.faults triggers.old) (D.faults triggers.new) ⊎ Rose (D.faults states.old) (D.faults states.new) }
     ensures write { result ≡ Status.WriteFault → Rose (K.faults out.old) (K.faults out.new) }
 {
     let first = match make(triggers, TRIGGERS) {
         Ok(first) => first,
-        Err(Unmade::OtherKind) => {
-            return Status::NotAStore {
-                store: Store::Triggers,
-            };
-        }
-        Err(Unmade::Fault) => return Status::DiskFault,
+        Err(unmade) => return unmade_status(unmade, Store::Triggers),
     };
     let second = match make(states, STATES) {
         Ok(second) => second,
-        Err(Unmade::OtherKind) => {
-            return Status::NotAStore {
-                store: Store::States,
-            };
-        }
-        Err(Unmade::Fault) => return Status::DiskFault,
+        Err(unmade) => return unmade_status(unmade, Store::States),
     };
     if !first && !second {
         return Status::Exists;
     }
     say_made(out)
+}
+
+// The status of an `init` that made no store on the disk of this one.
+fn unmade_status(unmade: Unmade, store: Store) -> Status
+    ensures { result ≡ unmade_status unmade store }
+{
+    match unmade {
+        Unmade::OtherKind => Status::NotAStore { store },
+        Unmade::Fault => Status::DiskFault,
+    }
 }
 
 // Makes a store where none stands. False where one stood there.

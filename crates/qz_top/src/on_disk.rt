@@ -1,12 +1,9 @@
 //! A script on the stores of two disks.
-ghost use Rattle.std.specs.Prelude.{◌≡◌, ◌⊎◌, ◌≤◌, true, false, None, []};
+ghost use Rattle.std.specs.Prelude.{◌≡◌, ◌⊎◌, []};
 ghost use Rattle.qz_civil.specs.Causes.{Rose};
 ghost use Rattle.qz_io.specs.Around.{outside};
-ghost use Rattle.qz_trigger_store.specs.Bytes.{Stands};
-ghost use Rattle.qz_trigger_store.specs.Opening.{IsOpened};
-ghost use Rattle.qz_cluster.specs.Steps.{ClusterState};
-ghost use Rattle.qz_top.specs.Calls.{begun, RanOnDisk, NotOpened, refusal_of};
-ghost use Rattle.qz_top.specs.Seen.{run_of};
+ghost use Rattle.qz_top.specs.Calls.{RanOnDisk, NotOpened, refusal_of};
+ghost use Rattle.qz_top.specs.Moments.{BeginsOn};
 
 use crate::Status;
 use crate::ended::{Ended, Trail, ran_no_script};
@@ -53,12 +50,10 @@ fn run_opened<S: Source, K: Sink, D: Disk, C: Clock>(
     states: D,
     clock: &mut C,
 ) -> Ended<D>
-    // from this state on, and of a disk that it was mounted from
-    ensures done { (triggers : D) (B : ClusterState) → run_of run ≡ begun false B → IsOpened B.triggers → B.held ≡ []
-        → (D.honest → Stands (D.state triggers).content B.triggers.history) → D.faults triggers ≤ B.triggers.faults
+    ensures done { (triggers : D) → BeginsOn triggers run
         → RanOnDisk triggers result (outside S.Source K.Sink C.Clock input.old out.old clock.old) (outside S.Source K.Sink C.Clock input.new out.new clock.new) }
     ensures states { result.states ≡ states }
-    ensures disk { (triggers : D) (B : ClusterState) → run_of run ≡ begun false B → IsOpened B.triggers → D.faults triggers ≤ B.triggers.faults
+    ensures disk { (triggers : D) → BeginsOn triggers run
         → result.status ≡ Status.DiskFault → Rose (D.faults triggers) (D.faults result.triggers) }
     ensures read { result.status ≡ Status.ReadFault → Rose (S.faults input.old) (S.faults input.new) }
     ensures write { result.status ≡ Status.WriteFault → Rose (K.faults out.old) (K.faults out.new) }

@@ -71,7 +71,7 @@ fn write_full<E: Sink>(need: u64, room: u64, err: &mut E) -> Result<(), Failed>
     write_all(err, b"\n")
 }
 
-// A text, and a number behind it.
+// A text, and a number after it.
 fn write_number<E: Sink>(text: &[u8], number: u64, err: &mut E) -> Result<(), Failed>
     ensures ok { OnOk result (Appends (E.held err.old) (E.held err.new) (text.now ++ decimal number)) }
     ensures cause { HasCause (E.faults err.old) (E.faults err.new) result }

@@ -3,12 +3,13 @@ ghost use Rattle.std.specs.Prelude.{◌≡◌, ℕ, ℤ, List};
 ghost use Rattle.qz_civil.specs.Causes.{Rose};
 ghost use Rattle.qz_io.specs.Around.{outside, output_alone};
 ghost use Rattle.qz_types.specs.declared.steps.StepReply.{StepReply};
+ghost use Rattle.qz_top.specs.Moments.{Shows};
 ghost use Rattle.qz_top.specs.Runs.{IsOfScript, IsRun};
-ghost use Rattle.qz_top.specs.Seen.{run_of};
+ghost use Rattle.qz_top.specs.Seen.{view};
 ghost use Rattle.qz_top.specs.Statuses.{status_at, status_of, Finishes};
 
+use crate::line_handler::LineEnd;
 use crate::runs::Run;
-use crate::turns::LineEnd;
 use crate::{BadKind, Status};
 use qz_disk::Disk;
 use qz_io::{Clock, LINE_COUNT_LIMIT, LinesEnd, Sink, Source, handle_lines};
@@ -22,8 +23,9 @@ pub(crate) fn run_lines<S: Source, K: Sink, D: Disk, C: Clock>(
     clock: &mut C,
 ) -> Status
     ensures run { (lines : List (List ℕ)) × (readings : List ℤ) × (replies : List StepReply)
-        × IsRun result (run_of run.old) (run_of run.new) (outside S.Source K.Sink C.Clock input.old out.old clock.old) (outside S.Source K.Sink C.Clock input.new out.new clock.new) lines readings replies }
+        × IsRun result (view run.old) (view run.new) (outside S.Source K.Sink C.Clock input.old out.old clock.old) (outside S.Source K.Sink C.Clock input.new out.new clock.new) lines readings replies }
     ensures called { IsOfScript result }
+    ensures shows { Shows ⊥ run.old run.new }
     ensures read { result ≡ Status.ReadFault → Rose (S.faults input.old) (S.faults input.new) }
     ensures write { result ≡ Status.WriteFault → Rose (K.faults out.old) (K.faults out.new) }
 {

@@ -51,7 +51,7 @@ pub enum Status {
     ReadFault,
     /// A write of the output failed.
     WriteFault,
-    /// A disk failed while the stores were made or opened; or, behind a whole script, a store is closed since its disk
+    /// A disk failed while the stores were made or opened; or, after a whole script, a store is closed since its disk
     /// failed.
     DiskFault,
     /// `script`: the disk doesn't begin with the trigger store's header. `init`: this disk begins with the other

@@ -2,6 +2,7 @@
 #![tactic(auto)]
 
 mod accepted;
+mod entry_log;
 mod laws;
 mod mounting;
 mod parts;

@@ -57,12 +57,12 @@ impl<D: Disk> TriggerStore<D> {
 fn begin<D: Disk>(alloc: Global, journal: Journal<D>, replayed: Replayed) -> TriggerStore<D>
     requires kind { kind_of journal ≡ OF_TRIGGERS }
     requires open { closed_at journal ≡ None }
-    requires counted { count_of journal ≡ length replayed.entries }
-    requires stands { D.honest → HoldEntries (D.state (journal_disk journal)).content replayed.entries }
+    requires counted { count_of journal ≡ length replayed.entries.items }
+    requires stands { D.honest → HoldEntries (D.state (journal_disk journal)).content replayed.entries.items }
     requires valid { ∥ TablesValid replayed.tables ∥₁ }
-    requires recorded { ∥ AllByRecursion IsEntry replayed.entries ∥₁ }
+    requires recorded { ∥ AllByRecursion IsEntry replayed.entries.items ∥₁ }
     ensures journal { result.journal ≡ journal }
-    ensures found { result.found ≡ replayed.entries }
+    ensures found { result.found.items ≡ replayed.entries.items }
     ensures opened { (result.is_open ≡ true) × (result.undecided ≡ None) × (added_of result ≡ []) }
 {
     let Replayed { entries, tables } = replayed;

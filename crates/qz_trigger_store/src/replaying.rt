@@ -12,6 +12,7 @@ ghost use Rattle.qz_trigger_store.specs.Bytes.{IsRecord};
 ghost use Rattle.qz_trigger_store.specs.Facts.{IsLegalFrom-prop};
 ghost use Rattle.qz_trigger_store.specs.Opening.{IsUnfit, IsStopped, AreReplayed};
 
+use crate::entry_log::EntryLog;
 use qz_civil::List;
 use qz_codec::{ReadError, get_command};
 use qz_journal::MountError;
@@ -22,10 +23,10 @@ use std::alloc::Global;
 /// A history from a new store on, and the tables that it leaves.
 #[derive(Drop)]
 pub(crate) struct Replayed {
-    pub(crate) entries: List<Entry>,
+    pub(crate) entries: EntryLog,
     pub(crate) tables: PlainStore,
-    ghost legal: { IsLegalFrom new_tables entries } by { IsLegalFrom-prop new_tables entries },
-    ghost replayed: { tables ≡ replay_from new_tables entries },
+    ghost legal: { IsLegalFrom new_tables entries.items } by { IsLegalFrom-prop new_tables entries.items },
+    ghost replayed: { tables ≡ replay_from new_tables entries.items },
 }
 
 // Why a payload wasn't taken into a history.
@@ -73,16 +74,19 @@ fn take(alloc: Global, tables: &mut PlainStore, payload: &[u8]) -> Result<Entry,
 /// The history whose records these payloads are. `Damaged` has the offset of the gate of the first one that is unfit.
 pub(crate) fn replay(alloc: Global, payloads: &List<List<u8>>) -> Result<Replayed, MountError>
     requires offsets { end_of payloads.now < 2 ^ 64 }
-    ensures replayed { IfOk result (λ found. AreReplayed payloads.now found.entries) }
+    ensures replayed { IfOk result (λ found. AreReplayed payloads.now found.entries.items) }
     ensures valid { IfOk result (λ found. ∥ TablesValid found.tables ∥₁) }
     ensures stopped { IfErr result (IsStopped payloads.now) }
 {
-    let mut entries = List::new(alloc);
+    let mut entries = EntryLog::new();
     let mut tables = PlainStore::new(alloc);
     let mut gate: u64 = 16;
     for payload in payloads.as_slice() {
         match take(alloc, &mut tables, payload.as_slice()) {
-            Ok(entry) => entries.push(entry)?,
+            Ok(entry) => {
+                entries = EntryLog::and(&entries, &entry);
+                drop(entry);
+            }
             Err(TakeError::Unfit) => return Err(MountError::Damaged { at: gate }),
             Err(TakeError::NoMemory) => return Err(MountError::NoMemory),
         }

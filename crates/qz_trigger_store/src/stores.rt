@@ -12,7 +12,7 @@ ghost use Rattle.qz_trigger_store.specs.Bytes.{HoldEntries, MayHold};
 ghost use Rattle.qz_trigger_store.specs.Facts.{IsLegalFrom-prop, HoldEntries-prop, MayHold-prop};
 
 use crate::accepted::Accepted;
-use qz_civil::List;
+use crate::entry_log::EntryLog;
 use qz_disk::Disk;
 use qz_journal::Journal;
 use qz_model::PlainStore;
@@ -20,14 +20,15 @@ use qz_types::Entry;
 use std::alloc::Global;
 
 /// A trigger store on a disk. Its history is a list of entries, each of which was accepted at the tables that those
-/// before it left. The disk holds their records; the store keeps the entries, and the tables after the last.
+/// before it left. The disk holds their records; the store keeps the tables after
+/// the last, and of the entries those that it accepted itself.
 #[derive(Drop)]
 pub struct TriggerStore<D: Disk> {
     pub(crate) alloc: Global,
     pub(crate) journal: Journal<D>,
     pub(crate) tables: PlainStore,
     // the entries that the disk had at the mount
-    pub(crate) found: List<Entry>,
+    pub(crate) found: EntryLog,
     pub(crate) accepted: Accepted,
     pub(crate) is_open: bool,
     // the entry whose record failed, where the store is closed
@@ -35,13 +36,13 @@ pub struct TriggerStore<D: Disk> {
     ghost kind: { kind_of journal ≡ OF_TRIGGERS },
     ghost ready: { is_open ≡ true → closed_at journal ≡ None },
     ghost settled: { is_open ≡ true → undecided ≡ None },
-    ghost counted: { count_of journal ≡ length (found ++ accepted.entries.items) },
-    ghost legal: { IsLegalFrom new_tables (found ++ accepted.entries.items) } by { IsLegalFrom-prop new_tables (found ++ accepted.entries.items) },
-    ghost replayed: { tables ≡ replay_from new_tables (found ++ accepted.entries.items) },
+    ghost counted: { count_of journal ≡ length (found.items ++ accepted.entries.items) },
+    ghost legal: { IsLegalFrom new_tables (found.items ++ accepted.entries.items) } by { IsLegalFrom-prop new_tables (found.items ++ accepted.entries.items) },
+    ghost replayed: { tables ≡ replay_from new_tables (found.items ++ accepted.entries.items) },
     ghost valid: { ∥ TablesValid tables ∥₁ },
-    ghost recorded: { ∥ AllByRecursion IsEntry (found ++ accepted.entries.items) ∥₁ },
-    ghost moments: { accepted.moments.items ≡ moments_from (replay_from new_tables found) accepted.entries.items },
-    ghost replies: { accepted.replies.items ≡ replies_from (replay_from new_tables found) accepted.entries.items },
-    ghost stands: { D.honest → is_open ≡ true → HoldEntries (D.state (disk_of journal)).content (found ++ accepted.entries.items) } by { Prim.hlevel (props, HoldEntries-prop) },
-    ghost images: { D.honest → (b : Entries ℕ) → (D.state (disk_of journal)).IsImage b → MayHold (found ++ accepted.entries.items) undecided b } by { Prim.hlevel (props, MayHold-prop) },
+    ghost recorded: { ∥ AllByRecursion IsEntry (found.items ++ accepted.entries.items) ∥₁ },
+    ghost moments: { accepted.moments.items ≡ moments_from (replay_from new_tables found.items) accepted.entries.items },
+    ghost replies: { accepted.replies.items ≡ replies_from (replay_from new_tables found.items) accepted.entries.items },
+    ghost stands: { D.honest → is_open ≡ true → HoldEntries (D.state (disk_of journal)).content (found.items ++ accepted.entries.items) } by { Prim.hlevel (props, HoldEntries-prop) },
+    ghost images: { D.honest → (b : Entries ℕ) → (D.state (disk_of journal)).IsImage b → MayHold (found.items ++ accepted.entries.items) undecided b } by { Prim.hlevel (props, MayHold-prop) },
 }

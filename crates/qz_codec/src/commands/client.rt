@@ -2,17 +2,22 @@
 ghost use Rattle.std.specs.Prelude.{◌≡◌, IsTrue, IfOk, false};
 ghost use Rattle.qz_types.specs.Entries.{is_command, is_of_node};
 ghost use Rattle.qz_types.specs.declared.commands.Command.TheVariants.{AddJob, DeleteJob, AddTrigger, DeleteTrigger, PauseTrigger, ResumeTrigger, PauseGroup, ResumeGroup, AddCalendar, DeleteCalendar, AddZone, DeleteZone, TriggerNow, Threshold, Join};
-ghost use Rattle.qz_codec.specs.Reading.{Gives, as_variant, key_at, name_at, node_at, threshold_at, job_at, spec_at, replacing_at};
+ghost use Rattle.qz_values.specs.Reading.{Gives};
+ghost use Rattle.qz_values.specs.Fields.{as_variant, name_at};
+ghost use Rattle.qz_codec.specs.Reading.{key_at, node_at, threshold_at, job_at, spec_at, replacing_at};
 ghost use Rattle.qz_codec.specs.Zones.{zone_row_at};
 ghost use Rattle.qz_codec.specs.Calendars.{calendar_row_at};
 
 use crate::calendars::calendar_row_of;
-use crate::errors::Fault;
-use crate::fields::{bool_at, interval_of};
-use crate::rows::{job_of, key_of, owned_name_of, owned_node_of, spec_of};
+use crate::check_ins::interval_of;
+use crate::jobs::job_of;
+use crate::keys::key_of;
+use crate::members::owned_node_of;
+use crate::triggers::spec_of;
 use crate::zones::zone_row_of;
 use qz_civil::beside;
 use qz_types::Command;
+use qz_values::{Fault, bool_at, owned_name_of};
 use std::alloc::Global;
 
 pub(super) fn add_job_of(alloc: Global, bytes: &[u8]) -> Result<(Command, &[u8]), Fault>

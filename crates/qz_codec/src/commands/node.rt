@@ -3,41 +3,15 @@ ghost use Rattle.std.specs.Prelude.{◌≡◌, ◌≤◌, IsTrue, IfOk, true};
 ghost use Rattle.std.specs.Int.{w32, w64};
 ghost use Rattle.qz_types.specs.Entries.{is_command, is_of_node};
 ghost use Rattle.qz_types.specs.declared.commands.Command.TheVariants.{Release, Fire, Recover};
-ghost use Rattle.qz_codec.specs.Values.{is_long};
-ghost use Rattle.qz_codec.specs.Reading.{Gives, as_variant, checked, number_at, node_at, code_of, code_at, acquire_at, complete_at};
+ghost use Rattle.qz_values.specs.Fields.{is_long, as_variant, checked, number_at};
+ghost use Rattle.qz_values.specs.Reading.{Gives};
+ghost use Rattle.qz_codec.specs.Reading.{node_at, acquire_at, complete_at};
 
-use crate::errors::Fault;
-use crate::fields::{span_of, u8_at, u32_at, u64_at};
-use crate::rows::owned_node_of;
-use qz_types::{ACQUIRE_LIMIT, Code, Command};
+use crate::codes::code_in;
+use crate::members::owned_node_of;
+use qz_types::{ACQUIRE_LIMIT, Command};
+use qz_values::{Fault, span_of, u32_at, u64_at};
 use std::alloc::Global;
-
-/// The code at this place among all codes.
-fn code_at_place(place: u8) -> Option<Code>
-    ensures { result ≡ code_of place }
-{
-    match place {
-        0 => Some(Code::Noop),
-        1 => Some(Code::ReExecuteJob),
-        2 => Some(Code::SetTriggerComplete),
-        3 => Some(Code::DeleteTrigger),
-        4 => Some(Code::SetAllJobTriggersComplete),
-        5 => Some(Code::SetTriggerError),
-        6 => Some(Code::SetAllJobTriggersError),
-        _ => None,
-    }
-}
-
-#[tactic(auto, unfolding(crate::specs::Reading::code_at))]
-fn code_in(bytes: &[u8]) -> Result<(Code, &[u8]), Fault>
-    ensures { Gives (λ x. (x.0, x.1.now)) result (code_at bytes.now) }
-{
-    let (place, rest) = u8_at(bytes)?;
-    match code_at_place(place) {
-        Some(code) => Ok((code, rest)),
-        None => Err(Fault::at(bytes)),
-    }
-}
 
 /// How many triggers an Acquire asks for.
 fn max_of(bytes: &[u8]) -> Result<(u32, &[u8]), Fault>

@@ -1,18 +1,30 @@
-//! Lines of `times` with what they say: the timing or the zone as a text, or the fault.
-use qz_civil::Zone;
+//! Lines of `times` with what they say: the timing, the zone or the calendar as a text, or the fault.
 use qz_cron_text::CronError;
 use qz_job_json::{Asked, LineError, LineFault, read_asked};
+use qz_types::CalendarRow;
 use std::alloc::{AllocError, Global};
 use std::process::Abort;
 
-fn zone_text(alloc: Global, zone: &Zone) -> Result<String, AllocError> {
-    let (offset, next_start) = zone.offset_until(0);
-    format!(in alloc; "zone {offset} {next_start:?}")
+fn calendar_text(
+    alloc: Global,
+    calendar: &CalendarRow,
+    replace: bool,
+) -> Result<String, AllocError> {
+    let CalendarRow {
+        name: _,
+        base,
+        zone,
+        kind,
+    } = calendar;
+    format!(in alloc; "{base:?} {zone:?} {kind:?} {replace}")
 }
 
 fn text_of(alloc: Global, read: &Result<Option<Asked>, LineError>) -> Result<String, AllocError> {
     match read {
-        Ok(Some(Asked::AddZone { name: _, zone })) => zone_text(alloc, zone),
+        Ok(Some(Asked::AddZone { zone })) => format!(in alloc; "{:?}", zone.stretches),
+        Ok(Some(Asked::AddCalendar { calendar, replace })) => {
+            calendar_text(alloc, calendar, *replace)
+        }
         Ok(Some(Asked::AddTrigger { spec })) => format!(in alloc; "{:?}", spec.timing),
         Ok(None) => String::from_str(alloc, "blank"),
         Err(LineError::Bad(fault)) => format!(in alloc; "{fault:?}"),
@@ -182,8 +194,11 @@ fn other_triggers_are_faults(rt: HostRuntime) -> Result<(), AllocError> {
 const ZONE: Around = (r#"{"do":"add_zone","name":"UTC","stretches":"#, "}");
 
 const ZONES: &[(&str, &str)] = &[
-    ("[[0,3600],[172800000,-7200]]", "zone 3600 Some(172800000)"),
-    ("[[0,-64800]]", "zone -64800 None"),
+    (
+        "[[0,3600],[172800000,-7200]]",
+        "[Stretch { from: 0, offset: 3600 }, Stretch { from: 172800000, offset: -7200 }]",
+    ),
+    ("[[0,-64800]]", "[Stretch { from: 0, offset: -64800 }]"),
     ("[[0,64801]]", "Shape"),
     ("[[0,2147483648]]", "Shape"),
     ("[[0,0],[172799999,0]]", "Shape"),
@@ -203,8 +218,147 @@ fn zones_have_their_tables(rt: HostRuntime) -> Result<(), AllocError> {
     check(&rt, rt.alloc(), ZONE, ZONES)
 }
 
+/// The line of a calendar with few other members.
+const CALENDAR: Around = (r#"{"do":"add_calendar","calendar":{"name":"c","#, "}}");
+
+const CALENDARS: &[(&str, &str)] = &[
+    (
+        r#""kind":"weekly""#,
+        r#"None "UTC" Weekly { days: 65 } false"#,
+    ),
+    (
+        r#""base":"b","zone":"Z","kind":"weekly","days":[]"#,
+        r#"Some("b") "Z" Weekly { days: 0 } false"#,
+    ),
+    (
+        r#""kind":"weekly","days":[7,2,2]"#,
+        r#"None "UTC" Weekly { days: 66 } false"#,
+    ),
+    (
+        r#""kind":"monthly","days":[31,1]"#,
+        r#"None "UTC" Monthly { days: 1073741825 } false"#,
+    ),
+    // Any day of a month may be listed. Lists are kept in order, without doubles.
+    (
+        r#""kind":"annual","days":[[12,25],[2,30],[2,1],[12,25]]"#,
+        r#"None "UTC" Annual { days: [201, 230, 1225] } false"#,
+    ),
+    (
+        r#""kind":"annual","days":[]"#,
+        r#"None "UTC" Annual { days: [] } false"#,
+    ),
+    (
+        r#""kind":"holiday","dates":["2099-12-31","1970-01-01","2024-02-29","1970-01-01"]"#,
+        r#"None "UTC" Holiday { dates: [19700101, 20240229, 20991231] } false"#,
+    ),
+    (
+        r#""kind":"daily","from":0,"to":86399999,"inverted":true"#,
+        r#"None "UTC" Daily { from: 0, to: 86399999, inverted: true } false"#,
+    ),
+    (
+        r#""kind":"daily","from":5,"to":5"#,
+        r#"None "UTC" Daily { from: 5, to: 5, inverted: false } false"#,
+    ),
+    (
+        r#""kind":"cron","cron":"0 0 0 L 2 ? 1970""#,
+        r#"None "UTC" Cron { fields: CronFields { seconds: 1, minutes: 1, hours: 1, day: Last { back: 0 }, months: 2, week: Any, years: [1, 0, 0, 0] } } false"#,
+    ),
+    (r#""kind":"cron","cron":"0 0 0 1 * 1""#, "Cron(BothDays)"),
+];
+
+#[test]
+fn calendars_have_their_kinds(rt: HostRuntime) -> Result<(), AllocError> {
+    check(&rt, rt.alloc(), CALENDAR, CALENDARS)
+}
+
+const OTHER_CALENDARS: &[(&str, &str)] = &[
+    (r#""kind":"hourly""#, "Shape"),
+    (r#""zone":"UTC""#, "Shape"),
+    (r#""kind":"weekly","base":null"#, "Shape"),
+    (r#""kind":"weekly","zone":"""#, "Shape"),
+    (r#""kind":"weekly","dates":[]"#, "Shape"),
+    (r#""kind":"weekly","days":[8]"#, "Shape"),
+    (r#""kind":"weekly","days":[0]"#, "Shape"),
+    (r#""kind":"weekly","days":2"#, "Shape"),
+    (r#""kind":"monthly""#, "Shape"),
+    (r#""kind":"monthly","days":[32]"#, "Shape"),
+    (r#""kind":"annual","days":[[13,1]]"#, "Shape"),
+    (r#""kind":"annual","days":[[1,32]]"#, "Shape"),
+    (r#""kind":"annual","days":[[1,101]]"#, "Shape"),
+    (r#""kind":"annual","days":[[1]]"#, "Shape"),
+    (r#""kind":"annual","days":[[1,1,1]]"#, "Shape"),
+    (r#""kind":"annual","days":[101]"#, "Shape"),
+    (r#""kind":"annual""#, "Shape"),
+    (r#""kind":"holiday","dates":["2023-02-29"]"#, "Shape"),
+    (r#""kind":"holiday","dates":["2100-01-01"]"#, "Shape"),
+    (r#""kind":"holiday","dates":["1969-12-31"]"#, "Shape"),
+    (r#""kind":"holiday","dates":["2024-1-01"]"#, "Shape"),
+    (r#""kind":"holiday","dates":["2024-01-011"]"#, "Shape"),
+    (r#""kind":"holiday","dates":["2024/01/01"]"#, "Shape"),
+    (r#""kind":"holiday","dates":[20240101]"#, "Shape"),
+    (r#""kind":"daily","from":1,"to":0"#, "Shape"),
+    (r#""kind":"daily","from":0,"to":86400000"#, "Shape"),
+    (r#""kind":"daily","from":0"#, "Shape"),
+    (r#""kind":"daily","from":0,"to":1,"inverted":1"#, "Shape"),
+    (r#""kind":"cron""#, "Shape"),
+    // These come before the fault of the cron text.
+    (r#""kind":"cron","cron":"x","base":"""#, "Shape"),
+    (r#""kind":"cron","cron":"x","days":[]"#, "Shape"),
+];
+
+#[test]
+fn other_calendars_are_faults(rt: HostRuntime) -> Result<(), AllocError> {
+    check(&rt, rt.alloc(), CALENDAR, OTHER_CALENDARS)
+}
+
+// The line of a holiday calendar with so many dates in each month of four years and more, and one of them twice.
+fn dates_line(alloc: Global, months: u32) -> Result<String, AllocError> {
+    let mut line = String::from_str(
+        alloc,
+        r#"{"do":"add_calendar","calendar":{"name":"c","kind":"holiday","dates":["1970-01-01""#,
+    )?;
+    for month in 0..months {
+        for day in 1..17 {
+            let (year, of_year) = (1970 + month / 12, month % 12 + 1);
+            let date = format!(in alloc; ",\"{year}-{of_year:02}-{day:02}\"")?;
+            line.push_str(date.as_str())?;
+        }
+    }
+    line.push_str("]}}")?;
+    Ok(line)
+}
+
+// Whether the calendar with dates in so many months is one.
+fn is_holiday(alloc: Global, months: u32) -> Result<bool, AllocError> {
+    let line = dates_line(alloc, months)?;
+    let read = read_asked(alloc, line.as_str().as_bytes());
+    let is_read = matches!(&read, Ok(Some(Asked::AddCalendar { .. })));
+    drop(read);
+    Ok(is_read)
+}
+
+#[test]
+fn at_most_4096_dates(rt: HostRuntime) -> Result<(), AllocError> {
+    assert!(rt; is_holiday(rt.alloc(), 256)?);
+    assert!(rt; !is_holiday(rt.alloc(), 257)?);
+    Ok(())
+}
+
 const FAULTS: &[(&str, &str)] = &[
     ("\t \r", "blank"),
+    (r#"{"do":"add_calendar"}"#, "Shape"),
+    (
+        r#"{"do":"add_calendar","calendar":{"name":"c","kind":"weekly"},"replace":true,"at":-1}"#,
+        r#"None "UTC" Weekly { days: 65 } true"#,
+    ),
+    (
+        r#"{"do":"add_calendar","calendar":{"name":"c","kind":"cron","cron":"x"},"replace":1}"#,
+        "Shape",
+    ),
+    (
+        r#"{"do":"add_calendar","calendar":{"name":"c","kind":"weekly"},"at":null}"#,
+        "Shape",
+    ),
     (r#"{"do":"add_zone""#, "NotJson"),
     (r#"{"do":"restart"}"#, "NotHere"),
     (r#"{"do":"join","more":1}"#, "NotHere"),

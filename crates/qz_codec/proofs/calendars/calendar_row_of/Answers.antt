@@ -3,7 +3,7 @@ use Rattle.std.proofs.lemmas.Result.{IfOk-at_ok}
 use Rattle.std.specs.Prelude.{IsTrue}
 use Rattle.qz_civil.specs.Timings.{is_name}
 use Rattle.qz_types.specs.Rows.{is_calendar}
-use Rattle.qz_codec.proofs.Truths.{both_true}
+use Rattle.qz_values.proofs.Truths.{both_true}
 use Rattle.qz_codec.proofs.calendars.calendar_row_of.Goals as goal
 
 pub invariant_of-row : goal.invariant_of-row

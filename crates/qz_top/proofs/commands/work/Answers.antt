@@ -1,30 +1,63 @@
 use Rattle.std.proofs.Common.{◌≡◌, refl, w64, to_z, of_z, arith}
 use Rattle.std.proofs.lemmas.Grind.{common_steps}
 use Rattle.std.proofs.lemmas.Int.{to_z-of_z}
-use Rattle.qz_top.proofs.WorkLaws.{worked_at}
+use Rattle.qz_top.proofs.AskedLaws.{done_at, caused_at, own_words, own_disk, script_words, times_words, times_disk, init_words, init_read, init_disk}
 use Rattle.qz_top.proofs.commands.work.Goals as goal
 
-pub returns-in-Err-clause-worked : goal.returns-in-Err-clause-worked
-returns-in-Err-clause-worked g c =
+pub returns-in-Err-clause-done : goal.returns-in-Err-clause-done
+returns-in-Err-clause-done g c =
     let none = c.ran_no_script.ensures in
-    worked_at _ _ _ _ _ _ _ c.in-Err.ensures.value (none.status, none.trail, refl, none.disks.0, none.disks.1)
+    done_at _ _ _ _ _ _ _ c.in-Err.ensures.value
+    (record { refused = none.status; no_trail = none.trail; untouched = refl; disks = record { triggers_stay = none.disks.0; states_stay = none.disks.1 } })
 
-pub returns-in-Ok-Own-clause-worked : goal.returns-in-Ok-Own-clause-worked
-returns-in-Ok-Own-clause-worked g c =
-    worked_at _ _ _ _ _ _ _ (rw c.in-Ok-Own.field-0-is at c.in-Ok-Own.ensures.value) (c.own_script.ensures.done, c.own_script.ensures.disks.0, c.own_script.ensures.disks.1)
+pub returns-in-Ok-Own-clause-done : goal.returns-in-Ok-Own-clause-done
+returns-in-Ok-Own-clause-done g c =
+    let own = c.own_script.ensures in
+    done_at _ _ _ _ _ _ _ (rw c.in-Ok-Own.field-0-is at c.in-Ok-Own.ensures.value)
+    (record { ran = own.done; disks = record { triggers_stay = own.disks.0; states_stay = own.disks.1 } })
 
-pub returns-in-Ok-Init-clause-worked : goal.returns-in-Ok-Init-clause-worked
-returns-in-Ok-Init-clause-worked g c =
+pub returns-in-Ok-Init-clause-done : goal.returns-in-Ok-Init-clause-done
+returns-in-Ok-Init-clause-done g c =
     let made = c.make_stores.ensures in
-    worked_at _ _ _ _ _ _ _ (rw c.in-Ok-Init.field-0-is at c.in-Ok-Init.ensures.value) (record { told = made.told; called = made.called; says = made.written; none = made.trail; read = refl; asked = refl })
+    done_at _ _ _ _ _ _ _ (rw c.in-Ok-Init.field-0-is at c.in-Ok-Init.ensures.value)
+    (record { made = made.made; says = made.written; no_trail = made.trail; not_read = refl; not_asked = refl })
 
-pub returns-in-Ok-Script-clause-worked : goal.returns-in-Ok-Script-clause-worked
-returns-in-Ok-Script-clause-worked g c =
-    worked_at _ _ _ _ _ _ _ (rw c.in-Ok-Script.field-0-is at c.in-Ok-Script.ensures.value) (c.script_on_disk.ensures.done, c.script_on_disk.ensures.states)
+pub returns-in-Ok-Script-clause-done : goal.returns-in-Ok-Script-clause-done
+returns-in-Ok-Script-clause-done g c =
+    done_at _ _ _ _ _ _ _ (rw c.in-Ok-Script.field-0-is at c.in-Ok-Script.ensures.value)
+    (record { ran = c.script_on_disk.ensures.done; states_stay = c.script_on_disk.ensures.states })
 
-pub returns-in-Ok-Times-clause-worked : goal.returns-in-Ok-Times-clause-worked
-returns-in-Ok-Times-clause-worked g c =
-    let valid = rw c.in-Ok-Times.field-0-is at c.in-Ok-Times.ensures.valid in
+pub returns-in-Ok-Times-clause-done : goal.returns-in-Ok-Times-clause-done
+returns-in-Ok-Times-clause-done g c =
     let same : to_z w64 (of_z w64 c.in-Ok-Times.after) ≡ c.in-Ok-Times.after = grind (arith, common_steps, to_z-of_z) in
     let told = c.tell_times.ensures in
-    worked_at _ _ _ _ _ _ _ (rw c.in-Ok-Times.field-0-is at c.in-Ok-Times.ensures.value) (rw same at told.done, told.trail, refl, told.disks.0, told.disks.1)
+    done_at _ _ _ _ _ _ _ (rw c.in-Ok-Times.field-0-is at c.in-Ok-Times.ensures.value)
+    (record { told = rw same at told.done; no_trail = told.trail; not_asked = refl; disks = record { triggers_stay = told.disks.0; states_stay = told.disks.1 } })
+
+pub returns-in-Err-clause-cause : goal.returns-in-Err-clause-cause
+returns-in-Err-clause-cause g c =
+    let status = c.ran_no_script.ensures.status in
+    caused_at _ _ _ _ _ c.in-Err.ensures.value (λ fault is. cc) (λ is. absurd cc) (λ is. absurd cc) (λ is. absurd cc)
+
+pub returns-in-Ok-Own-clause-cause : goal.returns-in-Ok-Own-clause-cause
+returns-in-Ok-Own-clause-cause g c =
+    let own = c.own_script.ensures in
+    caused_at _ _ _ _ _ (rw c.in-Ok-Own.field-0-is at c.in-Ok-Own.ensures.value) (λ fault is. absurd (own_words _ _ _ _ fault own.done is)) own.read own.write
+    (λ is. absurd (own_disk _ _ _ _ own.done is))
+
+pub returns-in-Ok-Init-clause-cause : goal.returns-in-Ok-Init-clause-cause
+returns-in-Ok-Init-clause-cause g c =
+    let made = c.make_stores.ensures in
+    caused_at _ _ _ _ _ (rw c.in-Ok-Init.field-0-is at c.in-Ok-Init.ensures.value) (λ fault is. absurd (init_words g.D.Disk _ _ _ _ _ made.made fault is))
+    (λ is. absurd (init_read g.D.Disk _ _ _ _ _ made.made is)) made.write (init_disk g.D.Disk _ _ _ _ _ made.made)
+
+pub returns-in-Ok-Script-clause-cause : goal.returns-in-Ok-Script-clause-cause
+returns-in-Ok-Script-clause-cause g c =
+    let script = c.script_on_disk.ensures in
+    caused_at _ _ _ _ _ (rw c.in-Ok-Script.field-0-is at c.in-Ok-Script.ensures.value) (λ fault is. absurd (script_words _ _ _ _ fault script.done is)) script.read script.write script.disk
+
+pub returns-in-Ok-Times-clause-cause : goal.returns-in-Ok-Times-clause-cause
+returns-in-Ok-Times-clause-cause g c =
+    let told = c.tell_times.ensures in
+    caused_at _ _ _ _ _ (rw c.in-Ok-Times.field-0-is at c.in-Ok-Times.ensures.value) (λ fault is. absurd (times_words _ fault told.called is)) told.read told.write
+    (λ is. absurd (times_disk _ told.called is))

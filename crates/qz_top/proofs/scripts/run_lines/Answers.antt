@@ -1,5 +1,5 @@
-use Rattle.qz_top.proofs.EndLaws.{IsRun-whole, finish_rose, finish_called}
-use Rattle.qz_top.proofs.StopLaws.{IsRun-stopped, stopped_rose}
+use Rattle.qz_top.proofs.EndLaws.{IsRun-whole, finish_rose, finish_called, whole_shown}
+use Rattle.qz_top.proofs.StopLaws.{IsRun-stopped, stopped_rose, stopped_shown}
 use Rattle.qz_top.proofs.scripts.run_lines.Goals as goal
 
 pub returns-in-Ok-clause-run : goal.returns-in-Ok-clause-run
@@ -16,3 +16,9 @@ returns-in-Err-clause-run g c = rw c.status_of.ensures.value (IsRun-stopped g.D.
 
 pub returns-in-Err-clause-write : goal.returns-in-Err-clause-write
 returns-in-Err-clause-write g c = rw c.status_of.ensures.value (stopped_rose g.D.Disk g.K.Sink g.C.Clock c.in-Err.end _ _ _ _ c.in-Err.ensures.lines)
+
+pub returns-in-Ok-clause-shows : goal.returns-in-Ok-clause-shows
+returns-in-Ok-clause-shows g c = whole_shown g.D.Disk g.K.Sink g.C.Clock _ _ _ _ c.in-Ok.ensures.lines
+
+pub returns-in-Err-clause-shows : goal.returns-in-Err-clause-shows
+returns-in-Err-clause-shows g c = stopped_shown g.D.Disk g.K.Sink g.C.Clock c.in-Err.end _ _ _ _ c.in-Err.ensures.lines

@@ -30,11 +30,11 @@ loop-payload-preserved c =
     let p = c.payload-item.result in
     let below = subst (λ (l : List (List ℕ)). w.payload-index < length l) c.as_slice-payload-items.ensures c.loop-payload-test.true in
     let here = subst (λ (l : List (List ℕ)). p ≡ get_or l w.payload-index p) c.as_slice-payload-items.ensures c.payload-item.is in
-    let more = c.in_ok-push-in-Ok.ensures.ok in
+    let more = c.and-entries.ensures in
     let is = subst (λ (x : List ℕ). IsRecord x c.in-Ok.entry) c.as_slice.ensures c.in-Ok.ensures.is_record in
     record {
-      replayed = taken_more c.args.payloads.now w.payload-index p _ w.entries _ c.in-Ok.entry below here more w.invariant.tables_are is c.in-Ok.ensures.accepted w.invariant.replayed;
-      tables_are = taken_tables _ _ _ w.entries _ c.in-Ok.entry more w.invariant.tables_are c.in-Ok.ensures.tables;
+      replayed = taken_more c.args.payloads.now w.payload-index p _ w.entries.items _ c.in-Ok.entry below here more w.invariant.tables_are is c.in-Ok.ensures.accepted w.invariant.replayed;
+      tables_are = taken_tables _ _ _ w.entries.items _ c.in-Ok.entry more w.invariant.tables_are c.in-Ok.ensures.tables;
       valid = c.in-Ok.ensures.valid;
       gate_is = taken_gate c.args.payloads.now w.payload-index p w.gate _ below here c.len.ensures w.invariant.gate_is;
     }
@@ -45,5 +45,5 @@ returns-in-Err-Unfit-clause-stopped c =
     let p = c.payload-item.result in
     let below = subst (λ (l : List (List ℕ)). w.payload-index < length l) c.as_slice-payload-items.ensures c.loop-payload-test.true in
     let here = subst (λ (l : List (List ℕ)). p ≡ get_or l w.payload-index p) c.as_slice-payload-items.ensures c.payload-item.is in
-    stops_at c.args.payloads.now w.payload-index p w.gate _ w.entries below here w.invariant.gate_is w.invariant.tables_are w.invariant.replayed
+    stops_at c.args.payloads.now w.payload-index p w.gate _ w.entries.items below here w.invariant.gate_is w.invariant.tables_are w.invariant.replayed
     (λ e is passes. c.in-Err-Unfit.ensures.unfit (ap Err c.in-Err-Unfit.field-0-is) e (subst (λ (x : List ℕ). IsRecord x e) (sym c.as_slice.ensures) is) passes)

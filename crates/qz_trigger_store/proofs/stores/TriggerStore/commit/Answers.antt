@@ -11,49 +11,49 @@ use Rattle.qz_trigger_store.proofs.stores.TriggerStore.commit.Goals as goal
 pub invariant_of-self-clause-counted : goal.invariant_of-self-clause-counted
 invariant_of-self-clause-counted g c =
     let s = c.args.self.now in
-    Appending.counted_with s.found s.accepted.entries.items _ c.args.entry s.journal.count _ c.push_reserved.ensures.entries s.counted c.in-Ok.ensures.ok.2
+    Appending.counted_with s.found.items s.accepted.entries.items _ c.args.entry s.journal.count _ c.push_reserved.ensures.entries s.counted c.in-Ok.ensures.ok.2
 
 pub invariant_of-self-clause-legal : goal.invariant_of-self-clause-legal
 invariant_of-self-clause-legal g c =
     let s = c.args.self.now in
-    Appending.legal_with s.tables s.found s.accepted.entries.items _ c.args.entry _ _ c.push_reserved.ensures.entries s.replayed s.legal c.requires.accepted
+    Appending.legal_with s.tables s.found.items s.accepted.entries.items _ c.args.entry _ _ c.push_reserved.ensures.entries s.replayed s.legal c.requires.accepted
 
 pub invariant_of-self-clause-replayed : goal.invariant_of-self-clause-replayed
 invariant_of-self-clause-replayed g c =
     let s = c.args.self.now in
-    Appending.replayed_with s.tables s.found s.accepted.entries.items _ c.args.entry _ _ c.push_reserved.ensures.entries s.replayed c.requires.accepted
+    Appending.replayed_with s.tables s.found.items s.accepted.entries.items _ c.args.entry _ _ c.push_reserved.ensures.entries s.replayed c.requires.accepted
 
 pub invariant_of-self-clause-recorded : goal.invariant_of-self-clause-recorded
 invariant_of-self-clause-recorded g c =
     let s = c.args.self.now in
-    Appending.recorded_with s.found s.accepted.entries.items _ c.args.entry c.push_reserved.ensures.entries s.recorded c.requires.recorded
+    Appending.recorded_with s.found.items s.accepted.entries.items _ c.args.entry c.push_reserved.ensures.entries s.recorded c.requires.recorded
 
 pub invariant_of-self-clause-moments : goal.invariant_of-self-clause-moments
 invariant_of-self-clause-moments g c =
     let s = c.args.self.now in
     let same : to_z w64 (of_z w64 c.last_moment.result) ≡ c.last_moment.result = grind (arith, common_steps, to_z-of_z) in
-    Appending.moments_with s.tables s.found s.accepted.entries.items _ c.args.entry s.accepted.moments.items _ c.last_moment.result c.push_reserved.ensures.entries s.replayed
+    Appending.moments_with s.tables s.found.items s.accepted.entries.items _ c.args.entry s.accepted.moments.items _ c.last_moment.result c.push_reserved.ensures.entries s.replayed
     (c.push_reserved.ensures.moments ∙ ap (λ (m : ℤ). s.accepted.moments.items ++ m ∷ []) same)
     (c.last_moment.ensures.value ∙ last_moment-accepted s.tables _ c.args.entry _ c.requires.accepted) s.moments
 
 pub invariant_of-self-clause-replies : goal.invariant_of-self-clause-replies
 invariant_of-self-clause-replies g c =
     let s = c.args.self.now in
-    Appending.replies_with s.tables s.found s.accepted.entries.items _ c.args.entry s.accepted.replies.items _ c.args.prepared.worked.tables c.args.prepared.worked.reply
+    Appending.replies_with s.tables s.found.items s.accepted.entries.items _ c.args.entry s.accepted.replies.items _ c.args.prepared.worked.tables c.args.prepared.worked.reply
     c.push_reserved.ensures.entries s.replayed c.requires.accepted
     (c.push_reserved.ensures.replies ∙ ap (λ (r : Reply). s.accepted.replies.items ++ r ∷ []) c.requires.reply) s.replies
 
 pub invariant_of-self-clause-stands : goal.invariant_of-self-clause-stands
 invariant_of-self-clause-stands g c honest now =
     let s = c.args.self.now in
-    Appending.holds_with s.journal.kind s.found s.accepted.entries.items _ c.args.entry c.as_slice.result.now _ _ s.kind c.push_reserved.ensures.entries
+    Appending.holds_with s.journal.kind s.found.items s.accepted.entries.items _ c.args.entry c.as_slice.result.now _ _ s.kind c.push_reserved.ensures.entries
     (c.as_slice.ensures ∙ c.requires.record.0) (c.in-Ok.ensures.stands honest) (s.stands honest now)
 
 pub invariant_of-self-clause-images : goal.invariant_of-self-clause-images
 invariant_of-self-clause-images g c honest =
     let s = c.args.self.now in
     Appending.images_of _ s.undecided (g.D.Disk.state c.append.new.self.disk) (s.settled c.requires.open) (c.in-Ok.ensures.durable honest)
-    (Appending.holds_with s.journal.kind s.found s.accepted.entries.items _ c.args.entry c.as_slice.result.now _ _ s.kind c.push_reserved.ensures.entries
+    (Appending.holds_with s.journal.kind s.found.items s.accepted.entries.items _ c.args.entry c.as_slice.result.now _ _ s.kind c.push_reserved.ensures.entries
     (c.as_slice.ensures ∙ c.requires.record.0) (c.in-Ok.ensures.stands honest) (s.stands honest c.requires.open))
 
 pub returns-in-Ok-clause-moments : goal.returns-in-Ok-clause-moments
@@ -66,22 +66,22 @@ returns-in-Ok-clause-moments g c =
 pub returns-in-Ok-clause-any_moment : goal.returns-in-Ok-clause-any_moment
 returns-in-Ok-clause-any_moment g c honest =
     let s = c.args.self.now in
-    let leaves = Appending.leaves_one s.journal.kind (s.found ++ s.accepted.entries.items) c.args.entry c.as_slice.result.now _ _ _ s.kind (c.as_slice.ensures ∙ c.requires.record.0)
+    let leaves = Appending.leaves_one s.journal.kind (s.found.items ++ s.accepted.entries.items) c.args.entry c.as_slice.result.now _ _ _ s.kind (c.as_slice.ensures ∙ c.requires.record.0)
     (s.stands honest c.requires.open) (c.append.ensures.any_moment honest (s.ready c.requires.open)) in
-    Appending.leaves_with s.found s.accepted.entries.items _ c.args.entry _ _ s.undecided s.undecided c.push_reserved.ensures.entries (s.settled c.requires.open) (s.settled c.requires.open) leaves
+    Appending.leaves_with s.found.items s.accepted.entries.items _ c.args.entry _ _ s.undecided s.undecided c.push_reserved.ensures.entries (s.settled c.requires.open) (s.settled c.requires.open) leaves
 
 -- where the disk failed
 
 pub invariant_of-self-in-Err-clause-images : goal.invariant_of-self-in-Err-clause-images
 invariant_of-self-in-Err-clause-images g c honest =
     let s = c.args.self.now in
-    let leaves = Appending.leaves_one s.journal.kind (s.found ++ s.accepted.entries.items) c.args.entry c.as_slice.result.now _ _ _ s.kind (c.as_slice.ensures ∙ c.requires.record.0)
+    let leaves = Appending.leaves_one s.journal.kind (s.found.items ++ s.accepted.entries.items) c.args.entry c.as_slice.result.now _ _ _ s.kind (c.as_slice.ensures ∙ c.requires.record.0)
     (s.stands honest c.requires.open) (c.append.ensures.any_moment honest (s.ready c.requires.open)) in
-    Appending.images_undecided (s.found ++ s.accepted.entries.items) _ c.args.entry _ _ c.close.ensures.undecided (g.met.D.Disk.lawful honest c.append.new.self.disk) leaves
+    Appending.images_undecided (s.found.items ++ s.accepted.entries.items) _ c.args.entry _ _ c.close.ensures.undecided (g.met.D.Disk.lawful honest c.append.new.self.disk) leaves
 
 pub returns-in-Err-clause-any_moment : goal.returns-in-Err-clause-any_moment
 returns-in-Err-clause-any_moment g c honest =
     let s = c.args.self.now in
-    let leaves = Appending.leaves_one s.journal.kind (s.found ++ s.accepted.entries.items) c.args.entry c.as_slice.result.now _ _ _ s.kind (c.as_slice.ensures ∙ c.requires.record.0)
+    let leaves = Appending.leaves_one s.journal.kind (s.found.items ++ s.accepted.entries.items) c.args.entry c.as_slice.result.now _ _ _ s.kind (c.as_slice.ensures ∙ c.requires.record.0)
     (s.stands honest c.requires.open) (c.append.ensures.any_moment honest (s.ready c.requires.open)) in
-    Appending.leaves_undecided (s.found ++ s.accepted.entries.items) c.args.entry _ _ s.undecided _ c.close.ensures.undecided leaves
+    Appending.leaves_undecided (s.found.items ++ s.accepted.entries.items) c.args.entry _ _ s.undecided _ c.close.ensures.undecided leaves

@@ -19,8 +19,8 @@ begin-requires-clause-stands g c honest = holding _ c.in-Ok.payloads _ (c.in-Ok.
 
 pub returns-in-Ok-replay-clause-opened : goal.returns-in-Ok-replay-clause-opened
 returns-in-Ok-replay-clause-opened g c =
-    let es = c.in-Ok-replay.replayed.entries in
-    let same : c.begin.result.found ++ c.begin.result.accepted.entries.items ≡ es = none_more c.begin.result.found _ c.begin.ensures.opened.2 ∙ c.begin.ensures.found in
+    let es = c.in-Ok-replay.replayed.entries.items in
+    let same : c.begin.result.found.items ++ c.begin.result.accepted.entries.items ≡ es = none_more c.begin.result.found.items _ c.begin.ensures.opened.2 ∙ c.begin.ensures.found in
     opened_on (view c.begin.result) c.in-Ok.payloads es c.in-Ok-replay.replayed.tables (ap history_of same)
     (ap (λ j. j.gate) c.begin.ensures.journal ∙ c.in-Ok.ensures.ground.2) (ap (λ j. j.count) c.begin.ensures.journal ∙ c.in-Ok.ensures.ground.3)
     c.begin.ensures.opened.0 c.begin.ensures.opened.1 c.in-Ok-replay.ensures.replayed c.in-Ok-replay.replayed.replayed c.in-Ok-replay.ensures.valid
@@ -28,13 +28,13 @@ returns-in-Ok-replay-clause-opened g c =
 pub returns-in-Ok-replay-clause-stands : goal.returns-in-Ok-replay-clause-stands
 returns-in-Ok-replay-clause-stands g c honest =
     let content = ap (λ j. (g.D.Disk.state j.disk).content) c.begin.ensures.journal ∙ (c.in-Ok.ensures.reads honest).content in
-    stands_found c.begin.result.found c.begin.result.accepted.entries.items c.in-Ok-replay.replayed.entries _ _ c.begin.ensures.found c.begin.ensures.opened.2 content (c.begin.result.stands honest c.begin.ensures.opened.0)
+    stands_found c.begin.result.found.items c.begin.result.accepted.entries.items c.in-Ok-replay.replayed.entries.items _ _ c.begin.ensures.found c.begin.ensures.opened.2 content (c.begin.result.stands honest c.begin.ensures.opened.0)
 
 pub returns-in-Ok-replay-clause-whole : goal.returns-in-Ok-replay-clause-whole
 returns-in-Ok-replay-clause-whole g c honest h is stands =
     let holds = subst (λ (b : List ℕ). Holds b TRIGGERS c.in-Ok.payloads) (c.in-Ok.ensures.reads honest).content (c.in-Ok.ensures.stands honest) in
     let replayed = c.in-Ok-replay.ensures.replayed in
-    opened_as h c.in-Ok.payloads _ _ c.in-Ok-replay.replayed.entries is (stands.held.encode c.in-Ok.payloads holds) replayed.encode replayed.valid c.begin.ensures.found c.begin.ensures.opened.2
+    opened_as h c.in-Ok.payloads _ _ c.in-Ok-replay.replayed.entries.items is (stands.held.encode c.in-Ok.payloads holds) replayed.encode replayed.valid c.begin.ensures.found c.begin.ensures.opened.2
 
 pub returns-in-Ok-clause-refused : goal.returns-in-Ok-clause-refused
 returns-in-Ok-clause-refused g c honest =

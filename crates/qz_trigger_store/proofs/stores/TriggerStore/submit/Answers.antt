@@ -7,5 +7,5 @@ pub returns-in-Err-clause-any_moment : goal.returns-in-Err-clause-any_moment
 returns-in-Err-clause-any_moment g c honest =
     let s = c.args.self.now in
     let t = c.prepare.new.self in
-    leaves_same (g.D.Disk.state s.journal.disk) (g.D.Disk.state t.journal.disk) (s.found ++ s.accepted.entries.items) (t.found ++ t.accepted.entries.items) s.undecided t.undecided
+    leaves_same (g.D.Disk.state s.journal.disk) (g.D.Disk.state t.journal.disk) (s.found.items ++ s.accepted.entries.items) (t.found.items ++ t.accepted.entries.items) s.undecided t.undecided
     (g.met.D.Disk.lawful honest s.journal.disk) (ap (λ j. g.D.Disk.state j.disk) c.prepare.ensures.same.0) (s.images honest)

@@ -1,7 +1,0 @@
-use Rattle.std.proofs.Common.{◌≡◌, None, ◌-◌}
-use Rattle.qz_codec.specs.Lists.{items_at}
-use Rattle.qz_codec.proofs.ListLoops.{with_front}
-use Rattle.qz_codec.proofs.lists.counted_of.Given as goal
-
-abbrev pub invariant-loop : goal.invariant-loop
-invariant-loop g l = with_front l.items.items (items_at g.I.Item.item_at (l.count - l.counter) l.before l.rest) ≡ items_at g.I.Item.item_at l.count None l.bytes

@@ -1,5 +1,0 @@
-use Rattle.qz_codec.proofs.RowRecordFormats.{state_format}
-use Rattle.qz_codec.proofs.row_records.states.StateRowRecorded.is_format.Goals as goal
-
-pub returns-clause-format : goal.returns-clause-format
-returns-clause-format c = state_format

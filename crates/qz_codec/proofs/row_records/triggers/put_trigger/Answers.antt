@@ -1,5 +1,0 @@
-use Rattle.qz_codec.proofs.Truths.{first_true}
-use Rattle.qz_codec.proofs.row_records.triggers.put_trigger.Goals as goal
-
-pub put_spec-requires : goal.put_spec-requires
-put_spec-requires c = first_true _ _ c.row.invariant

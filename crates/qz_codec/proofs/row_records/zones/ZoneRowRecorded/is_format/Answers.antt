@@ -1,5 +1,0 @@
-use Rattle.qz_codec.proofs.ZoneFormats.{zone_row_format}
-use Rattle.qz_codec.proofs.row_records.zones.ZoneRowRecorded.is_format.Goals as goal
-
-pub returns-clause-format : goal.returns-clause-format
-returns-clause-format c = zone_row_format

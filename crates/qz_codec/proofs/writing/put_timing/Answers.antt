@@ -1,5 +1,0 @@
-use Rattle.qz_codec.proofs.Truths.{last_true}
-use Rattle.qz_codec.proofs.writing.put_timing.Goals as goal
-
-pub put_end-requires : goal.put_end-requires
-put_end-requires c = last_true _ _ c.requires

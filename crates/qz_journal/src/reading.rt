@@ -1,0 +1,144 @@
+//! The bytes of a store, read no further than its gates lead.
+ghost use Rattle.std.specs.Prelude.{◌≡◌, ◌⊎◌, ◌+◌, ◌-◌, ◌≤◌, ◌<◌, ◌++◌, ◌^◌, ⊤, ℕ, List as Items, All, length, take, drop, min, IfOk, IfErr, OnOk, OnErr, Ok, Err, true, false};
+ghost use Rattle.qz_civil.specs.Causes.{Rose, HasCause};
+ghost use Rattle.qz_disk.specs.Disk.{Only, LeavesOnly};
+ghost use Rattle.qz_journal.specs.Layout.{IsHeader, IsPayload, Holds, blocks, end_of};
+ghost use Rattle.qz_journal.specs.Opening.{EndsAt, IsDamagedBehind, IsRefusedBehind};
+ghost use Rattle.qz_journal.specs.Through.{OnlyReads, OnlyReadsUnless, ReadsBetween};
+
+use crate::MountError;
+use crate::layout::{HEADER_LENGTH, MAX_BLOCK, WINDOW, is_header};
+use crate::parsing::take_blocks;
+use qz_civil::{Failed, List};
+use qz_disk::Disk;
+use std::alloc::Global;
+
+// What the gates of a store lead to: payloads, and after them a closed gate or a bad place, at the offset `gate`.
+#[derive(Drop)]
+pub(crate) struct Found {
+    pub(crate) payloads: List<List<u8>>,
+    pub(crate) gate: u64,
+    pub(crate) is_whole: bool,
+}
+
+// Syncs, and reads from the header on until a gate is closed or bad, no more than a window past it.
+pub(crate) fn read_payloads<D: Disk>(
+    alloc: Global,
+    disk: &mut D,
+    kind: u8,
+) -> Result<Found, MountError>
+    ensures whole { D.honest → IfOk result (λ f. f.is_whole ≡ true → Holds (D.state disk.old).content kind f.payloads) }
+    ensures damaged { D.honest → IfOk result (λ f. f.is_whole ≡ false → IsDamagedBehind (D.state disk.old).content kind f.payloads f.gate) }
+    ensures gate { IfOk result (λ f. f.gate ≡ end_of f.payloads) }
+    ensures inside { IfOk result (λ f. f.is_whole ≡ true → f.gate < D.len disk.new) }
+    ensures durable { D.honest → OnOk result (Only (D.state disk.new).content (D.state disk.new)) }
+    ensures reads { D.honest → OnOk result (OnlyReads (D.state disk.old) (D.state disk.new)) }
+    ensures reads_ahead { D.honest → IfOk result (λ f. (D.state disk.new).bytes_read ≤ (D.state disk.old).bytes_read + (end_of f.payloads + WINDOW)) }
+    ensures reads_err { D.honest → IfErr result (λ e. OnlyReadsUnless (e ≡ MountError.Fault) (D.state disk.old) (D.state disk.new)) }
+    ensures refused { D.honest → (payloads : Items (Items ℕ)) → IfErr result (IsRefusedBehind (D.state disk.old).content kind payloads) }
+    ensures later { D.faults disk.old ≤ D.faults disk.new }
+    ensures fault { result ≡ Err MountError.Fault → Rose (D.faults disk.old) (D.faults disk.new) }
+{
+    let Ok(len) = synced_length(disk) else {
+        return Err(MountError::Fault);
+    };
+    read_header(disk, len, kind)?;
+    read_blocks(alloc, disk, len)
+}
+
+// Syncs, and asks for the length.
+fn synced_length<D: Disk>(disk: &mut D) -> Result<u64, Failed>
+    ensures length { IfOk result (λ n. n ≡ D.len disk.new) }
+    ensures durable { D.honest → OnOk result (Only (D.state disk.new).content (D.state disk.new)) }
+    ensures content { D.honest → OnOk result ((D.state disk.new).content ≡ (D.state disk.old).content) }
+    ensures any_moment { D.honest → LeavesOnly (D.state disk.old) (D.state disk.new) (D.state disk.old).IsImage }
+    ensures bytes_read { D.honest → (D.state disk.new).bytes_read ≡ (D.state disk.old).bytes_read }
+    ensures cause { HasCause (D.faults disk.old) (D.faults disk.new) result }
+{
+    disk.sync()?;
+    disk.len()
+}
+
+// Whether the disk, of this length, begins with the header of a store of this kind.
+fn read_header<D: Disk>(disk: &mut D, len: u64, kind: u8) -> Result<(), MountError>
+    requires { len ≡ D.len disk.old }
+    ensures length { D.len disk.new ≡ D.len disk.old }
+    ensures long { OnOk result (16 ≤ len) }
+    ensures header { D.honest → OnOk result (IsHeader kind (take 16 (D.state disk.old).content)) }
+    ensures reads { D.honest → OnOk result (ReadsBetween 0 16 (D.state disk.old) (D.state disk.new)) }
+    ensures reads_err { D.honest → OnErr result (ReadsBetween 0 len (D.state disk.old) (D.state disk.new)) }
+    ensures refused { D.honest → (payloads : Items (Items ℕ)) → IfErr result (IsRefusedBehind (D.state disk.old).content kind payloads) }
+    ensures later { D.faults disk.old ≤ D.faults disk.new }
+    ensures fault { result ≡ Err MountError.Fault → Rose (D.faults disk.old) (D.faults disk.new) }
+{
+    if len < HEADER_LENGTH as u64 {
+        return Err(MountError::NotAStore);
+    }
+    let mut front = [0; HEADER_LENGTH];
+    if disk.read(0, &mut front).is_err() {
+        return Err(MountError::Fault);
+    }
+    if !is_header(kind, &front) {
+        return Err(MountError::NotAStore);
+    }
+    Ok(())
+}
+
+// The payloads after the header of a disk of this length.
+fn read_blocks<D: Disk>(alloc: Global, disk: &mut D, len: u64) -> Result<Found, MountError>
+    requires length { len ≡ D.len disk.old }
+    requires long { 16 ≤ len }
+    ensures length { D.len disk.new ≡ D.len disk.old }
+    ensures gate { IfOk result (λ f. f.gate ≡ end_of f.payloads) }
+    ensures inside { IfOk result (λ f. f.is_whole ≡ true → f.gate < len) }
+    ensures sizes { IfOk result (λ f. All IsPayload f.payloads) }
+    ensures ends { D.honest → IfOk result (λ f. EndsAt (D.state disk.old).content f.payloads f.is_whole) }
+    ensures reads { D.honest → IfOk result (λ f. ReadsBetween 16 (min len (end_of f.payloads + WINDOW)) (D.state disk.old) (D.state disk.new)) }
+    ensures reads_err { D.honest → OnErr result (ReadsBetween 16 len (D.state disk.old) (D.state disk.new)) }
+    ensures err { IfErr result (λ e. (e ≡ MountError.NoMemory) ⊎ ((e ≡ MountError.Fault) × Rose (D.faults disk.old) (D.faults disk.new))) }
+    ensures later { D.faults disk.old ≤ D.faults disk.new }
+{
+    let mut payloads = List::new(alloc);
+    let mut window = Vec::new(alloc);
+    // the offset after the window
+    let mut position = HEADER_LENGTH as u64;
+    'pieces: loop {
+        let (rest, is_whole) = take_blocks(alloc, &mut payloads, &window)?;
+        if is_whole || rest.len() >= MAX_BLOCK || position == len {
+            return Ok(Found {
+                payloads,
+                gate: position - rest.len() as u64,
+                is_whole,
+            });
+        }
+        let more = (len - position).min((WINDOW - rest.len()) as u64);
+        let longer = read_on(alloc, disk, position, rest, more as usize)?;
+        window = longer;
+        position += more;
+    }
+}
+
+// These bytes, and after them so many of the disk's from an offset on.
+fn read_on<D: Disk>(
+    alloc: Global,
+    disk: &mut D,
+    at: u64,
+    rest: &[u8],
+    more: usize,
+) -> Result<Vec<u8>, MountError>
+    requires inside { at + more ≤ D.len disk.old }
+    requires fits { length rest.now + more ≤ WINDOW }
+    ensures length { D.len disk.new ≡ D.len disk.old }
+    ensures size { IfOk result (λ bytes. length bytes.items ≡ length rest.now + more) }
+    ensures bytes { D.honest → IfOk result (λ bytes. bytes.items ≡ rest.now ++ take more (drop at (D.state disk.old).content)) }
+    ensures reads { D.honest → ReadsBetween at (at + more) (D.state disk.old) (D.state disk.new) }
+    ensures err { IfErr result (λ e. (e ≡ MountError.NoMemory) ⊎ ((e ≡ MountError.Fault) × Rose (D.faults disk.old) (D.faults disk.new))) }
+    ensures later { D.faults disk.old ≤ D.faults disk.new }
+{
+    let mut bytes = Vec::from_slice(alloc, rest)?;
+    bytes.resize(rest.len() + more, 0)?;
+    if disk.read(at, &mut bytes[rest.len()..]).is_err() {
+        return Err(MountError::Fault);
+    }
+    Ok(bytes)
+}

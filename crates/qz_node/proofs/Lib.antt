@@ -1,0 +1,6 @@
+pub mod Calling
+mod Cases
+mod Ends
+pub mod Hearing
+mod Keeping
+pub mod Wants

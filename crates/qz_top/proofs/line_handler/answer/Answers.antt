@@ -1,0 +1,35 @@
+use Rattle.std.proofs.Common.{◌≡◌, ◌∙◌, ◌++◌, ◌∷◌, [], true, false, refl, sym, ap, w64, to_z, of_z, arith}
+use Rattle.std.proofs.lemmas.Grind.{common_steps}
+use Rattle.std.proofs.lemmas.Int.{to_z-of_z}
+use Rattle.qz_top.specs.Trails.{is_fault}
+use Rattle.qz_top.proofs.MomentLaws.{Shows-one, Shows-kept, Shows-own, disk_kept}
+use Rattle.qz_top.proofs.TrailLaws.{RanSteps-one}
+use Rattle.qz_top.proofs.ShownLaws.{shown-push}
+use Rattle.qz_top.proofs.line_handler.answer.Goals as goal
+use Rattle.qz_top.proofs.line_handler.answer.Goals.{else-run-via-then-run+else-is_fault, else-run-via-else-run}
+
+pub returns-else-run-clause-ok : goal.returns-else-run-clause-ok
+returns-else-run-clause-ok g c =
+    let no_fault : c.args.run.now.is_own ≡ true → is_fault c.in-Ok.reply ≡ false =
+    elim c.else-run.branch [
+      | else-run-via-then-run+else-is_fault w ↦ (λ own. sym w.is_fault.ensures ∙ w.if-is_fault.false)
+      | else-run-via-else-run w ↦ (λ own. let bad : true ≡ false = sym own ∙ w.if-run.false in absurd cc)
+    ] in
+    let same : to_z w64 (of_z w64 c.args.at) ≡ c.args.at = grind (arith, common_steps, to_z-of_z) in
+    RanSteps-one _ _ _ _ (rw same at c.in-Ok.ensures.ok) (shown-push _ _ _ (rw c.of.ensures at (c.push_reserved.ensures.items ∙ ap (λ l. l ++ c.of.result ∷ []) c.reserve.ensures.items))) refl no_fault
+
+pub returns-else-run-clause-shows : goal.returns-else-run-clause-shows
+returns-else-run-clause-shows g c =
+    Shows-one _ _ _ c.of.result (c.push_reserved.ensures.items ∙ ap (λ l. l ++ c.of.result ∷ []) c.reserve.ensures.items) c.of.ensures refl c.in-Ok.ensures.any_moment
+
+pub returns-then-is_err-clause-shows : goal.returns-then-is_err-clause-shows
+returns-then-is_err-clause-shows g c = Shows-kept _ _ c.reserve.ensures.items refl refl
+
+pub returns-then-is_fault-clause-shows : goal.returns-then-is_fault-clause-shows
+returns-then-is_fault-clause-shows g c = Shows-own _ _ c.reserve.ensures.items refl c.if-run.true
+
+pub returns-in-Err-JournalFull-clause-shows : goal.returns-in-Err-JournalFull-clause-shows
+returns-in-Err-JournalFull-clause-shows g c = Shows-kept _ _ c.reserve.ensures.items refl (disk_kept c.args.run.now.cluster c.step.new.self c.in-Err-JournalFull.ensures.unchanged)
+
+pub returns-in-Err-NoMemory-clause-shows : goal.returns-in-Err-NoMemory-clause-shows
+returns-in-Err-NoMemory-clause-shows g c = Shows-kept _ _ c.reserve.ensures.items refl (disk_kept c.args.run.now.cluster c.step.new.self c.in-Err-NoMemory.ensures.unchanged)

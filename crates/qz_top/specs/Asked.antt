@@ -1,0 +1,60 @@
+-- What a call did, by what its words ask for.
+use Rattle.std.specs.Prelude.{◌≡◌, ◌⊎◌, ℕ, ℤ, [], Result, Ok, Err}
+use Rattle.qz_disk.specs.declared.disk.Disk.{Ghosts}
+use Rattle.qz_io.specs.Outside.{Outside, no_clock, only_output}
+use Rattle.qz_words.specs.declared.wishes.WordFault.{WordFault}
+use Rattle.qz_words.specs.declared.wishes.Wish.{Wish}
+use Rattle.qz_words.specs.declared.wishes.Wish.TheVariants as wish
+use Rattle.qz_top.specs.Calls.{OwnDone, RanOnDisk, NotOpened, trail_of}
+use Rattle.qz_top.specs.Making.{IsInit, SaysMade}
+use Rattle.qz_top.specs.Times.{TimesDone}
+use Rattle.qz_top.specs.declared.statuses.Status.TheVariants as status
+use Rattle.qz_top.specs.declared.ended.Ended.{Ended}
+
+-- the disks came back as they were
+pub record DisksUntouched {D : Type 0} {g : Ghosts D} (triggers states : D) (e : Ended D g) : Type 0 where
+  pub triggers_stay : e.triggers ≡ triggers
+  pub states_stay : e.states ≡ states
+
+-- The words were refused, and nothing was read, written or asked.
+pub record RefusedWords {D : Type 0} {g : Ghosts D} (fault : WordFault) (triggers states : D) (e : Ended D g)
+    (old new : Outside) : Type 0 where
+  pub refused : e.status ≡ status.BadWords fault
+  pub no_trail : trail_of e.trail ≡ []
+  pub untouched : new ≡ old
+  pub disks : DisksUntouched triggers states e
+
+-- A script ran in memory.
+pub record RanOwn {D : Type 0} {g : Ghosts D} (triggers states : D) (e : Ended D g) (old new : Outside) : Type 0 where
+  pub ran : OwnDone e.status (trail_of e.trail) old new
+  pub disks : DisksUntouched triggers states e
+
+-- The stores were made, or it is told why not.
+pub record RanInit {D : Type 0} {g : Ghosts D} (triggers states : D) (e : Ended D g) (old new : Outside) : Type 0 where
+  pub made : IsInit g e.status triggers e.triggers states e.states
+  pub says : SaysMade e.status (only_output old) (only_output new)
+  pub no_trail : trail_of e.trail ≡ []
+  pub not_read : new.left ≡ old.left
+  pub not_asked : new.readings ≡ old.readings
+
+-- A script ran on the trigger store, or that wasn't opened.
+pub record RanScript {D : Type 0} {g : Ghosts D} (triggers states : D) (e : Ended D g) (old new : Outside) : Type 0 where
+  pub ran : RanOnDisk triggers e old new ⊎ NotOpened triggers e old new
+  pub states_stay : e.states ≡ states
+
+-- Fire times were told: at most so many of each trigger, after this moment.
+pub record ToldTimes {D : Type 0} {g : Ghosts D} (after : ℤ) (count : ℕ) (triggers states : D) (e : Ended D g)
+    (old new : Outside) : Type 0 where
+  pub told : TimesDone e.status (record { after = after; count = count }) (no_clock old) (no_clock new)
+  pub no_trail : trail_of e.trail ≡ []
+  pub not_asked : new.readings ≡ old.readings
+  pub disks : DisksUntouched triggers states e
+
+-- what a call did, by what its words ask for; words that no call has are refused
+abbrev pub DidAsAsked : {D : Type 0} {g : Ghosts D} → Result Wish WordFault → D → D → Ended D g
+    → Outside → Outside → Type 0
+DidAsAsked (Err fault) triggers states e old new = RefusedWords fault triggers states e old new
+DidAsAsked (Ok wish.Own) triggers states e old new = RanOwn triggers states e old new
+DidAsAsked (Ok wish.Init) triggers states e old new = RanInit triggers states e old new
+DidAsAsked (Ok wish.Script) triggers states e old new = RanScript triggers states e old new
+DidAsAsked (Ok (wish.Times after count)) triggers states e old new = ToldTimes after count triggers states e old new

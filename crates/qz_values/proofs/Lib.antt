@@ -1,0 +1,15 @@
+pub mod Formats
+pub mod Signs
+pub mod Truths
+pub mod Utf8Tests
+pub mod SingleFields
+pub mod NameFormats
+pub mod VariantFormats
+pub mod CronFormats
+pub mod KindFormats
+pub mod TimingFormats
+pub mod ReaderLaws
+pub mod ListLoops
+pub mod ListFormats
+pub mod ZoneFormats
+pub mod CalendarFormats
