@@ -66,6 +66,11 @@ impl Linked {
         }
     }
 
+    /// What gives it memory.
+    pub fn allocator(&self) -> Global {
+        *self.linked.allocator()
+    }
+
     /// The trigger of this key.
     pub fn get(&self, key: &Key) -> Option<&TriggerRow>
         ensures row { option_copied result ≡ row_of key_cmp (λ r. r.spec.key) key.now self.now.rows }

@@ -105,6 +105,11 @@ impl Tables {
         Ok(())
     }
 
+    /// What gives the tables memory.
+    pub fn allocator(&self) -> Global {
+        self.triggers.allocator()
+    }
+
     /// The entry number that the next fired row gets.
     pub fn next_entry(&self) -> u64
         ensures { result ≡ self.now.tables.next_entry }

@@ -1,0 +1,6 @@
+mod DueHeads
+mod DueWalk
+mod Facts
+mod Firings
+mod Refused
+mod Rooms
