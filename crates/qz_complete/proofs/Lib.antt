@@ -1,0 +1,3 @@
+mod Completions
+mod Rooms
+mod TriggerLists
