@@ -1,5 +1,5 @@
 -- The last moment of valid tables.
-use Rattle.std.proofs.Common.{◌≡◌, pos, ◌≤ℤ◌}
+use Rattle.std.proofs.Common.{pos, ◌≤ℤ◌}
 use Rattle.std.proofs.Math.Logic.{∥∥₁_elim}
 use Rattle.std.proofs.Props.{props}
 use Rattle.qz_types.specs.Tables.{SchedulerTables}
