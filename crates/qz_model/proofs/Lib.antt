@@ -1,6 +1,4 @@
 pub mod Changes
-mod Counts
-mod DueFirst
 pub mod DueLaws
 mod DueOrder
 pub mod Histories
@@ -12,9 +10,7 @@ pub mod KeptMembership
 pub mod KeptScheduling
 pub mod LookUps
 pub mod References
-mod Refused
 pub mod RowLaws
 pub mod RowPoints
 pub mod Scripts
-mod Valid
 pub mod ValidScripts

@@ -1,4 +1,3 @@
-pub mod Causes
 pub mod Due
 pub mod Executions
 pub mod Firing

@@ -1,12 +1,9 @@
 //! The model of the trigger store: its tables as lists, what each transaction makes of them, histories and script
-//! runs, as definitions in `specs/`; and the plain store, which computes them with the least of code.
+//! runs, as definitions in `specs/`; and laws of them.
 #![tactic(auto)]
 
 mod laws;
-mod plain;
-mod rows;
 
 pub use laws::{
     due_order_is_sorted, legal_histories_leave_valid_tables, scripts_keep_legal_histories,
 };
-pub use plain::{PlainStore, Worked};

@@ -3,7 +3,7 @@ ghost use Rattle.std.specs.Prelude.{IsTrue};
 ghost use Rattle.qz_civil.specs.Timings.{is_name};
 
 use crate::entries::{T0, acquire, add_job, add_trigger, complete, fire, job, join, key};
-use qz_model::PlainStore;
+use qz_plain::PlainStore;
 use qz_types::{Entry, JobRow, Reply, StepRefused, find, insert};
 use std::alloc::{AllocError, Global};
 
@@ -112,10 +112,11 @@ fn acquires_the_first(alloc: Global, store: &mut PlainStore, at: i64) -> bool {
 
 // Whether nothing but a member is left.
 fn is_left_with_a_member(store: &PlainStore) -> bool {
-    store.jobs().is_empty()
-        && store.triggers().is_empty()
-        && store.fired().is_empty()
-        && store.members().len() == 1
+    let tables = store.tables();
+    tables.len_jobs() == 0
+        && tables.len_triggers() == 0
+        && tables.len_fired() == 0
+        && tables.len_members() == 1
 }
 
 #[test]

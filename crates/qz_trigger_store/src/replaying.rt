@@ -16,7 +16,7 @@ use crate::entry_log::EntryLog;
 use qz_civil::List;
 use qz_codec::{ReadError, get_command};
 use qz_journal::MountError;
-use qz_model::{PlainStore, Worked};
+use qz_plain::{PlainStore, Worked};
 use qz_types::{Entry, StepRefused};
 use std::alloc::Global;
 

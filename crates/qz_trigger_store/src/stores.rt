@@ -15,7 +15,7 @@ use crate::accepted::Accepted;
 use crate::entry_log::EntryLog;
 use qz_disk::Disk;
 use qz_journal::Journal;
-use qz_model::PlainStore;
+use qz_plain::PlainStore;
 use qz_types::Entry;
 use std::alloc::Global;
 

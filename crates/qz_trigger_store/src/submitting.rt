@@ -18,7 +18,7 @@ use qz_civil::List;
 use qz_codec::put_command;
 use qz_disk::Disk;
 use qz_journal::{JournalFull, fits};
-use qz_model::Worked;
+use qz_plain::Worked;
 use qz_types::{Entry, NoMemory, Reply, SubmitError};
 use std::mem;
 

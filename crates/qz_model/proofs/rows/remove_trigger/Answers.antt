@@ -1,8 +1,0 @@
-use Rattle.std.proofs.Common.{rules}
-use Rattle.std.proofs.lemmas.Fn.{filter_same}
-use Rattle.qz_types.specs.Words.{without_trigger}
-use Rattle.qz_model.proofs.rows.remove_trigger.Goals as goal
-
-pub returns : goal.returns
-unfolding without_trigger
-returns c = filter_same _ _ _ (λ x b f' k. search rules) _ _ c.retain.ensures.filtered

@@ -1,0 +1,7 @@
+//! The trigger store as its tables alone.
+#![tactic(auto)]
+
+mod commands;
+mod stores;
+
+pub use stores::{PlainStore, Worked};

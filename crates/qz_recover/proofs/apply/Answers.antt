@@ -1,0 +1,10 @@
+use Rattle.std.proofs.Common.{◌≡◌, rules, IfOk}
+use Rattle.qz_types.specs.Outcomes.{accepted}
+use Rattle.qz_model.specs.Transaction.{transaction}
+use Rattle.qz_apply.proofs.Validity.{valid_after}
+use Rattle.qz_recover.proofs.apply.Goals as goal
+
+pub returns-clause-valid : goal.returns-clause-valid
+returns-clause-valid c =
+    let ok : IfOk c.join.result (λ reply. transaction c.args.tables.now.tables c.args.entry.now ≡ accepted c.join.new.tables.tables reply) = search rules in
+    valid_after c.args.tables.now c.join.new.tables c.args.entry.now c.join.result c.requires.entry c.requires.valid ok c.join.ensures.err
