@@ -2,14 +2,13 @@
 use Rattle.std.proofs.Common.{◌≡◌, ℕ, ℤ, Bool, true, false, ◌&&◌, Option, Some, None, refl, ap, ◌∙◌, subst, if◌then◌else◌}
 use Rattle.std.proofs.lemmas.Bool.{and_parts}
 use Rattle.qz_types.specs.Rows.{MemberData, FiredData}
-use Rattle.qz_types.specs.declared.replies.Reply.{Reply}
-use Rattle.qz_types.specs.declared.replies.Refusal.{Refusal}
 use Rattle.qz_types.specs.declared.replies.Refusal.TheVariants.{Unbuilt}
 use Rattle.qz_types.specs.declared.keys.Key.{Key}
 use Rattle.qz_types.specs.Tables.{SchedulerTables}
-use Rattle.qz_types.specs.Outcomes.{Outcome, accepted, refused, unless, IsAccepted}
+use Rattle.qz_types.specs.Outcomes.{accepted, IsAccepted}
 use Rattle.qz_types.specs.Words.{fired_of, with_trigger, with_fired}
 use Rattle.qz_tables.specs.Changes.{begun}
+use Rattle.qz_apply.proofs.Accepted.{no_refusal, accepted_within, when_accepted}
 use Rattle.qz_model.specs.Membership.{node_refusal}
 use Rattle.qz_model.specs.Executions.{is_acquired}
 use Rattle.qz_model.specs.Firing.{is_of, spent, executing, stored_job, fire_refusal, fired_reply, fire_one, fire_row, fire}
@@ -27,18 +26,6 @@ pub record Fires (T : SchedulerTables) (m : ℤ) (me : MemberData) (entry : ℕ)
   pub taken : is_acquired f.state ≡ true
   pub outcome : fire T m me entry ≡ accepted (tables_begun T m f) (fired_reply m f (stored_job f.job T.jobs))
 
-no_refusal : (x : Option Refusal) (o : Outcome) → IsAccepted (unless x o) → unless x o ≡ o
-no_refusal None o is = refl
-no_refusal (Some r) o is = absurd is
-
-accepted_within : (x : Option Refusal) (o : Outcome) → IsAccepted (unless x o) → IsAccepted o
-accepted_within None o is = is
-accepted_within (Some r) o is = absurd is
-
-when_accepted : (b : Bool) (o : Outcome) → IsAccepted (if b then o else refused Unbuilt) → (b ≡ true) × IsAccepted o × ((if b then o else refused Unbuilt) ≡ o)
-when_accepted true o is = (refl, is, refl)
-when_accepted false o is = absurd is
-
 one_fires : (T : SchedulerTables) (m : ℤ) (f : FiredData) → IsAccepted (fire_one T m f) → fire_one T m f ≡ accepted (tables_begun T m f) (fired_reply m f (stored_job f.job T.jobs))
 unfolding fire_one
 one_fires T m f is = no_refusal (fire_refusal T m f) _ is
@@ -47,7 +34,7 @@ pub fires : (T : SchedulerTables) (m : ℤ) (me : MemberData) (entry : ℕ) (f :
 fires T m me entry f is stored =
     let at : fire_row T m me (fired_of entry T.fired) ≡ fire_row T m me (Some f) = ap (fire_row T m me) stored in
     let row : IsAccepted (fire_row T m me (Some f)) = subst IsAccepted at (accepted_within (node_refusal T me) (fire_row T m me (fired_of entry T.fired)) is) in
-    let own = when_accepted (is_of me f && is_acquired f.state) (fire_one T m f) row in
+    let own = when_accepted (is_of me f && is_acquired f.state) Unbuilt (fire_one T m f) row in
     record {
       taken = (and_parts (is_of me f) (is_acquired f.state) own.0).1;
       outcome = no_refusal (node_refusal T me) (fire_row T m me (fired_of entry T.fired)) is ∙ at ∙ own.2 ∙ one_fires T m f own.1;
@@ -64,6 +51,3 @@ pub begun_is : (T : SchedulerTables) (m n : ℤ) (f : FiredData) (trigger : Key)
     → record T { triggers = with_trigger trigger spent T.triggers; fired = with_fired entry (begun n no_concurrent requests_recovery) T.fired; last_moment = n } ≡ tables_begun T m f
 unfolding executing
 begun_is T m n f trigger entry no_concurrent requests_recovery moment key number exclusive recovered = rw (moment, key, number, exclusive, recovered) refl
-
-pub same_outcome : (T U : SchedulerTables) (r s : Reply) → T ≡ U → r ≡ s → accepted U s ≡ accepted T r
-same_outcome T U r s tables reply = rw (tables, reply) refl

@@ -10,7 +10,7 @@ ghost use Rattle.qz_model.specs.Invariant.{TablesValid};
 
 use crate::due::is_before;
 use crate::jobs::is_exclusive;
-use qz_apply::{is_acquired, node_refusal, same_text};
+use qz_apply::{is_acquired, is_of, node_refusal};
 use qz_civil::beside;
 use qz_tables::{Begin, Tables};
 use qz_types::{FiredRow, JobRow, Key, MemberRow, Refusal, Reply, StepRefused, TriggerState};
@@ -158,11 +158,4 @@ fn early(moment: i64, next: Option<i64>) -> Option<Refusal>
         Some(next) if is_before(next, Some(moment)) => Some(Refusal::Early { next }),
         _ => None,
     }
-}
-
-#[tactic(auto, unfolding(qz_model::specs::Firing::is_of))]
-fn is_of(me: &MemberRow, row: &FiredRow) -> bool
-    ensures { result ≡ is_of me.now row.now }
-{
-    same_text(me.node.as_str(), row.node.as_str()) && me.epoch == row.epoch
 }

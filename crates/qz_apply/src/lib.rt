@@ -8,6 +8,6 @@ mod moments;
 mod names;
 
 pub use executions::{is_acquired, is_busy};
-pub use members::node_refusal;
+pub use members::{is_of, node_refusal};
 pub use moments::recorded_moment;
 pub use names::{same_key, same_text};

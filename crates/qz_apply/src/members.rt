@@ -1,9 +1,11 @@
-//! The fence for nodes that aren't members any more.
+//! The fence for nodes that aren't members any more, and the rows of a member.
 ghost use Rattle.std.specs.Prelude.{◌≡◌, option_copied};
+ghost use Rattle.qz_model.specs.Firing.{is_of};
 ghost use Rattle.qz_model.specs.Membership.{live_epoch, is_live, node_refusal};
 
+use crate::same_text;
 use qz_tables::Tables;
-use qz_types::{MemberRow, Refusal, Text};
+use qz_types::{FiredRow, MemberRow, Refusal, Text};
 
 /// Why a node is fenced, if it is: it has to be a member under its own epoch.
 #[tactic(auto, unfolding(qz_model::specs::Membership::node_refusal))]
@@ -24,4 +26,12 @@ fn live_epoch(tables: &Tables, node: &Text) -> Option<u64>
     ensures { result ≡ live_epoch tables.now.tables node.now }
 {
     tables.get_member(node).map(|member| member.epoch)
+}
+
+/// Whether the row is this member's, under its epoch.
+#[tactic(auto, unfolding(qz_model::specs::Firing::is_of))]
+pub fn is_of(me: &MemberRow, row: &FiredRow) -> bool
+    ensures { result ≡ is_of me.now row.now }
+{
+    same_text(me.node.as_str(), row.node.as_str()) && me.epoch == row.epoch
 }

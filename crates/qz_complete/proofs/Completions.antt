@@ -1,18 +1,18 @@
 -- What a Complete that isn't refused comes to.
-use Rattle.std.proofs.Common.{◌≡◌, ℕ, ℤ, Bool, true, false, not, ◌&&◌, List, Option, Some, None, MatchOption, refl, sym, ap, ◌∙◌, subst, if◌then◌else◌}
+use Rattle.std.proofs.Common.{◌≡◌, ℕ, ℤ, not, ◌&&◌, List, Option, Some, None, MatchOption, refl, sym, ap, ◌∙◌, subst}
 use Rattle.qz_types.specs.Rows.{JobData, TriggerData, MemberData, FiredData}
 use Rattle.qz_types.specs.Entries.{EntryData}
 use Rattle.qz_types.specs.declared.keys.Key.{Key}
 use Rattle.qz_types.specs.declared.commands.Code.{Code}
 use Rattle.qz_types.specs.declared.commands.Command.TheVariants.{Complete}
 use Rattle.qz_types.specs.declared.commands.Actor.TheVariants.{Node}
-use Rattle.qz_types.specs.declared.replies.Reply.{Reply}
 use Rattle.qz_types.specs.declared.replies.Reply.TheVariants as reply
 use Rattle.qz_types.specs.declared.replies.Refusal.{Refusal}
 use Rattle.qz_types.specs.declared.replies.Refusal.TheVariants.{Unbuilt}
 use Rattle.qz_types.specs.Tables.{SchedulerTables, recorded_moment}
-use Rattle.qz_types.specs.Outcomes.{Outcome, accepted, refused, unless, IsAccepted}
+use Rattle.qz_types.specs.Outcomes.{accepted, refused, IsAccepted}
 use Rattle.qz_types.specs.Words.{job_of, trigger_of, fired_of, without_fired}
+use Rattle.qz_apply.proofs.Accepted.{no_refusal, when_accepted}
 use Rattle.qz_model.specs.Membership.{node_refusal}
 use Rattle.qz_model.specs.Executions.{is_acquired}
 use Rattle.qz_model.specs.Firing.{is_of, is_noop, without_finished, completed, complete_row, complete}
@@ -25,17 +25,9 @@ key_of_trigger k t rows found = same_key-exact k t.spec.key (trigger_of-key k t 
 pub key_of_job : (k : Key) (j : JobData) (rows : List JobData) → job_of k rows ≡ Some j → k ≡ j.key
 key_of_job k j rows found = same_key-exact k j.key (job_of-key k j rows found)
 
-no_refusal : (x : Option Refusal) (o : Outcome) → IsAccepted (unless x o) → unless x o ≡ o
-no_refusal None o is = refl
-no_refusal (Some r) o is = absurd is
-
-when_accepted : (b : Bool) (o : Outcome) → IsAccepted (if b then o else refused Unbuilt) → (if b then o else refused Unbuilt) ≡ o
-when_accepted true o is = refl
-when_accepted false o is = absurd is
-
 row_completes : (T : SchedulerTables) (m : ℤ) (me : MemberData) (f : FiredData) (code : Code) → IsAccepted (complete_row T m me (Some f) code)
     → complete_row T m me (Some f) code ≡ accepted (completed T m f) (reply.Completed f.entry)
-row_completes T m me f code is = when_accepted (is_of me f && not (is_acquired f.state) && not f.no_concurrent && is_noop code) _ is
+row_completes T m me f code is = (when_accepted (is_of me f && not (is_acquired f.state) && not f.no_concurrent && is_noop code) Unbuilt _ is).2
 
 -- an accepted Complete ends the execution of this row
 pub completes : (T : SchedulerTables) (m : ℤ) (me : MemberData) (entry : ℕ) (code : Code) (f : FiredData) → IsAccepted (complete T m me entry code) → fired_of entry T.fired ≡ Some f
@@ -68,6 +60,3 @@ ended_is T U V m n f entry key before ended moment number trigger =
     ∙ ap (λ (x : ℤ). without_finished (record T { fired = without_fired entry T.fired; last_moment = x }) (trigger_of key T.triggers)) moment
     ∙ ap (λ (e : ℕ). without_finished (record T { fired = without_fired e T.fired; last_moment = m }) (trigger_of key T.triggers)) number
     ∙ ap (λ (k : Key). without_finished (record T { fired = without_fired f.entry T.fired; last_moment = m }) (trigger_of k T.triggers)) trigger
-
-pub same_outcome : (T U : SchedulerTables) (r s : Reply) → T ≡ U → r ≡ s → accepted U s ≡ accepted T r
-same_outcome T U r s tables reply = rw (tables, reply) refl

@@ -8,7 +8,7 @@ ghost use Rattle.qz_model.specs.Executions.{is_acquired};
 ghost use Rattle.qz_model.specs.Firing.{is_of, is_noop, is_complete, is_finished, without_finished, completed, complete_row, complete};
 
 use crate::orphans::remove_orphan;
-use qz_apply::{is_acquired, node_refusal, same_key, same_text};
+use qz_apply::{is_acquired, is_of, node_refusal, same_key};
 use qz_tables::Tables;
 use qz_types::{
     Code, FiredRow, Key, MemberRow, Refusal, Reply, StepRefused, TriggerRow, TriggerState,
@@ -100,13 +100,6 @@ fn has_row(tables: &Tables, trigger: &Key) -> bool
         }
     }
     false
-}
-
-#[tactic(auto, unfolding(qz_model::specs::Firing::is_of))]
-fn is_of(me: &MemberRow, row: &FiredRow) -> bool
-    ensures { result ≡ is_of me.now row.now }
-{
-    same_text(me.node.as_str(), row.node.as_str()) && me.epoch == row.epoch
 }
 
 fn is_noop(code: Code) -> bool

@@ -4,7 +4,8 @@ use Rattle.std.proofs.lemmas.Grind.{common_steps}
 use Rattle.qz_types.specs.Outcomes.{IsAccepted}
 use Rattle.qz_types.specs.Words.{fired_of}
 use Rattle.qz_model.specs.Firing.{stored_job, fired_reply, fire}
-use Rattle.qz_acquire.proofs.Firings.{tables_begun, fires, begun_is, same_outcome}
+use Rattle.qz_apply.proofs.Accepted.{same_outcome}
+use Rattle.qz_acquire.proofs.Firings.{tables_begun, fires, begun_is}
 use Rattle.qz_acquire.proofs.firing.fire.Goals as goal
 
 pub returns-clause-ok : goal.returns-clause-ok

@@ -7,7 +7,8 @@ use Rattle.qz_types.specs.Words.{fired_of, without_fired}
 use Rattle.qz_tables.specs.Contents.{TablesData}
 use Rattle.qz_model.specs.Firing.{completed}
 use Rattle.qz_model.proofs.RowLaws.{fired_of-entry}
-use Rattle.qz_complete.proofs.Completions.{row_of_complete, completes, ended_is, same_outcome}
+use Rattle.qz_apply.proofs.Accepted.{same_outcome}
+use Rattle.qz_complete.proofs.Completions.{row_of_complete, completes, ended_is}
 use Rattle.qz_complete.proofs.completing.complete.Goals as goal
 
 pub unreachable-requires : goal.unreachable-requires
