@@ -1,19 +1,13 @@
 -- What a turn keeps of its time, and of being fenced, whatever it hears.
-use Rattle.std.proofs.Common.{◌≡◌, ◌⊎◌, inl, inr, ℤ, int_le, Bool, true, false, ◌||◌, List, [], ◌∷◌, refl, sym, ap, ◌∙◌, arith, rules, subst, if◌then◌else◌}
-use Rattle.std.specs.Prelude.{⊤, Option, Some, None}
-use Rattle.std.specs.Option.{option_or}
-use Rattle.qz_types.specs.declared.replies.Taken.{Taken}
-use Rattle.qz_types.specs.declared.replies.MovedRow.{MovedRow}
+use Rattle.std.proofs.Common.{◌≡◌, ℤ, Bool, true, false, ◌||◌, [], ◌∷◌, refl, if◌then◌else◌}
+use Rattle.std.specs.Prelude.{Option, Some, None}
 use Rattle.qz_types.specs.declared.replies.Reply.{Reply}
 use Rattle.qz_types.specs.declared.replies.Reply.TheVariants as reply
 use Rattle.qz_node.specs.declared.turns.Held.{Held}
-use Rattle.qz_node.specs.declared.turns.Idle.{Idle}
-use Rattle.qz_node.specs.declared.turns.Idle.TheVariants as idle
 use Rattle.qz_node.specs.declared.turns.Heard.{Heard}
 use Rattle.qz_node.specs.declared.turns.Heard.TheVariants as hears
-use Rattle.qz_node.specs.declared.turns.Want.TheVariants as want
-use Rattle.qz_node.specs.Turns.{TurnData, learnt, learnt_reply, refused_with, ends_at_refusal, ended, IsIdle, CanHear, CanHearReply, is_fenced, wanted}
-use Rattle.qz_node.specs.TurnRuns.{turn_of, CouldHear, misfired_in, acquired_in, misfired_by, acquired_by, is_fencing, last_misfired, last_acquired, was_fenced, IsDone}
+use Rattle.qz_node.specs.Turns.{TurnData, learnt, learnt_reply, refused_with, ends_at_refusal, ended, is_fenced}
+use Rattle.qz_node.specs.TurnRuns.{is_fencing}
 
 -- its time, and whether it was fenced
 pub record Keeps (turn : TurnData) (end : ℤ) (was : Bool) : Type 0 where

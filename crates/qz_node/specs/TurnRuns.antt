@@ -20,6 +20,7 @@ abbrev pub CouldHear : ℤ → List Heard → Type 0
 CouldHear until [] = ⊤
 CouldHear until (h ∷ past) = CanHear (turn_of until past) h × CouldHear until past
 
+-- what a thing that is heard says of misfired and of acquired triggers
 abbrev pub misfired_in : Reply → Option (List MovedRow)
 misfired_in (reply.Misfired moved) = Some moved
 misfired_in other = None
@@ -36,6 +37,7 @@ abbrev pub acquired_by : Heard → Option (List Taken)
 acquired_by (hears.Reply r) = acquired_in r.now
 acquired_by other = None
 
+-- it is Fenced
 abbrev pub is_fencing : Heard → Bool
 is_fencing (hears.Refused r) = is_fenced r.now
 is_fencing other = false

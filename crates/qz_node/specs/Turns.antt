@@ -47,6 +47,7 @@ wanted_idle until idle.Misfires now = want.Misfires
 wanted_idle until idle.Acquire now = want.Acquire (int_max (int_min until now) (pos 0))
 wanted_idle until idle.Rest now = if int_le until now then want.End else want.Rest (int_min until (now +ℤ pos 1000))
 
+-- what is wanted with this entry in hand, or with none
 abbrev pub wanted_with : Option Held → TurnData → ℤ → Want
 wanted_with (Some held) turn now = wanted_held held
 wanted_with None turn now = wanted_idle turn.until turn.idle now
@@ -94,6 +95,7 @@ abbrev pub refused_with : Option Held → TurnData → TurnData
 refused_with None turn = turn
 refused_with (Some held) turn = if ends_at_refusal held.last then ended turn else turn
 
+-- the node isn't a member under its epoch
 abbrev pub is_fenced : Refusal → Bool
 is_fenced (refusal.Fenced live) = true
 is_fenced other = false
@@ -113,11 +115,13 @@ abbrev pub IsHeld : ℕ → Option Held → Type 0
 IsHeld entry None = ⊥
 IsHeld entry (Some held) = held.entry ≡ entry
 
--- no entry is held, and this is what is wanted
+-- No entry is held, and this is wanted.
 pub record IsIdle (turn : TurnData) (idle : Idle) : Type 0 where
   pub free : turn.held ≡ None
   pub wants : turn.idle ≡ idle
 
+-- Which replies a node may hear: misfired triggers while it wants the misfires, and at most one acquired trigger while it wants
+-- to acquire one.
 abbrev pub CanHearReply : TurnData → Reply → Type 0
 CanHearReply turn (reply.Misfired moved) = IsIdle turn idle.Misfires
 CanHearReply turn (reply.Acquired taken) = IsIdle turn idle.Acquire × (length taken ≤ 1)

@@ -18,7 +18,8 @@ pub trait Hub {
     /// What may be answered to a command at a reading, and what that leaves: it is what the store answers that it stands for.
     ghost answers: { Self → ℤ → Command → Result Reply SubmitError → Self → Type 0 };
 
-    /// Submits a transaction as this node. `at` is the reading of the clock, in ms since 1970-01-01T00:00:00Z.
+    /// Submits a transaction as this node. `at` is the reading of the clock, in ms since 1970-01-01T00:00:00Z: any number, since
+    /// the store clamps it. The errors are the store's; a refusal changes nothing.
     fn submit(&mut self, at: i64, command: Command) -> Result<Reply, SubmitError>
         requires valid { IsTrue (is_command command) }
         requires node { IsTrue (is_of_node command) }

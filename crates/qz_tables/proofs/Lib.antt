@@ -1,6 +1,7 @@
 pub mod ByIds
 mod Counts
 mod DueLemmas
+pub mod DueWalk
 pub mod Filled
 mod FiredWords
 mod Firsts
@@ -9,3 +10,4 @@ pub mod Keys
 pub mod LinkLemmas
 pub mod Places
 pub mod SlotEdits
+pub mod SortLaws

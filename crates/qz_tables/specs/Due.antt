@@ -1,5 +1,5 @@
 -- The due order of triggers, and which triggers come next in it.
-use Rattle.std.specs.Prelude.{ℤ, List, [], ◌∷◌, Bool, true, false, ◌&&◌, filter, if◌then◌else◌, Option, Some, None, option_and_then}
+use Rattle.std.specs.Prelude.{◌≡◌, ℕ, suc, ℤ, List, [], ◌∷◌, Bool, true, false, ◌&&◌, filter, if◌then◌else◌, Option, Some, None, option_and_then}
 use Rattle.std.specs.List.{slice_get}
 use Rattle.std.specs.Ordering.{int_cmp, ordering_then, is_gt}
 use Rattle.std.specs.declared.cmp.Ordering.{Ordering}
@@ -58,3 +58,7 @@ due_after k triggers = option_and_then (λ t. slice_get (waiting (Some t) trigge
 abbrev pub earlier : TriggerData → Option TriggerData → TriggerData
 earlier t None = t
 earlier t (Some u) = if is_gt (due_cmp t u) then u else t
+
+-- Looking for the next waiting trigger walks the list of those that wait: after the one at a place comes that at the next.
+abbrev pub IsWalked : List TriggerData → Type 0
+IsWalked triggers = (n : ℕ) (t : TriggerData) → Some t ≡ slice_get (waiting None triggers) n → due_after t.spec.key triggers ≡ slice_get (waiting None triggers) (suc n)

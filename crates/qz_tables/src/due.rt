@@ -1,6 +1,6 @@
 //! Which waiting trigger comes next in due order.
 ghost use Rattle.std.specs.Prelude.{◌≡◌, option_copied, slice_get};
-ghost use Rattle.qz_tables.specs.Due.{is_waiting, is_later, waits_after, due_cmp, waiting, due_first, due_after, earlier};
+ghost use Rattle.qz_tables.specs.Due.{is_waiting, is_later, waits_after, due_cmp, waiting, due_first, due_after, earlier, IsWalked};
 
 use crate::linked::Linked;
 use crate::tables::Tables;
@@ -23,7 +23,8 @@ impl Tables {
     /// It looks at every trigger.
     #[tactic(auto, unfolding(crate::specs::Due::due_after))]
     pub fn due_after(&self, key: &Key) -> Option<&TriggerRow>
-        ensures { option_copied result ≡ due_after key.now self.now.tables.triggers }
+        ensures row { option_copied result ≡ due_after key.now self.now.tables.triggers }
+        ensures walks { IsWalked self.now.tables.triggers }
     {
         match self.get_trigger(key) {
             Some(after) => first_waiting(&self.triggers, Some(after)),
