@@ -482,45 +482,6 @@ const CHAINS: &[ChainRow] = &[
         1704067200000,
         Some(1704153600000),
     ),
-    // Cron calendars that leave each other's seconds, on one local clock and on two.
-    (
-        &[(Cron("0/2 * * * * ?"), UTC), (Cron("1/2 * * * * ?"), UTC)],
-        0,
-        None,
-    ),
-    (
-        &[
-            (Cron("0/2 * * * * ?"), FARTHEST_EAST),
-            (Cron("1/2 * * * * ?"), FARTHEST_EAST),
-        ],
-        0,
-        Some(4102380000000),
-    ),
-    (
-        &[
-            (Cron("0/2 0/2 * * * ?"), UTC),
-            (Cron("* 1/2 0-22 * * ?"), UTC),
-            (Cron("1/2 0/2 * * * ?"), UTC),
-        ],
-        1704067200000,
-        Some(1704150060000),
-    ),
-    (
-        &[
-            (Cron("0/2 * 0 1 1 ? 2024"), UTC),
-            (Cron("0/2 * 0 1 1 ? 2024"), &[(0, 1)]),
-        ],
-        1704067200000,
-        Some(1704070799000),
-    ),
-    (
-        &[
-            (Cron("0/2 * * * * ?"), UTC),
-            (Cron("1/2 * * * * ?"), &[(0, 1)]),
-        ],
-        1704067200000,
-        Some(1704067201000),
-    ),
 ];
 
 const TABLES: &[&[ChainRow]] = &[
@@ -624,6 +585,49 @@ fn what_chains_include(rt: HostRuntime) -> Result<(), Fail> {
             let chain = chain_of(rt.alloc(), row.0)?;
             assert!(rt; includes(&chain, row.1, row.2), "at {row:?}");
         }
+    }
+    Ok(())
+}
+
+// Cron calendars that leave each other's seconds, on one local clock and on two.
+const BY_TURNS: &[ChainRow] = &[
+    (
+        &[(Cron("0/2 * * * * ?"), UTC), (Cron("1/2 * * * * ?"), UTC)],
+        0,
+        None,
+    ),
+    (
+        &[
+            (Cron("0/2 * * * * ?"), FARTHEST_EAST),
+            (Cron("1/2 * * * * ?"), FARTHEST_EAST),
+        ],
+        0,
+        Some(4102380000000),
+    ),
+    (
+        &[
+            (Cron("0/2 0/2 * * * ?"), UTC),
+            (Cron("* 1/2 0-22 * * ?"), UTC),
+            (Cron("1/2 0/2 * * * ?"), UTC),
+        ],
+        1704067200000,
+        Some(1704150060000),
+    ),
+    (
+        &[
+            (Cron("0/2 * * * * ?"), UTC),
+            (Cron("1/2 * * * * ?"), &[(0, 1)]),
+        ],
+        1704067200000,
+        Some(1704067201000),
+    ),
+];
+
+#[test]
+fn cron_calendars_by_turns(rt: HostRuntime) -> Result<(), Fail> {
+    for row in BY_TURNS.iter() {
+        let chain = chain_of(rt.alloc(), row.0)?;
+        assert!(rt; includes(&chain, row.1, row.2), "at {row:?}");
     }
     Ok(())
 }

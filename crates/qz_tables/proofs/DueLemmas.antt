@@ -4,7 +4,7 @@ use Rattle.std.specs.List.{slice_get}
 use Rattle.std.specs.Ordering.{is_gt}
 use Rattle.qz_types.specs.Sorted.{put}
 use Rattle.qz_types.specs.Rows.{TriggerData}
-use Rattle.qz_tables.specs.Due.{due_cmp, in_due_order, earlier}
+use Rattle.qz_types.specs.Due.{due_cmp, in_due_order, earlier}
 
 first-put-if : (b : Bool) (t u : TriggerData) (us vs : List TriggerData)
     → slice_get (if b then u ∷ vs else t ∷ us) 0 ≡ Some (if b then u else t)

@@ -10,7 +10,8 @@ use Rattle.qz_types.specs.Sorted.{row_of, put, IsBefore, IsAscending}
 use Rattle.qz_types.specs.Rows.{TriggerData}
 use Rattle.qz_types.specs.Words.{key_cmp, trigger_of}
 use Rattle.qz_types.specs.declared.keys.Key.{Key}
-use Rattle.qz_tables.specs.Due.{is_waiting, next_cmp, due_cmp, in_due_order, waits_after, waiting, due_after}
+use Rattle.qz_types.specs.Due.{is_waiting, next_cmp, due_cmp, in_due_order}
+use Rattle.qz_tables.specs.Due.{waits_after, waiting, due_after}
 use Rattle.qz_tables.proofs.ByIds.{own_id}
 use Rattle.qz_tables.proofs.Keys.{key_total}
 use Rattle.qz_tables.proofs.SortLaws.{All-filter, All-at, filter-and, filter-true, IsAscending-filter, sorted, Apart, All-sorted, filter-sorted, ascending-sorted, after-drop}

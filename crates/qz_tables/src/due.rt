@@ -1,6 +1,7 @@
 //! Which waiting trigger comes next in due order.
 ghost use Rattle.std.specs.Prelude.{◌≡◌, option_copied, slice_get};
-ghost use Rattle.qz_tables.specs.Due.{is_waiting, is_later, waits_after, due_cmp, waiting, due_first, due_after, earlier, IsWalked};
+ghost use Rattle.qz_types.specs.Due.{is_waiting, due_cmp, earlier};
+ghost use Rattle.qz_tables.specs.Due.{is_later, waits_after, waiting, due_first, due_after, IsWalked};
 
 use crate::linked::Linked;
 use crate::tables::Tables;
@@ -84,7 +85,7 @@ fn earlier<'a>(trigger: &'a TriggerRow, other: Option<&'a TriggerRow>) -> &'a Tr
 }
 
 // By next time, then the greater priority, then the key.
-#[tactic(auto, unfolding(crate::specs::Due::due_cmp))]
+#[tactic(auto, unfolding(qz_types::specs::Due::due_cmp))]
 fn compare(a: &TriggerRow, b: &TriggerRow) -> Ordering
     ensures { result ≡ due_cmp a.now b.now }
 {

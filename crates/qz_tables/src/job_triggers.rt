@@ -73,7 +73,7 @@ fn has_job(row: &TriggerRow, job: &Key) -> bool
 }
 
 impl Tables {
-    /// The triggers of a job, each once. Their order isn't told.
+    /// The triggers of a job, each once, in any order.
     ///
     /// It looks at every trigger.
     pub fn triggers_of<'a>(&'a self, job: &'a Key) -> JobTriggers<'a>

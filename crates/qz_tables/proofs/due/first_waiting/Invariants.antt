@@ -1,6 +1,7 @@
 use Rattle.std.proofs.Common.{◌≡◌, ◌≤◌, length, drop, filter, option_copied}
 use Rattle.std.specs.List.{slice_get}
-use Rattle.qz_tables.specs.Due.{waits_after, in_due_order}
+use Rattle.qz_types.specs.Due.{in_due_order}
+use Rattle.qz_tables.specs.Due.{waits_after}
 use Rattle.qz_tables.proofs.due.first_waiting.Given as goal
 
 abbrev pub decreases-loop-place : goal.decreases-loop-place
