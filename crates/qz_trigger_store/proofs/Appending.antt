@@ -28,7 +28,7 @@ pub none_more : (found added : List EntryData) → added ≡ [] → found ++ add
 none_more found added none = ap (λ (l : List EntryData). found ++ l) none ∙ append-nil found
 
 -- the entries so far, with one more
-more : (found old new : List EntryData) (e : EntryData) → new ≡ old ++ e ∷ [] → found ++ new ≡ (found ++ old) ++ e ∷ []
+pub more : (found old new : List EntryData) (e : EntryData) → new ≡ old ++ e ∷ [] → found ++ new ≡ (found ++ old) ++ e ∷ []
 more found old new e is = ap (λ (l : List EntryData). found ++ l) is ∙ sym (append_assoc found old (e ∷ []))
 
 pub counted_with : (found old new : List EntryData) (e : EntryData) (n m : ℕ) → new ≡ old ++ e ∷ [] → n ≡ length (found ++ old) → m ≡ n + 1 → m ≡ length (found ++ new)

@@ -1,4 +1,5 @@
 pub mod Appending
+pub mod Committing
 pub mod Moments
 pub mod Once
 pub mod Refused

@@ -1,7 +1,7 @@
 -- An accepted transaction makes its recorded moment the last one.
 use Rattle.std.proofs.Common.{◌≡◌, ℤ, List, [], ◌∷◌, Bool, true, false, ◌&&◌, not, refl, subst}
 use Rattle.std.specs.Prelude.{⊤, Option, Some, None, if◌then◌else◌}
-use Rattle.qz_types.specs.Rows.{TriggerData, FiredData, JobData, MemberData}
+use Rattle.qz_types.specs.Rows.{TriggerData, FiredData, MemberData}
 use Rattle.qz_types.specs.Entries.{EntryData}
 use Rattle.qz_types.specs.declared.commands.Code.{Code}
 use Rattle.qz_types.specs.declared.commands.Command.{Command}
@@ -15,7 +15,7 @@ use Rattle.qz_types.specs.declared.replies.Refusal.TheVariants.{Unbuilt}
 use Rattle.qz_types.specs.Tables.{SchedulerTables, recorded_moment}
 use Rattle.qz_types.specs.Outcomes.{Outcome, accepted, refused, unless}
 use Rattle.qz_model.specs.Transaction.{by_command, transaction}
-use Rattle.qz_types.specs.Words.{fired_of, job_of, trigger_of}
+use Rattle.qz_types.specs.Words.{fired_of, trigger_of}
 use Rattle.qz_model.specs.Scheduling.{add_job_refusal, add_trigger_refusal}
 use Rattle.qz_model.specs.Membership.{node_refusal, join_refusal}
 use Rattle.qz_model.specs.Executions.{is_acquired}

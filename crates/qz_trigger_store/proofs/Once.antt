@@ -5,15 +5,13 @@ use Rattle.qz_types.specs.Entries.{EntryData}
 use Rattle.qz_types.specs.Tables.{SchedulerTables, new_tables}
 use Rattle.qz_model.specs.Transaction.{transaction}
 use Rattle.qz_model.specs.History.{History, tables_left, IsLegalFrom, replay_from}
-use Rattle.qz_journal.specs.Layout.{Holds}
 use Rattle.qz_journal.specs.View.{version}
-use Rattle.qz_journal.specs.declared.layout.TheConstants.{TRIGGERS}
 use Rattle.qz_journal.specs.declared.errors.MountError.{MountError}
 use Rattle.qz_journal.specs.declared.errors.MountError.TheVariants as mount
 use Rattle.qz_codec.specs.Values.{IsEntry}
 use Rattle.qz_codec.proofs.EntryFormats.{entry_record_unique}
 use Rattle.qz_trigger_store.specs.Entries.{history_of}
-use Rattle.qz_trigger_store.specs.Bytes.{Encode, HoldEntries, BeginsNew, IsHistory, Stands}
+use Rattle.qz_trigger_store.specs.Bytes.{Encode, BeginsNew, IsHistory}
 use Rattle.qz_trigger_store.specs.Opening.{IsUnfit, IsStopped}
 
 -- Two lists of valid entries that have the same records are the same.

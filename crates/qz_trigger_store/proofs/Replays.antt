@@ -1,5 +1,5 @@
 -- Payloads that are taken one by one, and the first that is unfit.
-use Rattle.std.proofs.Common.{◌≡◌, inl, inr, ℕ, ◌+◌, ◌<◌, ◌≤◌, ◌-◌, List, [], ◌∷◌, ◌++◌, length, get_or, take, drop, suc, refl, sym, ◌∙◌, ap, subst, arith, append_assoc, length-append, take-append-drop, add-one}
+use Rattle.std.proofs.Common.{◌≡◌, inl, inr, ℕ, ◌+◌, ◌<◌, ◌≤◌, ◌-◌, List, [], ◌∷◌, ◌++◌, length, get_or, take, drop, suc, refl, sym, ◌∙◌, ap, subst, arith, append_assoc, length-append, take-append-drop}
 use Rattle.std.proofs.Math.Seq.{split_at}
 use Rattle.std.specs.Prelude.{Result, Ok, All}
 use Rattle.std.specs.List.{AllByRecursion}
@@ -11,7 +11,7 @@ use Rattle.qz_types.specs.Outcomes.{Outcome, refused, IsAccepted, IsErrorOf}
 use Rattle.qz_types.specs.declared.errors.StepRefused.{StepRefused}
 use Rattle.qz_types.specs.declared.errors.StepRefused.TheVariants.{Refused}
 use Rattle.qz_model.specs.Transaction.{transaction}
-use Rattle.qz_model.specs.History.{tables_left, IsLegalFrom, replay_from}
+use Rattle.qz_model.specs.History.{tables_left, replay_from}
 use Rattle.qz_model.proofs.Histories.{IsLegalFrom-entry, replay_from-append}
 use Rattle.qz_journal.specs.Layout.{IsHeader, IsPayload, body_of, blocks, end_of, Holds}
 use Rattle.qz_journal.specs.Opening.{IsDamagedBehind, IsRefusedBehind}
@@ -19,7 +19,6 @@ use Rattle.qz_journal.specs.declared.errors.MountError.{MountError}
 use Rattle.qz_journal.specs.declared.errors.MountError.TheVariants as mount
 use Rattle.qz_journal.specs.declared.layout.TheConstants.{TRIGGERS}
 use Rattle.qz_journal.proofs.Stands.{end_of-push}
-use Rattle.qz_codec.specs.Layout.{record_of}
 use Rattle.qz_codec.specs.Values.{IsEntry}
 use Rattle.qz_trigger_store.specs.Bytes.{Encodes, Encode, IsRecord}
 use Rattle.qz_trigger_store.specs.Opening.{IsUnfit, AreReplayed, AreHistory, HaveUnfit, IsDamaged, IsRefused, IsStopped, IsFirstBad}

@@ -11,7 +11,6 @@ use Rattle.qz_types.specs.declared.errors.SubmitError.TheVariants as submit
 use Rattle.qz_types.specs.declared.replies.Reply.{Reply}
 use Rattle.qz_model.specs.History.{History, with_entry, IsLegal, replay, replay_from}
 use Rattle.qz_model.specs.Invariant.{TablesValid}
-use Rattle.qz_model.specs.Transaction.{transaction}
 use Rattle.qz_model.proofs.Histories.{IsLegalFrom-entry, replay_from-append, valid-left}
 use Rattle.qz_journal.specs.Layout.{end_of}
 use Rattle.qz_journal.specs.View.{version}

@@ -1,6 +1,4 @@
-use Rattle.std.proofs.Common.{◌≡◌, ◌++◌, length, take}
-use Rattle.std.specs.List.{AllByRecursion}
-use Rattle.qz_codec.specs.Values.{IsEntry}
+use Rattle.std.proofs.Common.{◌≡◌, take}
 use Rattle.qz_journal.specs.Layout.{end_of}
 use Rattle.qz_types.specs.Tables.{new_tables}
 use Rattle.qz_model.specs.History.{replay_from}

@@ -1,8 +1,12 @@
-use Rattle.std.proofs.Common.{◌≡◌, ◌∙◌, ℤ, List, [], ◌∷◌, ◌++◌, sym, ap, w64, to_z, of_z, arith}
+use Rattle.std.proofs.Common.{◌≡◌, ◌∙◌, ℕ, ℤ, List, [], ◌∷◌, ◌++◌, length, refl, sym, ap, subst, w64, to_z, of_z, arith}
 use Rattle.std.proofs.lemmas.Grind.{common_steps}
 use Rattle.std.proofs.lemmas.Int.{to_z-of_z}
 use Rattle.qz_types.specs.declared.replies.Reply.{Reply}
+use Rattle.qz_trigger_store.specs.Entries.{history_of}
+use Rattle.qz_trigger_store.specs.Stores.{HasRoom}
+use Rattle.qz_trigger_store.specs.View.{view}
 use Rattle.qz_trigger_store.proofs.Appending
+use Rattle.qz_trigger_store.proofs.Committing
 use Rattle.qz_trigger_store.proofs.Moments.{last_moment-accepted}
 use Rattle.qz_trigger_store.proofs.stores.TriggerStore.commit.Goals as goal
 
@@ -70,7 +74,25 @@ returns-in-Ok-clause-any_moment g c honest =
     (s.stands honest c.requires.open) (c.append.ensures.any_moment honest (s.ready c.requires.open)) in
     Appending.leaves_with s.found.items s.accepted.entries.items _ c.args.entry _ _ s.undecided s.undecided c.push_reserved.ensures.entries (s.settled c.requires.open) (s.settled c.requires.open) leaves
 
+pub returns-in-Ok-clause-one : goal.returns-in-Ok-clause-one
+returns-in-Ok-clause-one g c =
+    let s = c.args.self.now in
+    let ok = c.in-Ok.ensures.ok in
+    Committing.appends s.tables c.args.prepared.worked.tables (view s) _ c.args.entry c.args.prepared.worked.reply c.as_slice.result.now s.replayed c.requires.accepted
+    (c.as_slice.ensures ∙ c.requires.record.0) c.requires.open
+    (subst (λ (b : List ℕ). HasRoom (length b) (view s)) (sym c.as_slice.ensures) c.requires.fits)
+    (ap history_of (Appending.more s.found.items s.accepted.entries.items _ c.args.entry c.push_reserved.ensures.entries)) ok.1 ok.2 c.requires.open (s.settled c.requires.open) c.append.ensures.later
+
 -- where the disk failed
+
+pub returns-in-Err-clause-one : goal.returns-in-Err-clause-one
+returns-in-Err-clause-one g c =
+    let s = c.args.self.now in
+    let room : HasRoom (length c.as_slice.result.now) (view s) = subst (λ (b : List ℕ). HasRoom (length b) (view s)) (sym c.as_slice.ensures) c.requires.fits in
+    let failed = Committing.fault_only c.in-Err.field-0 c.append.result s.journal.closed s.journal.gate s.journal.count (length c.as_slice.result.now) c.in-Err.is (s.ready c.requires.open) room c.append.ensures.closed c.append.ensures.full in
+    Committing.fails s.tables c.args.prepared.worked.tables (view s) _ c.args.entry c.args.prepared.worked.reply c.as_slice.result.now c.close.result s.replayed c.requires.accepted
+    (c.as_slice.ensures ∙ c.requires.record.0) c.requires.open room refl c.in-Err.ensures.same_place.0 c.in-Err.ensures.same_place.1 c.close.ensures.closed c.close.ensures.undecided
+    (c.append.ensures.fault failed).0 c.append.ensures.later c.close.ensures.fault
 
 pub invariant_of-self-in-Err-clause-images : goal.invariant_of-self-in-Err-clause-images
 invariant_of-self-in-Err-clause-images g c honest =
