@@ -5,7 +5,7 @@ ghost use Rattle.qz_model.specs.Firing.{stored_job};
 use qz_tables::Tables;
 use qz_types::Key;
 
-/// Whether the executions of the job of this key exclude each other; none where it isn't stored.
+/// Whether the executions of the job of this key exclude each other; false where it isn't stored.
 #[tactic(auto, unfolding(qz_model::specs::Firing::stored_job))]
 pub fn is_exclusive(tables: &Tables, key: &Key) -> bool
     ensures { result ≡ (stored_job key.now tables.now.tables.jobs).no_concurrent }
@@ -16,7 +16,7 @@ pub fn is_exclusive(tables: &Tables, key: &Key) -> bool
     }
 }
 
-/// Whether a lost execution of the job of this key yields a recovery trigger; none where it isn't stored.
+/// Whether a lost execution of the job of this key yields a recovery trigger; false where it isn't stored.
 #[tactic(auto, unfolding(qz_model::specs::Firing::stored_job))]
 pub fn is_recovered(tables: &Tables, key: &Key) -> bool
     ensures { result ≡ (stored_job key.now tables.now.tables.jobs).requests_recovery }

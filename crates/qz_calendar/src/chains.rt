@@ -46,7 +46,7 @@ impl Chain {
         }
     }
 
-    /// Puts a calendar behind the others, as the base of the last one.
+    /// Puts a calendar after the others, as the base of the last one.
     pub fn push(&mut self, kind: CalendarKind, zone: Zone) -> Result<(), ChainFull>
         requires { IsTrue (is_calendar_kind kind) }
         ensures ok { OnOk result (self.new ≡ self.old ++ record { kind = kind; zone = zone } ∷ []) }

@@ -6,6 +6,7 @@ mod calendars;
 mod chains;
 mod clocks;
 mod days;
+mod limits;
 mod listed;
 mod moments;
 mod seconds;
@@ -13,4 +14,5 @@ mod skips;
 mod spans;
 
 pub use chains::{CHAIN_LIMIT, Chain, ChainFull, included, next_included};
+pub use limits::limits_are;
 pub use listed::{are_annual_days, are_holidays};

@@ -15,7 +15,7 @@ use qz_civil::{CalendarKind, CronFields};
 #[derive(Drop)]
 struct OneDay {
     fields: ArrayVec<ClockFields, 8>,
-    /// The first ms behind it, counted from 1970-01-01T00:00:00Z.
+    /// The first ms after it, counted from 1970-01-01T00:00:00Z.
     end: u64,
 }
 

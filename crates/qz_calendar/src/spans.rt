@@ -5,7 +5,7 @@ ghost use Rattle.qz_civil.specs.Zones.{local};
 
 use qz_civil::{LAST, OFFSET_LIMIT, Zone, to_unsigned};
 
-/// The first ms behind the timestamps.
+/// The first ms after the timestamps.
 pub const END: u64 = LAST as u64 + 1;
 
 /// Milliseconds in a row at which a zone keeps one offset.
@@ -13,7 +13,7 @@ pub const END: u64 = LAST as u64 + 1;
 pub struct Span {
     /// How far the local clock is ahead of UTC, in ms.
     pub shift: u64,
-    /// The first ms behind them, counted from 1970-01-01T00:00:00Z on.
+    /// The first ms after them, counted from 1970-01-01T00:00:00Z on.
     pub end: u64,
 }
 

@@ -1,5 +1,5 @@
 //! A node ends an execution.
-ghost use Rattle.std.specs.Prelude.{◌≡◌, ℤ, Some, MatchOption, IfOk, IfErr, OnErr, option_copied};
+ghost use Rattle.std.specs.Prelude.{◌≡◌, ℤ, Err, Some, MatchOption, IfOk, IfErr, OnErr, option_copied};
 ghost use Rattle.std.specs.List.{list_any};
 ghost use Rattle.qz_types.specs.Outcomes.{accepted, refused, IsAccepted, IsErrorOf};
 ghost use Rattle.qz_types.specs.Tables.{SchedulerTables};
@@ -48,6 +48,7 @@ pub fn complete(
     ensures ok { IfOk result (λ reply. complete tables.old.tables moment me.now entry code ≡ accepted tables.new.tables reply) }
     ensures cause { IfErr result (IsErrorOf (complete tables.old.tables moment me.now entry code)) }
     ensures err { OnErr result (tables.new ≡ tables.old) }
+    ensures memory { result ≡ Err StepRefused.NoMemory → ⊥ }
 {
     if let Some(refusal) = complete_refused(tables, me, entry, code) {
         return Err(StepRefused::Refused(refusal));

@@ -3,7 +3,7 @@
 //! It is applied in two phases: what refuses it, and the change, which can't fail. Neither takes memory.
 #![tactic(auto)]
 
-ghost use Rattle.std.specs.Prelude.{◌≡◌, IsTrue, IfOk, IfErr, OnErr, MatchOption};
+ghost use Rattle.std.specs.Prelude.{◌≡◌, Err, IsTrue, IfOk, IfErr, OnErr, MatchOption};
 ghost use Rattle.qz_types.specs.Entries.{is_entry};
 ghost use Rattle.qz_types.specs.Outcomes.{accepted, refused, IsAccepted, IsErrorOf};
 ghost use Rattle.qz_types.specs.Tables.{SchedulerTables};
@@ -39,7 +39,7 @@ pub fn refusal(tables: &Tables, entry: &Entry) -> Option<Refusal>
     }
 }
 
-/// A number that the rows which the command adds to a kind don't pass.
+/// How many rows the command adds to any one kind at most.
 #[tactic(auto, using(crate::proofs::Rooms::adds_one))]
 pub fn room(entry: &Entry) -> usize
     requires { IsTrue (is_completing entry.now.command) }
@@ -50,7 +50,8 @@ pub fn room(entry: &Entry) -> usize
     1
 }
 
-/// Does the command's transaction. An error changes nothing. Memory is never wanted.
+/// Does the command's transaction. The caller sees to it that the tables are valid, and makes the room by `Tables::reserve`
+/// before. An error changes nothing. Memory is never wanted.
 pub fn apply(tables: &mut Tables, entry: &Entry) -> Result<Reply, StepRefused>
     requires command { IsTrue (is_completing entry.now.command) }
     requires valid { ∥ TablesValid tables.old.tables ∥₁ }
@@ -60,6 +61,7 @@ pub fn apply(tables: &mut Tables, entry: &Entry) -> Result<Reply, StepRefused>
     ensures cause { IfErr result (IsErrorOf (transaction tables.old.tables entry.now)) }
     ensures err { OnErr result (tables.new ≡ tables.old) }
     ensures valid { ∥ TablesValid tables.new.tables ∥₁ }
+    ensures memory { result ≡ Err StepRefused.NoMemory → ⊥ }
 {
     let moment = recorded_moment(tables, entry.at);
     match &entry.command {

@@ -10,12 +10,12 @@ use Rattle.qz_daily.specs.Timestamps.{IsDaily, pattern}
 use Rattle.qz_interval.specs.Interval.{IsInterval}
 use Rattle.qz_simple.specs.Simple.{IsSimple}
 
--- t is not behind the end, where there is one
+-- t is not after the end, where there is one
 abbrev pub IsUpTo : Option ℤ → ℤ → Type 0
 IsUpTo None t = Unit {0}
 IsUpTo (Some end) t = t ≤ℤ end
 
--- what was found, unless it comes behind the end
+-- what was found, unless it comes after the end
 abbrev pub up_to : Option ℤ → Option ℤ → Option ℤ
 up_to None found = found
 up_to (Some end) None = None
@@ -25,7 +25,7 @@ up_to (Some end) (Some t) = if int_le t end then Some t else None
 abbrev pub start_second : ℤ → ℤ
 start_second start = pos (unsigned_abs start / 1000 * 1000)
 
--- the local time at t meets the fields, and t comes neither before the second of the start nor behind the end
+-- the local time at t meets the fields, and t comes neither before the second of the start nor after the end
 pub record IsCron (fields : CronFields) (zone : List Stretch) (start : ℤ) (end : Option ℤ) (t : ℤ) : Type 0 where
   pub meets : IsMatch fields zone t
   pub started : start_second start ≤ℤ t

@@ -17,7 +17,7 @@ fn start_second(start: i64) -> i64
     start / 1000 * 1000
 }
 
-// What comes behind the answer comes behind `after` and not before `first`.
+// What comes after the answer comes after `after` and not before `first`.
 fn search_from(first: i64, after: i64) -> i64
     requires first_low { pos 0 ≤ℤ first }
     requires first_high { first ≤ℤ LAST }
@@ -32,7 +32,7 @@ fn search_from(first: i64, after: i64) -> i64
     if after < first { first - 1 } else { after }
 }
 
-// The fire time behind `after` from a first timestamp on.
+// The next fire time after `after`, from a first timestamp on.
 fn from_first(fields: &CronFields, zone: &Zone, first: i64, after: i64) -> Option<i64>
     requires first_low { pos 0 ≤ℤ first }
     requires first_high { first ≤ℤ LONGEST }
@@ -46,7 +46,7 @@ fn from_first(fields: &CronFields, zone: &Zone, first: i64, after: i64) -> Optio
     qz_cron::next(fields, zone, search_from(first, after))
 }
 
-// What was found, unless it comes behind the end.
+// What was found, unless it comes after the end.
 fn up_to(end: Option<i64>, found: Option<i64>) -> Option<i64>
     ensures { result ≡ up_to end found }
 {
@@ -56,7 +56,7 @@ fn up_to(end: Option<i64>, found: Option<i64>) -> Option<i64>
     }
 }
 
-/// The fire time behind `after`. The second in which the start lies counts, and the end too.
+/// The next fire time after `after`. The second in which the start lies counts, and the end too.
 pub(crate) fn cron_after(
     fields: &CronFields,
     zone: &Zone,

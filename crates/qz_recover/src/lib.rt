@@ -33,7 +33,7 @@ pub fn refusal(tables: &Tables, entry: &Entry) -> Option<Refusal>
     }
 }
 
-/// A number that the rows which the command adds to a kind don't pass.
+/// How many rows the command adds to any one kind at most.
 #[tactic(auto, using(crate::proofs::Rooms::adds_one))]
 pub fn room(entry: &Entry) -> usize
     requires { IsTrue (is_of_members entry.now.command) }
@@ -44,7 +44,8 @@ pub fn room(entry: &Entry) -> usize
     1
 }
 
-/// Does the command's transaction. An error changes nothing, and memory is wanted only where the command isn't refused.
+/// Does the command's transaction. The caller sees to it that the tables are valid, and makes the room by `Tables::reserve`
+/// before. An error changes nothing, and memory is wanted only where the command isn't refused.
 #[tactic(auto, unfolding(qz_types::specs::Entries::is_entry))]
 pub fn apply(tables: &mut Tables, entry: &Entry) -> Result<Reply, StepRefused>
     requires command { IsTrue (is_of_members entry.now.command) }

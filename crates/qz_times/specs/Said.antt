@@ -37,12 +37,12 @@ zone_name (Cron fields zone) = zone
 zone_name (Interval unit every zone) = zone
 zone_name (Daily unit every from to days zone) = zone
 
--- each time is the next one behind the one before, and the first the next one behind `after`
+-- each time is the next one after the one before, and the first the next one after `after`
 abbrev pub IsChain : (ℤ → Type 0) → ℤ → List ℤ → ℤ → Type 0
 IsChain P after [] last = last ≡ after
 IsChain P after (t ∷ ts) last = IsLeast LAST P after t × IsChain P t ts last
 
--- these are the first times behind `after`: as many as are asked for, or all that there are
+-- these are the first times after `after`: as many as are asked for, or all that there are
 pub record AreFirst (P : ℤ → Type 0) (after : ℤ) (count : ℕ) (times : List ℤ) : Type 0 where
   pub last : ℤ
   pub chain : IsChain P after times last
@@ -84,7 +84,7 @@ pub record LineSaid (q : Query) (known : Known) (line text : List ℕ) (known' :
   pub meaning : line_meaning line ≡ Ok asked
   pub said : Said q known asked text known'
 
--- what is said to lines of which each is right, one behind the other
+-- what is said to lines of which each is right, one after the other
 abbrev pub AllSaid : Query → Known → List (List ℕ) → List ℕ → Known → Type 0
 AllSaid q known [] text known' = (text ≡ []) × (known' ≡ known)
 AllSaid q known (line ∷ lines) text known' =

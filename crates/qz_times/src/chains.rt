@@ -67,7 +67,7 @@ fn copy_kind(kind: &CalendarKind) -> Result<CalendarKind, NoMemory>
     Ok(kind.clone()?)
 }
 
-/// Puts a calendar with its zone behind those of a chain.
+/// Puts a calendar with its zone after those of a chain.
 fn push(zones: &Zones, calendar: &CalendarRow, chain: &mut Chain) -> Result<(), NoMemory>
     requires { length chain.old + 1 ≤ 8 }
     ensures { OnOk result (chain.new ≡ chain.old ++ spec.zoned zones.now.entries calendar.now ∷ []) }
@@ -81,7 +81,7 @@ fn push(zones: &Zones, calendar: &CalendarRow, chain: &mut Chain) -> Result<(), 
 }
 
 #[tactic(auto, using(crate::proofs::ChainSteps::chain_steps))]
-/// Puts the chain that begins with a calendar, up to so many calendars, behind those of another.
+/// Puts the chain that begins with a calendar, up to so many calendars, after those of another.
 fn push_to(
     known: &Known,
     name: Option<&Text>,

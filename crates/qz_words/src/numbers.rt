@@ -3,7 +3,7 @@ ghost use Rattle.std.specs.Prelude.{◌≡◌};
 ghost use Rattle.qz_words.specs.Numbers as spec;
 
 /// How many digits a number has at most. A greater one may not fit 64 bits.
-const DIGITS: usize = 19;
+pub(crate) const DIGITS: usize = 19;
 
 /// The number of 1 to 19 digits that the word is.
 #[tactic(auto, unfolding(crate::specs::Numbers::number_of))]

@@ -26,12 +26,12 @@ pub enum Wish {
     },
 }
 
-/// What is wrong with the words of the command line. Places are counted from 1 behind the first word.
+/// What is wrong with the words of the command line. Places are counted from 1, after the first word.
 #[derive(Clone, Copy, PartialEq, Eq, Debug)]
 pub enum WordFault {
     /// No call begins with this word.
     UnknownCommand,
-    /// So many words stand behind the first, and its call takes another number of them.
+    /// So many words come after the first, and its call takes another number of them.
     WrongCount { found: u32 },
     /// The word at this place is no number of 1 to 19 digits.
     BadNumber { place: u32 },
