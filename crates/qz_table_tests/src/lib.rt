@@ -1,0 +1,13 @@
+//! Tests of the tables of the trigger store.
+#![tactic(auto)]
+
+#[cfg(test)]
+mod cases;
+#[cfg(test)]
+mod copies;
+#[cfg(test)]
+mod fired;
+#[cfg(test)]
+mod keys;
+#[cfg(test)]
+mod triggers;
