@@ -54,10 +54,10 @@ fn fire(alloc: Global, name: &str) -> Result<Step, AllocError>
     })
 }
 
-// A disk whose eighth call fails: the first of the second commit, behind three of the mount and four of the first
+// A disk whose ninth call fails: the first of the second commit, after four of the mount and four of the first
 // commit.
 fn failing_disk(alloc: Global) -> Option<FaultDisk<MemDisk>> {
-    let failing = Vec::from_slice(alloc, &[8u64]).ok()?;
+    let failing = Vec::from_slice(alloc, &[9u64]).ok()?;
     let mut disk = MemDisk::new(alloc);
     let made = create(&mut disk, TRIGGERS);
     let disk = FaultDisk::new(disk, List::from_vec(failing));

@@ -178,11 +178,16 @@ fn is_write(call: &Call, offset: u64, payload: &[u8]) -> bool {
     matches!(call, Call::Write { at, bytes } if *at == offset && bytes.as_slice() == payload)
 }
 
-// Whether these are the three calls of an opening.
+// Whether these are the four calls of an opening: the header is read, and then the closed gate.
 fn are_those_of_an_opening(calls: &[Call]) -> bool {
     matches!(
         calls,
-        [Call::Sync, Call::Len, Call::Read { at: 0, count: 17 }]
+        [
+            Call::Sync,
+            Call::Len,
+            Call::Read { at: 0, count: 16 },
+            Call::Read { at: 16, count: 1 }
+        ]
     )
 }
 
@@ -200,9 +205,9 @@ fn commit_makes_four_calls(alloc: Global) -> Option<bool> {
     let disk = disk_of(alloc, HEADER, b"\0").ok()?;
     let disk = committed(alloc, disk)?;
     let calls = disk.calls();
-    let is_right = calls.len() == 7
-        && are_those_of_an_opening(&calls[..3])
-        && are_those_of_a_commit(&calls[3..]);
+    let is_right = calls.len() == 8
+        && are_those_of_an_opening(&calls[..4])
+        && are_those_of_a_commit(&calls[4..]);
     drop(disk);
     Some(is_right)
 }
@@ -212,7 +217,7 @@ fn a_commit_makes_four_device_calls(rt: HostRuntime) {
     assert!(rt; commit_makes_four_calls(rt.alloc()) == Some(true));
 }
 
-/// How many calls pass behind the three of an opening, till the disk fails; the bytes behind the header that come up at a
+/// How many calls pass after the four of an opening, until the disk fails; the bytes after the header that come up at a
 /// crash; what a commit of `\x07` answers then; and the lengths of the payloads that a restart finds.
 type Cut = (u8, &'static [u8], Result<(), AppendError>, &'static [usize]);
 
@@ -228,7 +233,7 @@ fn only_image(alloc: Global, image: &[u8]) -> Result<List<List<u8>>, AllocError>
 fn cut_disk(alloc: Global, passes: u8, image: &[u8]) -> Result<CutDisk<MemDisk>, AllocError> {
     let (images, mut disk) = beside(only_image(alloc, image)?, disk_of(alloc, HEADER, b"\0"))?;
     disk.choose(images);
-    Ok(CutDisk::new(disk, 3 + u64::from(passes)))
+    Ok(CutDisk::new(disk, 4 + u64::from(passes)))
 }
 
 // Whether a crash and a restart leave payloads of these lengths.

@@ -212,9 +212,9 @@ fn is_empty<D: Disk>(alloc: Global, disk: D) -> bool {
     }
 }
 
-// A new store's disk whose fourth call fails: the first behind the three of an opening.
+// A new store's disk whose fifth call fails: the first after the four of an opening.
 fn failing_disk(alloc: Global) -> Option<FaultDisk<MemDisk>> {
-    let failing = Vec::from_slice(alloc, &[4]).ok()?;
+    let failing = Vec::from_slice(alloc, &[5]).ok()?;
     Some(FaultDisk::new(new_disk(alloc)?, List::from_vec(failing)))
 }
 

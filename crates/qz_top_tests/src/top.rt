@@ -519,6 +519,6 @@ fn a_disk_that_fails_closes_the_store(rt: HostRuntime) {
         error: "qz: disk fault\n",
         status: Status::DiskFault,
     };
-    // the first call of the second commit, behind three of the opening and four of the first commit
-    assert!(rt; answers(alloc, failing(alloc, 8), &["script"], THREE, &wanted));
+    // the first call of the second commit, after four of the opening and four of the first commit
+    assert!(rt; answers(alloc, failing(alloc, 9), &["script"], THREE, &wanted));
 }
