@@ -10,9 +10,11 @@ use Rattle.qz_types.specs.declared.replies.Refusal.{Refusal}
 use Rattle.qz_types.specs.Tables.{SchedulerTables, IsMoment, recorded_moment}
 use Rattle.qz_types.specs.Outcomes.{Outcome, accepted, unless}
 use Rattle.qz_types.specs.Words.{job_of, trigger_of, calendar_of, member_of, fired_of}
-use Rattle.qz_model.specs.Scheduling.{is_reserved}
-use Rattle.qz_model.specs.Executions.{is_acquired, is_exclusive_of, is_busy}
-use Rattle.qz_model.specs.Invariant.{zone_named_by, is_known_zone, IsRowOf, is_acquired_for, HasFlag, is_blocked_or_done, is_blocked, is_live_state, EndsIn, IsNumbered, HasTimes, TablesValid}
+use Rattle.qz_types.specs.States.{is_acquired, is_acquired_for}
+use Rattle.qz_model.specs.Executions.{is_exclusive_of, is_busy}
+use Rattle.qz_model.specs.Plan.{zone_named_by, is_known_zone}
+use Rattle.qz_model.specs.Triggers.{is_reserved}
+use Rattle.qz_model.specs.Invariant.{IsRowOf, HasFlag, is_blocked_or_done, is_blocked, is_live_state, EndsIn, IsNumbered, HasTimes, TablesValid}
 use Rattle.qz_model.proofs.RowPoints.{All-weaker, any_from_counts}
 use Rattle.qz_model.proofs.References.{references-moment}
 

@@ -15,27 +15,15 @@ use Rattle.qz_model.specs.Transaction.{by_command, transaction}
 use Rattle.qz_model.specs.Executions.{is_busy}
 use Rattle.qz_model.specs.Invariant.{TablesValid}
 use Rattle.qz_model.proofs.Changes.{moment_within}
-use Rattle.qz_model.proofs.KeptScheduling.{kept-add_job, kept-add_trigger}
-use Rattle.qz_model.proofs.KeptMembership.{kept-join}
-use Rattle.qz_model.proofs.KeptAcquiring.{kept-acquire}
-use Rattle.qz_model.proofs.KeptFiring.{kept-fire}
-use Rattle.qz_model.proofs.KeptCompletion.{kept-complete}
 
 -- what is refused leaves no other tables
 refused-keeps : (T' : SchedulerTables) (r : Reply) (x : Refusal) → refused x ≡ accepted T' r → TablesValid T'
 refused-keeps T' r x e = absurd (cc)
 
 kept-by_command : (T T' : SchedulerTables) (m : ℤ) (actor : Actor) (c : Command) (r : Reply) → IsTrue (is_command c) → TablesValid T → IsMoment T.horizon m → by_command T m actor c ≡ accepted T' r → TablesValid T'
-kept-by_command T T' m actor (AddJob job replace) r good valid is e = kept-add_job T T' m job replace r valid is e
-kept-by_command T T' m actor (AddTrigger spec replace) r good valid is e = kept-add_trigger T T' m spec replace r good valid is e
-kept-by_command T T' m actor (Join node) r good valid is e = kept-join T T' m node r valid is e
-kept-by_command T T' m Client (Acquire no_later window max) r good valid is e = refused-keeps T' r (Fenced None) e
-kept-by_command T T' m (Node me) (Acquire no_later window max) r good valid is e = kept-acquire T T' m me no_later window max r valid is e
-kept-by_command T T' m Client (Fire entry) r good valid is e = refused-keeps T' r (Fenced None) e
-kept-by_command T T' m (Node me) (Fire entry) r good valid is e = kept-fire T T' m me entry r valid is e
-kept-by_command T T' m Client (Complete entry code) r good valid is e = refused-keeps T' r (Fenced None) e
-kept-by_command T T' m (Node me) (Complete entry code) r good valid is e = kept-complete T T' m me entry code r valid is e
+kept-by_command T T' m actor (AddJob job replace) r good valid is e = refused-keeps T' r Unbuilt e
 kept-by_command T T' m actor (DeleteJob key) r good valid is e = refused-keeps T' r Unbuilt e
+kept-by_command T T' m actor (AddTrigger spec replace) r good valid is e = refused-keeps T' r Unbuilt e
 kept-by_command T T' m actor (DeleteTrigger key) r good valid is e = refused-keeps T' r Unbuilt e
 kept-by_command T T' m actor (PauseTrigger key) r good valid is e = refused-keeps T' r Unbuilt e
 kept-by_command T T' m actor (ResumeTrigger key) r good valid is e = refused-keeps T' r Unbuilt e
@@ -47,8 +35,12 @@ kept-by_command T T' m actor (AddZone zone) r good valid is e = refused-keeps T'
 kept-by_command T T' m actor (DeleteZone name) r good valid is e = refused-keeps T' r Unbuilt e
 kept-by_command T T' m actor (TriggerNow job) r good valid is e = refused-keeps T' r Unbuilt e
 kept-by_command T T' m actor (Threshold ms) r good valid is e = refused-keeps T' r Unbuilt e
+kept-by_command T T' m actor (Join node) r good valid is e = refused-keeps T' r Unbuilt e
 kept-by_command T T' m actor Leave r good valid is e = refused-keeps T' r Unbuilt e
+kept-by_command T T' m actor (Acquire no_later window max) r good valid is e = refused-keeps T' r Unbuilt e
 kept-by_command T T' m actor (Release entry) r good valid is e = refused-keeps T' r Unbuilt e
+kept-by_command T T' m actor (Fire entry) r good valid is e = refused-keeps T' r Unbuilt e
+kept-by_command T T' m actor (Complete entry code) r good valid is e = refused-keeps T' r Unbuilt e
 kept-by_command T T' m actor Misfires r good valid is e = refused-keeps T' r Unbuilt e
 kept-by_command T T' m actor (Recover node) r good valid is e = refused-keeps T' r Unbuilt e
 
@@ -78,6 +70,7 @@ valid-empty version = record {
       next_entry = omega arith;
       next_epoch = omega arith;
       threshold = refl;
+      horizon = refl;
     };
   };
   acquired_match = record { one_row = tt; a_trigger = tt };

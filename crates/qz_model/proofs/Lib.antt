@@ -3,11 +3,6 @@ pub mod DueLaws
 mod DueOrder
 pub mod Histories
 pub mod Kept
-pub mod KeptAcquiring
-pub mod KeptCompletion
-pub mod KeptFiring
-pub mod KeptMembership
-pub mod KeptScheduling
 pub mod LookUps
 pub mod References
 pub mod RowLaws

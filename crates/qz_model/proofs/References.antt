@@ -24,6 +24,7 @@ module _ (T : SchedulerTables) (was : ReferencesAndLimits T) where
       next_entry = limits.next_entry;
       next_epoch = limits.next_epoch;
       threshold = limits.threshold;
+      horizon = limits.horizon;
     };
   }
 
@@ -43,6 +44,7 @@ module _ (T : SchedulerTables) (was : ReferencesAndLimits T) where
       next_entry = limits.next_entry;
       next_epoch = limits.next_epoch;
       threshold = limits.threshold;
+      horizon = limits.horizon;
     };
   }
 
@@ -62,6 +64,7 @@ module _ (T : SchedulerTables) (was : ReferencesAndLimits T) where
       next_entry = limits.next_entry;
       next_epoch = limits.next_epoch;
       threshold = limits.threshold;
+      horizon = limits.horizon;
     };
   }
 
@@ -81,6 +84,7 @@ module _ (T : SchedulerTables) (was : ReferencesAndLimits T) where
       next_entry = limits.next_entry;
       next_epoch = number;
       threshold = limits.threshold;
+      horizon = limits.horizon;
     };
   }
 
@@ -100,5 +104,6 @@ module _ (T : SchedulerTables) (was : ReferencesAndLimits T) where
       next_entry = number;
       next_epoch = limits.next_epoch;
       threshold = limits.threshold;
+      horizon = limits.horizon;
     };
   }

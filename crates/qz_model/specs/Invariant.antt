@@ -4,8 +4,7 @@ use Rattle.std.specs.Option.{IsSomeAnd}
 use Rattle.std.specs.List.{AllByRecursion, count_by}
 use Rattle.std.specs.Fmt.{decimal}
 use Rattle.std.specs.Ordering.{nat_cmp}
-use Rattle.qz_civil.specs.declared.timings.Kind.{Kind}
-use Rattle.qz_civil.specs.declared.timings.Kind.TheVariants.{Simple, Cron, Interval, Daily}
+use Rattle.qz_civil.specs.declared.limits.TheConstants.{LAST}
 use Rattle.qz_types.specs.Sorted.{IsAscending}
 use Rattle.qz_types.specs.Rows.{JobData, TriggerData, CalendarData, ZoneData, MemberData, FiredData, is_interval}
 use Rattle.qz_types.specs.declared.limits.TheConstants.{JOB_LIMIT, TRIGGER_LIMIT, CALENDAR_LIMIT, CHAIN_LIMIT, ZONE_LIMIT, GROUP_LIMIT, MEMBER_LIMIT, FIRED_LIMIT, NUMBER_LIMIT}
@@ -17,8 +16,10 @@ use Rattle.qz_types.specs.declared.fired.FiredState.TheVariants as row
 use Rattle.qz_types.specs.Tables.{SchedulerTables, IsMoment}
 use Rattle.qz_types.specs.Words.{key_cmp, text_cmp, same_text, same_key, job_of, trigger_of, calendar_of, zone_of, member_of, fired_of}
 use Rattle.qz_types.specs.Chains.{ends_within}
-use Rattle.qz_model.specs.Scheduling.{is_reserved}
-use Rattle.qz_model.specs.Executions.{is_acquired, is_exclusive_of, is_busy}
+use Rattle.qz_types.specs.States.{is_acquired, is_acquired_for}
+use Rattle.qz_model.specs.Executions.{is_exclusive_of, is_busy}
+use Rattle.qz_model.specs.Plan.{zone_named_by, is_known_zone}
+use Rattle.qz_model.specs.Triggers.{is_reserved}
 
 -- 1. References and limits.
 
@@ -31,17 +32,6 @@ pub record AreOrdered (T : SchedulerTables) : Type 0 where
   pub paused_groups : IsAscending text_cmp (λ r. r) T.paused_groups
   pub members : IsAscending text_cmp (λ r. r.node) T.members
   pub fired : IsAscending nat_cmp (λ r. r.entry) T.fired
-
--- the zone whose local time the kind reads, if it reads one
-abbrev pub zone_named_by : Kind → Option (List ℕ)
-zone_named_by (Simple interval count) = None
-zone_named_by (Cron fields zone) = Some zone
-zone_named_by (Interval unit every zone) = Some zone
-zone_named_by (Daily unit every from to days zone) = Some zone
-
--- a zone can be used where it is stored; `UTC` always can
-unfoldable pub is_known_zone : List ZoneData → List ℕ → Bool
-is_known_zone zones name = same_text name (codes "UTC") || is_some (zone_of name zones)
 
 -- Whatever a row names is stored, and a chain of calendars is short and no circle.
 pub record AreStored (jobs : List JobData) (triggers : List TriggerData) (calendars : List CalendarData) (zones : List ZoneData) : Type 0 where
@@ -64,6 +54,7 @@ pub record AreWithinLimits (T : SchedulerTables) : Type 0 where
   pub next_entry : T.next_entry ≤ NUMBER_LIMIT
   pub next_epoch : T.next_epoch ≤ NUMBER_LIMIT
   pub threshold : IsTrue (is_interval T.threshold)
+  pub horizon : T.horizon ≡ LAST
 
 pub record ReferencesAndLimits (T : SchedulerTables) : Type 0 where
   pub ordered : AreOrdered T
@@ -71,10 +62,6 @@ pub record ReferencesAndLimits (T : SchedulerTables) : Type 0 where
   pub limits : AreWithinLimits T
 
 -- 2. Acquired triggers match acquired rows.
-
--- a row of an acquired trigger, of this key
-abbrev pub is_acquired_for : Key → FiredData → Bool
-is_acquired_for key f = is_acquired f.state && same_key key f.trigger
 
 -- the row is for this trigger, which is acquired
 pub record IsRowOf (f : FiredData) (t : TriggerData) : Type 0 where

@@ -9,24 +9,17 @@ use Rattle.qz_types.specs.declared.commands.Actor.TheVariants.{Client, Node}
 use Rattle.qz_types.specs.declared.replies.Refusal.TheVariants.{Unbuilt, Fenced}
 use Rattle.qz_types.specs.Tables.{SchedulerTables, recorded_moment}
 use Rattle.qz_types.specs.Outcomes.{Outcome, refused}
-use Rattle.qz_model.specs.Scheduling.{add_job, add_trigger}
-use Rattle.qz_model.specs.Membership.{join}
-use Rattle.qz_model.specs.Firing.{acquire, fire, complete}
 
 -- what a node does under its epoch; a client is no member
 abbrev pub as_node : Actor → (MemberData → Outcome) → Outcome
 as_node Client does = refused (Fenced None)
 as_node (Node me) does = does me
 
--- The transaction at the recorded moment m. Whatever isn't built is refused before anything else is looked at.
+-- The transaction at the recorded moment m.
 abbrev pub by_command : SchedulerTables → ℤ → Actor → Command → Outcome
-by_command T m actor (AddJob job replace) = add_job T m job replace
-by_command T m actor (AddTrigger spec replace) = add_trigger T m spec replace
-by_command T m actor (Join node) = join T m node
-by_command T m actor (Acquire no_later window max) = as_node actor (λ me. acquire T m me no_later window max)
-by_command T m actor (Fire entry) = as_node actor (λ me. fire T m me entry)
-by_command T m actor (Complete entry code) = as_node actor (λ me. complete T m me entry code)
+by_command T m actor (AddJob job replace) = refused Unbuilt
 by_command T m actor (DeleteJob key) = refused Unbuilt
+by_command T m actor (AddTrigger spec replace) = refused Unbuilt
 by_command T m actor (DeleteTrigger key) = refused Unbuilt
 by_command T m actor (PauseTrigger key) = refused Unbuilt
 by_command T m actor (ResumeTrigger key) = refused Unbuilt
@@ -38,8 +31,12 @@ by_command T m actor (AddZone zone) = refused Unbuilt
 by_command T m actor (DeleteZone name) = refused Unbuilt
 by_command T m actor (TriggerNow job) = refused Unbuilt
 by_command T m actor (Threshold ms) = refused Unbuilt
+by_command T m actor (Join node) = refused Unbuilt
 by_command T m actor Leave = refused Unbuilt
+by_command T m actor (Acquire no_later window max) = refused Unbuilt
 by_command T m actor (Release entry) = refused Unbuilt
+by_command T m actor (Fire entry) = refused Unbuilt
+by_command T m actor (Complete entry code) = refused Unbuilt
 by_command T m actor Misfires = refused Unbuilt
 by_command T m actor (Recover node) = refused Unbuilt
 

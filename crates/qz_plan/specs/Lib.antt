@@ -1,2 +1,3 @@
 pub mod FireTimes
+pub mod Plan
 pub mod Schedule

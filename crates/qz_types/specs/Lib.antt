@@ -1,4 +1,5 @@
 pub mod Chains
+pub mod Changes
 pub mod Due
 pub mod Entries
 pub mod Errors
@@ -6,6 +7,7 @@ pub mod Outcomes
 pub mod Refusals
 pub mod Rows
 pub mod Sorted
+pub mod States
 pub mod Steps
 pub mod Tables
 pub mod Words
