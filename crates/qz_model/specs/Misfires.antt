@@ -1,17 +1,12 @@
 -- The transaction of a node that moves the triggers that are misfired.
-use Rattle.std.specs.Prelude.{ℤ, pos, List, Bool, ◌&&◌, fold, filter, map, take, Option, None, is_none, if◌then◌else◌}
-use Rattle.qz_civil.specs.declared.timings.Kind.{Kind}
-use Rattle.qz_civil.specs.declared.timings.Kind.TheVariants.{Simple, Cron, Interval, Daily}
-use Rattle.qz_civil.specs.declared.timings.Timing.{Timing}
+use Rattle.std.specs.Prelude.{ℤ, List, ◌&&◌, fold, filter, map, take}
 use Rattle.qz_civil.specs.declared.timings.Moved.{Moved}
 use Rattle.qz_misfire.specs.Table.{moved}
 use Rattle.qz_types.specs.Rows.{TriggerData, MemberData}
 use Rattle.qz_types.specs.declared.limits.TheConstants.{MISFIRE_LIMIT}
-use Rattle.qz_types.specs.declared.triggers.TriggerSpec.{TriggerSpec}
-use Rattle.qz_types.specs.declared.triggers.TriggerState.{TriggerState}
-use Rattle.qz_types.specs.declared.triggers.TriggerState.TheVariants.{Complete}
 use Rattle.qz_types.specs.declared.replies.MovedRow.{MovedRow}
 use Rattle.qz_types.specs.declared.replies.Reply.TheVariants as reply
+use Rattle.qz_types.specs.Changes.{moved_trigger}
 use Rattle.qz_types.specs.Due.{is_waiting, in_due_order}
 use Rattle.qz_types.specs.Tables.{SchedulerTables}
 use Rattle.qz_types.specs.Outcomes.{Outcome, accepted, unless}
@@ -28,29 +23,6 @@ misfired_triggers T m = take MISFIRE_LIMIT (in_due_order (filter (λ t. is_waiti
 -- what the misfire table makes of the trigger
 unfoldable pub move_of : SchedulerTables → ℤ → TriggerData → Moved
 move_of T m t = moved t.spec.timing (next_after T t.spec m) (next_time t) t.times m
-
--- the kind with this count, if it is a simple one
-abbrev pub counting : ℤ → Kind → Kind
-counting count (Simple interval old) = Simple interval count
-counting count (Cron fields zone) = Cron fields zone
-counting count (Interval unit every zone) = Interval unit every zone
-counting count (Daily unit every from to days zone) = Daily unit every from to days zone
-
--- the timing with this start and this count
-abbrev pub moved_timing : Moved → Timing → Timing
-moved_timing move timing = record timing { kind = counting move.count timing.kind; start = move.start }
-
-abbrev pub moved_spec : Moved → TriggerSpec → TriggerSpec
-moved_spec move s = record s { timing = moved_timing move s.timing }
-
--- the trigger, moved so; one that has no next time any more is complete
-abbrev pub moved_trigger : Moved → TriggerData → TriggerData
-moved_trigger move t = record t {
-  spec = moved_spec move t.spec;
-  next = move.next;
-  times = move.times;
-  state = if is_none move.next then Complete else t.state;
-}
 
 -- the triggers, this one moved
 unfoldable pub with_moved : SchedulerTables → ℤ → List TriggerData → TriggerData → List TriggerData
