@@ -1,5 +1,5 @@
 -- The least fire time after a timestamp, as a function.
-use Rattle.std.proofs.Common.{◌≡◌, refl, ap, ℕ, zero, suc, ◌+◌, ◌-◌, inl, inr, Bool, true, false, ℤ, pos, negsuc, ◌+ℤ◌, ◌<ℤ◌, ◌≤ℤ◌, unsigned_abs, List, Option, Some, None, arith}
+use Rattle.std.proofs.Common.{◌≡◌, refl, ℕ, zero, suc, ◌+◌, ◌-◌, inl, inr, Bool, true, false, ℤ, pos, negsuc, ◌+ℤ◌, ◌<ℤ◌, ◌≤ℤ◌, unsigned_abs, List, Option, Some, None, arith}
 use Rattle.std.proofs.lemmas.Bool.{cases_Bool}
 use Rattle.std.specs.Bool.{Decides}
 use Rattle.std.proofs.lemmas.Int.{ints, by_lt_z}
@@ -84,14 +84,3 @@ next_found passes Member n t (Some s) decides low many is =
 pub fire_time_least : (timing : Timing) (zone : List Stretch) (chain : List ZonedCalendar) (t : ℤ) → DecidesTimestamps (is_fire_time timing zone chain) (IsFireTime timing zone chain) → negsuc 0 ≤ℤ t → IsNext LAST (IsFireTime timing zone chain) t (fire_time_after timing zone chain t)
 unfolding fire_time_after
 fire_time_least timing zone chain t decides low = next_found _ _ _ t _ decides low refl refl
-
--- A set has one next one.
-pub IsNext-one : (Member : ℤ → Type 0) (t : ℤ) (r s : Option ℤ) → IsNext LAST Member t r → IsNext LAST Member t s → r ≡ s
-IsNext-one Member t None None none next = refl
-IsNext-one Member t None (Some s) none next = absurd (none s next.member next.later next.within)
-IsNext-one Member t (Some r) None next none = absurd (none r next.member next.later next.within)
-IsNext-one Member t (Some r) (Some s) next other =
-    let over = next.least s other.member other.later in
-    let under = other.least r next.member next.later in
-    let same : r ≡ s = omega (arith, ints) in
-    ap Some same

@@ -15,13 +15,14 @@ use Rattle.qz_civil.specs.Timings.{is_kind, is_simple, is_timing}
 use Rattle.qz_calendar.specs.Chains.{ZonedCalendar}
 use Rattle.qz_daily.specs.Timestamps.{pattern}
 use Rattle.qz_interval.specs.Interval.{IsDated, IsDayTurn, IsDaysLater, IsInterval, IsMonthTurn, IsMonthsLater}
+use Rattle.qz_misfire.proofs.NextLaws.{same_next}
 use Rattle.qz_simple.specs.Simple.{IsSimple}
 use Rattle.qz_plan.specs.FireTimes.{IsFireTime}
 use Rattle.qz_plan.specs.Plan.{fire_time_after, is_before, is_dated_time, is_day_later, is_fire_time, is_interval_time, is_month_later, is_scheduled, is_simple_time}
 use Rattle.qz_plan.specs.Schedule.{IsOfKind}
 use Rattle.qz_plan.proofs.DatedTests.{dated-decides}
 use Rattle.qz_plan.proofs.DayTests.{day-decides, month-decides}
-use Rattle.qz_plan.proofs.Plan.{IsNext-one, fire_time_least}
+use Rattle.qz_plan.proofs.Plan.{fire_time_least}
 use Rattle.qz_plan.proofs.SecondTests.{cron-decides, daily-decides}
 use Rattle.qz_plan.proofs.SimpleTests.{simple-decides}
 use Rattle.qz_plan.proofs.TestLaws.{included-decides}
@@ -69,4 +70,4 @@ module _ (timing : Timing) (zone : List Stretch) (chain : List ZonedCalendar) (v
 
   -- and so what is the least fire time is what the function gives
   pub fire_time-one : (t : ℤ) (r : Option ℤ) → negsuc 0 ≤ℤ t → IsNext LAST (IsFireTime timing zone chain) t r → r ≡ fire_time_after timing zone chain t
-  fire_time-one t r low next = IsNext-one (IsFireTime timing zone chain) t r (fire_time_after timing zone chain t) next (fire_time-next t low)
+  fire_time-one t r low next = same_next LAST (IsFireTime timing zone chain) t r (fire_time_after timing zone chain t) next (fire_time-next t low)
