@@ -1,4 +1,5 @@
 pub mod Changes
+pub mod Dropping
 pub mod DueLaws
 mod DueOrder
 pub mod Histories
