@@ -5,10 +5,8 @@ use Rattle.std.specs.Ordering.{nat_cmp}
 use Rattle.std.proofs.lemmas.Bool.{and_parts, not-true}
 use Rattle.std.proofs.lemmas.Cmp.{nat_cmp_total}
 use Rattle.qz_types.specs.Sorted.{IsAscending}
-use Rattle.qz_types.specs.Rows.{JobData, TriggerData, CalendarData, ZoneData, FiredData}
+use Rattle.qz_types.specs.Rows.{JobData, TriggerData, FiredData}
 use Rattle.qz_types.specs.declared.keys.Key.{Key}
-use Rattle.qz_types.specs.declared.fired.FiredState.{FiredState}
-use Rattle.qz_types.specs.declared.triggers.TriggerState.TheVariants as state
 use Rattle.qz_types.specs.Changes.{without_acquired}
 use Rattle.qz_types.specs.States.{is_acquired, is_acquired_for}
 use Rattle.qz_types.specs.Tables.{SchedulerTables}
@@ -18,10 +16,10 @@ use Rattle.qz_model.specs.Invariant.{AreStored, IsRowOf, TablesValid}
 use Rattle.qz_model.specs.Jobs.{is_orphan, without_orphan, without_orphan_of}
 use Rattle.qz_model.specs.Tests.{is_trigger_of, is_row_of_job, is_row_of_trigger}
 use Rattle.qz_model.specs.Triggers.{without_trigger_and_orphan}
-use Rattle.qz_model.proofs.RowPoints.{All-from, All-weaker, All-both, All-none, All-left, All-filter, count_by-left, length-filter_le}
+use Rattle.qz_model.proofs.RowPoints.{All-from, All-weaker, All-both, All-none, All-left, count_by-left, length-filter_le}
 use Rattle.qz_model.proofs.LookUps.{row_of-filter, row_of-filter_none, IsAscending-filter}
 use Rattle.qz_model.proofs.References.{references-jobs, references-triggers, references-fired}
-use Rattle.qz_model.proofs.RowLaws.{key_total, same_key-exact, All-without_job, ordered-without_job, job_of-without_job, length-without_job, each_trigger, only_trigger, trigger_of-key, trigger_of-alike, All-trigger_of}
+use Rattle.qz_model.proofs.RowLaws.{key_total, same_key-exact, All-without_job, ordered-without_job, job_of-without_job, length-without_job, each_trigger, only_trigger, trigger_of-key, trigger_of-alike}
 use Rattle.qz_model.proofs.Changes.{HasOneRow, HasItsTrigger, HasNextTime, HasJob, HasCalendar, HasZone, AgreesWithRows, AgreesWithJob, StaysBlocked, IsBlockedBy, HasMember, HasRowTimes, busy-same, HasNumber, SharesNone, HasNumber-kept}
 
 -- Filters of triggers.

@@ -5,6 +5,8 @@ mod DueOrder
 pub mod Histories
 pub mod Kept
 pub mod LookUps
+mod Numbers
+pub mod Putting
 pub mod References
 pub mod RowLaws
 pub mod RowPoints
