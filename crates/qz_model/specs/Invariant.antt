@@ -1,5 +1,5 @@
 -- What holds of the tables after every transaction.
-use Rattle.std.specs.Prelude.{◌≡◌, ℕ, ◌<◌, ◌≤◌, ℤ, ◌≤ℤ◌, List, ◌∷◌, ◌++◌, length, Bool, true, false, Some, None, IsTrue, IsSome, IfSome}
+use Rattle.std.specs.Prelude.{◌≡◌, ℕ, ◌<◌, ◌≤◌, ℤ, ◌≤ℤ◌, List, ◌∷◌, ◌++◌, length, Bool, true, false, ◌&&◌, ◌||◌, Option, Some, None, IsTrue, IsSome, IfSome, is_some, codes}
 use Rattle.std.specs.Option.{IsSomeAnd}
 use Rattle.std.specs.List.{AllByRecursion, count_by}
 use Rattle.std.specs.Fmt.{decimal}
@@ -14,7 +14,7 @@ use Rattle.qz_types.specs.declared.triggers.TriggerState.TheVariants as state
 use Rattle.qz_types.specs.declared.fired.FiredState.{FiredState}
 use Rattle.qz_types.specs.declared.fired.FiredState.TheVariants as row
 use Rattle.qz_types.specs.Tables.{SchedulerTables, IsMoment}
-use Rattle.qz_types.specs.Words.{key_cmp, text_cmp, same_key, job_of, trigger_of, calendar_of, member_of, fired_of}
+use Rattle.qz_types.specs.Words.{key_cmp, text_cmp, same_text, same_key, job_of, trigger_of, calendar_of, zone_of, member_of, fired_of}
 use Rattle.qz_types.specs.Chains.{ends_within}
 use Rattle.qz_types.specs.States.{is_acquired, is_acquired_for}
 use Rattle.qz_model.specs.Executions.{is_exclusive_of, is_busy}
