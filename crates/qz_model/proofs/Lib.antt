@@ -8,4 +8,6 @@ pub mod References
 pub mod RowLaws
 pub mod RowPoints
 pub mod Scripts
+pub mod StateChanges
+pub mod StateLaws
 pub mod ValidScripts
