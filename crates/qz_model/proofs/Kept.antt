@@ -15,6 +15,7 @@ use Rattle.qz_model.specs.Transaction.{by_command, transaction}
 use Rattle.qz_model.specs.Executions.{is_busy}
 use Rattle.qz_model.specs.Invariant.{TablesValid}
 use Rattle.qz_model.proofs.Changes.{moment_within}
+use Rattle.qz_model.proofs.KeptPausing.{kept-pause_trigger, kept-resume_trigger, kept-pause_group, kept-resume_group}
 
 -- what is refused leaves no other tables
 refused-keeps : (T' : SchedulerTables) (r : Reply) (x : Refusal) → refused x ≡ accepted T' r → TablesValid T'
@@ -25,10 +26,10 @@ kept-by_command T T' m actor (AddJob job replace) r good valid is e = refused-ke
 kept-by_command T T' m actor (DeleteJob key) r good valid is e = refused-keeps T' r Unbuilt e
 kept-by_command T T' m actor (AddTrigger spec replace) r good valid is e = refused-keeps T' r Unbuilt e
 kept-by_command T T' m actor (DeleteTrigger key) r good valid is e = refused-keeps T' r Unbuilt e
-kept-by_command T T' m actor (PauseTrigger key) r good valid is e = refused-keeps T' r Unbuilt e
-kept-by_command T T' m actor (ResumeTrigger key) r good valid is e = refused-keeps T' r Unbuilt e
-kept-by_command T T' m actor (PauseGroup group) r good valid is e = refused-keeps T' r Unbuilt e
-kept-by_command T T' m actor (ResumeGroup group) r good valid is e = refused-keeps T' r Unbuilt e
+kept-by_command T T' m actor (PauseTrigger key) r good valid is e = kept-pause_trigger T T' m key r valid is e
+kept-by_command T T' m actor (ResumeTrigger key) r good valid is e = kept-resume_trigger T T' m key r valid is e
+kept-by_command T T' m actor (PauseGroup group) r good valid is e = kept-pause_group T T' m group r valid is e
+kept-by_command T T' m actor (ResumeGroup group) r good valid is e = kept-resume_group T T' m group r valid is e
 kept-by_command T T' m actor (AddCalendar calendar replace) r good valid is e = refused-keeps T' r Unbuilt e
 kept-by_command T T' m actor (DeleteCalendar name) r good valid is e = refused-keeps T' r Unbuilt e
 kept-by_command T T' m actor (AddZone zone) r good valid is e = refused-keeps T' r Unbuilt e

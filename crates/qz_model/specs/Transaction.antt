@@ -9,6 +9,7 @@ use Rattle.qz_types.specs.declared.commands.Actor.TheVariants.{Client, Node}
 use Rattle.qz_types.specs.declared.replies.Refusal.TheVariants.{Unbuilt, Fenced}
 use Rattle.qz_types.specs.Tables.{SchedulerTables, recorded_moment}
 use Rattle.qz_types.specs.Outcomes.{Outcome, refused}
+use Rattle.qz_model.specs.Pausing.{pause_trigger, resume_trigger, pause_group, resume_group}
 
 -- what a node does under its epoch; a client is no member
 abbrev pub as_node : Actor → (MemberData → Outcome) → Outcome
@@ -21,10 +22,10 @@ by_command T m actor (AddJob job replace) = refused Unbuilt
 by_command T m actor (DeleteJob key) = refused Unbuilt
 by_command T m actor (AddTrigger spec replace) = refused Unbuilt
 by_command T m actor (DeleteTrigger key) = refused Unbuilt
-by_command T m actor (PauseTrigger key) = refused Unbuilt
-by_command T m actor (ResumeTrigger key) = refused Unbuilt
-by_command T m actor (PauseGroup group) = refused Unbuilt
-by_command T m actor (ResumeGroup group) = refused Unbuilt
+by_command T m actor (PauseTrigger key) = pause_trigger T m key
+by_command T m actor (ResumeTrigger key) = resume_trigger T m key
+by_command T m actor (PauseGroup group) = pause_group T m group
+by_command T m actor (ResumeGroup group) = resume_group T m group
 by_command T m actor (AddCalendar calendar replace) = refused Unbuilt
 by_command T m actor (DeleteCalendar name) = refused Unbuilt
 by_command T m actor (AddZone zone) = refused Unbuilt
