@@ -1,21 +1,22 @@
 -- The tables are valid after every transaction.
-use Rattle.std.proofs.Common.{◌≡◌, ℕ, ℤ, None, IsTrue, refl, arith}
+use Rattle.std.proofs.Common.{◌≡◌, ℕ, ℤ, IsTrue, refl, arith}
 use Rattle.std.proofs.lemmas.Bool.{and_parts}
 use Rattle.qz_types.specs.Entries.{EntryData, is_command, is_of_node, has_actor, is_entry}
 use Rattle.qz_types.specs.declared.commands.Command.{Command}
 use Rattle.qz_types.specs.declared.commands.Command.TheVariants.{AddJob, DeleteJob, AddTrigger, DeleteTrigger, PauseTrigger, ResumeTrigger, PauseGroup, ResumeGroup, AddCalendar, DeleteCalendar, AddZone, DeleteZone, TriggerNow, Threshold, Join, Leave, Acquire, Release, Fire, Complete, Misfires, Recover}
 use Rattle.qz_types.specs.declared.commands.Actor.{Actor}
-use Rattle.qz_types.specs.declared.commands.Actor.TheVariants.{Client, Node}
 use Rattle.qz_types.specs.declared.replies.Reply.{Reply}
 use Rattle.qz_types.specs.Tables.{SchedulerTables, IsMoment, empty, new_tables, recorded_moment}
 use Rattle.qz_types.specs.declared.replies.Refusal.{Refusal}
-use Rattle.qz_types.specs.declared.replies.Refusal.TheVariants.{Unbuilt, Fenced}
+use Rattle.qz_types.specs.declared.replies.Refusal.TheVariants.{Unbuilt}
 use Rattle.qz_types.specs.Outcomes.{accepted, refused}
 use Rattle.qz_model.specs.Transaction.{by_command, transaction}
 use Rattle.qz_model.specs.Executions.{is_busy}
 use Rattle.qz_model.specs.Invariant.{TablesValid}
 use Rattle.qz_model.proofs.Changes.{moment_within}
+use Rattle.qz_model.proofs.KeptCalendars.{kept-add_calendar, kept-delete_calendar}
 use Rattle.qz_model.proofs.KeptPausing.{kept-pause_trigger, kept-resume_trigger, kept-pause_group, kept-resume_group}
+use Rattle.qz_model.proofs.KeptZones.{kept-add_zone, kept-delete_zone}
 
 -- what is refused leaves no other tables
 refused-keeps : (T' : SchedulerTables) (r : Reply) (x : Refusal) → refused x ≡ accepted T' r → TablesValid T'
@@ -30,10 +31,10 @@ kept-by_command T T' m actor (PauseTrigger key) r good valid is e = kept-pause_t
 kept-by_command T T' m actor (ResumeTrigger key) r good valid is e = kept-resume_trigger T T' m key r valid is e
 kept-by_command T T' m actor (PauseGroup group) r good valid is e = kept-pause_group T T' m group r valid is e
 kept-by_command T T' m actor (ResumeGroup group) r good valid is e = kept-resume_group T T' m group r valid is e
-kept-by_command T T' m actor (AddCalendar calendar replace) r good valid is e = refused-keeps T' r Unbuilt e
-kept-by_command T T' m actor (DeleteCalendar name) r good valid is e = refused-keeps T' r Unbuilt e
-kept-by_command T T' m actor (AddZone zone) r good valid is e = refused-keeps T' r Unbuilt e
-kept-by_command T T' m actor (DeleteZone name) r good valid is e = refused-keeps T' r Unbuilt e
+kept-by_command T T' m actor (AddCalendar calendar replace) r good valid is e = kept-add_calendar T T' m calendar replace r valid is e
+kept-by_command T T' m actor (DeleteCalendar name) r good valid is e = kept-delete_calendar T T' m name r valid is e
+kept-by_command T T' m actor (AddZone zone) r good valid is e = kept-add_zone T T' m zone r valid is e
+kept-by_command T T' m actor (DeleteZone name) r good valid is e = kept-delete_zone T T' m name r valid is e
 kept-by_command T T' m actor (TriggerNow job) r good valid is e = refused-keeps T' r Unbuilt e
 kept-by_command T T' m actor (Threshold ms) r good valid is e = refused-keeps T' r Unbuilt e
 kept-by_command T T' m actor (Join node) r good valid is e = refused-keeps T' r Unbuilt e

@@ -1,5 +1,5 @@
 -- Pausing and resuming triggers and groups of them keeps the tables valid.
-use Rattle.std.proofs.Common.{◌≡◌, ℕ, ◌+◌, ◌<◌, ◌≤◌, ℤ, Bool, true, false, not, ◌&&◌, List, length, nat_le, cond, Option, Some, None, is_some, refl, sym, ap, ◌∙◌, subst, arith}
+use Rattle.std.proofs.Common.{◌≡◌, ℕ, ◌+◌, ◌≤◌, ℤ, Bool, true, false, not, ◌&&◌, List, length, nat_le, cond, None, refl, sym, ap, ◌∙◌, subst, arith}
 use Rattle.std.proofs.lemmas.Bool.{leb-false}
 use Rattle.std.proofs.lemmas.Cmp.{nat_list_cmp_total}
 use Rattle.qz_types.specs.Rows.{TriggerData, FiredData}
@@ -11,7 +11,6 @@ use Rattle.qz_types.specs.declared.limits.TheConstants.{GROUP_LIMIT}
 use Rattle.qz_types.specs.declared.triggers.TriggerState.{TriggerState}
 use Rattle.qz_types.specs.declared.triggers.TriggerState.TheVariants as state
 use Rattle.qz_types.specs.declared.replies.Reply.{Reply}
-use Rattle.qz_types.specs.declared.replies.Refusal.{Refusal}
 use Rattle.qz_types.specs.declared.replies.Refusal.TheVariants.{TooMany}
 use Rattle.qz_types.specs.Tables.{SchedulerTables, IsMoment}
 use Rattle.qz_types.specs.Outcomes.{accepted}
@@ -171,9 +170,9 @@ room_for_group : (T : SchedulerTables) (group : List ℕ) → pause_group_refusa
 unfolding pause_group_refusal
 room_for_group T group clear within = elim (is_paused group T.paused_groups) as (λ b. refuse_if (not b && nat_le GROUP_LIMIT (length T.paused_groups)) (TooMany GROUP_LIMIT) None ≡ None
     → length (put_group group (without_group group T.paused_groups)) ≤ length T.paused_groups + cond b 0 1 → length (put_group group (without_group group T.paused_groups)) ≤ GROUP_LIMIT) [
-  | true ↦ λ e grows. omega arith
-  | false ↦ λ e grows. let below = leb-false GROUP_LIMIT (length T.paused_groups) (not_refused _ _ e) in omega arith
-] clear (length-with_group group T.paused_groups)
+      | true ↦ λ e grows. omega arith
+      | false ↦ λ e grows. let below = leb-false GROUP_LIMIT (length T.paused_groups) (not_refused _ _ e) in omega arith
+    ] clear (length-with_group group T.paused_groups)
 
 pub kept-pause_group : (T T' : SchedulerTables) (m : ℤ) (group : List ℕ) (r : Reply) → TablesValid T → IsMoment T.horizon m → pause_group T m group ≡ accepted T' r → TablesValid T'
 kept-pause_group T T' m group r valid is e =

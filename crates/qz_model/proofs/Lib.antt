@@ -3,8 +3,11 @@ pub mod DueLaws
 mod DueOrder
 pub mod Histories
 pub mod Kept
+pub mod KeptCalendars
 pub mod KeptPausing
+pub mod KeptZones
 pub mod LookUps
+pub mod NamedRows
 pub mod References
 pub mod Replaced
 pub mod RowLaws

@@ -33,11 +33,11 @@ with_new_calendar c calendars = put_calendar c (without_calendar c.name calendar
 abbrev pub is_too_long : List CalendarData → CalendarData → Bool
 is_too_long calendars d = not (ends_within calendars CHAIN_LIMIT (Some d))
 
--- Some chain would be too long: its own, or where it takes the place of a stored calendar any.
+-- Some chain would be too long: its own, or where it takes the place of a stored calendar that of any other.
 unfoldable pub makes_too_long : List CalendarData → CalendarData → Bool
 makes_too_long calendars c =
     is_too_long (with_new_calendar c calendars) c
-    || (is_some (calendar_of c.name calendars) && list_any (is_too_long (with_new_calendar c calendars)) (with_new_calendar c calendars))
+    || (is_some (calendar_of c.name calendars) && list_any (is_too_long (with_new_calendar c calendars)) (without_calendar c.name calendars))
 
 unfoldable pub add_calendar_refusal : SchedulerTables → CalendarData → Bool → Option Refusal
 add_calendar_refusal T c replace =

@@ -9,6 +9,7 @@ use Rattle.qz_types.specs.declared.commands.Actor.TheVariants.{Client, Node}
 use Rattle.qz_types.specs.declared.replies.Refusal.TheVariants.{Unbuilt, Fenced}
 use Rattle.qz_types.specs.Tables.{SchedulerTables, recorded_moment}
 use Rattle.qz_types.specs.Outcomes.{Outcome, refused}
+use Rattle.qz_model.specs.Calendars.{add_calendar, delete_calendar, add_zone, delete_zone}
 use Rattle.qz_model.specs.Pausing.{pause_trigger, resume_trigger, pause_group, resume_group}
 
 -- what a node does under its epoch; a client is no member
@@ -26,10 +27,10 @@ by_command T m actor (PauseTrigger key) = pause_trigger T m key
 by_command T m actor (ResumeTrigger key) = resume_trigger T m key
 by_command T m actor (PauseGroup group) = pause_group T m group
 by_command T m actor (ResumeGroup group) = resume_group T m group
-by_command T m actor (AddCalendar calendar replace) = refused Unbuilt
-by_command T m actor (DeleteCalendar name) = refused Unbuilt
-by_command T m actor (AddZone zone) = refused Unbuilt
-by_command T m actor (DeleteZone name) = refused Unbuilt
+by_command T m actor (AddCalendar calendar replace) = add_calendar T m calendar replace
+by_command T m actor (DeleteCalendar name) = delete_calendar T m name
+by_command T m actor (AddZone zone) = add_zone T m zone
+by_command T m actor (DeleteZone name) = delete_zone T m name
 by_command T m actor (TriggerNow job) = refused Unbuilt
 by_command T m actor (Threshold ms) = refused Unbuilt
 by_command T m actor (Join node) = refused Unbuilt
