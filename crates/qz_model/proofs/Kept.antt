@@ -15,6 +15,7 @@ use Rattle.qz_model.specs.Transaction.{by_command, transaction}
 use Rattle.qz_model.specs.Executions.{is_busy}
 use Rattle.qz_model.specs.Invariant.{TablesValid}
 use Rattle.qz_model.proofs.Changes.{moment_within}
+use Rattle.qz_model.proofs.KeptMisfires.{kept-misfires}
 
 -- what is refused leaves no other tables
 refused-keeps : (T' : SchedulerTables) (r : Reply) (x : Refusal) → refused x ≡ accepted T' r → TablesValid T'
@@ -41,7 +42,8 @@ kept-by_command T T' m actor (Acquire no_later window max) r good valid is e = r
 kept-by_command T T' m actor (Release entry) r good valid is e = refused-keeps T' r Unbuilt e
 kept-by_command T T' m actor (Fire entry) r good valid is e = refused-keeps T' r Unbuilt e
 kept-by_command T T' m actor (Complete entry code) r good valid is e = refused-keeps T' r Unbuilt e
-kept-by_command T T' m actor Misfires r good valid is e = refused-keeps T' r Unbuilt e
+kept-by_command T T' m Client Misfires r good valid is e = refused-keeps T' r (Fenced None) e
+kept-by_command T T' m (Node me) Misfires r good valid is e = kept-misfires T T' m me r valid is e
 kept-by_command T T' m actor (Recover node) r good valid is e = refused-keeps T' r Unbuilt e
 
 command_of : (e : EntryData) → IsTrue (is_entry e) → IsTrue (is_command e.command)

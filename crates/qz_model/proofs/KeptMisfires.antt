@@ -30,6 +30,7 @@ use Rattle.qz_model.specs.Invariant.{AreStored, IsRowOf, AcquiredMatch, is_block
 use Rattle.qz_model.proofs.Apart.{HasOtherKey, AreApart, All-take, apart-take, apart-filter, apart-in_due_order, apart}
 use Rattle.qz_model.proofs.RowPoints.{All-weaker, All-both, All-filter}
 use Rattle.qz_model.proofs.RowLaws.{same_key_laws, ordered-with_trigger, All-with_trigger, each_trigger, only_trigger, trigger_of-with_other, length-with_trigger}
+use Rattle.qz_model.proofs.NextTimes.{next_after-within}
 use Rattle.qz_model.proofs.References.{references-triggers}
 use Rattle.qz_model.proofs.DueLaws.{All-in_due_order, waiting_from, IsStoredWaiting}
 use Rattle.qz_model.proofs.Waiting.{none_waiting, other_row}
@@ -177,9 +178,9 @@ apart_misfired T m ordered =
     apart-take MISFIRE_LIMIT (in_due_order (filter (waits_misfired T m) T.triggers))
     (apart-in_due_order (filter (waits_misfired T m) T.triggers) (apart-filter (waits_misfired T m) T.triggers (apart T.triggers ordered)))
 
-pub kept-misfires : (T T' : SchedulerTables) (m : ℤ) (me : MemberData) (r : Reply) → HasTimesWithin T m → TablesValid T → IsMoment T.horizon m → misfires T m me ≡ accepted T' r → TablesValid T'
-kept-misfires T T' m me r within valid is e =
+pub kept-misfires : (T T' : SchedulerTables) (m : ℤ) (me : MemberData) (r : Reply) → TablesValid T → IsMoment T.horizon m → misfires T m me ≡ accepted T' r → TablesValid T'
+kept-misfires T T' m me r valid is e =
     let way = passes (node_refusal T me) _ T' r e in
     let ordered = valid.references_and_limits.ordered.triggers in
-    let moved_all = valid-moved_each T m T.triggers (misfired_triggers T m) is within valid (each_misfired T m ordered) (apart_misfired T m ordered) in
+    let moved_all = valid-moved_each T m T.triggers (misfired_triggers T m) is (λ s. next_after-within T s m valid is) valid (each_misfired T m ordered) (apart_misfired T m ordered) in
     subst TablesValid (cc) (valid-moment (record T { triggers = fold (with_moved T m) T.triggers (misfired_triggers T m) }) m moved_all is)

@@ -6,6 +6,7 @@ pub mod Histories
 pub mod Kept
 pub mod KeptMisfires
 pub mod LookUps
+pub mod NextTimes
 pub mod References
 pub mod RowLaws
 pub mod RowPoints

@@ -9,6 +9,7 @@ use Rattle.qz_types.specs.declared.commands.Actor.TheVariants.{Client, Node}
 use Rattle.qz_types.specs.declared.replies.Refusal.TheVariants.{Unbuilt, Fenced}
 use Rattle.qz_types.specs.Tables.{SchedulerTables, recorded_moment}
 use Rattle.qz_types.specs.Outcomes.{Outcome, refused}
+use Rattle.qz_model.specs.Misfires.{misfires}
 
 -- what a node does under its epoch; a client is no member
 abbrev pub as_node : Actor → (MemberData → Outcome) → Outcome
@@ -37,7 +38,7 @@ by_command T m actor (Acquire no_later window max) = refused Unbuilt
 by_command T m actor (Release entry) = refused Unbuilt
 by_command T m actor (Fire entry) = refused Unbuilt
 by_command T m actor (Complete entry code) = refused Unbuilt
-by_command T m actor Misfires = refused Unbuilt
+by_command T m actor Misfires = as_node actor (λ me. misfires T m me)
 by_command T m actor (Recover node) = refused Unbuilt
 
 -- what the entry comes to at these tables
