@@ -33,7 +33,7 @@ use Rattle.qz_model.proofs.RowLaws.{same_key_laws, ordered-with_trigger, All-wit
 use Rattle.qz_model.proofs.NextTimes.{next_after-within}
 use Rattle.qz_model.proofs.References.{references-triggers}
 use Rattle.qz_model.proofs.DueLaws.{All-in_due_order, waiting_from, IsStoredWaiting}
-use Rattle.qz_model.proofs.Waiting.{none_waiting, other_row}
+use Rattle.qz_model.proofs.Waiting.{none_waiting, other_row, still_waiting}
 use Rattle.qz_model.proofs.Changes.{HasOneRow, HasItsTrigger, HasNextTime, HasJob, HasCalendar, HasZone, StaysBlocked, IsBlockedBy, passes, HasNumber, SharesNone, HasNumber-kept, HasNumber-alike, valid-moment}
 
 -- the kind keeps its zone
@@ -137,11 +137,6 @@ module _ (T : SchedulerTables) (t : TriggerData) (move : Moved) (valid : TablesV
     row_times = valid.row_times;
   }
 
--- another trigger that waits still does
-pub still_waiting : (T : SchedulerTables) (k : Key) (change : TriggerData → TriggerData) (u : TriggerData) → ((x : TriggerData) → (change x).spec.key ≡ x.spec.key) → HasOtherKey k u
-    → IsStoredWaiting T u → IsStoredWaiting (record T { triggers = with_trigger k change T.triggers }) u
-still_waiting T k change u keeps other one = record { stored = trigger_of-with_other u.spec.key k change T.triggers keeps other ∙ one.stored; waits = one.waits }
-
 -- each later fire time lies within the horizon
 abbrev pub HasTimesWithin : SchedulerTables → ℤ → Type 0
 HasTimesWithin T m = (s : TriggerSpec) → IfSome (next_after T s m) (IsMoment T.horizon)
@@ -157,7 +152,7 @@ valid-moved_each T m triggers (t ∷ ts) is within valid each apart =
     let next : IfSome move.next (IsMoment T.horizon) = moved-next (IsMoment T.horizon) t.spec.timing (next_after T t.spec m) (next_time t) t.times m is (within t.spec) in
     valid-moved_each T m (with_moved T m triggers t) ts is within (valid-moved U t move valid each.0 next)
     (All-both (IsStoredWaiting U) (HasOtherKey t.spec.key) (IsStoredWaiting (record T { triggers = with_moved T m triggers t })) ts
-    (λ u one other. still_waiting U t.spec.key (moved_trigger move) u (λ x. refl) other one) each.1 apart.0)
+    (λ u one other. still_waiting U (record T { triggers = with_moved T m triggers t }) t.spec.key (moved_trigger move) u (λ x. refl) refl other one) each.1 apart.0)
     apart.1
 
 abbrev waits_misfired : SchedulerTables → ℤ → TriggerData → Bool

@@ -4,7 +4,9 @@ pub mod DueLaws
 mod DueOrder
 pub mod Histories
 pub mod Kept
+pub mod KeptAcquiring
 pub mod KeptMisfires
+pub mod KeptReleasing
 pub mod LookUps
 pub mod NextTimes
 pub mod References

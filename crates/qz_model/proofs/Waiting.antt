@@ -7,13 +7,14 @@ use Rattle.qz_types.specs.declared.keys.Key.{Key}
 use Rattle.qz_types.specs.declared.triggers.TriggerState.TheVariants as state
 use Rattle.qz_types.specs.States.{is_acquired, is_acquired_for}
 use Rattle.qz_types.specs.Tables.{SchedulerTables, IsMoment}
-use Rattle.qz_types.specs.Words.{same_key, trigger_of}
+use Rattle.qz_types.specs.Words.{same_key, trigger_of, with_trigger}
 use Rattle.qz_model.specs.Acquiring.{next_time}
 use Rattle.qz_model.specs.Invariant.{IsRowOf, AcquiredMatch, is_live_state, TablesValid}
+use Rattle.qz_model.proofs.Apart.{HasOtherKey}
 use Rattle.qz_model.proofs.Changes.{HasItsTrigger, HasNextTime}
 use Rattle.qz_model.proofs.DueLaws.{IsStoredWaiting}
 use Rattle.qz_model.proofs.RowPoints.{All-weaker}
-use Rattle.qz_model.proofs.RowLaws.{All-trigger_of, trigger_of-alike}
+use Rattle.qz_model.proofs.RowLaws.{All-trigger_of, trigger_of-alike, trigger_of-with_other}
 
 -- an acquired row isn't for a trigger that waits
 no_row_of : (f : FiredData) (t : TriggerData) (o : Option TriggerData) → o ≡ Some t → t.state ≡ state.Waiting → IsSomeAnd o (IsRowOf f) → ⊥
@@ -43,3 +44,8 @@ pub has_next : (T : SchedulerTables) (t : TriggerData) → TablesValid T → IsS
 unfolding next_time
 has_next T t valid one =
     next_is (IsMoment T.horizon) t.next (All-trigger_of (HasNextTime T.horizon) t.spec.key t T.triggers valid.next_times.next one.stored (ap is_live_state one.waits))
+
+-- another trigger that waits still does
+pub still_waiting : (T U : SchedulerTables) (k : Key) (change : TriggerData → TriggerData) (u : TriggerData) → ((x : TriggerData) → (change x).spec.key ≡ x.spec.key)
+    → U.triggers ≡ with_trigger k change T.triggers → HasOtherKey k u → IsStoredWaiting T u → IsStoredWaiting U u
+still_waiting T U k change u keeps changed other one = record { stored = ap (trigger_of u.spec.key) changed ∙ trigger_of-with_other u.spec.key k change T.triggers keeps other ∙ one.stored; waits = one.waits }
