@@ -19,6 +19,9 @@ use Rattle.qz_model.proofs.KeptTriggers.{kept-add_trigger, kept-delete_trigger, 
 use Rattle.qz_model.proofs.KeptCalendars.{kept-add_calendar, kept-delete_calendar}
 use Rattle.qz_model.proofs.KeptPausing.{kept-pause_trigger, kept-resume_trigger, kept-pause_group, kept-resume_group}
 use Rattle.qz_model.proofs.KeptZones.{kept-add_zone, kept-delete_zone}
+use Rattle.qz_model.proofs.KeptAcquiring.{kept-acquire}
+use Rattle.qz_model.proofs.KeptMisfires.{kept-misfires}
+use Rattle.qz_model.proofs.KeptReleasing.{kept-release}
 
 -- what is refused leaves no other tables
 refused-keeps : (T' : SchedulerTables) (r : Reply) (x : Refusal) → refused x ≡ accepted T' r → TablesValid T'
@@ -41,11 +44,14 @@ kept-by_command T T' m actor (TriggerNow job) r good valid is e = kept-trigger_n
 kept-by_command T T' m actor (Threshold ms) r good valid is e = kept-set_threshold T T' m ms r good valid is e
 kept-by_command T T' m actor (Join node) r good valid is e = refused-keeps T' r Unbuilt e
 kept-by_command T T' m actor Leave r good valid is e = refused-keeps T' r Unbuilt e
-kept-by_command T T' m actor (Acquire no_later window max) r good valid is e = refused-keeps T' r Unbuilt e
-kept-by_command T T' m actor (Release entry) r good valid is e = refused-keeps T' r Unbuilt e
+kept-by_command T T' m Client (Acquire no_later window max) r good valid is e = refused-keeps T' r (Fenced None) e
+kept-by_command T T' m (Node me) (Acquire no_later window max) r good valid is e = kept-acquire T T' m me no_later window max r valid is e
+kept-by_command T T' m Client (Release entry) r good valid is e = refused-keeps T' r (Fenced None) e
+kept-by_command T T' m (Node me) (Release entry) r good valid is e = kept-release T T' m me entry r valid is e
 kept-by_command T T' m actor (Fire entry) r good valid is e = refused-keeps T' r Unbuilt e
 kept-by_command T T' m actor (Complete entry code) r good valid is e = refused-keeps T' r Unbuilt e
-kept-by_command T T' m actor Misfires r good valid is e = refused-keeps T' r Unbuilt e
+kept-by_command T T' m Client Misfires r good valid is e = refused-keeps T' r (Fenced None) e
+kept-by_command T T' m (Node me) Misfires r good valid is e = kept-misfires T T' m me r valid is e
 kept-by_command T T' m actor (Recover node) r good valid is e = refused-keeps T' r Unbuilt e
 
 command_of : (e : EntryData) → IsTrue (is_entry e) → IsTrue (is_command e.command)

@@ -1,16 +1,21 @@
+pub mod Apart
 pub mod Changes
 pub mod Dropping
 pub mod DueLaws
 mod DueOrder
 pub mod Histories
 pub mod Kept
+pub mod KeptAcquiring
 pub mod KeptCalendars
 mod KeptJobs
+pub mod KeptMisfires
 pub mod KeptPausing
+pub mod KeptReleasing
 mod KeptTriggers
 pub mod KeptZones
 pub mod LookUps
 pub mod NamedRows
+pub mod NextTimes
 mod Numbers
 pub mod Putting
 pub mod References
@@ -22,3 +27,4 @@ pub mod Scripts
 pub mod StateChanges
 pub mod StateLaws
 pub mod ValidScripts
+pub mod Waiting
