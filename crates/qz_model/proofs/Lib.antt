@@ -1,3 +1,4 @@
+pub mod Begun
 pub mod Changes
 pub mod DueLaws
 mod DueOrder
@@ -5,6 +6,7 @@ pub mod Histories
 pub mod Kept
 pub mod LookUps
 pub mod References
+pub mod RowChanges
 pub mod RowLaws
 pub mod RowPoints
 pub mod Scripts

@@ -212,7 +212,7 @@ unfolding put_member
 length-put_member row rows = length-put text_cmp (λ r. r.node) row rows
 
 -- fired rows
-same_number : (a b : ℕ) → is_eq (nat_cmp a b) ≡ (a == b)
+pub same_number : (a b : ℕ) → is_eq (nat_cmp a b) ≡ (a == b)
 same_number a b = grind (arith, nat_tests)
 
 pub ordered-put_fired : (row : FiredData) (rows : List FiredData) → IsAscending nat_cmp (λ r. r.entry) rows → fired_of row.entry rows ≡ None → IsAscending nat_cmp (λ r. r.entry) (put_fired row rows)
