@@ -111,7 +111,7 @@ impl PlainStore {
         if let Some(refusal) = refusal(&self.tables, entry) {
             return Err(StepRefused::Refused(refusal));
         }
-        let mut tables = copy_with_room(&self.tables, room(entry))?;
+        let mut tables = copy_with_room(&self.tables, room(&self.tables, entry))?;
         match apply(&mut tables, entry) {
             Ok(reply) => Ok(Worked {
                 tables: PlainStore { tables },
