@@ -10,4 +10,6 @@ pub mod RowChanges
 pub mod RowLaws
 pub mod RowPoints
 pub mod Scripts
+pub mod StateChanges
+pub mod StateLaws
 pub mod ValidScripts

@@ -1,7 +1,7 @@
 -- The transactions of clients on calendars and zones.
 use Rattle.std.specs.Prelude.{ℕ, suc, ◌+◌, ℤ, List, [], ◌∷◌, Bool, false, not, ◌&&◌, ◌||◌, length, nat_le, nat_lt, count_by, if◌then◌else◌, Option, Some, None, is_some, is_none, option_map}
 use Rattle.std.specs.List.{list_any}
-use Rattle.qz_types.specs.Rows.{TriggerData, CalendarData, ZoneData}
+use Rattle.qz_types.specs.Rows.{CalendarData, ZoneData}
 use Rattle.qz_types.specs.declared.limits.TheConstants.{CALENDAR_LIMIT, CHAIN_LIMIT, ZONE_LIMIT}
 use Rattle.qz_types.specs.declared.replies.Reply.TheVariants.{Done}
 use Rattle.qz_types.specs.declared.replies.Refusal.{Refusal}
@@ -10,7 +10,7 @@ use Rattle.qz_types.specs.Tables.{SchedulerTables}
 use Rattle.qz_types.specs.Outcomes.{Outcome, accepted, unless}
 use Rattle.qz_types.specs.Words.{same_text, calendar_of, put_calendar, without_calendar, zone_of, put_zone, without_zone}
 use Rattle.qz_types.specs.Chains.{calendar_named, chain_of, ends_within}
-use Rattle.qz_model.specs.Plan.{zone_named_by, is_utc, is_known_zone, is_known_calendar}
+use Rattle.qz_model.specs.Plan.{zone_named_by, is_known_zone, is_known_calendar}
 use Rattle.qz_model.specs.Tests.{refuse_if, or_refusal}
 
 -- AddCalendar.
