@@ -1,5 +1,6 @@
 pub mod Begun
 pub mod Changes
+pub mod Dropping
 pub mod DueLaws
 mod DueOrder
 pub mod Histories
