@@ -21,7 +21,8 @@ use Rattle.qz_model.specs.Invariant.{AreStored, ReferencesAndLimits, IsRowOf, Ha
 use Rattle.qz_model.specs.Tests.{is_trigger_of, is_row_of_job}
 use Rattle.qz_model.proofs.RowPoints.{All-weaker, All-both, any_is_count, none_from_count}
 use Rattle.qz_model.proofs.RowLaws.{same_key_laws, same_key-exact, All-job_of, job_of-key, only_job, ordered-with_trigger, All-trigger_of, trigger_of-key, trigger_of-alike, each_trigger, only_trigger, All-with_trigger, trigger_of-with_other, length-with_trigger, ordered-with_fired, All-fired_of, only_fired, one_fired, fired_of-with_fired, All-with_fired, count_by-with_fired, length-with_fired}
-use Rattle.qz_model.proofs.RowChanges.{All-with_states, ordered-with_states, length-with_states, trigger_of-unchanged, All-without_acquired, ordered-without_acquired, length-without_acquired, fired_of-without_acquired, count_by-without_acquired, one-with_fired, counted-with_fired}
+use Rattle.qz_model.proofs.StateLaws.{ordered-with_states, length-with_states, All-with_states, ordered-without_acquired, length-without_acquired, All-without_acquired, count_by-without_acquired, fired_of-without_acquired}
+use Rattle.qz_model.proofs.RowChanges.{trigger_of-unchanged, one-with_fired, counted-with_fired}
 use Rattle.qz_model.proofs.References.{references-triggers, references-fired}
 use Rattle.qz_model.proofs.Changes.{HasOneRow, HasItsTrigger, HasNextTime, HasJob, HasCalendar, HasZone, AgreesWithRows, AgreesWithJob, StaysBlocked, IsBlockedBy, HasMember, HasRowTimes, busy-same, HasNumber, SharesNone, HasNumber-kept, HasNumber-alike}
 

@@ -5,6 +5,7 @@ pub mod DueLaws
 mod DueOrder
 pub mod Histories
 pub mod Kept
+pub mod KeptFiring
 pub mod LookUps
 pub mod References
 pub mod RowChanges
