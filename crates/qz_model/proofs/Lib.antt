@@ -3,8 +3,10 @@ pub mod Changes
 pub mod Dropping
 pub mod DueLaws
 mod DueOrder
+pub mod Ended
 pub mod Histories
 pub mod Kept
+pub mod KeptCompletion
 pub mod KeptFiring
 pub mod LookUps
 pub mod References
