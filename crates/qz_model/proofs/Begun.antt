@@ -8,11 +8,11 @@ use Rattle.std.proofs.lemmas.Bool.Decides.{nat_tests}
 use Rattle.qz_types.specs.Rows.{JobData, TriggerData, FiredData}
 use Rattle.qz_types.specs.Sorted.{IsAscending}
 use Rattle.qz_types.specs.declared.keys.Key.{Key}
-use Rattle.qz_types.specs.declared.limits.TheConstants.{TRIGGER_LIMIT, FIRED_LIMIT}
+use Rattle.qz_types.specs.declared.limits.TheConstants.{TRIGGER_LIMIT}
 use Rattle.qz_types.specs.declared.triggers.TriggerState.{TriggerState}
 use Rattle.qz_types.specs.declared.triggers.TriggerState.TheVariants as state
 use Rattle.qz_types.specs.Tables.{SchedulerTables, IsMoment}
-use Rattle.qz_types.specs.Changes.{with_state, with_states, after_fire, begun}
+use Rattle.qz_types.specs.Changes.{with_state, after_fire, begun}
 use Rattle.qz_types.specs.States.{is_acquired, is_acquired_for, blocked}
 use Rattle.qz_types.specs.Words.{key_cmp, same_key, job_of, trigger_of, with_trigger, fired_of, with_fired}
 use Rattle.qz_model.specs.Executions.{is_exclusive_of, is_busy}

@@ -1,13 +1,12 @@
 -- Firing a trigger keeps the tables valid.
-use Rattle.std.proofs.Common.{◌≡◌, ℕ, ℤ, pos, negsuc, ◌≤ℤ◌, ◌<ℤ◌, int_lt, true, false, not, List, Option, Some, None, IsSome, IfSome, is_some, IsSomeAnd, option_and_then, unwrap_or, refl, sym, ap, ◌∙◌, subst, arith, if◌then◌else◌}
+use Rattle.std.proofs.Common.{◌≡◌, ℕ, ℤ, pos, ◌≤ℤ◌, int_lt, true, false, not, List, Option, Some, None, IsSome, IfSome, is_some, IsSomeAnd, option_and_then, unwrap_or, refl, sym, ap, ◌∙◌, subst, arith}
 use Rattle.std.proofs.Math.Logic.{∥∥₁_elim}
-use Rattle.std.proofs.lemmas.Bool.{not-false}
 use Rattle.std.proofs.lemmas.Int.{ints}
 use Rattle.qz_civil.specs.declared.limits.TheConstants.{LAST}
 use Rattle.qz_types.specs.Rows.{JobData, TriggerData, MemberData, FiredData}
 use Rattle.qz_types.specs.declared.replies.Reply.{Reply}
 use Rattle.qz_types.specs.declared.replies.Refusal.{Refusal}
-use Rattle.qz_types.specs.declared.replies.Refusal.TheVariants.{NotYours, NotAcquired}
+use Rattle.qz_types.specs.declared.replies.Refusal.TheVariants.{NotAcquired}
 use Rattle.qz_types.specs.Tables.{SchedulerTables, IsMoment}
 use Rattle.qz_types.specs.Outcomes.{accepted}
 use Rattle.qz_types.specs.States.{is_acquired}
@@ -19,7 +18,7 @@ use Rattle.qz_model.specs.Membership.{node_refusal}
 use Rattle.qz_model.specs.Plan.{next_after}
 use Rattle.qz_model.specs.Firing.{early, next_of, fire_refusal, following, with_begun, fire_one, fire_row, fire}
 use Rattle.qz_model.specs.Invariant.{IsRowOf, is_live_state, TablesValid}
-use Rattle.qz_model.specs.Tests.{refuse_if, or_refusal, is_of, stored_job}
+use Rattle.qz_model.specs.Tests.{refuse_if, or_refusal, stored_job}
 use Rattle.qz_model.proofs.RowLaws.{All-trigger_of, All-fired_of, fired_of-entry}
 use Rattle.qz_model.proofs.Changes.{HasItsTrigger, HasNextTime, HasJob, passes, valid-moment}
 use Rattle.qz_model.proofs.Begun.{valid-begun}
