@@ -1,12 +1,16 @@
 pub mod Apart
+pub mod Begun
 pub mod Changes
 pub mod Dropping
 pub mod DueLaws
 mod DueOrder
+pub mod Ended
 pub mod Histories
 pub mod Kept
 pub mod KeptAcquiring
 pub mod KeptCalendars
+pub mod KeptCompletion
+pub mod KeptFiring
 mod KeptJobs
 pub mod KeptMisfires
 pub mod KeptPausing
@@ -21,6 +25,7 @@ pub mod Putting
 pub mod References
 mod Refusals
 pub mod Replaced
+pub mod RowChanges
 pub mod RowLaws
 pub mod RowPoints
 pub mod Scripts
