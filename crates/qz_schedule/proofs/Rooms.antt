@@ -6,29 +6,19 @@ use Rattle.qz_types.specs.declared.commands.Command.{Command}
 use Rattle.qz_types.specs.declared.commands.Command.TheVariants.{AddJob, DeleteJob, AddTrigger, DeleteTrigger, PauseTrigger, ResumeTrigger, PauseGroup, ResumeGroup, AddCalendar, DeleteCalendar, AddZone, DeleteZone, TriggerNow, Threshold, Join, Leave, Acquire, Release, Fire, Complete, Misfires, Recover}
 use Rattle.qz_types.specs.declared.commands.Actor.{Actor}
 use Rattle.qz_types.specs.declared.triggers.TriggerSpec.{TriggerSpec}
+use Rattle.qz_types.specs.Words.{without_job}
 use Rattle.qz_types.specs.Tables.{SchedulerTables, recorded_moment}
-use Rattle.qz_model.specs.Scheduling.{add_job_refusal, add_job, new_trigger, add_trigger_refusal, add_trigger}
+use Rattle.qz_model.specs.Jobs.{add_job_refusal, add_job}
 use Rattle.qz_model.specs.Transaction.{by_command, transaction}
-use Rattle.qz_model.proofs.RowLaws.{length-put_job, length-put_trigger}
+use Rattle.qz_model.proofs.RowLaws.{length-put_job, length-without_job}
 use Rattle.qz_apply.specs.Room.{AddsUpTo}
 use Rattle.qz_apply.proofs.Rooms.{adds-unless}
 use Rattle.qz_schedule.specs.Commands.{is_scheduling}
 
 add_job-adds : (T : SchedulerTables) (m : ℤ) (job : JobData) (replace : Bool) → AddsUpTo 1 T (add_job T m job replace)
 add_job-adds T m job replace = adds-unless 1 T (add_job_refusal T job replace) _ (record {
-  jobs = omega (arith, length-put_job job T.jobs);
+  jobs = omega (arith, length-put_job job (without_job job.key T.jobs), length-without_job job.key T.jobs);
   triggers = omega arith;
-  calendars = omega arith;
-  zones = omega arith;
-  paused_groups = omega arith;
-  members = omega arith;
-  fired = omega arith;
-})
-
-add_trigger-adds : (T : SchedulerTables) (m : ℤ) (s : TriggerSpec) (replace : Bool) → AddsUpTo 1 T (add_trigger T m s replace)
-add_trigger-adds T m s replace = adds-unless 1 T (add_trigger_refusal T s replace) _ (record {
-  jobs = omega arith;
-  triggers = omega (arith, length-put_trigger (new_trigger s) T.triggers);
   calendars = omega arith;
   zones = omega arith;
   paused_groups = omega arith;
@@ -38,7 +28,7 @@ add_trigger-adds T m s replace = adds-unless 1 T (add_trigger_refusal T s replac
 
 by_command-adds : (T : SchedulerTables) (m : ℤ) (actor : Actor) (c : Command) → IsTrue (is_scheduling c) → AddsUpTo 1 T (by_command T m actor c)
 by_command-adds T m actor (AddJob job replace) is = add_job-adds T m job replace
-by_command-adds T m actor (AddTrigger spec replace) is = add_trigger-adds T m spec replace
+by_command-adds T m actor (AddTrigger spec replace) is = absurd cc
 by_command-adds T m actor (DeleteJob key) is = absurd cc
 by_command-adds T m actor (DeleteTrigger key) is = absurd cc
 by_command-adds T m actor (PauseTrigger key) is = absurd cc

@@ -8,8 +8,3 @@ pub returns-in-AddJob-clause-valid : goal.returns-in-AddJob-clause-valid
 returns-in-AddJob-clause-valid c =
     let ok : IfOk c.add_job.result (λ reply. transaction c.args.tables.now.tables c.args.entry.now ≡ accepted c.add_job.new.tables.tables reply) = search rules in
     valid_after c.args.tables.now c.add_job.new.tables c.args.entry.now c.add_job.result c.requires.entry c.requires.valid ok c.add_job.ensures.err
-
-pub returns-in-AddTrigger-clause-valid : goal.returns-in-AddTrigger-clause-valid
-returns-in-AddTrigger-clause-valid c =
-    let ok : IfOk c.add_trigger.result (λ reply. transaction c.args.tables.now.tables c.args.entry.now ≡ accepted c.add_trigger.new.tables.tables reply) = search rules in
-    valid_after c.args.tables.now c.add_trigger.new.tables c.args.entry.now c.add_trigger.result c.requires.entry c.requires.valid ok c.add_trigger.ensures.err
