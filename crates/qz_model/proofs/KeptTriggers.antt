@@ -143,6 +143,16 @@ no_trigger : (o : Option TriggerData) → ((t : TriggerData) → o ≡ Some t �
 no_trigger None none = refl
 no_trigger (Some t) none = absurd (none t refl)
 
+-- no trigger is named by the next entry number
+pub manual_absent : (T : SchedulerTables) (m : ℤ) (job : Key) → TablesValid T → T.next_entry + 1 ≤ NUMBER_LIMIT → trigger_of (manual_trigger m T.next_entry job).key T.triggers ≡ None
+manual_absent T m job valid room =
+    let key : Key = (manual_trigger m T.next_entry job).key in
+    let free : IsFreeNumber (record T { next_entry = T.next_entry + 1 }) key.name T.next_entry = free-next_entry T key.name valid (manual_named m T.next_entry job) room in
+    no_trigger (trigger_of key T.triggers) (λ t found.
+      let same : key ≡ t.spec.key = same_key-exact key t.spec.key (trigger_of-key key t T.triggers found) in
+      All-trigger_of (λ u. is_reserved u.spec.key.group ≡ true → EndsIn u.spec.key.name T.next_entry → ⊥) key t T.triggers free.unused found
+      (subst (λ k. is_reserved k.group ≡ true) same (manual_reserved m T.next_entry job)) (subst (λ k. EndsIn k.name T.next_entry) same (manual_named m T.next_entry job)))
+
 module _ (T : SchedulerTables) (m : ℤ) (job : Key) (valid : TablesValid T) (is : IsMoment T.horizon m) (room : T.next_entry + 1 ≤ NUMBER_LIMIT) where
   abbrev numbered : SchedulerTables
   numbered = record T { next_entry = T.next_entry + 1; last_moment = m }
@@ -159,16 +169,10 @@ module _ (T : SchedulerTables) (m : ℤ) (job : Key) (valid : TablesValid T) (is
   free_number : IsFreeNumber numbered manual.key.name T.next_entry
   free_number = free-next_entry (record T { last_moment = m }) manual.key.name (valid-moment T m valid is) (manual_named m T.next_entry job) room
 
-  no_such : trigger_of manual.key T.triggers ≡ None
-  no_such = no_trigger (trigger_of manual.key T.triggers) (λ t found.
-      let key : manual.key ≡ t.spec.key = same_key-exact manual.key t.spec.key (trigger_of-key manual.key t T.triggers found) in
-      All-trigger_of (λ u. is_reserved u.spec.key.group ≡ true → EndsIn u.spec.key.name T.next_entry → ⊥) manual.key t T.triggers free_number.unused found
-      (subst (λ k. is_reserved k.group ≡ true) key (manual_reserved m T.next_entry job)) (subst (λ k. EndsIn k.name T.next_entry) key (manual_named m T.next_entry job)))
-
   manual_is_new : is_none (job_of job T.jobs) ≡ false → IsNew numbered manual_new
   unfolding new_trigger manual_trigger
   manual_is_new stored = record {
-    absent = no_such;
+    absent = manual_absent T m job valid room;
     job = some_row_not_none _ stored;
     calendar = tt;
     zone = tt;

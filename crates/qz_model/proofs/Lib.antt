@@ -5,7 +5,7 @@ mod DueOrder
 pub mod Histories
 pub mod Kept
 mod KeptJobs
-mod KeptTriggers
+pub mod KeptTriggers
 pub mod LookUps
 mod Numbers
 pub mod Putting

@@ -1,2 +1,3 @@
 mod Absent
+mod Facts
 mod Rooms
