@@ -110,7 +110,7 @@ kept-add_trigger T T' m s replace r valid is e =
     let time = not_refused (is_none (first_time T s)) _ _ stored.1 in
     let full = not_refused (is_none (trigger_of s.key T.triggers) && nat_le TRIGGER_LIMIT (length T.triggers)) _ _ time.1 in
     let room : length (without_trigger s.key T.triggers) + 1 ≤ TRIGGER_LIMIT = both_room (trigger_of s.key T.triggers) TRIGGER_LIMIT (length T.triggers) (length (without_trigger s.key T.triggers)) full.0
-        valid.references_and_limits.limits.triggers (length-without_trigger s.key T.triggers) (length-without_stored_trigger s.key T.triggers) in
+    valid.references_and_limits.limits.triggers (length-without_trigger s.key T.triggers) (length-without_stored_trigger s.key T.triggers) in
     let new = is_new T m s valid is job.0 (not-false _ calendar.0) (not-false _ zone.0) time.0 in
     let same : accepted (record (with_new_trigger T (new_trigger T s (first_time T s))) { last_moment = m }) _ ≡ accepted T' r = way.outcome in
     subst TablesValid (cc) (valid-with_new_trigger T m s valid is new reserved.0 room)
@@ -149,9 +149,9 @@ manual_absent T m job valid room =
     let key : Key = (manual_trigger m T.next_entry job).key in
     let free : IsFreeNumber (record T { next_entry = T.next_entry + 1 }) key.name T.next_entry = free-next_entry T key.name valid (manual_named m T.next_entry job) room in
     no_trigger (trigger_of key T.triggers) (λ t found.
-      let same : key ≡ t.spec.key = same_key-exact key t.spec.key (trigger_of-key key t T.triggers found) in
-      All-trigger_of (λ u. is_reserved u.spec.key.group ≡ true → EndsIn u.spec.key.name T.next_entry → ⊥) key t T.triggers free.unused found
-      (subst (λ k. is_reserved k.group ≡ true) same (manual_reserved m T.next_entry job)) (subst (λ k. EndsIn k.name T.next_entry) same (manual_named m T.next_entry job)))
+    let same : key ≡ t.spec.key = same_key-exact key t.spec.key (trigger_of-key key t T.triggers found) in
+    All-trigger_of (λ u. is_reserved u.spec.key.group ≡ true → EndsIn u.spec.key.name T.next_entry → ⊥) key t T.triggers free.unused found
+    (subst (λ k. is_reserved k.group ≡ true) same (manual_reserved m T.next_entry job)) (subst (λ k. EndsIn k.name T.next_entry) same (manual_named m T.next_entry job)))
 
 module _ (T : SchedulerTables) (m : ℤ) (job : Key) (valid : TablesValid T) (is : IsMoment T.horizon m) (room : T.next_entry + 1 ≤ NUMBER_LIMIT) where
   abbrev numbered : SchedulerTables

@@ -1,5 +1,5 @@
 -- What valid tables say of what the commands read.
-use Rattle.std.proofs.Common.{◌≡◌, ℕ, ◌+◌, ◌<◌, ◌≤◌, ◌^◌, ℤ, pos, ◌≤ℤ◌, int_le, true, subst, IsTrue, Option, Some, None, codes, length, refl, arith}
+use Rattle.std.proofs.Common.{◌≡◌, ℕ, ◌+◌, ◌++◌, ◌<◌, ◌≤◌, ◌^◌, ℤ, pos, ◌≤ℤ◌, int_le, true, subst, IsTrue, lit<, Option, Some, None, codes, length, refl, arith}
 use Rattle.std.proofs.Math.Logic.{∥∥₁_elim}
 use Rattle.std.proofs.Math.Bool.{Bool-set}
 use Rattle.std.proofs.lemmas.Bool.{and_from}
@@ -12,10 +12,11 @@ use Rattle.qz_civil.specs.Timings.{is_name, is_span}
 use Rattle.qz_types.specs.Rows.{TriggerData, is_key, is_trigger_spec}
 use Rattle.qz_types.specs.declared.keys.Key.{Key}
 use Rattle.qz_types.specs.declared.limits.TheConstants.{NUMBER_LIMIT}
+use Rattle.qz_types.specs.declared.triggers.TriggerSpec.{TriggerSpec}
 use Rattle.qz_types.specs.Tables.{SchedulerTables, IsMoment, recorded_moment}
 use Rattle.qz_types.specs.Words.{trigger_of}
 use Rattle.qz_model.specs.Invariant.{TablesValid}
-use Rattle.qz_model.specs.Triggers.{manual_trigger}
+use Rattle.qz_model.specs.Triggers.{manual_trigger, new_trigger}
 use Rattle.qz_model.proofs.Changes.{moment_within}
 use Rattle.qz_model.proofs.KeptTriggers.{manual_absent as absent_in_valid}
 
@@ -48,3 +49,8 @@ moment_is_span T at valid = ∥∥₁_elim valid (hlevel Bool-set) (λ is.
     let within : IsMoment T.horizon (recorded_moment T at) = moment_within T at is.next_times.moment in
     let last : T.horizon ≡ LAST = is.references_and_limits.limits.horizon in
     span_of (recorded_moment T at) within.low (subst (λ h. recorded_moment T at ≤ℤ h) last within.high))
+
+-- a new trigger has the key that it was given
+pub new_key : (T : SchedulerTables) (s : TriggerSpec) (next : Option ℤ) → (new_trigger T s next).spec.key ≡ s.key
+unfolding new_trigger
+new_key T s next = refl

@@ -67,7 +67,9 @@ fn flag_refusal(tables: &Tables, job: &JobRow) -> Option<Refusal>
 fn has_other_flag(job: &JobRow, row: &FiredRow) -> bool
     ensures { result ≡ has_other_flag job.now row.now }
 {
-    !is_acquired(row.state) && same_key(&job.key, &row.job) && differ(job.no_concurrent, row.no_concurrent)
+    !is_acquired(row.state)
+        && same_key(&job.key, &row.job)
+        && differ(job.no_concurrent, row.no_concurrent)
 }
 
 fn differ(a: bool, b: bool) -> bool
