@@ -16,3 +16,4 @@ pub use moments::recorded_moment;
 pub use names::{same_key, same_text};
 pub use orphans::remove_orphan;
 pub use plans::{move_of, next_after};
+pub use orphans::{remove_orphan, remove_trigger_and_orphan};

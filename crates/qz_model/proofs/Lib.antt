@@ -15,7 +15,7 @@ mod KeptJobs
 pub mod KeptMisfires
 pub mod KeptPausing
 pub mod KeptReleasing
-mod KeptTriggers
+pub mod KeptTriggers
 pub mod KeptZones
 pub mod LookUps
 pub mod NamedRows

@@ -15,13 +15,17 @@ ghost use Rattle.qz_schedule.specs.Commands.{is_scheduling};
 ghost use Rattle.qz_types.specs.Tables.{SchedulerTables};
 
 mod jobs;
+mod known;
+mod manual;
+mod threshold;
 mod triggers;
 
 use jobs::{add_job, add_job_refusal};
+use manual::{trigger_now, trigger_now_refusal};
 use qz_apply::recorded_moment;
 use qz_tables::Tables;
 use qz_types::{Command, Entry, Refusal, Reply, StepRefused};
-use triggers::{add_trigger, add_trigger_refusal};
+use threshold::set_threshold;
 
 /// Why the command is refused, if it is.
 #[tactic(auto, using(qz_apply::proofs::Refused::of_one))]
@@ -31,7 +35,8 @@ pub fn refusal(tables: &Tables, entry: &Entry) -> Option<Refusal>
 {
     match &entry.command {
         Command::AddJob { job, replace } => add_job_refusal(tables, job, *replace),
-        Command::AddTrigger { spec, replace } => add_trigger_refusal(tables, spec, *replace),
+        Command::TriggerNow { job } => trigger_now_refusal(tables, job),
+        Command::Threshold { .. } => None,
         _ => unreachable!(),
     }
 }
@@ -63,7 +68,8 @@ pub fn apply(tables: &mut Tables, entry: &Entry) -> Result<Reply, StepRefused>
     let moment = recorded_moment(tables, entry.at);
     match &entry.command {
         Command::AddJob { job, replace } => add_job(tables, moment, job, *replace),
-        Command::AddTrigger { spec, replace } => add_trigger(tables, moment, spec, *replace),
+        Command::TriggerNow { job } => trigger_now(tables, moment, job),
+        Command::Threshold { ms } => Ok(set_threshold(tables, moment, *ms)),
         _ => unreachable!(),
     }
 }

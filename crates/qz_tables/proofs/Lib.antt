@@ -9,6 +9,7 @@ mod Firsts
 mod JobLemmas
 pub mod Keys
 pub mod LinkLemmas
+mod Moves
 mod NthEdits
 pub mod Places
 pub mod SlotEdits

@@ -1,5 +1,5 @@
 -- What an edit of the slot at a place makes of the rows.
-use Rattle.std.proofs.Common.{◌≡◌, ◌≢◌, ℕ, zero, suc, ◌<◌, List, [], ◌∷◌, length, get_or, set, Option, Some, None, refl, sym, ap, subst, ◌∙◌}
+use Rattle.std.proofs.Common.{◌≡◌, ◌≢◌, ℕ, zero, suc, ◌<◌, List, [], ◌∷◌, length, get_or, set, Option, Some, None, refl, sym, subst, ◌∙◌}
 use Rattle.std.specs.List.{remove, slice_get}
 use Rattle.std.specs.Cmp.{IsTotalOrder}
 use Rattle.std.specs.declared.cmp.Ordering.{Ordering}
@@ -23,12 +23,14 @@ module _ {R K : Type 0} (cmp : K → K → Ordering) (id : R → K) where
   ascending-changed f (x ∷ xs) (suc n) keeps up = (before-changed f (id x) xs n keeps up.0, ascending-changed f xs n keeps up.1)
 
   before-remove : (k : K) (xs : List R) (n : ℕ) → IsBefore cmp id k xs → IsBefore cmp id k (remove xs n)
-  before-remove k [] n b = tt
+  before-remove k [] zero b = tt
+  before-remove k [] (suc n) b = tt
   before-remove k (x ∷ xs) zero b = b.1
   before-remove k (x ∷ xs) (suc n) b = (b.0, before-remove k xs n b.1)
 
   ascending-remove : (xs : List R) (n : ℕ) → IsAscending cmp id xs → IsAscending cmp id (remove xs n)
-  ascending-remove [] n up = tt
+  ascending-remove [] zero up = tt
+  ascending-remove [] (suc n) up = tt
   ascending-remove (x ∷ xs) zero up = up.1
   ascending-remove (x ∷ xs) (suc n) up = (before-remove (id x) xs n up.0, ascending-remove xs n up.1)
 

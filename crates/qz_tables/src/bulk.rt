@@ -68,7 +68,8 @@ impl Tables {
     {
         let before = self.triggers.len();
         self.triggers.remove_all(&OfJob { job });
-        before - self.triggers.len()
+        let after = self.triggers.len();
+        before - after
     }
 
     /// Takes out the fired rows of this trigger that are acquired.

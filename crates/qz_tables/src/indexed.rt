@@ -123,6 +123,13 @@ fn find<R: Keyed>(rows: &Slab<R>, order: &[usize], id: &R::Id) -> Option<usize>
     }
 }
 
+fn slot_at(order: &[usize], place: usize) -> usize
+    requires { place < length order.now }
+    ensures { result ≡ slice_index_or order.now place 0 }
+{
+    order[place]
+}
+
 // The rows at these slots.
 fn collect<'a, R: Keyed>(
     alloc: Global,
@@ -309,7 +316,8 @@ impl<R: Keyed> Indexed<R> {
         ensures slots { AreEdited (λ old new. new ≡ option_map (E.edited edit.now) old) self.old.slots self.new.slots }
         ensures spare { self.new.spare ≡ self.old.spare }
     {
-        let Some(row) = self.rows.get_mut(self.order[place]) else {
+        let slot = slot_at(&self.order, place);
+        let Some(row) = self.rows.get_mut(slot) else {
             unreachable!()
         };
         edit.edit(row);
@@ -324,7 +332,8 @@ impl<R: Keyed> Indexed<R> {
         ensures was { slice_index_or self.old.slots result.0 None ≡ Some result.1 }
         ensures spare { self.old.spare ≤ self.new.spare }
     {
-        let slot = self.order.remove(place);
+        let slot = slot_at(&self.order, place);
+        self.order.remove(place);
         match self.rows.try_remove(slot) {
             Some(row) => (slot, row),
             None => unreachable!(),
