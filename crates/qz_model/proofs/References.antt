@@ -1,8 +1,8 @@
 -- References and limits, where one list is changed.
-use Rattle.std.proofs.Common.{ℕ, ◌≤◌, ℤ, List, length}
+use Rattle.std.proofs.Common.{ℕ, ◌≤◌, ℤ, List, length, IsTrue}
 use Rattle.std.specs.Ordering.{nat_cmp}
 use Rattle.qz_types.specs.Sorted.{IsAscending}
-use Rattle.qz_types.specs.Rows.{JobData, TriggerData, CalendarData, ZoneData, MemberData, FiredData}
+use Rattle.qz_types.specs.Rows.{JobData, TriggerData, CalendarData, ZoneData, MemberData, FiredData, is_interval}
 use Rattle.qz_types.specs.declared.limits.TheConstants.{JOB_LIMIT, TRIGGER_LIMIT, CALENDAR_LIMIT, ZONE_LIMIT, GROUP_LIMIT, MEMBER_LIMIT, FIRED_LIMIT, NUMBER_LIMIT}
 use Rattle.qz_types.specs.Tables.{SchedulerTables}
 use Rattle.qz_types.specs.Words.{key_cmp, text_cmp}
@@ -24,6 +24,25 @@ module _ (T : SchedulerTables) (was : ReferencesAndLimits T) where
       next_entry = limits.next_entry;
       next_epoch = limits.next_epoch;
       threshold = limits.threshold;
+      horizon = limits.horizon;
+    };
+  }
+
+  pub references-threshold : (ms : ℤ) → IsTrue (is_interval ms) → ReferencesAndLimits (record T { threshold = ms })
+  references-threshold ms is = let order = was.ordered in let limits = was.limits in record {
+    ordered = record { jobs = order.jobs; triggers = order.triggers; calendars = order.calendars; zones = order.zones; paused_groups = order.paused_groups; members = order.members; fired = order.fired };
+    stored = was.stored;
+    limits = record {
+      jobs = limits.jobs;
+      triggers = limits.triggers;
+      calendars = limits.calendars;
+      zones = limits.zones;
+      paused_groups = limits.paused_groups;
+      members = limits.members;
+      fired = limits.fired;
+      next_entry = limits.next_entry;
+      next_epoch = limits.next_epoch;
+      threshold = is;
       horizon = limits.horizon;
     };
   }

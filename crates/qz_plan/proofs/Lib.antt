@@ -1,3 +1,4 @@
 pub mod FireLaws
 pub mod FireTimesLaws
 pub mod NextLaws
+pub mod Plan
