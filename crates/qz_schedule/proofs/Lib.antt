@@ -1,1 +1,1 @@
-mod Rooms
+pub mod Facts
