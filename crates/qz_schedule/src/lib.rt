@@ -4,5 +4,9 @@
 //! take memory; and the change, which can't fail.
 #![tactic(auto)]
 
+mod bulk;
+mod calendars;
+mod chains;
+mod pausing;
 mod uses;
 mod zones;
