@@ -7,7 +7,7 @@ use Rattle.qz_types.specs.declared.keys.Key.{Key}
 use Rattle.qz_types.specs.Tables.{SchedulerTables}
 use Rattle.qz_types.specs.Outcomes.{accepted, IsAccepted}
 use Rattle.qz_types.specs.Words.{fired_of, with_trigger, with_fired}
-use Rattle.qz_tables.specs.Changes.{begun}
+use Rattle.qz_types.specs.Changes.{begun}
 use Rattle.qz_apply.proofs.Accepted.{no_refusal, accepted_within, when_accepted}
 use Rattle.qz_model.specs.Membership.{node_refusal}
 use Rattle.qz_model.specs.Executions.{is_acquired}

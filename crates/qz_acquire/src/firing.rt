@@ -3,7 +3,7 @@ ghost use Rattle.std.specs.Prelude.{◌≡◌, true, None, Some, MatchOption, If
 ghost use Rattle.qz_types.specs.Tables.{IsMoment};
 ghost use Rattle.qz_types.specs.Outcomes.{accepted, refused, IsAccepted, IsErrorOf};
 ghost use Rattle.qz_types.specs.Words.{fired_of, with_trigger, with_fired};
-ghost use Rattle.qz_tables.specs.Changes.{begun};
+ghost use Rattle.qz_types.specs.Changes.{begun};
 ghost use Rattle.qz_model.specs.Executions.{is_acquired};
 ghost use Rattle.qz_model.specs.Firing.{is_of, early, next_of, spent, stored_job, fire_refusal, fired_reply, fire_one, fire_row, fire};
 ghost use Rattle.qz_model.specs.Invariant.{TablesValid};
