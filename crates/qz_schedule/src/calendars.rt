@@ -6,7 +6,7 @@ ghost use Rattle.qz_model.specs.Calendars.{with_new_calendar, add_calendar_refus
 ghost use Rattle.qz_model.specs.Invariant.{TablesValid};
 ghost use Rattle.qz_model.specs.Plan.{is_known_calendar};
 
-use crate::chains::{makes_too_long, place_in};
+use crate::chains::{makes_too_long, place_below};
 use crate::uses::{calendars_above, triggers_with_calendar, use_refusal};
 use crate::zones::is_known_zone;
 use qz_tables::Tables;
@@ -62,7 +62,7 @@ pub fn add_calendar_refusal(
     if stored && !replace {
         return Some(Refusal::CalendarExists);
     }
-    if let Some(at) = place_in(tables, &calendar.name, &calendar.base, CHAIN_LIMIT) {
+    if let Some(at) = place_below(tables, calendar) {
         return Some(Refusal::Circle { at });
     }
     if makes_too_long(tables, calendar) {

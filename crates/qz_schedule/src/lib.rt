@@ -4,7 +4,6 @@
 //! take memory; and the change, which can't fail.
 #![tactic(auto)]
 
-mod bulk;
 mod calendars;
 mod chains;
 mod pausing;

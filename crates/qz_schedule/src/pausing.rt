@@ -5,8 +5,7 @@ ghost use Rattle.qz_types.specs.Words.{trigger_of, is_paused, put_group, without
 ghost use Rattle.qz_model.specs.Pausing.{pause_trigger, resume_trigger, pause_group_refusal, pause_group, resume_group};
 ghost use Rattle.qz_model.specs.Triggers.{unknown_trigger};
 
-use crate::bulk::{StateChange, change_group_states, change_state, remove_acquired, remove_acquired_of_group};
-use qz_tables::Tables;
+use qz_tables::{StateChange, Tables};
 use qz_types::{GROUP_LIMIT, Key, Refusal, Reply, StepRefused, Text};
 
 /// Pauses the trigger of this key. If it is acquired, its fired row goes.
@@ -18,8 +17,8 @@ pub fn pause_trigger(tables: &mut Tables, moment: i64, key: &Key) -> Result<Repl
     if let Some(refusal) = unknown_trigger(tables, key) {
         return Err(StepRefused::Refused(refusal));
     }
-    change_state(tables, key, StateChange::Pause);
-    remove_acquired(tables, key);
+    tables.change_state(key, StateChange::Pause);
+    tables.remove_acquired(key);
     tables.set_last_moment(moment);
     Ok(Reply::Done)
 }
@@ -33,7 +32,7 @@ pub fn resume_trigger(tables: &mut Tables, moment: i64, key: &Key) -> Result<Rep
     if let Some(refusal) = unknown_trigger(tables, key) {
         return Err(StepRefused::Refused(refusal));
     }
-    change_state(tables, key, StateChange::Resume);
+    tables.change_state(key, StateChange::Resume);
     tables.set_last_moment(moment);
     Ok(Reply::Done)
 }
@@ -60,8 +59,8 @@ pub fn pause_group(tables: &mut Tables, moment: i64, group: &Text) -> Result<Rep
     }
     let paused = group.clone()?;
     put_group(tables, paused);
-    change_group_states(tables, group, StateChange::Pause);
-    remove_acquired_of_group(tables, group);
+    tables.change_group_states(group, StateChange::Pause);
+    tables.remove_acquired_of_group(group);
     tables.set_last_moment(moment);
     Ok(Reply::Done)
 }
@@ -101,7 +100,7 @@ pub fn resume_group(tables: &mut Tables, moment: i64, group: &Text) -> Reply
 {
     let removed = tables.remove_group(group);
     drop(removed);
-    change_group_states(tables, group, StateChange::Resume);
+    tables.change_group_states(group, StateChange::Resume);
     tables.set_last_moment(moment);
     Reply::Done
 }

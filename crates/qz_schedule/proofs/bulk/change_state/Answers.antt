@@ -1,4 +1,0 @@
-use Rattle.qz_schedule.proofs.bulk.change_state.Goals as goal
-
-pub returns-clause-tables : goal.returns-clause-tables
-returns-clause-tables c = ?
