@@ -1,4 +1,5 @@
 pub mod Accepted
+pub mod Deletions
 pub mod JobLists
 pub mod Refused
 pub mod Rooms

@@ -13,4 +13,4 @@ pub use executions::{is_acquired, is_busy};
 pub use members::{is_of, node_refusal};
 pub use moments::recorded_moment;
 pub use names::{same_key, same_text};
-pub use orphans::remove_orphan;
+pub use orphans::{remove_orphan, remove_trigger_and_orphan};

@@ -3,6 +3,8 @@ ghost use Rattle.std.specs.Prelude.{◌≡◌, option_copied};
 ghost use Rattle.std.specs.List.{list_any};
 ghost use Rattle.qz_model.specs.Jobs.{is_orphan, without_orphan_of};
 ghost use Rattle.qz_model.specs.Tests.{is_trigger_of};
+ghost use Rattle.qz_model.specs.Triggers.{without_trigger_and_orphan};
+ghost use Rattle.qz_types.specs.Words.{trigger_of};
 ghost use Rattle.qz_tables.specs.Contents.{KeepsSpare};
 
 use qz_tables::Tables;
@@ -22,6 +24,22 @@ pub fn remove_orphan(tables: &mut Tables, key: &Key)
     }
     let removed = tables.remove_job(key);
     drop(removed);
+}
+
+/// The trigger of this key goes, if it is stored, with its row if it is acquired, and with its job if that is an orphan then.
+///
+/// It looks at every fired row.
+#[tactic(auto, using(crate::proofs::JobLists::key_of_trigger), unfolding(qz_model::specs::Triggers::without_trigger_and_orphan))]
+pub fn remove_trigger_and_orphan(tables: &mut Tables, key: &Key)
+    ensures tables { tables.new.tables ≡ without_trigger_and_orphan tables.old.tables (trigger_of key.now tables.old.tables.triggers) }
+    ensures spare { KeepsSpare tables.old.spare tables.new.spare }
+{
+    let Some(trigger) = tables.remove_trigger(key) else {
+        return;
+    };
+    tables.remove_acquired(key);
+    remove_orphan(tables, &trigger.spec.job);
+    drop(trigger);
 }
 
 #[tactic(auto, unfolding(qz_model::specs::Jobs::is_orphan))]

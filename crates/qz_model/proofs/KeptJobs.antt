@@ -55,9 +55,9 @@ kept-add_job T T' m job replace r valid is e =
     let flags = no_first (flag_refusal (find (has_other_flag job) T.fired)) _ second.1 in
     let full = not_refused (is_none (job_of job.key T.jobs) && nat_le JOB_LIMIT (length T.jobs)) _ _ flags.1 in
     let agrees : AgreesWithJob T.fired job = All-weaker (λ f. has_other_flag job f ≡ false) (HasFlag job.key job.no_concurrent) T.fired (has_flag job)
-        (none_found (has_other_flag job) T.fired (no_flag (find (has_other_flag job) T.fired) flags.0)) in
+    (none_found (has_other_flag job) T.fired (no_flag (find (has_other_flag job) T.fired) flags.0)) in
     let room : length (without_job job.key T.jobs) + 1 ≤ JOB_LIMIT = both_room (job_of job.key T.jobs) JOB_LIMIT (length T.jobs) (length (without_job job.key T.jobs)) full.0
-        valid.references_and_limits.limits.jobs (length-without_job job.key T.jobs) (length-without_stored job.key T.jobs) in
+    valid.references_and_limits.limits.jobs (length-without_job job.key T.jobs) (length-without_stored job.key T.jobs) in
     let same : accepted (record T { jobs = put_job job (without_job job.key T.jobs); last_moment = m }) _ ≡ accepted T' r = way.outcome in
     subst TablesValid (cc) (valid-set_job (record T { last_moment = m }) job (valid-moment T m valid is) agrees room)
 

@@ -20,11 +20,11 @@ use Rattle.qz_plan.proofs.Plan.{fire_time_within}
 use Rattle.qz_model.specs.Executions.{is_busy}
 use Rattle.qz_model.specs.Plan.{zone_named_by, is_known_zone, is_known_zone_name, is_known_calendar, stretches_for, zoned_chain, next_after, first_time}
 use Rattle.qz_model.specs.Tests.{refuse_if, is_row_of_trigger}
-use Rattle.qz_model.specs.Triggers.{is_reserved, new_trigger, add_trigger_refusal, without_old_orphan, with_new_trigger, add_trigger, unknown_trigger, without_trigger_and_orphan, delete_trigger, manual_trigger, trigger_now_refusal, trigger_now, set_threshold}
+use Rattle.qz_model.specs.Triggers.{is_reserved, new_trigger, naming_refusal, add_trigger_refusal, without_old_orphan, with_new_trigger, add_trigger, unknown_trigger, without_trigger_and_orphan, delete_trigger, manual_trigger, trigger_now_refusal, trigger_now, set_threshold}
 use Rattle.qz_model.specs.Invariant.{is_blocked_or_done, is_blocked, EndsIn, TablesValid}
 use Rattle.qz_model.proofs.RowLaws.{some_row_not_none, same_key-exact, trigger_of-key, All-trigger_of, trigger_of-without_own, length-without_trigger, length-without_stored_trigger}
 use Rattle.qz_model.proofs.Changes.{HasCalendar, HasZone, StaysBlocked, IsBlockedBy, passes, valid-moment}
-use Rattle.qz_model.proofs.Refusals.{not_refused, both_room}
+use Rattle.qz_model.proofs.Refusals.{not_refused, no_first, both_room}
 use Rattle.qz_model.proofs.Dropping.{busy-without_acquired, valid-without_trigger, valid-without_orphan_of, valid-without_trigger_and_orphan}
 use Rattle.qz_model.proofs.Putting.{IsNew, IsFreeNumber, HasFreeNumber, unnumbered, valid-put_trigger, valid-next_entry, free-next_entry, valid-threshold}
 
@@ -37,6 +37,22 @@ known_calendar calendars (Some name) known = known
 known_zone : (zones : List ZoneData) (name : Option (List ℕ)) → is_known_zone_name zones name ≡ true → IfSome name (λ n. IsTrue (is_known_zone zones n))
 known_zone zones None known = tt
 known_zone zones (Some name) known = known
+
+-- what a trigger names is stored, and its group is a client's
+record NamesKnown (T : SchedulerTables) (s : TriggerSpec) : Type 0 where
+  pub client : is_reserved s.key.group ≡ false
+  pub job : is_none (job_of s.job T.jobs) ≡ false
+  pub calendar : is_known_calendar T.calendars s.calendar ≡ true
+  pub zone : is_known_zone_name T.zones (zone_named_by s.timing.kind) ≡ true
+
+names_known : (T : SchedulerTables) (s : TriggerSpec) → naming_refusal T s ≡ None → NamesKnown T s
+unfolding naming_refusal
+names_known T s none =
+    let reserved = not_refused (is_reserved s.key.group) _ _ none in
+    let job = not_refused (is_none (job_of s.job T.jobs)) _ _ reserved.1 in
+    let calendar = not_refused (not (is_known_calendar T.calendars s.calendar)) _ _ job.1 in
+    let zone = not_refused (not (is_known_zone_name T.zones (zone_named_by s.timing.kind))) _ _ calendar.1 in
+    record { client = reserved.0; job = job.0; calendar = not-false _ calendar.0; zone = not-false _ zone.0 }
 
 -- the first state of a trigger fits what goes on of its job
 first_free : (paused busy : Bool) → first_state paused busy ≡ state.Acquired → ⊥
@@ -78,14 +94,14 @@ module _ (T : SchedulerTables) (m : ℤ) (s : TriggerSpec) (valid : TablesValid 
   abbrev first_trigger : TriggerData
   first_trigger = new_trigger T s (first_time T s)
 
-  is_new : is_none (job_of s.job T.jobs) ≡ false → is_known_calendar T.calendars s.calendar ≡ true → is_known_zone_name T.zones (zone_named_by s.timing.kind) ≡ true → is_none (first_time T s) ≡ false → IsNew cleared first_trigger
+  is_new : NamesKnown T s → is_none (first_time T s) ≡ false → IsNew cleared first_trigger
   unfolding new_trigger
-  is_new job calendar zone time =
+  is_new named time =
       let busy = busy-without_acquired s.job (is_row_of_trigger s.key) T.fired in record {
         absent = trigger_of-without_own s.key T.triggers;
-        job = some_row_not_none _ job;
-        calendar = known_calendar T.calendars s.calendar calendar;
-        zone = known_zone T.zones (zone_named_by s.timing.kind) zone;
+        job = some_row_not_none _ named.job;
+        calendar = known_calendar T.calendars s.calendar named.calendar;
+        zone = known_zone T.zones (zone_named_by s.timing.kind) named.zone;
         free = first_free (is_paused s.key.group T.paused_groups) (is_busy s.job T.fired);
         stays = λ goes_on. first_stays (is_paused s.key.group T.paused_groups) (is_busy s.job T.fired) (sym busy ∙ goes_on);
         blocked = λ waits. busy ∙ first_blocked (is_paused s.key.group T.paused_groups) (is_busy s.job T.fired) waits;
@@ -102,18 +118,16 @@ pub kept-add_trigger : (T T' : SchedulerTables) (m : ℤ) (s : TriggerSpec) (rep
 unfolding add_trigger_refusal
 kept-add_trigger T T' m s replace r valid is e =
     let way = passes (add_trigger_refusal T s replace) _ T' r e in
-    let reserved = not_refused (is_reserved s.key.group) _ _ way.clear in
-    let job = not_refused (is_none (job_of s.job T.jobs)) _ _ reserved.1 in
-    let calendar = not_refused (not (is_known_calendar T.calendars s.calendar)) _ _ job.1 in
-    let zone = not_refused (not (is_known_zone_name T.zones (zone_named_by s.timing.kind))) _ _ calendar.1 in
-    let stored = not_refused (is_some (trigger_of s.key T.triggers) && not replace) _ _ zone.1 in
+    let names = no_first (naming_refusal T s) _ way.clear in
+    let named = names_known T s names.0 in
+    let stored = not_refused (is_some (trigger_of s.key T.triggers) && not replace) _ _ names.1 in
     let time = not_refused (is_none (first_time T s)) _ _ stored.1 in
     let full = not_refused (is_none (trigger_of s.key T.triggers) && nat_le TRIGGER_LIMIT (length T.triggers)) _ _ time.1 in
     let room : length (without_trigger s.key T.triggers) + 1 ≤ TRIGGER_LIMIT = both_room (trigger_of s.key T.triggers) TRIGGER_LIMIT (length T.triggers) (length (without_trigger s.key T.triggers)) full.0
-        valid.references_and_limits.limits.triggers (length-without_trigger s.key T.triggers) (length-without_stored_trigger s.key T.triggers) in
-    let new = is_new T m s valid is job.0 (not-false _ calendar.0) (not-false _ zone.0) time.0 in
+    valid.references_and_limits.limits.triggers (length-without_trigger s.key T.triggers) (length-without_stored_trigger s.key T.triggers) in
+    let new = is_new T m s valid is named time.0 in
     let same : accepted (record (with_new_trigger T (new_trigger T s (first_time T s))) { last_moment = m }) _ ≡ accepted T' r = way.outcome in
-    subst TablesValid (cc) (valid-with_new_trigger T m s valid is new reserved.0 room)
+    subst TablesValid (cc) (valid-with_new_trigger T m s valid is new named.client room)
 
 -- DeleteTrigger.
 
@@ -143,6 +157,16 @@ no_trigger : (o : Option TriggerData) → ((t : TriggerData) → o ≡ Some t �
 no_trigger None none = refl
 no_trigger (Some t) none = absurd (none t refl)
 
+-- no trigger is named by the next entry number
+pub manual_absent : (T : SchedulerTables) (m : ℤ) (job : Key) → TablesValid T → T.next_entry + 1 ≤ NUMBER_LIMIT → trigger_of (manual_trigger m T.next_entry job).key T.triggers ≡ None
+manual_absent T m job valid room =
+    let key : Key = (manual_trigger m T.next_entry job).key in
+    let free : IsFreeNumber (record T { next_entry = T.next_entry + 1 }) key.name T.next_entry = free-next_entry T key.name valid (manual_named m T.next_entry job) room in
+    no_trigger (trigger_of key T.triggers) (λ t found.
+    let same : key ≡ t.spec.key = same_key-exact key t.spec.key (trigger_of-key key t T.triggers found) in
+    All-trigger_of (λ u. is_reserved u.spec.key.group ≡ true → EndsIn u.spec.key.name T.next_entry → ⊥) key t T.triggers free.unused found
+    (subst (λ k. is_reserved k.group ≡ true) same (manual_reserved m T.next_entry job)) (subst (λ k. EndsIn k.name T.next_entry) same (manual_named m T.next_entry job)))
+
 module _ (T : SchedulerTables) (m : ℤ) (job : Key) (valid : TablesValid T) (is : IsMoment T.horizon m) (room : T.next_entry + 1 ≤ NUMBER_LIMIT) where
   abbrev numbered : SchedulerTables
   numbered = record T { next_entry = T.next_entry + 1; last_moment = m }
@@ -159,16 +183,10 @@ module _ (T : SchedulerTables) (m : ℤ) (job : Key) (valid : TablesValid T) (is
   free_number : IsFreeNumber numbered manual.key.name T.next_entry
   free_number = free-next_entry (record T { last_moment = m }) manual.key.name (valid-moment T m valid is) (manual_named m T.next_entry job) room
 
-  no_such : trigger_of manual.key T.triggers ≡ None
-  no_such = no_trigger (trigger_of manual.key T.triggers) (λ t found.
-      let key : manual.key ≡ t.spec.key = same_key-exact manual.key t.spec.key (trigger_of-key manual.key t T.triggers found) in
-      All-trigger_of (λ u. is_reserved u.spec.key.group ≡ true → EndsIn u.spec.key.name T.next_entry → ⊥) manual.key t T.triggers free_number.unused found
-      (subst (λ k. is_reserved k.group ≡ true) key (manual_reserved m T.next_entry job)) (subst (λ k. EndsIn k.name T.next_entry) key (manual_named m T.next_entry job)))
-
   manual_is_new : is_none (job_of job T.jobs) ≡ false → IsNew numbered manual_new
   unfolding new_trigger manual_trigger
   manual_is_new stored = record {
-    absent = no_such;
+    absent = manual_absent T m job valid room;
     job = some_row_not_none _ stored;
     calendar = tt;
     zone = tt;

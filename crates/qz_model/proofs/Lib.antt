@@ -7,7 +7,7 @@ pub mod Kept
 pub mod KeptCalendars
 mod KeptJobs
 pub mod KeptPausing
-mod KeptTriggers
+pub mod KeptTriggers
 pub mod KeptZones
 pub mod LookUps
 pub mod NamedRows

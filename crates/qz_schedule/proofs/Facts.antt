@@ -1,32 +1,56 @@
--- What the commands on zones and calendars read of the tables.
-use Rattle.std.proofs.Common.{◌≡◌, ℕ, ◌+◌, ◌≤◌, ◌<◌, Bool, true, false, cond, List, length, take, count_by, Some, None, is_some, ap, ◌∙◌, arith}
-use Rattle.std.specs.List.{slice_get}
+-- What valid tables say of what the commands read.
+use Rattle.std.proofs.Common.{◌≡◌, ℕ, ◌+◌, ◌++◌, ◌<◌, ◌≤◌, ◌^◌, ℤ, pos, ◌≤ℤ◌, int_le, true, subst, lit<, Option, Some, None, codes, refl, arith}
 use Rattle.std.proofs.Math.Logic.{∥∥₁_elim}
-use Rattle.std.proofs.Props.{props}
-use Rattle.std.proofs.lemmas.Bool.{or_parts}
-use Rattle.std.proofs.lemmas.List.Sums.{count_by-le-length, count_by_more_yes, count_by_more_no}
-use Rattle.std.proofs.lemmas.Option.{slice_get_within}
-use Rattle.qz_types.specs.Rows.{TriggerData, CalendarData, ZoneData}
-use Rattle.qz_types.specs.Tables.{SchedulerTables}
-use Rattle.qz_types.specs.Words.{zone_of}
+use Rattle.std.proofs.Math.Bool.{Bool-set}
+use Rattle.std.proofs.lemmas.Bool.{and_from}
+use Rattle.std.proofs.lemmas.Bool.Decides.{nat_tests}
+use Rattle.std.proofs.lemmas.Int.{ints}
+use Rattle.std.proofs.lemmas.Fmt.{length-decimal-le}
+use Rattle.std.specs.Fmt.{decimal}
+use Rattle.qz_civil.specs.declared.limits.TheConstants.{LAST, LONGEST}
+use Rattle.qz_civil.specs.Timings.{is_name, is_span}
+use Rattle.qz_types.specs.Rows.{TriggerData, is_key, is_trigger_spec}
+use Rattle.qz_types.specs.declared.keys.Key.{Key}
+use Rattle.qz_types.specs.declared.limits.TheConstants.{NUMBER_LIMIT}
+use Rattle.qz_types.specs.declared.triggers.TriggerSpec.{TriggerSpec}
+use Rattle.qz_types.specs.Tables.{SchedulerTables, IsMoment, recorded_moment}
+use Rattle.qz_types.specs.Words.{trigger_of}
 use Rattle.qz_model.specs.Invariant.{TablesValid}
-use Rattle.qz_model.specs.Plan.{is_utc, is_known_zone}
-use Rattle.qz_model.proofs.RowLaws.{no_row}
-use Rattle.qz_apply.proofs.Searches.{at_place}
+use Rattle.qz_model.specs.Triggers.{manual_trigger, new_trigger}
+use Rattle.qz_model.proofs.Changes.{moment_within}
+use Rattle.qz_model.proofs.KeptTriggers.{manual_absent as absent_in_valid}
 
--- a zone that isn't known isn't stored
-pub new_zone : (zones : List ZoneData) (name : List ℕ) → is_known_zone zones name ≡ false → zone_of name zones ≡ None
-unfolding is_known_zone
-new_zone zones name unknown = no_row (zone_of name zones) (or_parts (is_utc name) (is_some (zone_of name zones)) unknown).1
+none_from : (o : Option TriggerData) → ((t : TriggerData) → o ≡ Some t → ⊥) → o ≡ None
+none_from None never = refl
+none_from (Some t) never = absurd (never t refl)
 
--- rows that pass, place by place
-pub one_more : {R : Type 0} (p : R → Bool) (rows : List R) (place : ℕ) (row : R) → slice_get rows place ≡ Some row → p row ≡ true → count_by p (take (place + 1) rows) ≡ count_by p (take place rows) + 1
-one_more p rows place row is passes = count_by_more_yes p rows place row (slice_get_within rows place row is) (ap p (at_place rows place row is) ∙ passes)
+-- no trigger is named by the next entry number
+pub manual_absent : (T : SchedulerTables) (m : ℤ) (job : Key) → ∥ TablesValid T ∥₁ → T.next_entry + 1 ≤ NUMBER_LIMIT → trigger_of (manual_trigger m T.next_entry job).key T.triggers ≡ None
+manual_absent T m job valid room = none_from _ (λ t found. ∥∥₁_elim valid (λ x y. absurd x) (λ is. let none = absent_in_valid T m job is room in absurd (cc)))
 
-pub no_more : {R : Type 0} (p : R → Bool) (rows : List R) (place : ℕ) (row : R) → slice_get rows place ≡ Some row → p row ≡ false → count_by p (take (place + 1) rows) ≡ count_by p (take place rows)
-no_more p rows place row is fails = count_by_more_no p rows place row (slice_get_within rows place row is) (ap p (at_place rows place row is) ∙ fails)
+-- the name of a manual trigger is short enough
+manual_name : (n : ℕ) → n < 2 ^ 64 → is_name (codes "now_" ++ decimal n) ≡ true
+manual_name n small = grind (arith, nat_tests, length-decimal-le 20 n (lit< tt) (omega arith) small)
 
--- the rows that are counted are few
-pub few_uses : (T : SchedulerTables) (p : TriggerData → Bool) (q : CalendarData → Bool) → ∥ TablesValid T ∥₁ → count_by p T.triggers + count_by q T.calendars ≤ 266240
-few_uses T p q valid = ∥∥₁_elim valid (hlevel props) (λ is.
-    omega (arith, count_by-le-length p T.triggers, count_by-le-length q T.calendars, is.references_and_limits.limits.triggers, is.references_and_limits.limits.calendars))
+-- a manual trigger is valid
+pub manual_is_spec : (m : ℤ) (n : ℕ) (job : Key) → is_span m ≡ true → is_key job ≡ true → n < 2 ^ 64 → is_trigger_spec (manual_trigger m n job) ≡ true
+unfolding manual_trigger
+manual_is_spec m n job span key small = rw (manual_name n small, key, span) refl
+
+le_from : (a b : ℤ) → a ≤ℤ b → int_le a b ≡ true
+le_from a b le = grind (arith, ints)
+
+span_of : (t : ℤ) → pos 0 ≤ℤ t → t ≤ℤ LAST → is_span t ≡ true
+span_of t low high = and_from (int_le (pos 0) t) (int_le t LONGEST) (le_from (pos 0) t low) (le_from t LONGEST (omega (arith, ints)))
+
+-- the recorded moment is a start that a trigger may have
+pub moment_is_span : (T : SchedulerTables) (at : ℤ) → ∥ TablesValid T ∥₁ → is_span (recorded_moment T at) ≡ true
+moment_is_span T at valid = ∥∥₁_elim valid (hlevel Bool-set) (λ is.
+    let within : IsMoment T.horizon (recorded_moment T at) = moment_within T at is.next_times.moment in
+    let last : T.horizon ≡ LAST = is.references_and_limits.limits.horizon in
+    span_of (recorded_moment T at) within.low (subst (λ h. recorded_moment T at ≤ℤ h) last within.high))
+
+-- a new trigger has the key that it was given
+pub new_key : (T : SchedulerTables) (s : TriggerSpec) (next : Option ℤ) → (new_trigger T s next).spec.key ≡ s.key
+unfolding new_trigger
+new_key T s next = refl

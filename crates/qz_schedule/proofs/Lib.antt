@@ -1,2 +1,5 @@
-pub mod Facts
-pub mod ChainWalks
+mod Absent
+mod ChainWalks
+mod Counting
+mod Facts
+mod Rooms

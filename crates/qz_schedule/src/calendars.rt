@@ -4,11 +4,10 @@ ghost use Rattle.qz_types.specs.Outcomes.{accepted, IsErrorOf};
 ghost use Rattle.qz_types.specs.Words.{calendar_of};
 ghost use Rattle.qz_model.specs.Calendars.{with_new_calendar, add_calendar_refusal, add_calendar, calendar_uses, delete_calendar_refusal, delete_calendar};
 ghost use Rattle.qz_model.specs.Invariant.{TablesValid};
-ghost use Rattle.qz_model.specs.Plan.{is_known_calendar};
 
 use crate::chains::{makes_too_long, place_below};
+use crate::known::{is_known_calendar, is_known_zone};
 use crate::uses::{calendars_above, triggers_with_calendar, use_refusal};
-use crate::zones::is_known_zone;
 use qz_tables::Tables;
 use qz_types::{CALENDAR_LIMIT, CHAIN_LIMIT, CalendarRow, Refusal, Reply, StepRefused, Text};
 
@@ -76,21 +75,8 @@ pub fn add_calendar_refusal(
     None
 }
 
-fn is_known_calendar(tables: &Tables, name: &Option<Text>) -> bool
-    ensures { result ≡ is_known_calendar tables.now.tables.calendars name.now }
-{
-    match name {
-        Some(name) => tables.get_calendar(name).is_some(),
-        None => true,
-    }
-}
-
 /// Deletes the calendar of this name.
-pub fn delete_calendar(
-    tables: &mut Tables,
-    moment: i64,
-    name: &Text,
-) -> Result<Reply, StepRefused>
+pub fn delete_calendar(tables: &mut Tables, moment: i64, name: &Text) -> Result<Reply, StepRefused>
     requires valid { ∥ TablesValid tables.old.tables ∥₁ }
     ensures ok { IfOk result (λ reply. delete_calendar tables.old.tables moment name.now ≡ accepted tables.new.tables reply) }
     ensures cause { IfErr result (IsErrorOf (delete_calendar tables.old.tables moment name.now)) }
@@ -117,7 +103,7 @@ pub fn delete_calendar_refusal(tables: &Tables, name: &Text) -> Option<Refusal>
     use_refusal(calendar_uses(tables, name))
 }
 
-#[tactic(auto, using(crate::proofs::Facts::few_uses), unfolding(qz_model::specs::Calendars::calendar_uses))]
+#[tactic(auto, using(crate::proofs::Counting::few_uses), unfolding(qz_model::specs::Calendars::calendar_uses))]
 fn calendar_uses(tables: &Tables, name: &Text) -> u64
     requires valid { ∥ TablesValid tables.now.tables ∥₁ }
     ensures { result ≡ calendar_uses tables.now.tables name.now }

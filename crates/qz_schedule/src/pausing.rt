@@ -5,6 +5,7 @@ ghost use Rattle.qz_types.specs.Words.{trigger_of, is_paused, put_group, without
 ghost use Rattle.qz_model.specs.Pausing.{pause_trigger, resume_trigger, pause_group_refusal, pause_group, resume_group};
 ghost use Rattle.qz_model.specs.Triggers.{unknown_trigger};
 
+use crate::triggers::is_paused;
 use qz_tables::{StateChange, Tables};
 use qz_types::{GROUP_LIMIT, Key, Refusal, Reply, StepRefused, Text};
 
@@ -86,12 +87,6 @@ fn put_group(tables: &mut Tables, group: Text)
     let removed = tables.remove_group(&group);
     drop(removed);
     tables.insert_group(group);
-}
-
-fn is_paused(tables: &Tables, group: &Text) -> bool
-    ensures { result ≡ is_paused group.now tables.now.tables.paused_groups }
-{
-    tables.get_group(group).is_some()
 }
 
 /// Resumes the group. None of its triggers stays paused, whether it was paused with the group or alone.

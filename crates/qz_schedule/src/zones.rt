@@ -1,13 +1,12 @@
 //! Storing a zone, and deleting one that nothing names.
-ghost use Rattle.std.specs.Prelude.{◌≡◌, ◌≤◌, None, IfNone, IfOk, IfErr, OnErr, codes, option_copied};
+ghost use Rattle.std.specs.Prelude.{◌≡◌, ◌≤◌, None, IfNone, IfOk, IfErr, OnErr, option_copied};
 ghost use Rattle.qz_types.specs.Outcomes.{accepted, IsErrorOf};
 ghost use Rattle.qz_types.specs.Words.{zone_of};
 ghost use Rattle.qz_model.specs.Calendars.{add_zone_refusal, add_zone, zone_uses, delete_zone_refusal, delete_zone};
 ghost use Rattle.qz_model.specs.Invariant.{TablesValid};
-ghost use Rattle.qz_model.specs.Plan.{is_utc, is_known_zone};
 
+use crate::known::is_known_zone;
 use crate::uses::{calendars_in_zone, triggers_in_zone, use_refusal};
-use qz_apply::same_text;
 use qz_tables::Tables;
 use qz_types::{Refusal, Reply, StepRefused, Text, ZONE_LIMIT, ZoneRow};
 
@@ -28,7 +27,7 @@ pub fn add_zone(tables: &mut Tables, moment: i64, zone: &ZoneRow) -> Result<Repl
 }
 
 /// Why the zone isn't stored, if it isn't.
-#[tactic(auto, using(crate::proofs::Facts::new_zone), unfolding(qz_model::specs::Calendars::add_zone_refusal))]
+#[tactic(auto, using(crate::proofs::Counting::new_zone), unfolding(qz_model::specs::Calendars::add_zone_refusal))]
 pub fn add_zone_refusal(tables: &Tables, zone: &ZoneRow) -> Option<Refusal>
     ensures value { result ≡ add_zone_refusal tables.now.tables zone.now }
     ensures absent { IfNone result (zone_of zone.now.name tables.now.tables.zones ≡ None) }
@@ -40,21 +39,6 @@ pub fn add_zone_refusal(tables: &Tables, zone: &ZoneRow) -> Option<Refusal>
     } else {
         None
     }
-}
-
-/// Whether the zone of this name can be used: it is stored, or `UTC`.
-#[tactic(auto, unfolding(qz_model::specs::Plan::is_known_zone))]
-pub fn is_known_zone(tables: &Tables, name: &Text) -> bool
-    ensures { result ≡ is_known_zone tables.now.tables.zones name.now }
-{
-    is_utc(name) || tables.get_zone(name).is_some()
-}
-
-#[tactic(auto, unfolding(qz_model::specs::Plan::is_utc))]
-fn is_utc(name: &Text) -> bool
-    ensures { result ≡ is_utc name.now }
-{
-    same_text(name.as_str(), "UTC")
 }
 
 /// Deletes the zone of this name.
@@ -85,7 +69,7 @@ pub fn delete_zone_refusal(tables: &Tables, name: &Text) -> Option<Refusal>
     use_refusal(zone_uses(tables, name))
 }
 
-#[tactic(auto, using(crate::proofs::Facts::few_uses), unfolding(qz_model::specs::Calendars::zone_uses))]
+#[tactic(auto, using(crate::proofs::Counting::few_uses), unfolding(qz_model::specs::Calendars::zone_uses))]
 fn zone_uses(tables: &Tables, name: &Text) -> u64
     requires valid { ∥ TablesValid tables.now.tables ∥₁ }
     ensures { result ≡ zone_uses tables.now.tables name.now }

@@ -1,4 +1,4 @@
-use Rattle.std.proofs.Common.{◌≡◌, Some, true, false, not, ◌&&◌, sym, ◌∙◌, arith}
+use Rattle.std.proofs.Common.{◌≡◌, Some, not, ◌&&◌, sym, ◌∙◌, arith}
 use Rattle.std.proofs.lemmas.Grind.{common_steps}
 use Rattle.std.specs.List.{slice_get}
 use Rattle.qz_types.specs.Words.{same_text}

@@ -1,11 +1,9 @@
-use Rattle.std.proofs.Common.{◌≡◌, ◌+◌, Bool, true, false, Some, sym, ap, ◌∙◌, arith}
+use Rattle.std.proofs.Common.{◌≡◌, ◌+◌, Bool, Some, sym, ap, ◌∙◌, arith}
 use Rattle.std.proofs.lemmas.Grind.{common_steps}
 use Rattle.std.specs.List.{slice_get}
 use Rattle.qz_types.specs.Rows.{CalendarData}
 use Rattle.qz_types.specs.Words.{same_text}
-use Rattle.qz_model.specs.Calendars.{is_named}
-use Rattle.qz_model.specs.Plan.{zone_named_by}
-use Rattle.qz_schedule.proofs.Facts.{one_more, no_more}
+use Rattle.qz_schedule.proofs.Counting.{one_more, no_more}
 use Rattle.qz_schedule.proofs.uses.calendars_in_zone.Goals as goal
 use Rattle.qz_schedule.proofs.uses.calendars_in_zone.Goals.{then-is_read_in, else-is_read_in}
 

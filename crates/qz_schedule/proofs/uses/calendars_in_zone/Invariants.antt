@@ -1,7 +1,5 @@
 use Rattle.std.proofs.Common.{◌≡◌, count_by, take}
 use Rattle.qz_types.specs.Words.{same_text}
-use Rattle.qz_model.specs.Calendars.{is_named}
-use Rattle.qz_model.specs.Plan.{zone_named_by}
 use Rattle.qz_schedule.proofs.uses.calendars_in_zone.Given as goal
 
 abbrev pub invariant-loop-place : goal.invariant-loop-place

@@ -1,5 +1,4 @@
 use Rattle.std.proofs.Common.{◌≡◌, count_by, take}
-use Rattle.qz_types.specs.Words.{same_text}
 use Rattle.qz_model.specs.Calendars.{is_named}
 use Rattle.qz_model.specs.Plan.{zone_named_by}
 use Rattle.qz_schedule.proofs.uses.triggers_in_zone.Given as goal

@@ -1,0 +1,90 @@
+//! Adding and deleting jobs.
+ghost use Rattle.std.specs.Prelude.{◌≡◌, ◌≤◌, IfOk, IfErr, OnErr, MatchOption, find, option_copied};
+ghost use Rattle.qz_types.specs.Outcomes.{accepted, refused, IsAccepted, IsErrorOf};
+ghost use Rattle.qz_types.specs.Words.{job_of, put_job, without_job};
+ghost use Rattle.qz_model.specs.Jobs.{differ, has_other_flag, flag_refusal, add_job_refusal, add_job};
+
+use qz_apply::{is_acquired, same_key};
+use qz_tables::Tables;
+use qz_types::{FiredRow, JOB_LIMIT, JobRow, Key, Refusal, Reply, StepRefused};
+
+/// Stores the job, in place of one of its key. The moment is in ms since 1970-01-01T00:00:00Z.
+pub fn add_job(
+    tables: &mut Tables,
+    moment: i64,
+    job: &JobRow,
+    replace: bool,
+) -> Result<Reply, StepRefused>
+    requires spare { 1 ≤ tables.old.spare.jobs }
+    ensures ok { IfOk result (λ reply. add_job tables.old.tables moment job.now replace ≡ accepted tables.new.tables reply) }
+    ensures cause { IfErr result (IsErrorOf (add_job tables.old.tables moment job.now replace)) }
+    ensures err { OnErr result (tables.new ≡ tables.old) }
+{
+    if let Some(refusal) = add_job_refusal(tables, job, replace) {
+        return Err(StepRefused::Refused(refusal));
+    }
+    let job = job.copy()?;
+    set_job(tables, job);
+    tables.set_last_moment(moment);
+    Ok(Reply::Done)
+}
+
+/// Why the job isn't added, if it isn't.
+#[tactic(auto, unfolding(qz_model::specs::Jobs::add_job_refusal))]
+pub fn add_job_refusal(tables: &Tables, job: &JobRow, replace: bool) -> Option<Refusal>
+    ensures { result ≡ add_job_refusal tables.now.tables job.now replace }
+{
+    let stored = tables.get_job(&job.key).is_some();
+    if stored && !replace {
+        return Some(Refusal::JobExists);
+    }
+    if let Some(refusal) = flag_refusal(tables, job) {
+        return Some(refusal);
+    }
+    if !stored && tables.len_jobs() as u64 >= JOB_LIMIT {
+        return Some(Refusal::TooMany { count: JOB_LIMIT });
+    }
+    None
+}
+
+// An execution of the job's key goes on under another flag. It looks at each fired row.
+#[tactic(auto, using(qz_apply::proofs::Searches::first_at, qz_apply::proofs::Searches::none_passes))]
+fn flag_refusal(tables: &Tables, job: &JobRow) -> Option<Refusal>
+    ensures { result ≡ flag_refusal (find (has_other_flag job.now) tables.now.tables.fired) }
+{
+    for place in 0..tables.len_fired() {
+        let Some(row) = tables.nth_fired(place) else {
+            unreachable!()
+        };
+        if has_other_flag(job, row) {
+            return Some(Refusal::FlagInUse { entry: row.entry });
+        }
+    }
+    None
+}
+
+#[tactic(auto, unfolding(qz_model::specs::Jobs::has_other_flag))]
+fn has_other_flag(job: &JobRow, row: &FiredRow) -> bool
+    ensures { result ≡ has_other_flag job.now row.now }
+{
+    !is_acquired(row.state)
+        && same_key(&job.key, &row.job)
+        && differ(job.no_concurrent, row.no_concurrent)
+}
+
+fn differ(a: bool, b: bool) -> bool
+    ensures { result ≡ differ a b }
+{
+    a != b
+}
+
+// Puts the job in place of one of its key.
+#[tactic(auto, using(crate::proofs::Absent::no_job))]
+fn set_job(tables: &mut Tables, job: JobRow)
+    requires { 1 ≤ tables.old.spare.jobs }
+    ensures { tables.new.tables ≡ record tables.old.tables { jobs = put_job job (without_job job.key tables.old.tables.jobs) } }
+{
+    let old = tables.remove_job(&job.key);
+    drop(old);
+    tables.insert_job(job);
+}
