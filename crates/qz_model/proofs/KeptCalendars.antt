@@ -18,7 +18,7 @@ use Rattle.qz_model.specs.Plan.{is_known_zone, is_known_calendar}
 use Rattle.qz_model.specs.Tests.{or_refusal}
 use Rattle.qz_model.proofs.Changes.{HasCalendar, passes, cleared, not_refused, HasNumber, HasNumber-kept, valid-moment}
 use Rattle.qz_model.proofs.KeptZones.{no_uses}
-use Rattle.qz_model.proofs.NamedRows.{ordered-without_calendar, length-without_calendar, All-without_calendar, All-calendar_of, calendar_of-alike, calendar_of-without_calendar, ordered-with_new_calendar, length-with_new_calendar, All-put_calendar, All-with_new_calendar, calendar_of-with_new}
+use Rattle.qz_model.proofs.NamedRows.{ordered-without_calendar, length-without_calendar, All-without_calendar, All-calendar_of, calendar_of-alike, calendar_of-without_calendar, ordered-with_new_calendar, length-with_new_calendar, All-put_calendar, All-with_new_calendar, calendar_of_with_new}
 use Rattle.qz_model.proofs.References.{references-calendars}
 use Rattle.qz_model.proofs.RowPoints.{All-weaker, All-both, All-none, none_from_count}
 
@@ -120,7 +120,7 @@ either false c o is = is
 
 -- what was stored is stored, and so is the new one
 stored_then : (c : CalendarData) (calendars : List CalendarData) (name : List ℕ) → IsSome (calendar_of name calendars) → IsSome (calendar_of name (with_new_calendar c calendars))
-stored_then c calendars name is = ap is_some (calendar_of-with_new name c calendars) ∙ either (same_text c.name name) c (calendar_of name calendars) is
+stored_then c calendars name is = ap is_some (calendar_of_with_new name c calendars) ∙ either (same_text c.name name) c (calendar_of name calendars) is
 
 named_then : (c : CalendarData) (calendars : List CalendarData) (o : Option (List ℕ)) → IfSome o (λ n. IsSome (calendar_of n calendars)) → IfSome o (λ n. IsSome (calendar_of n (with_new_calendar c calendars)))
 named_then c calendars None is = tt
@@ -134,7 +134,7 @@ known_base calendars (Some name) is = is
 same_named-new : (c : CalendarData) (calendars : List CalendarData) (o : Option (List ℕ)) → is_some (calendar_of c.name calendars) ≡ false → IfSome o (λ n. IsSome (calendar_of n calendars))
     → calendar_named (with_new_calendar c calendars) o ≡ calendar_named calendars o
 same_named-new c calendars None new has = refl
-same_named-new c calendars (Some name) new has = calendar_of-with_new name c calendars ∙ elim (same_text c.name name) as (λ b. same_text c.name name ≡ b → (if b then Some c else calendar_of name calendars) ≡ calendar_of name calendars) [
+same_named-new c calendars (Some name) new has = calendar_of_with_new name c calendars ∙ elim (same_text c.name name) as (λ b. same_text c.name name ≡ b → (if b then Some c else calendar_of name calendars) ≡ calendar_of name calendars) [
   | true ↦ λ same. let wrong : is_some (calendar_of name calendars) ≡ false = ap is_some (sym (calendar_of-alike c.name name calendars same)) ∙ new in absurd (cc)
   | false ↦ λ differ. refl
 ] refl

@@ -154,7 +154,7 @@ ordered-with_group : (group : List ℕ) (groups : List (List ℕ)) → IsAscendi
 unfolding put_group without_group same_text
 ordered-with_group group groups ordered = ordered-replaced text_cmp (λ r. r) nat_list_cmp_total group groups ordered
 
-length-with_group : (group : List ℕ) (groups : List (List ℕ)) → length (put_group group (without_group group groups)) ≤ length groups + cond (is_paused group groups) 0 1
+pub length-with_group : (group : List ℕ) (groups : List (List ℕ)) → length (put_group group (without_group group groups)) ≤ length groups + cond (is_paused group groups) 0 1
 unfolding group_of put_group without_group same_text
 length-with_group group groups = length-replaced text_cmp (λ r. r) group groups
 
@@ -162,7 +162,7 @@ ordered-without_group : (group : List ℕ) (groups : List (List ℕ)) → IsAsce
 unfolding without_group
 ordered-without_group group groups ordered = IsAscending-filter text_cmp (λ r. r) nat_list_cmp_total _ groups ordered
 
-length-without_group : (group : List ℕ) (groups : List (List ℕ)) → length (without_group group groups) ≤ length groups
+pub length-without_group : (group : List ℕ) (groups : List (List ℕ)) → length (without_group group groups) ≤ length groups
 unfolding without_group
 length-without_group group groups = length-filter_le _ groups
 

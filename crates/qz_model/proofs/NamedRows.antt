@@ -6,11 +6,11 @@ use Rattle.std.proofs.lemmas.Cmp.{nat_list_cmp_total, eq_by_cmp_equiv}
 use Rattle.qz_types.proofs.Ascending.{IsAscending-put}
 use Rattle.qz_types.specs.Sorted.{IsAscending}
 use Rattle.qz_types.specs.Rows.{CalendarData, ZoneData}
-use Rattle.qz_types.specs.Words.{text_cmp, same_text, calendar_of, put_calendar, without_calendar, zone_of, put_zone, without_zone}
+use Rattle.qz_types.specs.Words.{text_cmp, same_text, calendar_of, put_calendar, without_calendar, zone_of, put_zone, without_zone, group_of, without_group}
 use Rattle.qz_model.specs.Calendars.{with_new_calendar}
 use Rattle.qz_model.specs.Plan.{is_utc, is_known_zone}
 use Rattle.qz_model.proofs.LookUps.{All-row_of, equal_from, row_of-alike, row_of-put_new, row_of-filter, IsAscending-filter}
-use Rattle.qz_model.proofs.Replaced.{row_of-put_replaced, ordered-replaced, length-replaced}
+use Rattle.qz_model.proofs.Replaced.{row_of-without, row_of-put_replaced, ordered-replaced, length-replaced}
 use Rattle.qz_model.proofs.RowPoints.{All-from, All-put, All-left, length-put, length-filter_le}
 
 pub same_text_laws : IsEquivalence same_text
@@ -111,7 +111,17 @@ unfolding with_new_calendar put_calendar
 All-with_new_calendar P Q c rows new all left = All-put text_cmp (λ r. r.name) Q c (without_calendar c.name rows) new (All-without_calendar P Q c.name rows all left)
 
 -- it is found under its name, and each other as before
-pub calendar_of-with_new : (name : List ℕ) (c : CalendarData) (rows : List CalendarData)
+pub calendar_of_with_new : (name : List ℕ) (c : CalendarData) (rows : List CalendarData)
     → calendar_of name (with_new_calendar c rows) ≡ (if same_text c.name name then Some c else calendar_of name rows)
 unfolding with_new_calendar calendar_of put_calendar without_calendar same_text
-calendar_of-with_new name c rows = row_of-put_replaced text_cmp (λ r. r.name) nat_list_cmp_total name c rows
+calendar_of_with_new name c rows = row_of-put_replaced text_cmp (λ r. r.name) nat_list_cmp_total name c rows
+
+-- paused groups
+pub group_of_without : (group : List ℕ) (groups : List (List ℕ)) → group_of group (without_group group groups) ≡ None
+unfolding group_of without_group same_text
+group_of_without group groups = row_of-without text_cmp (λ r. r) group groups
+
+-- no row is left of the id of one that goes
+pub calendar_of_without : (name : List ℕ) (rows : List CalendarData) → calendar_of name (without_calendar name rows) ≡ None
+unfolding calendar_of without_calendar same_text
+calendar_of_without name rows = row_of-without text_cmp (λ r. r.name) name rows

@@ -1,3 +1,5 @@
 mod Absent
+mod ChainWalks
+mod Counting
 mod Facts
 mod Rooms

@@ -35,7 +35,8 @@ pub fn new_trigger(tables: &Tables, spec: TriggerSpec, next: Option<i64>) -> Tri
     }
 }
 
-fn is_paused(tables: &Tables, group: &Text) -> bool
+/// Whether the group is paused.
+pub fn is_paused(tables: &Tables, group: &Text) -> bool
     ensures { result ≡ is_paused group.now tables.now.tables.paused_groups }
 {
     tables.get_group(group).is_some()
