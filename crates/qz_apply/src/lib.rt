@@ -1,5 +1,6 @@
 //! What the application of every command needs, over the tables of the trigger store: the recorded moment, the fence of
-//! nodes, tests on texts and keys, and the executions that exclude others. Nothing here takes memory or changes a table.
+//! nodes, tests on texts and keys, the executions that exclude others, and the fire times of triggers. Nothing here takes
+//! memory or changes a table.
 #![tactic(auto)]
 
 mod executions;
