@@ -217,7 +217,7 @@ fn scripts_have_their_replies(rt: HostRuntime) {
 const UNENDED: &str = r#"{"do":"join","node":"A"}
 {"do":"fire","node":"A""#;
 
-const UNBUILT: &str = r#"{"do":"pause_group","group":"g"}
+const UNBUILT: &str = r#"{"do":"stop","node":"A"}
 {"do":"join","node":"A"}
 "#;
 
