@@ -1,5 +1,5 @@
 -- What a line of `times` says, and which fault it has. It is read as a line of a script.
-use Rattle.std.specs.Prelude.{ℕ, List, Bool, true, false, if◌then◌else◌, Option, Some, None, Result, Ok, Err}
+use Rattle.std.specs.Prelude.{ℕ, List, Bool, true, false, if◌then◌else◌, Option, Result, Ok, Err}
 use Rattle.serde_json.specs.Data.{Data}
 use Rattle.qz_types.specs.Rows.{is_trigger_spec}
 use Rattle.qz_types.specs.declared.commands.Command.{Command}

@@ -1,5 +1,5 @@
 -- The keys and the jobs in lines. Members are read in this order up to the first fault.
-use Rattle.std.specs.Prelude.{ℕ, List, [], length, Bool, nat_le, if◌then◌else◌, Option, Some, None, Result, Ok, Err, codes}
+use Rattle.std.specs.Prelude.{ℕ, List, [], length, Bool, nat_le, if◌then◌else◌, Option, Result, Ok, Err, codes}
 use Rattle.serde_json.specs.Data.{Data}
 use Rattle.serde_json.specs.Find.{get, as_str}
 use Rattle.qz_types.specs.declared.keys.Key.{Key}

@@ -1,6 +1,7 @@
 //! Lines of `times`.
 ghost use Rattle.std.specs.Prelude.{◌≡◌, ◌⊎◌, Err, Bool, true, IsTrue, IfOk, IfSome};
 ghost use Rattle.serde_json.specs.View.{view};
+ghost use Rattle.qz_types.specs.Entries.{is_command};
 ghost use Rattle.qz_types.specs.Rows.{is_trigger_spec};
 ghost use Rattle.qz_types.specs.Steps.{is_step};
 ghost use Rattle.qz_job_json.specs.Asked as spec;
@@ -63,7 +64,7 @@ fn is_of_times(word: Word) -> bool
 }
 
 /// What a line of this word asks for.
-#[tactic(auto, using(crate::proofs::AskedLaws::is_asked_where_given), unfolding(crate::specs::Asked::asked_by_word))]
+#[tactic(auto, using(crate::proofs::AskedLaws::reads_asked), unfolding(crate::specs::Asked::asked_by_word))]
 fn asked_by_word(alloc: Global, word: Word, value: &Value) -> Result<Asked, LineError>
     ensures meaning { ReadsAs result (spec.asked_by_word word (view value.now)) }
     ensures valid { IfOk result (λ asked. IsTrue (spec.is_asked asked)) }
@@ -75,18 +76,28 @@ fn asked_by_word(alloc: Global, word: Word, value: &Value) -> Result<Asked, Line
     Ok(asked_of(step)?)
 }
 
-/// What a step asks for in `times`, where a trigger isn't stored and so replaces none.
+/// What a step asks for in `times`.
 fn asked_of(step: Step) -> Result<Asked, LineFault>
     requires { IsTrue (is_step step) }
     ensures value { result ≡ spec.asked_of step }
     ensures valid { IfOk result (λ asked. IsTrue (spec.is_asked asked)) }
 {
     match step {
-        Step::Client(Command::AddZone { zone }) => Ok(Asked::AddZone { zone }),
-        Step::Client(Command::AddCalendar { calendar, replace }) => {
-            Ok(Asked::AddCalendar { calendar, replace })
-        }
-        Step::Client(Command::AddTrigger { spec, replace: _ }) => Ok(Asked::AddTrigger { spec }),
+        Step::Client(command) => asked_of_command(command),
+        Step::Join { .. } | Step::Node { .. } => Err(LineFault::NotHere),
+    }
+}
+
+/// The same of a client's command. A trigger isn't stored, and so replaces none.
+fn asked_of_command(command: Command) -> Result<Asked, LineFault>
+    requires { IsTrue (is_command command) }
+    ensures value { result ≡ spec.asked_of_command command }
+    ensures valid { IfOk result (λ asked. IsTrue (spec.is_asked asked)) }
+{
+    match command {
+        Command::AddZone { zone } => Ok(Asked::AddZone { zone }),
+        Command::AddCalendar { calendar, replace } => Ok(Asked::AddCalendar { calendar, replace }),
+        Command::AddTrigger { spec, replace: _ } => Ok(Asked::AddTrigger { spec }),
         _ => Err(LineFault::NotHere),
     }
 }
