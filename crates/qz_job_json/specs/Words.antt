@@ -52,9 +52,9 @@ word_by None other = option_map Node other
 abbrev pub word_of : List ℕ → Option Word
 word_of text = if is_text text (codes "join") then Some Join else word_by (client_word_of text) (node_word_of text)
 
--- the words of the format whose lines aren't built yet
+-- the words of the format whose lines aren't obeyed yet, whatever members they have
 abbrev pub unbuilt_words : List (List ℕ)
-unbuilt_words = codes "check_in" ∷ codes "forget" ∷ codes "stop" ∷ codes "restart" ∷ []
+unbuilt_words = codes "check_in" ∷ codes "leave" ∷ codes "recover" ∷ codes "forget" ∷ codes "stop" ∷ codes "restart" ∷ []
 
 -- the code that a text names
 unfoldable pub code_of : List ℕ → Option Code

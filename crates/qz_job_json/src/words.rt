@@ -124,7 +124,10 @@ impl Word {
 pub(crate) fn is_unbuilt_word(text: &str) -> bool
     ensures { result ≡ is_among unbuilt_words text.now }
 {
-    matches!(text, "check_in" | "forget" | "stop" | "restart")
+    matches!(
+        text,
+        "check_in" | "leave" | "recover" | "forget" | "stop" | "restart"
+    )
 }
 
 /// The code that a text names.

@@ -126,10 +126,6 @@ const NODE_STEPS: &[StepRow] = &[
         r#"Given { at: None, step: Join { node: "A", interval: 1 } }"#,
     ),
     (
-        r#"{"do":"leave","node":"A"}"#,
-        r#"Given { at: None, step: Node { node: "A", command: Leave } }"#,
-    ),
-    (
         r#"{"do":"acquire","node":"A","no_later":9007199254740992}"#,
         r#"Given { at: None, step: Node { node: "A", command: Acquire { no_later: 9007199254740992, window: 0, max: 1 } } }"#,
     ),
@@ -153,10 +149,6 @@ const NODE_STEPS: &[StepRow] = &[
     (
         r#"{"do":"misfires","node":"A"}"#,
         r#"Given { at: None, step: Node { node: "A", command: Misfires } }"#,
-    ),
-    (
-        r#"{"do":"recover","node":"A","failed":"B"}"#,
-        r#"Given { at: None, step: Node { node: "A", command: Recover { node: "B" } } }"#,
     ),
 ];
 
@@ -226,6 +218,8 @@ const FAULTY: &[(&str, Option<LineFault>)] = &[
     (r#"{"do":"stop"}"#, Some(LineFault::NotHere)),
     (r#"{"do":"check_in","node":7}"#, Some(LineFault::NotHere)),
     (r#"{"do":"forget","at":null}"#, Some(LineFault::NotHere)),
+    (r#"{"do":"leave","node":"A"}"#, Some(LineFault::NotHere)),
+    (r#"{"do":"recover","node":"A","failed":"B"}"#, Some(LineFault::NotHere)),
     (r#"{"do":"leap","node":"A"}"#, Some(LineFault::Shape)),
     (r#"{"do":7}"#, Some(LineFault::Shape)),
     (r#"{}"#, Some(LineFault::Shape)),
@@ -252,15 +246,12 @@ const FAULTY: &[(&str, Option<LineFault>)] = &[
     (r#"{"do":"delete_zone"}"#, Some(LineFault::Shape)),
     (r#"{"do":"threshold"}"#, Some(LineFault::Shape)),
     (r#"{"do":"join"}"#, Some(LineFault::Shape)),
-    (r#"{"do":"leave"}"#, Some(LineFault::Shape)),
     (r#"{"do":"acquire","node":"A"}"#, Some(LineFault::Shape)),
     (r#"{"do":"acquire","no_later":0}"#, Some(LineFault::Shape)),
     (r#"{"do":"release","node":"A"}"#, Some(LineFault::Shape)),
     (r#"{"do":"fire","node":"A"}"#, Some(LineFault::Shape)),
     (r#"{"do":"complete","node":"A"}"#, Some(LineFault::Shape)),
     (r#"{"do":"misfires"}"#, Some(LineFault::Shape)),
-    (r#"{"do":"recover","node":"A"}"#, Some(LineFault::Shape)),
-    (r#"{"do":"recover","failed":"B"}"#, Some(LineFault::Shape)),
     (
         r#"{"do":"add_job","job":{"name":"a","class":"c"},"name":"a"}"#,
         Some(LineFault::Shape),
@@ -271,10 +262,6 @@ const FAULTY: &[(&str, Option<LineFault>)] = &[
     ),
     (
         r#"{"do":"delete_zone","name":"Z","group":"g"}"#,
-        Some(LineFault::Shape),
-    ),
-    (
-        r#"{"do":"leave","node":"A","entry":1}"#,
         Some(LineFault::Shape),
     ),
     (
@@ -345,7 +332,6 @@ const BAD_VALUES: &[(&str, Option<LineFault>)] = &[
         Some(LineFault::Shape),
     ),
     (r#"join","node":"A","at":null"#, Some(LineFault::Shape)),
-    (r#"leave","node":1"#, Some(LineFault::Shape)),
     (r#"misfires","node":null"#, Some(LineFault::Shape)),
     (
         r#"acquire","node":"A","no_later":-1"#,
@@ -389,8 +375,6 @@ const BAD_VALUES: &[(&str, Option<LineFault>)] = &[
         r#"complete","node":"A","entry":1,"code":0"#,
         Some(LineFault::Shape),
     ),
-    (r#"recover","node":"A","failed":"""#, Some(LineFault::Shape)),
-    (r#"recover","node":7,"failed":"B""#, Some(LineFault::Shape)),
     (
         r#"add_zone","name":"Z","stretches":[]"#,
         Some(LineFault::Shape),
