@@ -23,6 +23,7 @@ use Rattle.qz_model.proofs.KeptZones.{kept-add_zone, kept-delete_zone}
 use Rattle.qz_model.proofs.KeptAcquiring.{kept-acquire}
 use Rattle.qz_model.proofs.KeptMisfires.{kept-misfires}
 use Rattle.qz_model.proofs.KeptReleasing.{kept-release}
+use Rattle.qz_model.proofs.KeptMembership.{kept-join}
 
 -- what is refused leaves no other tables
 refused-keeps : (T' : SchedulerTables) (r : Reply) (x : Refusal) → refused x ≡ accepted T' r → TablesValid T'
@@ -43,7 +44,7 @@ kept-by_command T T' m actor (AddZone zone) r good valid is e = kept-add_zone T 
 kept-by_command T T' m actor (DeleteZone name) r good valid is e = kept-delete_zone T T' m name r valid is e
 kept-by_command T T' m actor (TriggerNow job) r good valid is e = kept-trigger_now T T' m job r valid is e
 kept-by_command T T' m actor (Threshold ms) r good valid is e = kept-set_threshold T T' m ms r good valid is e
-kept-by_command T T' m actor (Join node) r good valid is e = refused-keeps T' r Unbuilt e
+kept-by_command T T' m actor (Join node) r good valid is e = kept-join T T' m node r valid is e
 kept-by_command T T' m actor Leave r good valid is e = refused-keeps T' r Unbuilt e
 kept-by_command T T' m Client (Acquire no_later window max) r good valid is e = refused-keeps T' r (Fenced None) e
 kept-by_command T T' m (Node me) (Acquire no_later window max) r good valid is e = kept-acquire T T' m me no_later window max r valid is e
