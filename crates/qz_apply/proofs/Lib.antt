@@ -1,4 +1,5 @@
 pub mod Accepted
+pub mod JobLists
 pub mod Refused
 pub mod Rooms
 pub mod Searches

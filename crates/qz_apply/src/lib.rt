@@ -1,13 +1,16 @@
 //! What the application of every command needs, over the tables of the trigger store: the recorded moment, the fence of
-//! nodes, tests on texts and keys, and the executions that exclude others. Nothing here takes memory or changes a table.
+//! nodes, tests on texts and keys, the executions that exclude others, and jobs that go with their last trigger. Nothing
+//! here takes memory.
 #![tactic(auto)]
 
 mod executions;
 mod members;
 mod moments;
 mod names;
+mod orphans;
 
 pub use executions::{is_acquired, is_busy};
 pub use members::{is_of, node_refusal};
 pub use moments::recorded_moment;
 pub use names::{same_key, same_text};
+pub use orphans::remove_orphan;

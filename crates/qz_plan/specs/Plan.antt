@@ -1,9 +1,8 @@
 -- The fire times of a trigger as a test, and the least of them that is later. Times are in ms.
-use Rattle.std.specs.Prelude.{ℕ, zero, suc, ◌+◌, ◌-◌, ◌*◌, ◌/◌, ◌%◌, ◌==◌, ℤ, pos, negsuc, ◌+ℤ◌, ◌-ℤ◌, Bool, true, false, not, ◌&&◌, ◌||◌, nat_le, nat_lt, int_le, int_lt, unsigned_abs, List, Option, Some, None, if◌then◌else◌}
+use Rattle.std.specs.Prelude.{ℕ, zero, suc, ◌+◌, ◌-◌, ◌*◌, ◌/◌, ◌%◌, ◌==◌, ℤ, pos, negsuc, ◌+ℤ◌, ◌-ℤ◌, Bool, true, false, not, ◌&&◌, ◌||◌, nat_lt, int_le, int_lt, unsigned_abs, List, Option, Some, None, if◌then◌else◌}
 use Rattle.std.specs.List.{list_all}
 use Rattle.std.specs.Ordering.{int_eq}
 use Rattle.qz_civil.specs.declared.dates.Date.{Date}
-use Rattle.qz_civil.specs.declared.fields.CronFields.{CronFields}
 use Rattle.qz_civil.specs.declared.limits.TheConstants.{DAY_MS, LAST}
 use Rattle.qz_civil.specs.declared.stretches.Stretch.{Stretch}
 use Rattle.qz_civil.specs.declared.timings.Kind.{Kind}
@@ -65,9 +64,9 @@ abbrev pub is_dated_time : List Stretch → (ℕ → ℕ → Bool) → ℤ → �
 is_dated_time zone is_later start t =
     int_eq t start
     || (int_lt start t
-        && (local zone t % DAY_MS == local zone start % DAY_MS)
-        && is_later (local zone start / DAY_MS) (local zone t / DAY_MS)
-        && not (is_shown_before zone (local zone t) (unsigned_abs t)))
+    && (local zone t % DAY_MS == local zone start % DAY_MS)
+    && is_later (local zone start / DAY_MS) (local zone t / DAY_MS)
+    && not (is_shown_before zone (local zone t) (unsigned_abs t)))
 
 -- by unit
 abbrev pub is_interval_time : ℤ → Unit → ℕ → List Stretch → ℤ → Bool
@@ -101,6 +100,6 @@ abbrev pub first_from : (ℤ → Bool) → ℕ → ℤ → Option ℤ
 first_from passes zero t = None
 first_from passes (suc n) t = if passes t then Some t else first_from passes n (t +ℤ pos 1)
 
--- the least fire time after t, up to LAST
+-- the least fire time after t, which is -1 or later, up to LAST
 unfoldable pub fire_time_after : Timing → List Stretch → List ZonedCalendar → ℤ → Option ℤ
-fire_time_after timing zone chain t = first_from (is_fire_time timing zone chain) (unsigned_abs (LAST -ℤ t)) (t +ℤ pos 1)
+fire_time_after timing zone chain t = first_from (is_fire_time timing zone chain) (unsigned_abs LAST + 1 - unsigned_abs (t +ℤ pos 1)) (t +ℤ pos 1)
