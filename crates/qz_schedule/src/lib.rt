@@ -1,4 +1,4 @@
-//! The commands on jobs and triggers, applied to the tables of the trigger store: AddJob and AddTrigger.
+//! The commands on jobs and triggers, and the threshold, applied to the tables of the trigger store.
 //!
 //! Each is applied in three phases: what refuses it, which takes no memory; the copies that the change needs, which may
 //! take memory; and the change, which can't fail.
@@ -20,12 +20,13 @@ mod manual;
 mod threshold;
 mod triggers;
 
-use jobs::{add_job, add_job_refusal};
+use jobs::{add_job, add_job_refusal, delete_job, delete_job_refusal};
 use manual::{trigger_now, trigger_now_refusal};
 use qz_apply::recorded_moment;
 use qz_tables::Tables;
 use qz_types::{Command, Entry, Refusal, Reply, StepRefused};
 use threshold::set_threshold;
+use triggers::{delete_trigger, delete_trigger_refusal};
 
 /// Why the command is refused, if it is.
 #[tactic(auto, using(qz_apply::proofs::Refused::of_one))]
@@ -35,6 +36,8 @@ pub fn refusal(tables: &Tables, entry: &Entry) -> Option<Refusal>
 {
     match &entry.command {
         Command::AddJob { job, replace } => add_job_refusal(tables, job, *replace),
+        Command::DeleteJob { key } => delete_job_refusal(tables, key),
+        Command::DeleteTrigger { key } => delete_trigger_refusal(tables, key),
         Command::TriggerNow { job } => trigger_now_refusal(tables, job),
         Command::Threshold { .. } => None,
         _ => unreachable!(),
@@ -68,6 +71,8 @@ pub fn apply(tables: &mut Tables, entry: &Entry) -> Result<Reply, StepRefused>
     let moment = recorded_moment(tables, entry.at);
     match &entry.command {
         Command::AddJob { job, replace } => add_job(tables, moment, job, *replace),
+        Command::DeleteJob { key } => delete_job(tables, moment, key),
+        Command::DeleteTrigger { key } => delete_trigger(tables, moment, key),
         Command::TriggerNow { job } => trigger_now(tables, moment, job),
         Command::Threshold { ms } => Ok(set_threshold(tables, moment, *ms)),
         _ => unreachable!(),

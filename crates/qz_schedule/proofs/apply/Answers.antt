@@ -27,3 +27,13 @@ pub returns-in-Threshold-clause-valid : goal.returns-in-Threshold-clause-valid
 returns-in-Threshold-clause-valid c =
     let ok : transaction c.args.tables.now.tables c.args.entry.now ≡ accepted c.set_threshold.new.tables.tables c.set_threshold.result = search rules in
     valid_after c.args.tables.now c.set_threshold.new.tables c.args.entry.now (Ok c.set_threshold.result) c.requires.entry c.requires.valid ok tt
+
+pub returns-in-DeleteJob-clause-valid : goal.returns-in-DeleteJob-clause-valid
+returns-in-DeleteJob-clause-valid c =
+    let ok : IfOk c.delete_job.result (λ reply. transaction c.args.tables.now.tables c.args.entry.now ≡ accepted c.delete_job.new.tables.tables reply) = search rules in
+    valid_after c.args.tables.now c.delete_job.new.tables c.args.entry.now c.delete_job.result c.requires.entry c.requires.valid ok c.delete_job.ensures.err
+
+pub returns-in-DeleteTrigger-clause-valid : goal.returns-in-DeleteTrigger-clause-valid
+returns-in-DeleteTrigger-clause-valid c =
+    let ok : IfOk c.delete_trigger.result (λ reply. transaction c.args.tables.now.tables c.args.entry.now ≡ accepted c.delete_trigger.new.tables.tables reply) = search rules in
+    valid_after c.args.tables.now c.delete_trigger.new.tables c.args.entry.now c.delete_trigger.result c.requires.entry c.requires.valid ok c.delete_trigger.ensures.err
