@@ -1,3 +1,4 @@
 mod Absent
 mod Facts
 mod Rooms
+mod Steps
