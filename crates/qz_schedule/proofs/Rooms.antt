@@ -6,12 +6,13 @@ use Rattle.qz_types.specs.declared.commands.Command.{Command}
 use Rattle.qz_types.specs.declared.commands.Command.TheVariants.{AddJob, DeleteJob, AddTrigger, DeleteTrigger, PauseTrigger, ResumeTrigger, PauseGroup, ResumeGroup, AddCalendar, DeleteCalendar, AddZone, DeleteZone, TriggerNow, Threshold, Join, Leave, Acquire, Release, Fire, Complete, Misfires, Recover}
 use Rattle.qz_types.specs.declared.commands.Actor.{Actor}
 use Rattle.qz_types.specs.declared.triggers.TriggerSpec.{TriggerSpec}
-use Rattle.qz_types.specs.Words.{job_of, without_job, trigger_of, without_trigger}
+use Rattle.qz_types.specs.Words.{job_of, without_job, trigger_of, put_trigger, without_trigger}
 use Rattle.qz_types.specs.Tables.{SchedulerTables, recorded_moment}
 use Rattle.qz_types.specs.declared.keys.Key.{Key}
 use Rattle.qz_model.specs.Jobs.{add_job_refusal, add_job, unknown_job, delete_job, is_orphan, without_orphan, without_orphan_of}
 use Rattle.qz_model.specs.Tests.{is_trigger_of, is_row_of_job, is_row_of_trigger}
-use Rattle.qz_model.specs.Triggers.{new_trigger, without_trigger_and_orphan, unknown_trigger, delete_trigger, manual_trigger, trigger_now_refusal, trigger_now, set_threshold}
+use Rattle.qz_model.specs.Plan.{first_time}
+use Rattle.qz_model.specs.Triggers.{new_trigger, without_old_orphan, with_new_trigger, add_trigger_refusal, add_trigger, without_trigger_and_orphan, unknown_trigger, delete_trigger, manual_trigger, trigger_now_refusal, trigger_now, set_threshold}
 use Rattle.qz_model.specs.Transaction.{by_command, transaction}
 use Rattle.qz_model.proofs.RowLaws.{length-put_job, length-without_job, length-put_trigger, length-without_trigger}
 use Rattle.qz_model.proofs.RowPoints.{length-filter_le}
@@ -52,6 +53,25 @@ length-without_orphan triggers (Some job) jobs = elim (is_orphan triggers job) a
 length-without_orphan_of : (key : Key) (triggers : List TriggerData) (jobs : List JobData) → length (without_orphan_of key triggers jobs) ≤ length jobs
 unfolding without_orphan_of
 length-without_orphan_of key triggers jobs = length-without_orphan triggers (job_of key jobs) jobs
+
+length-without_old_orphan : (old : Option TriggerData) (triggers : List TriggerData) (jobs : List JobData) → length (without_old_orphan old triggers jobs) ≤ length jobs
+length-without_old_orphan None triggers jobs = omega arith
+length-without_old_orphan (Some old) triggers jobs = length-without_orphan_of old.spec.job triggers jobs
+
+addition-grows : (T : SchedulerTables) (m : ℤ) (t : TriggerData) → GrowsUpTo 1 T (record (with_new_trigger T t) { last_moment = m })
+unfolding with_new_trigger
+addition-grows T m t = record {
+  jobs = omega (arith, length-without_old_orphan (trigger_of t.spec.key T.triggers) (put_trigger t (without_trigger t.spec.key T.triggers)) T.jobs);
+  triggers = omega (arith, length-put_trigger t (without_trigger t.spec.key T.triggers), length-without_trigger t.spec.key T.triggers);
+  calendars = omega arith;
+  zones = omega arith;
+  paused_groups = omega arith;
+  members = omega arith;
+  fired = omega (arith, length-without_acquired (is_row_of_trigger t.spec.key) T.fired);
+}
+
+add_trigger-adds : (T : SchedulerTables) (m : ℤ) (s : TriggerSpec) (replace : Bool) → AddsUpTo 1 T (add_trigger T m s replace)
+add_trigger-adds T m s replace = adds-unless 1 T (add_trigger_refusal T s replace) _ (addition-grows T m (new_trigger T s (first_time T s)))
 
 deletion-grows : (T : SchedulerTables) (m : ℤ) (t : Option TriggerData) → GrowsUpTo 1 T (record (without_trigger_and_orphan T t) { last_moment = m })
 unfolding without_trigger_and_orphan
@@ -101,7 +121,7 @@ set_threshold-adds T m ms = record {
 
 by_command-adds : (T : SchedulerTables) (m : ℤ) (actor : Actor) (c : Command) → IsTrue (is_scheduling c) → AddsUpTo 1 T (by_command T m actor c)
 by_command-adds T m actor (AddJob job replace) is = add_job-adds T m job replace
-by_command-adds T m actor (AddTrigger spec replace) is = absurd cc
+by_command-adds T m actor (AddTrigger spec replace) is = add_trigger-adds T m spec replace
 by_command-adds T m actor (DeleteJob key) is = delete_job-adds T m key
 by_command-adds T m actor (DeleteTrigger key) is = delete_trigger-adds T m key
 by_command-adds T m actor (PauseTrigger key) is = absurd cc

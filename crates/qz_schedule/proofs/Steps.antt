@@ -27,8 +27,8 @@ job_deleted T U V W X m key count known rows triggers job moment counted =
       last_moment = m;
     } in
     let tables : X ≡ left = moment ∙ ap (λ (w : SchedulerTables). record w { last_moment = m })
-        (job ∙ ap (λ (v : SchedulerTables). record v { jobs = without_job key v.jobs })
-        (triggers ∙ ap (λ (u : SchedulerTables). record u { triggers = filter (λ t. not (same_key key t.spec.job)) u.triggers }) rows)) in
+    (job ∙ ap (λ (v : SchedulerTables). record v { jobs = without_job key v.jobs })
+    (triggers ∙ ap (λ (u : SchedulerTables). record u { triggers = filter (λ t. not (same_key key t.spec.job)) u.triggers }) rows)) in
     let same : count ≡ length (filter (is_trigger_of key) T.triggers) = counted ∙ ap (λ (u : SchedulerTables). length (filter (λ t. same_key key t.spec.job) u.triggers)) rows in
     subst (λ x. unless x (accepted left (Deleted (length (filter (is_trigger_of key) T.triggers)))) ≡ accepted X (Deleted count)) (sym known)
     (same_outcome X left (Deleted count) (Deleted (length (filter (is_trigger_of key) T.triggers))) tables (ap (λ (n : ℕ). Deleted n) same))
@@ -68,6 +68,6 @@ pub trigger_added : (T U X : SchedulerTables) (m : ℤ) (s given : TriggerSpec) 
 trigger_added T U X m s given replace t next clear time same row stored moment =
     let left : SchedulerTables = record (with_new_trigger T (new_trigger T s (first_time T s))) { last_moment = m } in
     let tables : X ≡ left = moment ∙ ap (λ (u : SchedulerTables). record u { last_moment = m })
-        (stored ∙ ap (with_new_trigger T) (row ∙ ap (λ (x : TriggerSpec). new_trigger T x (Some next)) same ∙ ap (new_trigger T s) (sym time))) in
+    (stored ∙ ap (with_new_trigger T) (row ∙ ap (λ (x : TriggerSpec). new_trigger T x (Some next)) same ∙ ap (new_trigger T s) (sym time))) in
     subst (λ x. unless x (accepted left (Added (unwrap_or (first_time T s) (pos 0)))) ≡ accepted X (Added next)) (sym clear)
     (same_outcome X left (Added next) (Added (unwrap_or (first_time T s) (pos 0))) tables (ap (λ (o : Option ℤ). Added (unwrap_or o (pos 0))) (sym time)))

@@ -26,17 +26,19 @@ use qz_apply::recorded_moment;
 use qz_tables::Tables;
 use qz_types::{Command, Entry, Refusal, Reply, StepRefused};
 use threshold::set_threshold;
-use triggers::{delete_trigger, delete_trigger_refusal};
+use triggers::{add_trigger, add_trigger_refusal, delete_trigger, delete_trigger_refusal};
 
 /// Why the command is refused, if it is.
-#[tactic(auto, using(qz_apply::proofs::Refused::of_one))]
+#[tactic(auto, using(qz_apply::proofs::Refused::of_one), unfolding(qz_types::specs::Entries::is_entry))]
 pub fn refusal(tables: &Tables, entry: &Entry) -> Option<Refusal>
-    requires { IsTrue (is_scheduling entry.now.command) }
+    requires command { IsTrue (is_scheduling entry.now.command) }
+    requires entry { IsTrue (is_entry entry.now) }
     ensures { MatchOption result (IsAccepted (transaction tables.now.tables entry.now)) (λ x. transaction tables.now.tables entry.now ≡ refused x) }
 {
     match &entry.command {
         Command::AddJob { job, replace } => add_job_refusal(tables, job, *replace),
         Command::DeleteJob { key } => delete_job_refusal(tables, key),
+        Command::AddTrigger { spec, replace } => add_trigger_refusal(tables, spec, *replace),
         Command::DeleteTrigger { key } => delete_trigger_refusal(tables, key),
         Command::TriggerNow { job } => trigger_now_refusal(tables, job),
         Command::Threshold { .. } => None,
@@ -72,6 +74,7 @@ pub fn apply(tables: &mut Tables, entry: &Entry) -> Result<Reply, StepRefused>
     match &entry.command {
         Command::AddJob { job, replace } => add_job(tables, moment, job, *replace),
         Command::DeleteJob { key } => delete_job(tables, moment, key),
+        Command::AddTrigger { spec, replace } => add_trigger(tables, moment, spec, *replace),
         Command::DeleteTrigger { key } => delete_trigger(tables, moment, key),
         Command::TriggerNow { job } => trigger_now(tables, moment, job),
         Command::Threshold { ms } => Ok(set_threshold(tables, moment, *ms)),

@@ -1,17 +1,77 @@
 //! Adding and deleting triggers.
-ghost use Rattle.std.specs.Prelude.{◌≡◌, ◌≤◌, IsTrue, IfOk, IfErr, OnErr, codes, option_copied};
+ghost use Rattle.std.specs.Prelude.{◌≡◌, ◌≤◌, Some, None, IsTrue, IfOk, IfErr, OnErr, codes, option_copied};
 ghost use Rattle.qz_types.specs.Rows.{is_trigger_spec};
 ghost use Rattle.qz_types.specs.States.{first_state};
 ghost use Rattle.qz_types.specs.Outcomes.{accepted, IsErrorOf};
 ghost use Rattle.qz_types.specs.Words.{is_paused, trigger_of};
-ghost use Rattle.qz_model.specs.Triggers.{is_reserved, naming_refusal, new_trigger, with_new_trigger, unknown_trigger, delete_trigger};
+ghost use Rattle.qz_model.specs.Plan.{first_time};
+ghost use Rattle.qz_model.specs.Triggers.{is_reserved, naming_refusal, add_trigger_refusal, new_trigger, with_new_trigger, add_trigger, unknown_trigger, delete_trigger};
 
 use crate::known::{has_known_zone, is_known_calendar};
-use qz_apply::{is_busy, remove_orphan, remove_trigger_and_orphan, same_text};
+use qz_apply::{is_busy, next_after, remove_orphan, remove_trigger_and_orphan, same_text};
 use qz_tables::Tables;
 use qz_types::{
-    Key, Refusal, Reply, StepRefused, Text, TriggerRow, TriggerSpec, TriggerState,
+    Key, Refusal, Reply, StepRefused, TRIGGER_LIMIT, Text, TriggerRow, TriggerSpec, TriggerState,
 };
+
+/// Stores the trigger, in place of one of its key. The moment is in ms since 1970-01-01T00:00:00Z.
+#[tactic(auto, using(crate::proofs::Steps::trigger_added))]
+pub fn add_trigger(
+    tables: &mut Tables,
+    moment: i64,
+    spec: &TriggerSpec,
+    replace: bool,
+) -> Result<Reply, StepRefused>
+    requires spec { IsTrue (is_trigger_spec spec.now) }
+    requires spare { 1 ≤ tables.old.spare.triggers }
+    ensures ok { IfOk result (λ reply. add_trigger tables.old.tables moment spec.now replace ≡ accepted tables.new.tables reply) }
+    ensures cause { IfErr result (IsErrorOf (add_trigger tables.old.tables moment spec.now replace)) }
+    ensures err { OnErr result (tables.new ≡ tables.old) }
+{
+    let next = match first_fire_time(tables, spec, replace) {
+        Ok(next) => next,
+        Err(refusal) => return Err(StepRefused::Refused(refusal)),
+    };
+    let spec = spec.copy()?;
+    let trigger = new_trigger(tables, spec, Some(next));
+    set_trigger(tables, trigger);
+    tables.set_last_moment(moment);
+    Ok(Reply::Added { next })
+}
+
+/// Why the trigger isn't added, if it isn't.
+pub fn add_trigger_refusal(tables: &Tables, spec: &TriggerSpec, replace: bool) -> Option<Refusal>
+    requires { IsTrue (is_trigger_spec spec.now) }
+    ensures { result ≡ add_trigger_refusal tables.now.tables spec.now replace }
+{
+    first_fire_time(tables, spec, replace).err()
+}
+
+// The first fire time of the trigger, in ms since 1970-01-01T00:00:00Z, or why the trigger isn't added.
+#[tactic(auto, unfolding(qz_model::specs::Triggers::add_trigger_refusal))]
+fn first_fire_time(tables: &Tables, spec: &TriggerSpec, replace: bool) -> Result<i64, Refusal>
+    requires { IsTrue (is_trigger_spec spec.now) }
+    ensures ok { IfOk result (λ next. add_trigger_refusal tables.now.tables spec.now replace ≡ None) }
+    ensures time { IfOk result (λ next. first_time tables.now.tables spec.now ≡ Some next) }
+    ensures err { IfErr result (λ refusal. add_trigger_refusal tables.now.tables spec.now replace ≡ Some refusal) }
+{
+    if let Some(refusal) = naming_refusal(tables, spec) {
+        return Err(refusal);
+    }
+    let stored = tables.get_trigger(&spec.key).is_some();
+    if stored && !replace {
+        return Err(Refusal::TriggerExists);
+    }
+    let Some(next) = next_after(tables, spec, -1) else {
+        return Err(Refusal::NeverFires);
+    };
+    if !stored && tables.len_triggers() as u64 >= TRIGGER_LIMIT {
+        return Err(Refusal::TooMany {
+            count: TRIGGER_LIMIT,
+        });
+    }
+    Ok(next)
+}
 
 // Why the trigger can't name what it names, if it can't.
 #[tactic(auto, unfolding(qz_model::specs::Triggers::naming_refusal))]

@@ -37,3 +37,8 @@ pub returns-in-DeleteTrigger-clause-valid : goal.returns-in-DeleteTrigger-clause
 returns-in-DeleteTrigger-clause-valid c =
     let ok : IfOk c.delete_trigger.result (λ reply. transaction c.args.tables.now.tables c.args.entry.now ≡ accepted c.delete_trigger.new.tables.tables reply) = search rules in
     valid_after c.args.tables.now c.delete_trigger.new.tables c.args.entry.now c.delete_trigger.result c.requires.entry c.requires.valid ok c.delete_trigger.ensures.err
+
+pub returns-in-AddTrigger-clause-valid : goal.returns-in-AddTrigger-clause-valid
+returns-in-AddTrigger-clause-valid c =
+    let ok : IfOk c.add_trigger.result (λ reply. transaction c.args.tables.now.tables c.args.entry.now ≡ accepted c.add_trigger.new.tables.tables reply) = search rules in
+    valid_after c.args.tables.now c.add_trigger.new.tables c.args.entry.now c.add_trigger.result c.requires.entry c.requires.valid ok c.add_trigger.ensures.err
