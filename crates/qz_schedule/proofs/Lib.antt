@@ -3,3 +3,4 @@ mod ChainWalks
 mod Counting
 mod Facts
 mod Rooms
+mod Steps
