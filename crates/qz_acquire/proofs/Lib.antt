@@ -1,6 +1,5 @@
-mod DueHeads
-mod DueWalk
 mod Facts
-mod Firings
-mod Refused
-mod Rooms
+mod Lists
+mod MisfireWalk
+mod Moving
+mod Walk

@@ -1,6 +1,7 @@
 //! Executions that exclude all others of their job.
 ghost use Rattle.std.specs.Prelude.{◌≡◌, option_copied};
-ghost use Rattle.qz_model.specs.Executions.{is_acquired, is_exclusive_of, is_busy};
+ghost use Rattle.qz_types.specs.States.{is_acquired};
+ghost use Rattle.qz_model.specs.Executions.{is_exclusive_of, is_busy};
 
 use crate::same_key;
 use qz_tables::Tables;

@@ -1,7 +1,7 @@
 //! The fence for nodes that aren't members any more, and the rows of a member.
 ghost use Rattle.std.specs.Prelude.{◌≡◌, option_copied};
-ghost use Rattle.qz_model.specs.Firing.{is_of};
 ghost use Rattle.qz_model.specs.Membership.{live_epoch, is_live, node_refusal};
+ghost use Rattle.qz_model.specs.Tests.{is_of};
 
 use crate::same_text;
 use qz_tables::Tables;
@@ -29,7 +29,7 @@ fn live_epoch(tables: &Tables, node: &Text) -> Option<u64>
 }
 
 /// Whether the row is this member's, under its epoch.
-#[tactic(auto, unfolding(qz_model::specs::Firing::is_of))]
+#[tactic(auto, unfolding(qz_model::specs::Tests::is_of))]
 pub fn is_of(me: &MemberRow, row: &FiredRow) -> bool
     ensures { result ≡ is_of me.now row.now }
 {
