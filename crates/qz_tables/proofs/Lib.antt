@@ -1,3 +1,4 @@
+mod BulkLemmas
 pub mod ByIds
 mod Counts
 mod DueLemmas
@@ -8,6 +9,8 @@ mod Firsts
 mod JobLemmas
 pub mod Keys
 pub mod LinkLemmas
+mod Moves
+mod NthEdits
 pub mod Places
 pub mod SlotEdits
 pub mod SortLaws

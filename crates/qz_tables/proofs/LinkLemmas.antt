@@ -6,12 +6,12 @@ use Rattle.std.specs.Ordering.{is_eq}
 use Rattle.std.proofs.lemmas.Bool.{cases_eq, eq-eqb, ne_eqb}
 use Rattle.qz_types.specs.Rows.{TriggerData}
 use Rattle.qz_types.specs.Sorted.{row_of}
-use Rattle.qz_types.specs.Words.{key_cmp}
+use Rattle.qz_types.specs.Words.{key_cmp, same_key}
 use Rattle.qz_types.specs.declared.keys.Key.{Key}
 use Rattle.qz_tables.specs.Slots.{rows_at, with_found, AreFilled, AreEdited, IsWritten}
 use Rattle.qz_tables.specs.Changes.{trigger_edited}
 use Rattle.qz_tables.specs.declared.edits.TriggerEdit.{TriggerEdit}
-use Rattle.qz_tables.specs.declared.edits.TriggerEdit.TheVariants.{State, Fire}
+use Rattle.qz_tables.specs.declared.edits.TriggerEdit.TheVariants.{State, Fire, Move}
 use Rattle.qz_tables.specs.Linking.{keys_of, links_of, times, AreLinkedOnce}
 use Rattle.qz_tables.specs.Links.{linked, KeepsLinks, IsTakenOut, IsLinked, IsUnlinked, IsMoved}
 use Rattle.qz_tables.proofs.Filled.{Keep, rows-kept, rows-remove, nth_slot, rows_at-append}
@@ -241,6 +241,8 @@ edited_tie (State state) None = refl
 edited_tie (State state) (Some r) = refl
 edited_tie (Fire next state) None = refl
 edited_tie (Fire next state) (Some r) = refl
+edited_tie (Move moved) None = refl
+edited_tie (Move moved) (Some r) = refl
 
 -- an edit of a trigger keeps its key and its job
 pub alike-edited : (e : TriggerEdit) (old new : List (Option TriggerData)) → AreEdited (λ o n. n ≡ option_map (trigger_edited e) o) old new → AreAlike old new
@@ -285,3 +287,8 @@ other_job job (Some r) h = λ e. true_false (is_eq (key_cmp r.spec.job job)) h (
 
 pub tie_is : (a b : TriggerData) → b.spec.job ≡ a.spec.job → b.spec.key ≡ a.spec.key → tie b ≡ tie a
 tie_is a b e f = ap (λ (j : Key). (j, b.spec.key)) e ∙ ap (λ (k : Key). (a.spec.job, k)) f
+
+-- a trigger of one job is of no other
+pub other_job_only : (job other : Key) (row : TriggerData) → other ≢ job → same_key job row.spec.job ≡ true → row.spec.job ≢ other
+unfolding same_key
+other_job_only job other row differs e = λ q. differs (sym q ∙ sym (key_exact job row.spec.job e))

@@ -167,7 +167,7 @@ module _ {R K : Type 0} (cmp : K → K → Ordering) (id : R → K) (laws : IsTo
       (IsAscending-changed cmp id laws k f xs keeps up)
       (filled-set old new order (get_or order i 0) (f r) filled now others)
 
-  within_slots : (xs : List (Option R)) (i : ℕ) → IsSome (get_or xs i None) → i < length xs
+  pub within_slots : (xs : List (Option R)) (i : ℕ) → IsSome (get_or xs i None) → i < length xs
   within_slots [] i s = absurd cc
   within_slots (x ∷ xs) zero s = omega arith
   within_slots (x ∷ xs) (suc i) s = let l = within_slots xs i s in omega arith

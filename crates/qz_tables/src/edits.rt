@@ -1,35 +1,109 @@
 //! Changes of triggers and fired rows in place, which take no memory.
-ghost use Rattle.std.specs.Prelude.{◌≡◌, refl};
-ghost use Rattle.qz_types.specs.Rows.{TriggerData};
-ghost use Rattle.qz_tables.specs.Changes.{trigger_edited, after_fire, begun};
-ghost use Rattle.qz_tables.specs.declared.edits.TriggerEdit.TheVariants.{State, Fire};
+ghost use Rattle.std.specs.Prelude.{◌≡◌, refl, IsTrue, ⊤};
+ghost use Rattle.qz_types.specs.Changes.{after_fire, begun, moved_trigger, counting};
+ghost use Rattle.qz_types.specs.Rows.{TriggerData, is_trigger};
+ghost use Rattle.qz_types.specs.States.{paused, resumed, blocked, unblocked};
+ghost use Rattle.qz_tables.specs.Changes.{changed, trigger_edited, IsFit};
+ghost use Rattle.qz_tables.specs.declared.edits.TriggerEdit.TheVariants.{State, Fire, Move};
 
 use crate::indexed::Edit;
+use qz_civil::{Kind, Moved};
 use qz_types::{FiredRow, FiredState, TIMES_LIMIT, TriggerRow, TriggerState};
+
+/// What a command makes of a trigger's state.
+#[derive(Clone, Copy)]
+pub enum StateChange {
+    Pause,
+    Resume,
+    /// An execution of its job excludes all others.
+    Block,
+    /// That execution has ended.
+    Unblock,
+    Set(TriggerState),
+}
+
+impl StateChange {
+    fn apply(self, state: TriggerState) -> TriggerState
+        ensures { result ≡ changed self state }
+    {
+        match self {
+            StateChange::Pause => paused(state),
+            StateChange::Resume => resumed(state),
+            StateChange::Block => blocked(state),
+            StateChange::Unblock => unblocked(state),
+            StateChange::Set(now) => now,
+        }
+    }
+}
+
+fn paused(state: TriggerState) -> TriggerState
+    ensures { result ≡ paused state }
+{
+    match state {
+        TriggerState::Waiting | TriggerState::Acquired => TriggerState::Paused,
+        TriggerState::Blocked => TriggerState::PausedBlocked,
+        other => other,
+    }
+}
+
+fn resumed(state: TriggerState) -> TriggerState
+    ensures { result ≡ resumed state }
+{
+    match state {
+        TriggerState::Paused => TriggerState::Waiting,
+        TriggerState::PausedBlocked => TriggerState::Blocked,
+        other => other,
+    }
+}
+
+fn blocked(state: TriggerState) -> TriggerState
+    ensures { result ≡ blocked state }
+{
+    match state {
+        TriggerState::Waiting | TriggerState::Acquired => TriggerState::Blocked,
+        TriggerState::Paused => TriggerState::PausedBlocked,
+        other => other,
+    }
+}
+
+fn unblocked(state: TriggerState) -> TriggerState
+    ensures { result ≡ unblocked state }
+{
+    match state {
+        TriggerState::Blocked => TriggerState::Waiting,
+        TriggerState::PausedBlocked => TriggerState::Paused,
+        other => other,
+    }
+}
 
 /// A change of a trigger that keeps its key and its job.
 #[derive(Clone, Copy)]
 pub enum TriggerEdit {
-    /// It gets this state.
-    State(TriggerState),
+    /// Its state changes so.
+    State(StateChange),
     /// It fired, and has this next time, in ms since 1970-01-01T00:00:00Z, and this state.
     Fire {
         next: Option<i64>,
         state: TriggerState,
     },
+    /// A misfire makes this of it.
+    Move(Moved),
 }
 
 impl Edit<TriggerRow> for TriggerEdit {
     ghost edited = { trigger_edited };
 
+    ghost IsFit = { IsFit };
+
     fn edit(&self, row: &mut TriggerRow) {
         match *self {
-            TriggerEdit::State(state) => row.state = state,
+            TriggerEdit::State(change) => row.state = change.apply(row.state),
             TriggerEdit::Fire { next, state } => fire(row, next, state),
+            TriggerEdit::Move(moved) => move_to(row, moved),
         }
     }
 
-    ghost keeps_id = { λ e r. elim e as (λ e. (trigger_edited e r).spec.key ≡ r.spec.key) [ State state ↦ refl | Fire next state ↦ refl ] };
+    ghost keeps_id = { λ e r. elim e as (λ e. (trigger_edited e r).spec.key ≡ r.spec.key) [ State change ↦ refl | Fire next state ↦ refl | Move moved ↦ refl ] };
 }
 
 fn fire(row: &mut TriggerRow, next: Option<i64>, state: TriggerState)
@@ -39,6 +113,28 @@ fn fire(row: &mut TriggerRow, next: Option<i64>, state: TriggerState)
     row.next = next;
     row.times = (row.times + 1).min(TIMES_LIMIT);
     row.state = state;
+}
+
+fn move_to(row: &mut TriggerRow, moved: Moved)
+    requires { IsTrue (is_trigger (moved_trigger moved row.old)) }
+    ensures { row.new ≡ moved_trigger moved row.old }
+{
+    set_count(&mut row.spec.timing.kind, moved.count);
+    row.spec.timing.start = moved.start;
+    row.next = moved.next;
+    row.times = moved.times;
+    if moved.next.is_none() {
+        row.state = TriggerState::Complete;
+    }
+}
+
+// Gives a simple kind this count.
+fn set_count(kind: &mut Kind, count: i64)
+    ensures { kind.new ≡ counting count kind.old }
+{
+    if let Kind::Simple { count: old, .. } = kind {
+        *old = count;
+    }
 }
 
 /// An execution begins.
@@ -51,6 +147,8 @@ pub struct Begin {
 
 impl Edit<FiredRow> for Begin {
     ghost edited = { λ e. begun e.moment e.no_concurrent e.requests_recovery };
+
+    ghost IsFit = { λ e r. ⊤ };
 
     fn edit(&self, row: &mut FiredRow) {
         row.state = FiredState::Executing;

@@ -4,8 +4,9 @@ ghost use Rattle.std.specs.Ordering.{nat_cmp};
 ghost use Rattle.qz_types.specs.Sorted.{IsAscending};
 ghost use Rattle.qz_types.specs.Words.{fired_of, put_fired, without_fired, with_fired};
 ghost use Rattle.qz_tables.specs.Contents.{KeepsSpare, one_fired};
-ghost use Rattle.qz_tables.specs.Acquired.{is_acquired_for, acquired_row_of};
-ghost use Rattle.qz_tables.specs.Changes.{begun};
+ghost use Rattle.qz_types.specs.States.{is_acquired_for};
+ghost use Rattle.qz_tables.specs.Acquired.{acquired_row_of};
+ghost use Rattle.qz_types.specs.Changes.{begun};
 
 use crate::edits::Begin;
 use crate::indexed::Indexed;
@@ -120,7 +121,7 @@ fn first_acquired<'a>(rows: &'a Indexed<FiredRow>, trigger: &Key) -> Option<&'a 
     None
 }
 
-#[tactic(auto, unfolding(crate::specs::Acquired::is_acquired_for, qz_types::specs::Words::same_key))]
+#[tactic(auto, unfolding(qz_types::specs::States::is_acquired_for, qz_types::specs::Words::same_key))]
 fn is_acquired_for(row: &FiredRow, trigger: &Key) -> bool
     ensures { result ≡ is_acquired_for trigger.now row.now }
 {

@@ -1,8 +1,10 @@
 //! The rows of one kind: a slab, and the slots of its rows in the order of their ids.
-ghost use Rattle.std.specs.Prelude.{slice_index_or, slice_get, ◌≢◌, IfNone, option_map, [], ◌≡◌, ◌+◌, ◌≤◌, ◌<◌, ℕ, Some, None, IfSome, IfOk, IfErr, OnOk, OnErr, IsOk, IsSome, OnSome, option_copied, length, map, min, ◌-◌};
+ghost use Rattle.std.specs.List.{remove};
+ghost use Rattle.std.specs.Prelude.{Bool, not, filter, slice_index_or, slice_get, ◌≢◌, IfNone, option_map, [], ◌≡◌, ◌+◌, ◌≤◌, ◌<◌, ℕ, Some, None, IfSome, IfOk, IfErr, OnOk, OnErr, IsOk, IsSome, OnSome, option_copied, length, map, min, ◌-◌};
 ghost use Rattle.std.specs.Ordering.{is_gt, is_eq};
 ghost use Rattle.slab.specs.Slab.{get, slab_len};
 ghost use Rattle.qz_types.specs.Sorted.{place_of, row_of, put, IsAscending};
+ghost use Rattle.qz_tables.specs.Changes.{changed_nth};
 ghost use Rattle.qz_tables.specs.Ids.{changed_at, without};
 ghost use Rattle.qz_tables.specs.Slots.{rows_at, AreFilled, AreEdited, IsFound, IsAbsent, IsWritten};
 
@@ -18,10 +20,22 @@ use std::mem;
 pub trait Edit<R: Keyed> {
     ghost edited: { Self → R → R };
 
+    // it makes a valid row of this one
+    ghost IsFit: { Self → R → Type 0 };
+
     fn edit(&self, row: &mut R)
+        requires { IsFit self.now row.old }
         ensures { row.new ≡ edited self.now row.old };
 
     ghost keeps_id: { (e : Self) → (r : R) → R.id (edited e r) ≡ R.id r };
+}
+
+/// A test of a row.
+pub trait Test<R: Keyed> {
+    ghost test: { Self → R → Bool };
+
+    fn passes(&self, row: &R) -> bool
+        ensures { result ≡ test self.now row.now };
 }
 
 /// The rows of one kind, in the order of their ids. A row is found by binary search. It stays in its slot while it is
@@ -107,6 +121,13 @@ fn find<R: Keyed>(rows: &Slab<R>, order: &[usize], id: &R::Id) -> Option<usize>
     } else {
         None
     }
+}
+
+fn slot_at(order: &[usize], place: usize) -> usize
+    requires { place < length order.now }
+    ensures { result ≡ slice_index_or order.now place 0 }
+{
+    order[place]
 }
 
 // The rows at these slots.
@@ -264,6 +285,7 @@ impl<R: Keyed> Indexed<R> {
 
     /// Changes the row of this id in place, if it is stored.
     pub fn edit<E: Edit<R>>(&mut self, id: &R::Id, edit: &E)
+        requires { (row : R) → row_of R.Id.cmp R.id id.now self.old.rows ≡ Some row → E.IsFit edit.now row }
         ensures rows { self.new.rows ≡ changed_at R.Id.cmp R.id id.now (E.edited edit.now) self.old.rows }
         ensures slots { AreEdited (λ old new. new ≡ option_map (E.edited edit.now) old) self.old.slots self.new.slots }
         ensures spare { self.new.spare ≡ self.old.spare }
@@ -273,6 +295,64 @@ impl<R: Keyed> Indexed<R> {
                 unreachable!()
             };
             edit.edit(row);
+        }
+    }
+
+    /// Whether the row at this place passes.
+    pub fn passes_nth<T: Test<R>>(&self, place: usize, test: &T) -> bool
+        ensures { IfSome (slice_get self.now.rows place) (λ row. result ≡ T.test test.now row) }
+    {
+        match self.nth(place) {
+            Some(row) => test.passes(row),
+            None => false,
+        }
+    }
+
+    /// Changes the row at this place, counted from 0.
+    pub fn edit_nth<E: Edit<R>>(&mut self, place: usize, edit: &E)
+        requires present { place < length self.old.rows }
+        requires fit { (row : R) → slice_get self.old.rows place ≡ Some row → E.IsFit edit.now row }
+        ensures rows { self.new.rows ≡ changed_nth (E.edited edit.now) place self.old.rows }
+        ensures slots { AreEdited (λ old new. new ≡ option_map (E.edited edit.now) old) self.old.slots self.new.slots }
+        ensures spare { self.new.spare ≡ self.old.spare }
+    {
+        let slot = slot_at(&self.order, place);
+        let Some(row) = self.rows.get_mut(slot) else {
+            unreachable!()
+        };
+        edit.edit(row);
+    }
+
+    /// Takes out the row at this place, counted from 0, with the slot that it had.
+    pub fn take_nth(&mut self, place: usize) -> (usize, R)
+        requires { place < length self.old.rows }
+        ensures row { Some result.1 ≡ slice_get self.old.rows place }
+        ensures rows { self.new.rows ≡ remove self.old.rows place }
+        ensures slot { IsWritten self.old.slots self.new.slots result.0 None }
+        ensures was { slice_index_or self.old.slots result.0 None ≡ Some result.1 }
+        ensures spare { self.old.spare ≤ self.new.spare }
+    {
+        let slot = slot_at(&self.order, place);
+        self.order.remove(place);
+        match self.rows.try_remove(slot) {
+            Some(row) => (slot, row),
+            None => unreachable!(),
+        }
+    }
+}
+
+impl<R: Keyed + Drop> Indexed<R> {
+    /// Takes out the rows that pass.
+    pub fn remove_all<T: Test<R>>(&mut self, test: &T)
+        ensures rows { self.new.rows ≡ filter (λ row. not (T.test test.now row)) self.old.rows }
+        ensures spare { self.old.spare ≤ self.new.spare }
+    {
+        let mut place = self.len();
+        while place > 0 {
+            place -= 1;
+            if self.passes_nth(place, test) {
+                drop(self.take_nth(place));
+            }
         }
     }
 }

@@ -2,6 +2,7 @@
 //! triggers were linked to their jobs.
 #![tactic(auto)]
 
+mod bulk;
 mod calendars;
 mod copies;
 mod due;
@@ -13,10 +14,11 @@ mod job_triggers;
 mod jobs;
 mod linked;
 mod members;
+mod row_tests;
 mod tables;
 mod triggers;
 mod zones;
 
-pub use edits::Begin;
+pub use edits::{Begin, StateChange};
 pub use job_triggers::JobTriggers;
 pub use tables::Tables;

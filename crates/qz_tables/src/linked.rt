@@ -1,15 +1,19 @@
 //! The triggers, with the order in which each became one of its job's.
-ghost use Rattle.std.specs.Prelude.{[], ◌≡◌, ◌≢◌, ◌≤◌, ◌<◌, ◌+◌, ℕ, None, Some, IsSome, IfSome, IfNone, IfOk, OnOk, OnErr, IsOk, OnSome, option_copied, length, map, slice_get};
+ghost use Rattle.std.specs.List.{remove};
+ghost use Rattle.std.specs.Prelude.{true, not, filter, [], ◌≡◌, ◌≢◌, ◌≤◌, ◌<◌, ◌+◌, ℕ, None, Some, IsSome, IfSome, IfNone, IfOk, OnOk, OnErr, IsOk, OnSome, option_copied, length, map, slice_get};
 ghost use Rattle.std.specs.Ordering.{nat_cmp, is_eq};
 ghost use Rattle.qz_types.specs.Sorted.{row_of, put, IsAscending};
 ghost use Rattle.qz_types.specs.Words.{key_cmp};
-ghost use Rattle.qz_tables.specs.Changes.{trigger_edited};
+ghost use Rattle.qz_types.specs.Changes.{with_states};
+ghost use Rattle.qz_types.specs.Rows.{TriggerData};
+ghost use Rattle.qz_types.specs.declared.keys.Key.{Key};
+ghost use Rattle.qz_tables.specs.Changes.{changed, trigger_edited, IsFit, changed_nth};
 ghost use Rattle.qz_tables.specs.Ids.{changed_at, without};
 ghost use Rattle.qz_tables.specs.Linking.{times};
-ghost use Rattle.qz_tables.specs.Links.{KeepsLinks, IsLinked, IsUnlinked, IsMoved};
+ghost use Rattle.qz_tables.specs.Links.{linked, KeepsLinks, IsLinked, IsUnlinked, IsMoved};
 
-use crate::edits::TriggerEdit;
-use crate::indexed::Indexed;
+use crate::edits::{StateChange, TriggerEdit};
+use crate::indexed::{Indexed, Test};
 use qz_types::{Key, TriggerRow};
 use std::alloc::{AllocError, Global};
 use std::cmp::Ordering;
@@ -159,11 +163,75 @@ impl Linked {
 
     /// Changes the trigger of this key in place, if it is stored.
     pub fn edit(&mut self, key: &Key, edit: &TriggerEdit)
+        requires { (row : TriggerData) → row_of key_cmp (λ r. r.spec.key) key.now self.old.rows ≡ Some row → IsFit edit.now row }
         ensures rows { self.new.rows ≡ changed_at key_cmp (λ r. r.spec.key) key.now (trigger_edited edit.now) self.old.rows }
         ensures links { KeepsLinks self.old.links self.new.links }
         ensures spare { self.old.spare ≤ self.new.spare }
     {
         self.rows.edit(key, edit);
+    }
+
+    /// Changes the states of the triggers that pass.
+    ///
+    /// It looks at every trigger.
+    pub fn change_states<T: Test<TriggerRow>>(&mut self, test: &T, change: StateChange)
+        ensures rows { self.new.rows ≡ with_states (changed change) (T.test test.now) self.old.rows }
+        ensures links { KeepsLinks self.old.links self.new.links }
+        ensures spare { self.old.spare ≤ self.new.spare }
+    {
+        let edit = TriggerEdit::State(change);
+        let count = self.len();
+        let mut place = 0;
+        while place < count {
+            if self.rows.passes_nth(place, test) {
+                self.edit_nth(place, &edit);
+            }
+            place += 1;
+        }
+    }
+
+    fn edit_nth(&mut self, place: usize, edit: &TriggerEdit)
+        requires present { place < length self.old.rows }
+        requires fit { (row : TriggerData) → slice_get self.old.rows place ≡ Some row → IsFit edit.now row }
+        ensures rows { self.new.rows ≡ changed_nth (trigger_edited edit.now) place self.old.rows }
+        ensures links { KeepsLinks self.old.links self.new.links }
+        ensures spare { self.old.spare ≤ self.new.spare }
+    {
+        self.rows.edit_nth(place, edit);
+    }
+
+    /// Takes out the triggers that pass.
+    ///
+    /// It looks at every trigger.
+    pub fn remove_all<T: Test<TriggerRow>>(&mut self, test: &T)
+        ensures rows { self.new.rows ≡ filter (λ row. not (T.test test.now row)) self.old.rows }
+        ensures links { (job : Key) → ((row : TriggerData) → T.test test.now row ≡ true → row.spec.job ≢ job) → linked job self.new.links ≡ linked job self.old.links }
+        ensures spare { self.old.spare ≤ self.new.spare }
+    {
+        let mut place = self.len();
+        while place > 0 {
+            place -= 1;
+            if self.rows.passes_nth(place, test) {
+                drop(self.remove_nth(place));
+            }
+        }
+    }
+
+    fn remove_nth(&mut self, place: usize) -> TriggerRow
+        requires { place < length self.old.rows }
+        ensures row { Some result ≡ slice_get self.old.rows place }
+        ensures rows { self.new.rows ≡ remove self.old.rows place }
+        ensures links { IsUnlinked result.spec.job result.spec.key self.old.links self.new.links }
+        ensures spare { self.old.spare ≤ self.new.spare }
+    {
+        let (slot, row) = self.rows.take_nth(place);
+        match place_in(&self.linked, slot) {
+            Some(at) => {
+                self.linked.remove(at);
+                row
+            }
+            None => unreachable!(),
+        }
     }
 
     /// Puts a trigger in place of that of its key, and gives the old one. A trigger of another job than before is linked

@@ -3,10 +3,10 @@ ghost use Rattle.std.specs.Prelude.{◌≡◌, ◌≤◌, ◌<◌, ◌+◌, None
 ghost use Rattle.qz_types.specs.Sorted.{IsAscending};
 ghost use Rattle.qz_types.specs.Words.{key_cmp, trigger_of, put_trigger, without_trigger, with_trigger};
 ghost use Rattle.qz_tables.specs.Contents.{KeepsSpare, one_trigger};
-ghost use Rattle.qz_tables.specs.Changes.{in_state, after_fire};
+ghost use Rattle.qz_types.specs.Changes.{in_state, after_fire};
 ghost use Rattle.qz_tables.specs.Links.{KeepsLinks, IsLinked, IsUnlinked, IsMoved};
 
-use crate::edits::TriggerEdit;
+use crate::edits::{StateChange, TriggerEdit};
 use crate::tables::Tables;
 use qz_types::{Key, NoMemory, TriggerRow, TriggerState};
 use std::alloc::Global;
@@ -88,7 +88,7 @@ impl Tables {
         ensures links { KeepsLinks self.old.links self.new.links }
         ensures spare { KeepsSpare self.old.spare self.new.spare }
     {
-        self.triggers.edit(key, &TriggerEdit::State(state));
+        self.triggers.edit(key, &TriggerEdit::State(StateChange::Set(state)));
     }
 
     /// The trigger of this key fired, if it is stored: its next time becomes its last one, and it gets this next time, in

@@ -1,6 +1,6 @@
 use Rattle.std.proofs.Common.{◌≡◌, ◌≤◌, ◌-◌, length, drop, filter}
 use Rattle.std.specs.List.{slice_get}
-use Rattle.qz_tables.specs.Acquired.{is_acquired_for}
+use Rattle.qz_types.specs.States.{is_acquired_for}
 use Rattle.qz_tables.proofs.fired.first_acquired.Given as goal
 
 abbrev pub decreases-loop-place : goal.decreases-loop-place

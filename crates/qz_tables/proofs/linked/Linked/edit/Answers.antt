@@ -1,4 +1,5 @@
-use Rattle.std.proofs.Common.{ap, subst, ◌∙◌}
+use Rattle.std.proofs.Common.{ap, subst, sym, ◌∙◌}
+use Rattle.qz_types.specs.Sorted.{row_of}
 use Rattle.qz_types.specs.Rows.{TriggerData}
 use Rattle.qz_types.specs.Words.{key_cmp}
 use Rattle.qz_tables.specs.Changes.{trigger_edited}
@@ -19,3 +20,6 @@ pub returns-clause-links : goal.returns-clause-links
 returns-clause-links c =
     let l = links-alike c.self.inside.rows.slots c.edit.new.self.slots c.self.inside.linked.items (alike-edited c.args.edit.now c.self.inside.rows.slots c.edit.new.self.slots c.edit.ensures.slots) in
     subst (λ v. KeepsLinks v.links (links_of (rows_at c.edit.new.self.slots c.self.inside.linked.items))) c.self.view_is l
+
+pub edit-requires : goal.edit-requires
+edit-requires c = λ row e. c.requires row (ap (λ v. row_of key_cmp (λ (r : TriggerData). r.spec.key) c.args.key.now v.rows) (sym c.self.view_is) ∙ e)

@@ -1,0 +1,17 @@
+use Rattle.std.proofs.Common.{◌≡◌, ◌≢◌, ◌≤◌, length, not, true}
+use Rattle.qz_types.specs.Rows.{TriggerData}
+use Rattle.qz_types.specs.declared.keys.Key.{Key}
+use Rattle.qz_tables.specs.Links.{linked}
+use Rattle.qz_tables.proofs.BulkLemmas.{filtered_from}
+use Rattle.qz_tables.proofs.linked.Linked.remove_all.Given as goal
+
+abbrev pub invariant-loop-place : goal.invariant-loop-place
+invariant-loop-place g l = record {
+  within : l.place ≤ length l.fn.self.rows;
+  rows : l.self.rows ≡ filtered_from (λ r. not (g.T.Test.test l.test r)) l.place l.fn.self.rows;
+  links : (job : Key) → ((row : TriggerData) → g.T.Test.test l.test row ≡ true → row.spec.job ≢ job) → linked job l.self.links ≡ linked job l.fn.self.links;
+  spare : l.fn.self.spare ≤ l.self.spare;
+}
+
+abbrev pub decreases-loop-place : goal.decreases-loop-place
+decreases-loop-place g l = l.place
