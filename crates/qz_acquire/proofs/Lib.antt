@@ -1,5 +1,6 @@
 mod Facts
 mod Lists
 mod MisfireWalk
+mod Missed
 mod Moving
 mod Walk

@@ -1,14 +1,15 @@
 //! A node moves the triggers that are misfired. Times are in ms since 1970-01-01T00:00:00Z.
-ghost use Rattle.std.specs.Prelude.{◌≡◌, IfOk, IfErr, OnErr, map, fold};
+ghost use Rattle.std.specs.Prelude.{◌≡◌, IfOk, IfErr, OnErr, map, fold, ◌≤ℤ◌};
 ghost use Rattle.std.specs.List.{AllByRecursion};
+ghost use Rattle.qz_civil.specs.declared.limits.TheConstants.{LAST};
 ghost use Rattle.qz_types.specs.Tables.{IsMoment};
 ghost use Rattle.qz_types.specs.Outcomes.{accepted, IsErrorOf};
 ghost use Rattle.qz_model.specs.Invariant.{TablesValid};
 ghost use Rattle.qz_model.specs.Misfires.{misfired_triggers, moved_row, misfires};
-ghost use Rattle.qz_acquire.specs.Moves.{with_move, AreMovable, move_for, IsMovable};
+ghost use Rattle.qz_acquire.specs.Moves.{with_move, AreMovable, move_for, IsMovable, IsMissed};
 
 use crate::due::{earliest, is_from, is_waiting_misfired};
-use crate::stubs::{move_of, move_trigger};
+use crate::stubs::move_of;
 use qz_apply::node_refusal;
 use qz_civil::Moved;
 use qz_tables::Tables;
@@ -77,13 +78,14 @@ fn misfired_triggers(tables: &Tables, moment: i64) -> Result<Vec<&TriggerRow>, A
 }
 
 // What a misfire makes of each of these.
+#[tactic(auto, using(crate::proofs::Missed::fits))]
 fn moves_of(
     tables: &Tables,
     moment: i64,
     triggers: &[&TriggerRow],
 ) -> Result<Vec<Move>, AllocError>
-    requires valid { ∥ TablesValid tables.now.tables ∥₁ }
-    requires moment { IsMoment tables.now.tables.horizon moment }
+    requires moment { moment ≤ℤ LAST }
+    requires missed { AllByRecursion (IsMissed moment) (map (λ r. r.now) triggers.now) }
     ensures moves { IfOk result (λ moves. moves.items ≡ map (move_for tables.now.tables moment) (map (λ r. r.now) triggers.now)) }
     ensures fit { IfOk result (λ _. AllByRecursion (IsMovable tables.now.tables moment) (map (λ r. r.now) triggers.now)) }
 {
@@ -117,6 +119,6 @@ fn move_each(tables: &mut Tables, moves: Vec<Move>)
     ensures { tables.new.tables ≡ record tables.old.tables { triggers = fold with_move tables.old.tables.triggers moves.items } }
 {
     for one in moves {
-        move_trigger(tables, &one.key, &one.moved);
+        tables.move_trigger(&one.key, &one.moved);
     }
 }

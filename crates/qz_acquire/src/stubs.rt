@@ -1,30 +1,23 @@
 //! Stubs.
-ghost use Rattle.std.specs.Prelude.{◌≡◌, IfSome, IsTrue};
-ghost use Rattle.qz_types.specs.Changes.{moved_trigger};
-ghost use Rattle.qz_types.specs.Rows.{is_trigger};
-ghost use Rattle.qz_types.specs.Tables.{IsMoment};
-ghost use Rattle.qz_types.specs.Words.{trigger_of, with_trigger};
-ghost use Rattle.qz_model.specs.Invariant.{TablesValid};
+ghost use Rattle.std.specs.Prelude.{◌≡◌, ◌≤◌, ◌^◌, pos, ◌≤ℤ◌, ◌<ℤ◌, IfSome, IsTrue};
+ghost use Rattle.qz_civil.specs.Timings.{is_timing};
+ghost use Rattle.qz_civil.specs.declared.limits.TheConstants.{LAST};
+ghost use Rattle.qz_types.specs.Changes.{moved_timing};
+ghost use Rattle.qz_model.specs.Acquiring.{next_time};
 ghost use Rattle.qz_model.specs.Misfires.{move_of};
-ghost use Rattle.qz_tables.specs.Contents.{KeepsSpare};
 
 use qz_civil::Moved;
 use qz_tables::Tables;
-use qz_types::{Key, TriggerRow};
+use qz_types::TriggerRow;
 
 pub fn move_of(tables: &Tables, trigger: &TriggerRow, moment: i64) -> Moved
-    requires valid { ∥ TablesValid tables.now.tables ∥₁ }
-    requires moment { IsMoment tables.now.tables.horizon moment }
+    requires next { pos 0 ≤ℤ next_time trigger.now }
+    requires missed { next_time trigger.now <ℤ moment }
+    requires moment { moment ≤ℤ LAST }
     ensures value { result ≡ move_of tables.now.tables moment trigger.now }
-    ensures fits { IsTrue (is_trigger (moved_trigger result trigger.now)) }
-{
-    unreachable!()
-}
-
-pub fn move_trigger(tables: &mut Tables, key: &Key, moved: &Moved)
-    requires { IfSome (trigger_of key.now tables.old.tables.triggers) (λ t. IsTrue (is_trigger (moved_trigger moved.now t))) }
-    ensures tables { tables.new.tables ≡ record tables.old.tables { triggers = with_trigger key.now (moved_trigger moved.now) tables.old.tables.triggers } }
-    ensures spare { KeepsSpare tables.old.spare tables.new.spare }
+    ensures timing { IsTrue (is_timing (moved_timing result trigger.now.spec.timing)) }
+    ensures times { result.times ≤ 2 ^ 63 }
+    ensures next { IfSome result.next (λ t. (pos 0 ≤ℤ t) × (t ≤ℤ LAST)) }
 {
     unreachable!()
 }
