@@ -6,8 +6,10 @@ mod executions;
 mod members;
 mod moments;
 mod names;
+mod plans;
 
 pub use executions::{is_acquired, is_busy};
 pub use members::{is_of, node_refusal};
 pub use moments::recorded_moment;
 pub use names::{same_key, same_text};
+pub use plans::{move_of, next_after};

@@ -1,7 +1,7 @@
 //! The fence for nodes that aren't members any more, and the rows of a member.
 ghost use Rattle.std.specs.Prelude.{◌≡◌, option_copied};
-ghost use Rattle.qz_model.specs.Membership.{live_epoch, is_live, node_refusal};
 ghost use Rattle.qz_model.specs.Tests.{is_of};
+ghost use Rattle.qz_model.specs.Membership.{live_epoch, is_live, node_refusal};
 
 use crate::same_text;
 use qz_tables::Tables;

@@ -17,7 +17,7 @@ pub number_of-rises : (c : Count) (d e : ℕ) → d ≤ e → number_of c d ≤ 
 number_of-rises Days d e le = le
 number_of-rises (Months of_month) d e le = month_of-rises d e le
 
-month_number-day_in_month : (n d : ℕ) → month_number (day_in_month n d) ≡ n
+pub month_number-day_in_month : (n d : ℕ) → month_number (day_in_month n d) ≡ n
 month_number-day_in_month n d = omega arith
 
 pub has_number : (c : Count) (n day : ℕ) → HasNumber c n day → number_of c day ≡ n

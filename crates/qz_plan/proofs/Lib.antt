@@ -1,4 +1,10 @@
+pub mod DatedTests
+pub mod DayTests
 pub mod FireLaws
 pub mod FireTimesLaws
 pub mod NextLaws
 pub mod Plan
+pub mod PlanLaws
+pub mod SecondTests
+pub mod SimpleTests
+pub mod TestLaws

@@ -4,6 +4,7 @@ ghost use Rattle.qz_civil.specs.Least.{IsNext};
 ghost use Rattle.qz_civil.specs.Timings.{is_timing};
 ghost use Rattle.qz_misfire.specs.Table.{moved};
 ghost use Rattle.qz_plan.specs.FireTimes.{IsFireTime};
+ghost use Rattle.qz_plan.specs.Plan.{fire_time_after};
 
 use crate::times::FireTimes;
 use qz_calendar::Chain;
@@ -16,7 +17,7 @@ use qz_misfire::after_misfire;
 pub fn misfired(
     timing: &Timing,
     zone: &Zone,
-    chain: &Chain,
+    chain: &Chain<'_>,
     next: i64,
     times: u64,
     now: i64,
@@ -26,7 +27,8 @@ pub fn misfired(
     requires missed { next <ℤ now }
     requires now { now ≤ℤ LAST }
     requires times { times ≤ 2 ^ 63 }
-    ensures { (later : Option ℤ) → IsNext LAST (IsFireTime timing.now zone.now chain.now) now later → result ≡ moved timing.now later next times now }
+    ensures least { (later : Option ℤ) → IsNext LAST (IsFireTime timing.now zone.now chain.now) now later → result ≡ moved timing.now later next times now }
+    ensures value { result ≡ moved timing.now (fire_time_after timing.now zone.now chain.now now) next times now }
 {
     let later = FireTimes::new(timing, zone, chain);
     after_misfire(timing, &later, next, times, now)

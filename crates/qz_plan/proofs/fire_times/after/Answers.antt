@@ -1,6 +1,7 @@
-use Rattle.std.proofs.Common.{◌≡◌, ◌-ℤ◌, rules, ap, sym, ◌∙◌, pos, to_z, of_z, FitsSigned, w64, arith}
+use Rattle.std.proofs.Common.{◌≡◌, ◌-ℤ◌, rules, ap, sym, ◌∙◌, pos, to_z, of_z, FitsSigned, w64, None, Some, arith}
 use Rattle.std.proofs.lemmas.Int.{ints, to_z-of_z}
-use Rattle.qz_plan.proofs.FireLaws.{excluded, fires, quieter}
+use Rattle.qz_plan.proofs.FireLaws.{excluded, fires, quieter, unscheduled}
+use Rattle.qz_plan.proofs.PlanLaws.{fire_time-one}
 use Rattle.qz_plan.proofs.fire_times.after.Goals as goal
 
 pub returns-in_err-next : goal.returns-in_err-next
@@ -10,7 +11,8 @@ returns-in_err-next c =
     let quiet = rw (to_z-of_z w64 c.args.t c.ranges.t) at c.loop-time.invariant.quiet in
     let least = rw c.in-Some.is at c.scheduled_after.ensures in
     let none = rw time at (rw c.in_err-next.was at c.next_included.ensures) in
-    rw c.from_residual.ensures (excluded _ _ _ _ _ quiet c.in-Some.time least none)
+    let next = excluded _ _ _ _ _ quiet c.in-Some.time least none in
+    rw c.from_residual.ensures (record { least = next; value = fire_time-one _ _ _ c.requires.timing _ None c.requires.low next })
 
 pub returns-then-next-time : goal.returns-then-next-time
 returns-then-next-time c =
@@ -22,7 +24,13 @@ returns-then-next-time c =
     let quiet = rw (to_z-of_z w64 c.args.t c.ranges.t) at c.loop-time.invariant.quiet in
     let least = rw c.in-Some.is at c.scheduled_after.ensures in
     let in_chain = rw time at (rw c.in_ok-next.was at c.next_included.ensures) in
-    rw time (fires _ _ _ _ _ quiet c.in-Some.time (omega (arith, ints, c.loop-time.invariant.later)) least (rw same at in_chain))
+    let first = fires _ _ _ _ _ quiet c.in-Some.time (omega (arith, ints, c.loop-time.invariant.later)) least (rw same at in_chain) in
+    rw time (record { least = first; value = fire_time-one _ _ _ c.requires.timing _ (Some c.in-Some.time) c.requires.low first })
+
+pub returns-clause-value : goal.returns-clause-value
+returns-clause-value c =
+    let quiet = rw (to_z-of_z w64 c.args.t c.ranges.t) at c.loop-time.invariant.quiet in
+    fire_time-one _ _ _ c.requires.timing _ None c.requires.low (unscheduled _ _ _ _ _ quiet (rw c.in_default.is at c.scheduled_after.ensures))
 
 pub loop-time-preserved : goal.loop-time-preserved
 loop-time-preserved c =
