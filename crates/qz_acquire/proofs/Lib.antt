@@ -3,4 +3,6 @@ mod Lists
 mod MisfireWalk
 mod Missed
 mod Moving
+mod Refused
+mod Rooms
 mod Walk

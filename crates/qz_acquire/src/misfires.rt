@@ -1,19 +1,18 @@
 //! A node moves the triggers that are misfired. Times are in ms since 1970-01-01T00:00:00Z.
-ghost use Rattle.std.specs.Prelude.{◌≡◌, IfOk, IfErr, OnErr, map, fold, ◌≤ℤ◌};
+ghost use Rattle.std.specs.Prelude.{◌≡◌, IfOk, IfErr, OnErr, map, fold, ℤ, ◌≤ℤ◌, MatchOption};
 ghost use Rattle.std.specs.List.{AllByRecursion};
 ghost use Rattle.qz_civil.specs.declared.limits.TheConstants.{LAST};
 ghost use Rattle.qz_types.specs.Tables.{IsMoment};
-ghost use Rattle.qz_types.specs.Outcomes.{accepted, IsErrorOf};
+ghost use Rattle.qz_types.specs.Outcomes.{accepted, refused, IsAccepted, IsErrorOf};
 ghost use Rattle.qz_model.specs.Invariant.{TablesValid};
 ghost use Rattle.qz_model.specs.Misfires.{misfired_triggers, moved_row, misfires};
 ghost use Rattle.qz_acquire.specs.Moves.{with_move, AreMovable, move_for, IsMovable, IsMissed};
 
 use crate::due::{earliest, is_from, is_waiting_misfired};
-use crate::stubs::move_of;
-use qz_apply::node_refusal;
+use qz_apply::{move_of, node_refusal};
 use qz_civil::Moved;
 use qz_tables::Tables;
-use qz_types::{Key, List, MISFIRE_LIMIT, MemberRow, MovedRow, Reply, StepRefused, TriggerRow};
+use qz_types::{Key, List, MISFIRE_LIMIT, MemberRow, MovedRow, Refusal, Reply, StepRefused, TriggerRow};
 use std::alloc::{AllocError, Global};
 
 /// What a misfire makes of the trigger of this key.
@@ -21,6 +20,14 @@ use std::alloc::{AllocError, Global};
 pub struct Move {
     pub key: Key,
     pub moved: Moved,
+}
+
+/// Why a Misfires of the member is refused, if it is.
+#[tactic(auto, using(crate::proofs::Refused::of_misfires))]
+pub fn misfires_refused(tables: &Tables, me: &MemberRow) -> Option<Refusal>
+    ensures { (m : ℤ) → MatchOption result (IsAccepted (misfires tables.now.tables m me.now)) (λ x. misfires tables.now.tables m me.now ≡ refused x) }
+{
+    node_refusal(tables, me)
 }
 
 /// The member moves the first misfired triggers, up to `MISFIRE_LIMIT`.
@@ -78,7 +85,6 @@ fn misfired_triggers(tables: &Tables, moment: i64) -> Result<Vec<&TriggerRow>, A
 }
 
 // What a misfire makes of each of these.
-#[tactic(auto, using(crate::proofs::Missed::fits))]
 fn moves_of(
     tables: &Tables,
     moment: i64,
