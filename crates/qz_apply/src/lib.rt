@@ -12,7 +12,7 @@ mod orphans;
 mod plans;
 
 pub use executions::{is_acquired, is_busy};
-pub use members::{is_of, node_refusal};
+pub use members::{is_of, node_refusal, owner_refusal};
 pub use moments::recorded_moment;
 pub use names::{same_key, same_text};
 pub use orphans::{remove_orphan, remove_trigger_and_orphan};
