@@ -20,6 +20,7 @@ use Rattle.qz_model.proofs.KeptCalendars.{kept-add_calendar, kept-delete_calenda
 use Rattle.qz_model.proofs.KeptCompletion.{kept-complete}
 use Rattle.qz_model.proofs.KeptFiring.{kept-fire}
 use Rattle.qz_model.proofs.KeptJobs.{kept-add_job, kept-delete_job}
+use Rattle.qz_model.proofs.KeptLeaving.{kept-leave}
 use Rattle.qz_model.proofs.KeptMembership.{kept-join}
 use Rattle.qz_model.proofs.KeptMisfires.{kept-misfires}
 use Rattle.qz_model.proofs.KeptPausing.{kept-pause_trigger, kept-resume_trigger, kept-pause_group, kept-resume_group}
@@ -47,7 +48,8 @@ kept-by_command T T' m actor (DeleteZone name) r good valid is e = kept-delete_z
 kept-by_command T T' m actor (TriggerNow job) r good valid is e = kept-trigger_now T T' m job r valid is e
 kept-by_command T T' m actor (Threshold ms) r good valid is e = kept-set_threshold T T' m ms r good valid is e
 kept-by_command T T' m actor (Join node) r good valid is e = kept-join T T' m node r valid is e
-kept-by_command T T' m actor Leave r good valid is e = refused-keeps T' r Unbuilt e
+kept-by_command T T' m Client Leave r good valid is e = refused-keeps T' r (Fenced None) e
+kept-by_command T T' m (Node me) Leave r good valid is e = kept-leave T T' m me r valid is e
 kept-by_command T T' m Client (Acquire no_later window max) r good valid is e = refused-keeps T' r (Fenced None) e
 kept-by_command T T' m (Node me) (Acquire no_later window max) r good valid is e = kept-acquire T T' m me no_later window max r valid is e
 kept-by_command T T' m Client (Release entry) r good valid is e = refused-keeps T' r (Fenced None) e

@@ -5,6 +5,7 @@ pub mod Dropping
 pub mod DueLaws
 mod DueOrder
 pub mod Ended
+pub mod GivenBack
 pub mod Histories
 pub mod Kept
 pub mod KeptAcquiring
@@ -12,6 +13,7 @@ pub mod KeptCalendars
 pub mod KeptCompletion
 pub mod KeptFiring
 mod KeptJobs
+pub mod KeptLeaving
 pub mod KeptMembership
 pub mod KeptMisfires
 pub mod KeptPausing
@@ -19,6 +21,7 @@ pub mod KeptReleasing
 pub mod KeptTriggers
 pub mod KeptZones
 pub mod LookUps
+pub mod MembersGone
 pub mod NamedRows
 pub mod NextTimes
 mod Numbers

@@ -15,7 +15,7 @@ use Rattle.qz_types.specs.Sorted.{IsAscending}
 use Rattle.qz_types.specs.Rows.{JobData, TriggerData, MemberData, FiredData}
 use Rattle.qz_types.specs.declared.keys.Key.{Key}
 use Rattle.qz_types.proofs.Ascending.{IsAscending-put}
-use Rattle.qz_types.specs.Words.{text_cmp, key_cmp, same_key, job_of, put_job, without_job, trigger_of, put_trigger, with_trigger, without_trigger, member_of, put_member, fired_of, put_fired, with_fired, without_fired}
+use Rattle.qz_types.specs.Words.{text_cmp, key_cmp, same_text, same_key, job_of, put_job, without_job, trigger_of, put_trigger, with_trigger, without_trigger, member_of, put_member, without_member, fired_of, put_fired, with_fired, without_fired}
 use Rattle.qz_model.proofs.RowPoints.{All-from, All-weaker, All-put, All-changed, All-left, changed_keeps, count_by-put, count_by-changed, count_by-left, length-put, length-filter_le}
 use Rattle.qz_model.proofs.LookUps.{All-row_of, row_of-id, row_of_none, row_of-map, row_of-put, row_of-put_new, row_of-put_own, length-filter_found, row_of-filter, row_of-filter_none, one_found, each_found, only_found, row_of-alike, equal_from, IsAscending-map, IsAscending-filter, count_found}
 
@@ -241,6 +241,43 @@ pub member_of-put_member : (node : List ℕ) (row m : MemberData) (rows : List M
 unfolding member_of put_member
 member_of-put_member node row m rows absent found = row_of-put_new text_cmp (λ r. r.node) nat_list_cmp_total node row m rows absent found
 
+pub member_of-alike : (a b : List ℕ) (rows : List MemberData) → same_text a b ≡ true → member_of a rows ≡ member_of b rows
+unfolding member_of same_text
+member_of-alike a b rows same = row_of-alike text_cmp (λ r. r.node) nat_list_cmp_total a b rows (equal_from (text_cmp a b) same)
+
+-- each member is found by its name
+pub each_member : (rows : List MemberData) → IsAscending text_cmp (λ r. r.node) rows → AllByRecursion (λ m. member_of m.node rows ≡ Some m) rows
+unfolding member_of
+each_member rows ordered = each_found text_cmp (λ r. r.node) nat_list_cmp_total rows ordered
+
+pub All-member_of : (P : MemberData → Type 0) (node : List ℕ) (m : MemberData) (rows : List MemberData) → AllByRecursion P rows → member_of node rows ≡ Some m → P m
+unfolding member_of
+All-member_of P node m rows all found = All-row_of text_cmp (λ r. r.node) P node m rows all found
+
+pub ordered-without_member : (node : List ℕ) (rows : List MemberData) → IsAscending text_cmp (λ r. r.node) rows → IsAscending text_cmp (λ r. r.node) (without_member node rows)
+unfolding without_member
+ordered-without_member node rows ordered = IsAscending-filter text_cmp (λ r. r.node) nat_list_cmp_total (λ r. not (same_text node r.node)) rows ordered
+
+pub All-without_member : (P Q : MemberData → Type 0) (node : List ℕ) (rows : List MemberData) → AllByRecursion P rows → ((m : MemberData) → same_text node m.node ≡ false → P m → Q m)
+    → AllByRecursion Q (without_member node rows)
+unfolding without_member
+All-without_member P Q node rows all left = All-left P Q (λ r. same_text node r.node) rows all left
+
+-- a name that is one of two that differ isn't the other
+pub other_text : (j k l : List ℕ) → same_text j k ≡ false → same_text k l ≡ true → same_text j l ≡ false
+unfolding same_text
+other_text j k l differ same = let laws = eq_by_cmp_equiv nat_list_cmp_total in sym (laws.congr k l j same ∙ laws.symm l j) ∙ (laws.symm k j ∙ differ)
+
+pub member_of-without_member : (j k : List ℕ) (rows : List MemberData) → same_text j k ≡ false → member_of k (without_member j rows) ≡ member_of k rows
+unfolding member_of without_member same_text
+member_of-without_member j k rows differ =
+    row_of-filter text_cmp (λ r. r.node) k (λ r. not (same_text j r.node)) rows
+    (All-from (λ r. same_text k r.node ≡ true → not (same_text j r.node) ≡ true) rows (λ r same. ap not (other_text j k r.node differ same)))
+
+pub length-without_member : (node : List ℕ) (rows : List MemberData) → length (without_member node rows) ≤ length rows
+unfolding without_member
+length-without_member node rows = length-filter_le (λ r. not (same_text node r.node)) rows
+
 pub length-put_member : (row : MemberData) (rows : List MemberData) → length (put_member row rows) ≡ length rows + 1
 unfolding put_member
 length-put_member row rows = length-put text_cmp (λ r. r.node) row rows
@@ -248,6 +285,16 @@ length-put_member row rows = length-put text_cmp (λ r. r.node) row rows
 -- fired rows
 pub same_number : (a b : ℕ) → is_eq (nat_cmp a b) ≡ (a == b)
 same_number a b = grind (arith, nat_tests)
+
+-- a row that is stored leaves room
+pub length-without_stored_fired : (n : ℕ) (rows : List FiredData) → IsSome (fired_of n rows) → length (without_fired n rows) + 1 ≤ length rows
+unfolding fired_of without_fired
+length-without_stored_fired n rows stored = length-filter_found nat_cmp (λ r. r.entry) n (λ r. not (n == r.entry)) rows stored (λ r same. ap not (sym (same_number n r.entry) ∙ same))
+
+-- each row is found by its number
+pub each_fired : (rows : List FiredData) → IsAscending nat_cmp (λ r. r.entry) rows → AllByRecursion (λ f. fired_of f.entry rows ≡ Some f) rows
+unfolding fired_of
+each_fired rows ordered = each_found nat_cmp (λ r. r.entry) nat_cmp_total rows ordered
 
 pub ordered-put_fired : (row : FiredData) (rows : List FiredData) → IsAscending nat_cmp (λ r. r.entry) rows → fired_of row.entry rows ≡ None → IsAscending nat_cmp (λ r. r.entry) (put_fired row rows)
 unfolding fired_of put_fired

@@ -56,6 +56,10 @@ module _ {R : Type 0} where
     | false ↦ any_is_count p xs ∙ ap (nat_lt 0) (omega arith)
   ])
 
+  pub any_none : (p : R → Bool) (xs : List R) → AllByRecursion (λ x. p x ≡ false) xs → list_any p xs ≡ false
+  any_none p [] none = refl
+  any_none p (x ∷ xs) none = rw none.0 (any_none p xs none.1)
+
   -- so equal counts give one answer
   pub any_from_counts : (p : R → Bool) (xs ys : List R) → count_by p xs ≡ count_by p ys → list_any p xs ≡ list_any p ys
   any_from_counts p xs ys same = any_is_count p xs ∙ ap (nat_lt 0) same ∙ sym (any_is_count p ys)
@@ -74,6 +78,19 @@ module _ {R : Type 0} where
   pub count_by-map : (p : R → Bool) (f : R → R) (xs : List R) → AllByRecursion (λ x. p (f x) ≡ p x) xs → count_by p (map f xs) ≡ count_by p xs
   count_by-map p f [] same = refl
   count_by-map p f (x ∷ xs) same = rw (count_by-cons p (f x) (map f xs), count_by-cons p x xs, same.0, count_by-map p f xs same.1) refl
+
+  -- filters by tests that agree keep the same
+  pub filter-alike : (p q : R → Bool) (xs : List R) → AllByRecursion (λ x. p x ≡ q x) xs → filter p xs ≡ filter q xs
+  filter-alike p q [] same = refl
+  filter-alike p q (x ∷ xs) same = rw (same.0, filter-alike p q xs same.1) refl
+
+  -- a filter that keeps none
+  pub none-filtered : (p : R → Bool) (xs : List R) → length (filter p xs) ≤ 0 → AllByRecursion (λ x. p x ≡ false) xs
+  none-filtered p [] none = tt
+  none-filtered p (x ∷ xs) none = elim (p x) as (λ b. length (cond b (x ∷ filter p xs) (filter p xs)) ≤ 0 → (b ≡ false) × AllByRecursion (λ y. p y ≡ false) xs) [
+    | true ↦ λ few. absurd (omega arith)
+    | false ↦ λ few. (refl, none-filtered p xs few)
+  ] none
 
   -- nor does a filter that leaves out none that passes
   pub count_by-filter : (p q : R → Bool) (xs : List R) → AllByRecursion (λ x. q x ≡ false → p x ≡ false) xs → count_by p (filter q xs) ≡ count_by p xs

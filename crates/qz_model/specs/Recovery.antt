@@ -1,12 +1,11 @@
 -- The transactions on members: a node joins or leaves, or a member that failed is recovered.
-use Rattle.std.specs.Prelude.{ℕ, ◌+◌, ℤ, pos, negsuc, List, ◌∷◌, [], ◌++◌, Bool, true, false, not, ◌&&◌, fold, filter, map, length, nat_le, nat_lt, codes, Option, Some, None, is_some, if◌then◌else◌}
+use Rattle.std.specs.Prelude.{ℕ, ◌+◌, ℤ, pos, negsuc, List, ◌∷◌, ◌++◌, Bool, false, not, ◌&&◌, fold, filter, map, length, nat_le, nat_lt, codes, Option, Some, None, is_some, if◌then◌else◌}
 use Rattle.std.specs.Fmt.{decimal}
 use Rattle.std.specs.List.{list_any}
 use Rattle.qz_civil.specs.declared.timings.Kind.TheVariants.{Simple}
 use Rattle.qz_types.specs.Rows.{JobData, TriggerData, MemberData, FiredData}
 use Rattle.qz_types.specs.declared.keys.Key.{Key}
 use Rattle.qz_types.specs.declared.limits.TheConstants.{MEMBER_LIMIT, NUMBER_LIMIT, TRIGGER_LIMIT}
-use Rattle.qz_types.specs.declared.triggers.TriggerSpec.{TriggerSpec}
 use Rattle.qz_types.specs.declared.triggers.TriggerState.TheVariants.{Waiting}
 use Rattle.qz_types.specs.declared.replies.Reply.TheVariants.{Done, Joined, Recovered}
 use Rattle.qz_types.specs.declared.replies.Refusal.{Refusal}

@@ -17,7 +17,7 @@ use Rattle.qz_model.specs.Firing.{fire}
 use Rattle.qz_model.specs.Jobs.{add_job, delete_job}
 use Rattle.qz_model.specs.Misfires.{misfires}
 use Rattle.qz_model.specs.Pausing.{pause_trigger, resume_trigger, pause_group, resume_group}
-use Rattle.qz_model.specs.Recovery.{join, rejoin_refusal}
+use Rattle.qz_model.specs.Recovery.{join, rejoin_refusal, leave}
 use Rattle.qz_model.specs.Triggers.{add_trigger, delete_trigger, trigger_now, set_threshold}
 
 -- what a node does under its epoch; a client is no member
@@ -42,7 +42,7 @@ by_command T m actor (DeleteZone name) = delete_zone T m name
 by_command T m actor (TriggerNow job) = trigger_now T m job
 by_command T m actor (Threshold ms) = set_threshold T m ms
 by_command T m actor (Join node) = unless (rejoin_refusal (member_of node T.members)) (join T m node)
-by_command T m actor Leave = refused Unbuilt
+by_command T m actor Leave = as_node actor (λ me. leave T m me)
 by_command T m actor (Acquire no_later window max) = as_node actor (λ me. acquire T m me no_later window max)
 by_command T m actor (Release entry) = as_node actor (λ me. release T m me entry)
 by_command T m actor (Fire entry) = as_node actor (λ me. fire T m me entry)

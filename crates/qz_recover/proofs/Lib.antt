@@ -1,2 +1,5 @@
+pub mod Facts
 pub mod Joins
+pub mod Leaves
 pub mod Rooms
+pub mod Walk

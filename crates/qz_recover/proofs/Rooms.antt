@@ -1,16 +1,23 @@
 -- A command on members adds a row at most.
-use Rattle.std.proofs.Common.{ℤ, ℕ, List, Option, Some, None, IsTrue, arith}
+use Rattle.std.proofs.Common.{ℤ, ℕ, not, List, Option, Some, None, IsTrue, arith, if◌then◌else◌}
+use Rattle.std.proofs.lemmas.List.{length-map}
 use Rattle.qz_types.specs.Rows.{MemberData}
 use Rattle.qz_types.specs.Entries.{EntryData}
 use Rattle.qz_types.specs.declared.commands.Command.{Command}
 use Rattle.qz_types.specs.declared.commands.Command.TheVariants.{AddJob, DeleteJob, AddTrigger, DeleteTrigger, PauseTrigger, ResumeTrigger, PauseGroup, ResumeGroup, AddCalendar, DeleteCalendar, AddZone, DeleteZone, TriggerNow, Threshold, Join, Leave, Acquire, Release, Fire, Complete, Misfires, Recover}
 use Rattle.qz_types.specs.declared.commands.Actor.{Actor}
+use Rattle.qz_types.specs.declared.commands.Actor.TheVariants.{Client, Node}
 use Rattle.qz_types.specs.Tables.{SchedulerTables, recorded_moment}
+use Rattle.qz_types.specs.Changes.{in_state}
+use Rattle.qz_types.specs.declared.triggers.TriggerState.TheVariants.{Waiting}
 use Rattle.qz_types.specs.Outcomes.{unless}
 use Rattle.qz_types.specs.Words.{member_of}
-use Rattle.qz_model.specs.Recovery.{with_new_member, rejoin_refusal, join_refusal, joined, join}
+use Rattle.qz_model.specs.Recovery.{has_acquired, freed_by, rows_of_others, leave_refusal, leave, with_new_member, rejoin_refusal, join_refusal, joined, join}
+use Rattle.qz_model.specs.Membership.{node_refusal}
+use Rattle.qz_model.specs.Tests.{is_of, or_refusal}
 use Rattle.qz_model.specs.Transaction.{by_command, transaction}
-use Rattle.qz_model.proofs.RowLaws.{length-put_member}
+use Rattle.qz_model.proofs.RowLaws.{length-put_member, length-without_member}
+use Rattle.qz_model.proofs.RowPoints.{length-filter_le}
 use Rattle.qz_apply.specs.Room.{AddsUpTo}
 use Rattle.qz_apply.proofs.Rooms.{adds-unless}
 use Rattle.qz_recover.specs.Commands.{is_of_members}
@@ -31,6 +38,18 @@ join_at T m node None = adds-unless 1 T (join_refusal T None) (joined T m node N
 join-adds : (T : SchedulerTables) (m : ℤ) (node : List ℕ) → AddsUpTo 1 T (unless (rejoin_refusal (member_of node T.members)) (join T m node))
 join-adds T m node = join_at T m node (member_of node T.members)
 
+leave-adds : (T : SchedulerTables) (m : ℤ) (me : MemberData) → AddsUpTo 1 T (leave T m me)
+unfolding freed_by rows_of_others
+leave-adds T m me = adds-unless 1 T (or_refusal (node_refusal T me) (leave_refusal T me)) _ (record {
+  jobs = omega arith;
+  triggers = omega (arith, length-map T.triggers (λ t. if has_acquired me T.fired t.spec.key then in_state Waiting t else t));
+  calendars = omega arith;
+  zones = omega arith;
+  paused_groups = omega arith;
+  members = omega (arith, length-without_member me.node T.members);
+  fired = omega (arith, length-filter_le (λ f. not (is_of me f)) T.fired);
+})
+
 by_command-adds : (T : SchedulerTables) (m : ℤ) (actor : Actor) (c : Command) → IsTrue (is_of_members c) → AddsUpTo 1 T (by_command T m actor c)
 by_command-adds T m actor (AddJob job replace) is = absurd cc
 by_command-adds T m actor (AddTrigger spec replace) is = absurd cc
@@ -47,7 +66,8 @@ by_command-adds T m actor (DeleteZone name) is = absurd cc
 by_command-adds T m actor (TriggerNow job) is = absurd cc
 by_command-adds T m actor (Threshold ms) is = absurd cc
 by_command-adds T m actor (Join node) is = join-adds T m node
-by_command-adds T m actor Leave is = absurd cc
+by_command-adds T m Client Leave is = tt
+by_command-adds T m (Node me) Leave is = leave-adds T m me
 by_command-adds T m actor (Acquire no_later window max) is = absurd cc
 by_command-adds T m actor (Release entry) is = absurd cc
 by_command-adds T m actor (Fire entry) is = absurd cc

@@ -1,4 +1,4 @@
-//! The commands on members, applied to the tables of the trigger store: Join.
+//! The commands on members, applied to the tables of the trigger store: Join and Leave.
 //!
 //! A command is applied in three phases: what refuses it, which takes no memory; the copies that the change needs, which
 //! may take memory; and the change, which can't fail.
@@ -15,11 +15,13 @@ ghost use Rattle.qz_apply.specs.Room.{AddsUpTo};
 ghost use Rattle.qz_recover.specs.Commands.{is_of_members};
 
 mod joining;
+mod leaving;
 
 use joining::{join, join_refusal};
+use leaving::{leave, leave_refused};
 use qz_apply::recorded_moment;
 use qz_tables::Tables;
-use qz_types::{Command, Entry, Refusal, Reply, StepRefused};
+use qz_types::{Actor, Command, Entry, Refusal, Reply, StepRefused};
 
 /// Why the command is refused, if it is.
 #[tactic(auto, using(crate::proofs::Joins::of_join))]
@@ -29,6 +31,10 @@ pub fn refusal(tables: &Tables, entry: &Entry) -> Option<Refusal>
 {
     match &entry.command {
         Command::Join { node } => join_refusal(tables, node),
+        Command::Leave => match &entry.actor {
+            Actor::Client => Some(Refusal::Fenced { live: None }),
+            Actor::Node(me) => leave_refused(tables, me),
+        },
         _ => unreachable!(),
     }
 }
@@ -60,6 +66,10 @@ pub fn apply(tables: &mut Tables, entry: &Entry) -> Result<Reply, StepRefused>
     let moment = recorded_moment(tables, entry.at);
     match &entry.command {
         Command::Join { node } => join(tables, moment, node),
+        Command::Leave => match &entry.actor {
+            Actor::Client => Err(StepRefused::Refused(Refusal::Fenced { live: None })),
+            Actor::Node(me) => leave(tables, moment, me),
+        },
         _ => unreachable!(),
     }
 }

@@ -1,0 +1,202 @@
+-- The walk over the fired rows in which a member's rows go.
+use Rattle.std.proofs.Common.{◌≡◌, ℕ, zero, suc, ◌+◌, ◌≤◌, ◌<◌, ◌||◌, ◌&&◌, ◌==◌, Bool, true, false, not, cond, List, [], ◌∷◌, ◌++◌, take, filter, map, length, Option, Some, None, is_some, refl, sym, ap, ◌∙◌, subst, arith, add-one, if◌then◌else◌}
+use Rattle.std.specs.List.{AllByRecursion, slice_get, list_any}
+use Rattle.std.specs.Ordering.{nat_cmp}
+use Rattle.std.proofs.lemmas.List.{take_all}
+use Rattle.std.proofs.lemmas.Bool.{and_left, ne_eqb}
+use Rattle.std.proofs.lemmas.Bool.Decides.{nat_tests}
+use Rattle.std.specs.declared.cmp.Ordering.TheVariants.{Less}
+use Rattle.qz_types.specs.Rows.{TriggerData, MemberData, FiredData}
+use Rattle.qz_types.specs.Sorted.{IsBefore, IsAscending}
+use Rattle.qz_types.specs.declared.keys.Key.{Key}
+use Rattle.qz_types.specs.declared.triggers.TriggerState.TheVariants.{Waiting}
+use Rattle.qz_types.specs.Changes.{in_state}
+use Rattle.qz_types.specs.States.{is_acquired, is_acquired_for}
+use Rattle.qz_types.specs.Tables.{SchedulerTables}
+use Rattle.qz_types.specs.Words.{same_key, fired_of, with_trigger, without_fired}
+use Rattle.qz_model.specs.Recovery.{has_acquired, lost_of, rows_of_others, freed_by}
+use Rattle.qz_model.specs.Tests.{is_of}
+use Rattle.qz_model.proofs.RowLaws.{same_key_laws, each_fired, only_fired, ordered-without_fired, length-without_stored_fired}
+use Rattle.qz_model.proofs.RowPoints.{All-weaker, any_none}
+use Rattle.qz_recover.specs.Rows.{with_row_back}
+
+-- what holds of each row holds of that at a place
+pub All-at : {R : Type 0} (P : R → Type 0) (rows : List R) (place : ℕ) (r : R) → AllByRecursion P rows → slice_get rows place ≡ Some r → P r
+All-at P [] place r all is = absurd (cc)
+All-at P (x ∷ rows) zero r all is = let same : x ≡ r = cc in subst P same all.0
+All-at P (x ∷ rows) (suc place) r all is = All-at P rows place r all.1 is
+
+one_more : {R : Type 0} (P : R → Type 0) (rows : List R) (place : ℕ) (r : R) → AllByRecursion P (take place rows) → slice_get rows place ≡ Some r → P r → AllByRecursion P (take (suc place) rows)
+one_more P [] place r all is new = absurd (cc)
+one_more P (x ∷ rows) zero r all is new = let same : r ≡ x = cc in (subst P same new, tt)
+one_more P (x ∷ rows) (suc place) r all is new = (all.0, one_more P rows place r all.1 is new)
+
+pub All-one_more : {R : Type 0} (P : R → Type 0) (rows : List R) (place : ℕ) (r : R) → AllByRecursion P (take place rows) → slice_get rows place ≡ Some r → P r → AllByRecursion P (take (place + 1) rows)
+All-one_more P rows place r all is new = rw add-one (one_more P rows place r all is new)
+
+count_more : {R : Type 0} (p : R → Bool) (rows : List R) (place : ℕ) (r : R) → slice_get rows place ≡ Some r
+    → length (filter p (take (suc place) rows)) ≡ length (filter p (take place rows)) + cond (p r) 1 0
+count_more p [] place r is = absurd (cc)
+count_more p (x ∷ rows) zero r is = let same : x ≡ r = cc in rw same (elim (p r) as (λ b. length (cond b (r ∷ []) []) ≡ 0 + cond b 1 0) [ true ↦ refl | false ↦ refl ])
+count_more p (x ∷ rows) (suc place) r is = elim (p x) as (λ b. length (cond b (x ∷ filter p (take (suc place) rows)) (filter p (take (suc place) rows))) ≡ length (cond b (x ∷ filter p (take place rows)) (filter p (take place rows))) + cond (p r) 1 0) [
+  | true ↦ omega (arith, count_more p rows place r is)
+  | false ↦ count_more p rows place r is
+]
+
+-- how many pass, of one row more
+pub count_one_more : {R : Type 0} (p : R → Bool) (rows : List R) (place : ℕ) (r : R) → slice_get rows place ≡ Some r
+    → length (filter p (take (place + 1) rows)) ≡ length (filter p (take place rows)) + cond (p r) 1 0
+count_one_more p rows place r is = rw add-one (count_more p rows place r is)
+
+-- the count at the end of the walk
+pub counted_all : (me : MemberData) (rows : List FiredData) (place count : ℕ) → count ≡ length (filter (λ f. not (is_acquired f.state) && is_of me f) (take place rows)) → length rows ≤ place
+    → count ≡ length (lost_of me rows)
+unfolding lost_of
+counted_all me rows place count is past = is ∙ ap (λ xs. length (filter (λ f. not (is_acquired f.state) && is_of me f) xs)) (take_all place rows past)
+
+-- a filter that leaves out no more than the next does
+filter-again : {R : Type 0} (p q : R → Bool) (rows : List R) → AllByRecursion (λ r. q r ≡ true → p r ≡ true) rows → filter (λ r. not (p r)) (filter (λ r. not (q r)) rows) ≡ filter (λ r. not (p r)) rows
+filter-again p q [] all = refl
+filter-again p q (x ∷ rows) all = elim (q x) as (λ b. (b ≡ true → p x ≡ true) → filter (λ r. not (p r)) (cond (not b) (x ∷ filter (λ r. not (q r)) rows) (filter (λ r. not (q r)) rows)) ≡ cond (not (p x)) (x ∷ filter (λ r. not (p r)) rows) (filter (λ r. not (p r)) rows)) [
+  | true ↦ λ also. rw (also refl) (filter-again p q rows all.1)
+  | false ↦ λ also. rw (filter-again p q rows all.1) refl
+] all.0
+
+twice : (a b : Bool) → (a || b) ≡ (a || (a || b))
+twice true b = refl
+twice false b = refl
+
+swap : (a x b c : Bool) → (a || b) ≡ (a || c) → (a || (x || b)) ≡ (a || (x || c))
+swap true x b c e = refl
+swap false true b c e = refl
+swap false false b c e = e
+
+past : (a x b : Bool) → (a || b) ≡ b → (a || (x || b)) ≡ (x || b)
+past true true b e = refl
+past true false b e = e
+past false x b e = refl
+
+any_at : {R : Type 0} (p : R → Bool) (rows : List R) (place : ℕ) (r : R) → slice_get rows place ≡ Some r → (p r || list_any p rows) ≡ list_any p rows
+any_at p [] place r is = absurd (cc)
+any_at p (x ∷ rows) zero r is = let same : x ≡ r = cc in rw (ap p same) (sym (twice (p r) (list_any p rows)))
+any_at p (x ∷ rows) (suc place) r is = past (p r) (p x) (list_any p rows) (any_at p rows place r is)
+
+-- one passes, or one of those that are left
+any-left : {R : Type 0} (p q : R → Bool) (r : R) (rows : List R) → AllByRecursion (λ x. q x ≡ true → x ≡ r) rows → (p r || list_any p (filter (λ x. not (q x)) rows)) ≡ (p r || list_any p rows)
+any-left p q r [] all = refl
+any-left p q r (x ∷ rows) all = elim (q x) as (λ b. (b ≡ true → x ≡ r) → (p r || list_any p (cond (not b) (x ∷ filter (λ y. not (q y)) rows) (filter (λ y. not (q y)) rows))) ≡ (p r || (p x || list_any p rows))) [
+  | true ↦ λ same. rw (ap p (same refl)) (any-left p q r rows all.1 ∙ twice (p r) (list_any p rows))
+  | false ↦ λ same. swap (p r) (p x) _ _ (any-left p q r rows all.1)
+] all.0
+
+map-alike : {R : Type 0} (f g : R → R) (rows : List R) → ((r : R) → f r ≡ g r) → map f rows ≡ map g rows
+map-alike f g [] same = refl
+map-alike f g (x ∷ rows) same = rw (same x, map-alike f g rows same) refl
+
+map-both : {R : Type 0} (f g h : R → R) (rows : List R) → ((r : R) → f (g r) ≡ h r) → map f (map g rows) ≡ map h rows
+map-both f g h [] same = refl
+map-both f g h (x ∷ rows) same = rw (same x, map-both f g h rows same) refl
+
+waits_anyway : (t : TriggerData) (b : Bool) → (if b then in_state Waiting (in_state Waiting t) else in_state Waiting t) ≡ in_state Waiting t
+waits_anyway t true = refl
+waits_anyway t false = refl
+
+-- The rows before a place stay where the row at the place goes.
+lt_from : (n m : ℕ) → nat_cmp n m ≡ Less → n < m
+lt_from n m e = grind (arith, nat_tests)
+
+under : (n : ℕ) (rows : List FiredData) → IsBefore nat_cmp (λ r. r.entry) n rows → AllByRecursion (λ g. n < g.entry) rows
+under n [] before = tt
+under n (x ∷ rows) before = (lt_from n x.entry before.0, under n rows before.1)
+
+pub before_stay : (rows : List FiredData) (place : ℕ) (f : FiredData) → IsAscending nat_cmp (λ r. r.entry) rows → slice_get rows place ≡ Some f → take place (without_fired f.entry rows) ≡ take place rows
+unfolding without_fired
+before_stay [] place f ordered is = absurd (cc)
+before_stay (x ∷ rows) zero f ordered is = refl
+before_stay (x ∷ rows) (suc place) f ordered is =
+    let less : x.entry < f.entry = All-at (λ g. x.entry < g.entry) rows place f (under x.entry rows ordered.0) is in
+    let other : (f.entry == x.entry) ≡ false = ne_eqb f.entry x.entry (λ same. omega arith) in
+    rw other (ap (λ (xs : List FiredData). x ∷ xs) (before_stay rows place f ordered.1 is))
+
+all_others : (me : MemberData) (rows : List FiredData) → AllByRecursion (λ f. is_of me f ≡ false) rows → rows_of_others me rows ≡ rows
+unfolding rows_of_others
+all_others me [] none = refl
+all_others me (x ∷ rows) none = rw none.0 (ap (λ (xs : List FiredData). x ∷ xs) (all_others me rows none.1))
+
+none_freed : (me : MemberData) (rows : List FiredData) → AllByRecursion (λ f. is_of me f ≡ false) rows → (ts : List TriggerData) → freed_by me rows ts ≡ ts
+unfolding freed_by
+none_freed me rows none [] = refl
+none_freed me rows none (t ∷ ts) =
+    let free : has_acquired me rows t.spec.key ≡ false = any_none (λ f. is_of me f && is_acquired_for t.spec.key f) rows
+    (All-weaker (λ f. is_of me f ≡ false) (λ f. (is_of me f && is_acquired_for t.spec.key f) ≡ false) rows (λ f other. and_left (is_of me f) (is_acquired_for t.spec.key f) other) none) in
+    rw free (ap (λ (xs : List TriggerData). t ∷ xs) (none_freed me rows none ts))
+
+-- where no row is the member's, there is nothing to give back
+pub nothing_left : (me : MemberData) (T : SchedulerTables) → AllByRecursion (λ f. is_of me f ≡ false) T.fired → record T { triggers = freed_by me T.fired T.triggers; fired = rows_of_others me T.fired } ≡ T
+nothing_left me T none = rw (none_freed me T.fired none T.triggers, all_others me T.fired none) refl
+
+module _ (me : MemberData) (T : SchedulerTables) (ordered : IsAscending nat_cmp (λ r. r.entry) T.fired) (place : ℕ) (f : FiredData) (is : slice_get T.fired place ≡ Some f) (mine : is_of me f ≡ true) where
+  found : fired_of f.entry T.fired ≡ Some f
+  found = All-at (λ g. fired_of g.entry T.fired ≡ Some g) T.fired place f (each_fired T.fired ordered) is
+
+  only : AllByRecursion (λ g. (f.entry == g.entry) ≡ true → g ≡ f) T.fired
+  only = only_fired f.entry f T.fired ordered found
+
+  others_left : rows_of_others me (without_fired f.entry T.fired) ≡ rows_of_others me T.fired
+  unfolding rows_of_others without_fired
+  others_left =
+      filter-again (is_of me) (λ g. f.entry == g.entry) T.fired
+      (All-weaker (λ g. (f.entry == g.entry) ≡ true → g ≡ f) (λ g. (f.entry == g.entry) ≡ true → is_of me g ≡ true) T.fired (λ g same at. ap (is_of me) (same at) ∙ mine) only)
+
+  -- its trigger waits again, or that of another row of the member
+  any_acquired : (key : Key) → (is_acquired_for key f || has_acquired me (without_fired f.entry T.fired) key) ≡ has_acquired me T.fired key
+  unfolding without_fired
+  any_acquired key =
+      let p = λ (g : FiredData). is_of me g && is_acquired_for key g in
+      ap (λ b. (b && is_acquired_for key f) || list_any p (filter (λ g. not (f.entry == g.entry)) T.fired)) (sym mine)
+      ∙ any-left p (λ g. f.entry == g.entry) f T.fired only ∙ any_at p T.fired place f is
+
+  freed_begun : is_acquired f.state ≡ false → (ts : List TriggerData) → freed_by me (without_fired f.entry T.fired) ts ≡ freed_by me T.fired ts
+  unfolding freed_by is_acquired_for
+  freed_begun begun ts = map-alike _ _ ts (λ t. ap (λ b. if b then in_state Waiting t else t) (ap (λ b. (b && same_key t.spec.key f.trigger) || has_acquired me (without_fired f.entry T.fired) t.spec.key) (sym begun) ∙ any_acquired t.spec.key))
+
+  freed_one : is_acquired f.state ≡ true → (t : TriggerData)
+      → (if has_acquired me (without_fired f.entry T.fired) (if same_key f.trigger t.spec.key then in_state Waiting t else t).spec.key
+      then in_state Waiting (if same_key f.trigger t.spec.key then in_state Waiting t else t) else (if same_key f.trigger t.spec.key then in_state Waiting t else t))
+      ≡ (if has_acquired me T.fired t.spec.key then in_state Waiting t else t)
+  unfolding is_acquired_for
+  freed_one taken t =
+      let any : (same_key f.trigger t.spec.key || has_acquired me (without_fired f.entry T.fired) t.spec.key) ≡ has_acquired me T.fired t.spec.key =
+      ap (λ b. b || has_acquired me (without_fired f.entry T.fired) t.spec.key) (same_key_laws.symm f.trigger t.spec.key ∙ ap (λ b. b && same_key t.spec.key f.trigger) (sym taken)) ∙ any_acquired t.spec.key in
+      elim (same_key f.trigger t.spec.key) as (λ b. (b || has_acquired me (without_fired f.entry T.fired) t.spec.key) ≡ has_acquired me T.fired t.spec.key
+      → (if has_acquired me (without_fired f.entry T.fired) (if b then in_state Waiting t else t).spec.key then in_state Waiting (if b then in_state Waiting t else t) else (if b then in_state Waiting t else t))
+      ≡ (if has_acquired me T.fired t.spec.key then in_state Waiting t else t)) [
+        | true ↦ λ e. waits_anyway t (has_acquired me (without_fired f.entry T.fired) t.spec.key) ∙ ap (λ b. if b then in_state Waiting t else t) e
+        | false ↦ λ e. ap (λ b. if b then in_state Waiting t else t) e
+      ] any
+
+  freed_acquired : is_acquired f.state ≡ true → (ts : List TriggerData) → freed_by me (without_fired f.entry T.fired) (with_trigger f.trigger (in_state Waiting) ts) ≡ freed_by me T.fired ts
+  unfolding freed_by with_trigger
+  freed_acquired taken ts = map-both _ _ _ ts (freed_one taken)
+
+  -- the triggers wait again, those of the rows that are left and that of this row
+  freed_left : freed_by me (without_fired f.entry T.fired) (if is_acquired f.state then with_trigger f.trigger (in_state Waiting) T.triggers else T.triggers) ≡ freed_by me T.fired T.triggers
+  freed_left = elim (is_acquired f.state) as (λ b. is_acquired f.state ≡ b → freed_by me (without_fired f.entry T.fired) (if b then with_trigger f.trigger (in_state Waiting) T.triggers else T.triggers) ≡ freed_by me T.fired T.triggers) [
+    | true ↦ λ taken. freed_acquired taken T.triggers
+    | false ↦ λ begun. freed_begun begun T.triggers
+  ] refl
+
+  pub step_back : record (with_row_back T f.entry (fired_of f.entry T.fired)) {
+    triggers = freed_by me (with_row_back T f.entry (fired_of f.entry T.fired)).fired (with_row_back T f.entry (fired_of f.entry T.fired)).triggers;
+    fired = rows_of_others me (with_row_back T f.entry (fired_of f.entry T.fired)).fired;
+  } ≡ record T { triggers = freed_by me T.fired T.triggers; fired = rows_of_others me T.fired }
+  step_back = rw found (rw (freed_left, others_left) refl)
+
+  pub place_left : AllByRecursion (λ g. is_of me g ≡ false) (take place T.fired) → AllByRecursion (λ g. is_of me g ≡ false) (take place (with_row_back T f.entry (fired_of f.entry T.fired)).fired)
+  place_left none = rw found (rw (before_stay T.fired place f ordered is) none)
+
+  pub ordered_left : IsAscending nat_cmp (λ r. r.entry) (with_row_back T f.entry (fired_of f.entry T.fired)).fired
+  ordered_left = rw found (ordered-without_fired f.entry T.fired ordered)
+
+  pub fewer_left : length (with_row_back T f.entry (fired_of f.entry T.fired)).fired < length T.fired
+  fewer_left = rw found (omega (arith, length-without_stored_fired f.entry T.fired (ap is_some found)))
