@@ -27,17 +27,6 @@ use Rattle.qz_model.proofs.RowPoints.{length-filter_le}
 use Rattle.qz_apply.proofs.Rooms.{adds-unless}
 use Rattle.qz_schedule.specs.Commands.{is_scheduling}
 
-add_job-adds : (T : SchedulerTables) (m : ℤ) (job : JobData) (replace : Bool) → AddsUpTo 1 T (add_job T m job replace)
-add_job-adds T m job replace = adds-unless 1 T (add_job_refusal T job replace) _ (record {
-  jobs = omega (arith, length-put_job job (without_job job.key T.jobs), length-without_job job.key T.jobs);
-  triggers = omega arith;
-  calendars = omega arith;
-  zones = omega arith;
-  paused_groups = omega arith;
-  members = omega arith;
-  fired = omega arith;
-})
-
 one_at_most : (b : Bool) → cond b 0 1 ≤ 1
 one_at_most true = omega arith
 one_at_most false = omega arith
@@ -52,11 +41,6 @@ pause_trigger-adds : (T : SchedulerTables) (m : ℤ) (key : Key) → AddsUpTo 1 
 pause_trigger-adds T m key = adds-unless 1 T (unknown_trigger (trigger_of key T.triggers)) _ (record {
   jobs = omega arith;
   triggers = omega (arith, length-with_trigger key (with_state paused) T.triggers);
-
-delete_job-adds : (T : SchedulerTables) (m : ℤ) (key : Key) → AddsUpTo 1 T (delete_job T m key)
-delete_job-adds T m key = adds-unless 1 T (unknown_job (job_of key T.jobs)) _ (record {
-  jobs = omega (arith, length-without_job key T.jobs);
-  triggers = omega (arith, length-filter_le (λ t. not (is_trigger_of key t)) T.triggers);
   calendars = omega arith;
   zones = omega arith;
   paused_groups = omega arith;
@@ -68,30 +52,6 @@ resume_trigger-adds : (T : SchedulerTables) (m : ℤ) (key : Key) → AddsUpTo 1
 resume_trigger-adds T m key = adds-unless 1 T (unknown_trigger (trigger_of key T.triggers)) _ (record {
   jobs = omega arith;
   triggers = omega (arith, length-with_trigger key (with_state resumed) T.triggers);
-
-  fired = omega (arith, length-without_acquired (is_row_of_job key) T.fired);
-})
-
-length-without_orphan : (triggers : List TriggerData) (job : Option JobData) (jobs : List JobData) → length (without_orphan triggers job jobs) ≤ length jobs
-length-without_orphan triggers None jobs = omega arith
-length-without_orphan triggers (Some job) jobs = elim (is_orphan triggers job) as (λ b. length (if b then without_job job.key jobs else jobs) ≤ length jobs) [
-  | true ↦ length-without_job job.key jobs
-  | false ↦ omega arith
-]
-
-length-without_orphan_of : (key : Key) (triggers : List TriggerData) (jobs : List JobData) → length (without_orphan_of key triggers jobs) ≤ length jobs
-unfolding without_orphan_of
-length-without_orphan_of key triggers jobs = length-without_orphan triggers (job_of key jobs) jobs
-
-length-without_old_orphan : (old : Option TriggerData) (triggers : List TriggerData) (jobs : List JobData) → length (without_old_orphan old triggers jobs) ≤ length jobs
-length-without_old_orphan None triggers jobs = omega arith
-length-without_old_orphan (Some old) triggers jobs = length-without_orphan_of old.spec.job triggers jobs
-
-addition-grows : (T : SchedulerTables) (m : ℤ) (t : TriggerData) → GrowsUpTo 1 T (record (with_new_trigger T t) { last_moment = m })
-unfolding with_new_trigger
-addition-grows T m t = record {
-  jobs = omega (arith, length-without_old_orphan (trigger_of t.spec.key T.triggers) (put_trigger t (without_trigger t.spec.key T.triggers)) T.jobs);
-  triggers = omega (arith, length-put_trigger t (without_trigger t.spec.key T.triggers), length-without_trigger t.spec.key T.triggers);
   calendars = omega arith;
   zones = omega arith;
   paused_groups = omega arith;
@@ -165,6 +125,52 @@ delete_zone-adds T m name = adds-unless 1 T (delete_zone_refusal T name) _ (reco
   fired = omega arith;
 })
 
+add_job-adds : (T : SchedulerTables) (m : ℤ) (job : JobData) (replace : Bool) → AddsUpTo 1 T (add_job T m job replace)
+add_job-adds T m job replace = adds-unless 1 T (add_job_refusal T job replace) _ (record {
+  jobs = omega (arith, length-put_job job (without_job job.key T.jobs), length-without_job job.key T.jobs);
+  triggers = omega arith;
+  calendars = omega arith;
+  zones = omega arith;
+  paused_groups = omega arith;
+  members = omega arith;
+  fired = omega arith;
+})
+
+delete_job-adds : (T : SchedulerTables) (m : ℤ) (key : Key) → AddsUpTo 1 T (delete_job T m key)
+delete_job-adds T m key = adds-unless 1 T (unknown_job (job_of key T.jobs)) _ (record {
+  jobs = omega (arith, length-without_job key T.jobs);
+  triggers = omega (arith, length-filter_le (λ t. not (is_trigger_of key t)) T.triggers);
+  calendars = omega arith;
+  zones = omega arith;
+  paused_groups = omega arith;
+  members = omega arith;
+  fired = omega (arith, length-without_acquired (is_row_of_job key) T.fired);
+})
+
+length-without_orphan : (triggers : List TriggerData) (job : Option JobData) (jobs : List JobData) → length (without_orphan triggers job jobs) ≤ length jobs
+length-without_orphan triggers None jobs = omega arith
+length-without_orphan triggers (Some job) jobs = elim (is_orphan triggers job) as (λ b. length (if b then without_job job.key jobs else jobs) ≤ length jobs) [
+  | true ↦ length-without_job job.key jobs
+  | false ↦ omega arith
+]
+
+length-without_orphan_of : (key : Key) (triggers : List TriggerData) (jobs : List JobData) → length (without_orphan_of key triggers jobs) ≤ length jobs
+unfolding without_orphan_of
+length-without_orphan_of key triggers jobs = length-without_orphan triggers (job_of key jobs) jobs
+
+length-without_old_orphan : (old : Option TriggerData) (triggers : List TriggerData) (jobs : List JobData) → length (without_old_orphan old triggers jobs) ≤ length jobs
+length-without_old_orphan None triggers jobs = omega arith
+length-without_old_orphan (Some old) triggers jobs = length-without_orphan_of old.spec.job triggers jobs
+
+addition-grows : (T : SchedulerTables) (m : ℤ) (t : TriggerData) → GrowsUpTo 1 T (record (with_new_trigger T t) { last_moment = m })
+unfolding with_new_trigger
+addition-grows T m t = record {
+  jobs = omega (arith, length-without_old_orphan (trigger_of t.spec.key T.triggers) (put_trigger t (without_trigger t.spec.key T.triggers)) T.jobs);
+  triggers = omega (arith, length-put_trigger t (without_trigger t.spec.key T.triggers), length-without_trigger t.spec.key T.triggers);
+  calendars = omega arith;
+  zones = omega arith;
+  paused_groups = omega arith;
+  members = omega arith;
   fired = omega (arith, length-without_acquired (is_row_of_trigger t.spec.key) T.fired);
 }
 
