@@ -15,6 +15,7 @@ use Rattle.qz_model.specs.Transaction.{by_command, transaction}
 use Rattle.qz_model.specs.Executions.{is_busy}
 use Rattle.qz_model.specs.Invariant.{TablesValid}
 use Rattle.qz_model.proofs.Changes.{moment_within}
+use Rattle.qz_model.proofs.KeptAcquiring.{kept-acquire}
 use Rattle.qz_model.proofs.KeptMisfires.{kept-misfires}
 
 -- what is refused leaves no other tables
@@ -38,7 +39,8 @@ kept-by_command T T' m actor (TriggerNow job) r good valid is e = refused-keeps 
 kept-by_command T T' m actor (Threshold ms) r good valid is e = refused-keeps T' r Unbuilt e
 kept-by_command T T' m actor (Join node) r good valid is e = refused-keeps T' r Unbuilt e
 kept-by_command T T' m actor Leave r good valid is e = refused-keeps T' r Unbuilt e
-kept-by_command T T' m actor (Acquire no_later window max) r good valid is e = refused-keeps T' r Unbuilt e
+kept-by_command T T' m Client (Acquire no_later window max) r good valid is e = refused-keeps T' r (Fenced None) e
+kept-by_command T T' m (Node me) (Acquire no_later window max) r good valid is e = kept-acquire T T' m me no_later window max r valid is e
 kept-by_command T T' m actor (Release entry) r good valid is e = refused-keeps T' r Unbuilt e
 kept-by_command T T' m actor (Fire entry) r good valid is e = refused-keeps T' r Unbuilt e
 kept-by_command T T' m actor (Complete entry code) r good valid is e = refused-keeps T' r Unbuilt e

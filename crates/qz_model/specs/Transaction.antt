@@ -9,6 +9,7 @@ use Rattle.qz_types.specs.declared.commands.Actor.TheVariants.{Client, Node}
 use Rattle.qz_types.specs.declared.replies.Refusal.TheVariants.{Unbuilt, Fenced}
 use Rattle.qz_types.specs.Tables.{SchedulerTables, recorded_moment}
 use Rattle.qz_types.specs.Outcomes.{Outcome, refused}
+use Rattle.qz_model.specs.Acquiring.{acquire}
 use Rattle.qz_model.specs.Misfires.{misfires}
 
 -- what a node does under its epoch; a client is no member
@@ -34,7 +35,7 @@ by_command T m actor (TriggerNow job) = refused Unbuilt
 by_command T m actor (Threshold ms) = refused Unbuilt
 by_command T m actor (Join node) = refused Unbuilt
 by_command T m actor Leave = refused Unbuilt
-by_command T m actor (Acquire no_later window max) = refused Unbuilt
+by_command T m actor (Acquire no_later window max) = as_node actor (λ me. acquire T m me no_later window max)
 by_command T m actor (Release entry) = refused Unbuilt
 by_command T m actor (Fire entry) = refused Unbuilt
 by_command T m actor (Complete entry code) = refused Unbuilt
