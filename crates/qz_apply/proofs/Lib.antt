@@ -1,6 +1,8 @@
 pub mod Accepted
 pub mod Deletions
 pub mod JobLists
+pub mod ChainSteps
+pub mod Moves
 pub mod Refused
 pub mod Rooms
 pub mod Searches

@@ -12,12 +12,12 @@ use crate::spans::{END, Span, span_from};
 use qz_civil::{CalendarKind, LAST, Zone};
 
 /// Whether the calendar doesn't exclude the timestamp.
-pub fn is_free(calendar: &Calendar, ms: i64) -> bool
+pub fn is_free(calendar: &Calendar<'_>, ms: i64) -> bool
     requires low { pos 0 ≤ℤ ms }
     requires high { ms ≤ℤ LAST }
     ensures { result ≡ not (excludes_at calendar.now ms) }
 {
-    is_free_local(&calendar.kind, calendar.zone.local(ms))
+    is_free_local(calendar.kind, calendar.zone.local(ms))
 }
 
 // The first timestamp from `from` on that a calendar of that kind and zone doesn't exclude, span by span.
@@ -37,15 +37,15 @@ fn next_free_in(kind: &CalendarKind, zone: &Zone, from: u64) -> Option<u64>
     None
 }
 
-fn next_free(calendar: &Calendar, from: u64) -> Option<u64>
+fn next_free(calendar: &Calendar<'_>, from: u64) -> Option<u64>
     requires { from ≤ END }
     ensures { IsFirst (is_free_at calendar.now) from END result }
 {
-    next_free_in(&calendar.kind, &calendar.zone, from)
+    next_free_in(calendar.kind, calendar.zone, from)
 }
 
 // The first timestamp that no calendar excludes comes not before what each of them in turn makes of `from`.
-fn after_each(calendars: &[Calendar], from: u64) -> Option<u64>
+fn after_each(calendars: &[Calendar<'_>], from: u64) -> Option<u64>
     requires { from < END }
     ensures low { IfSome result (λ t. from ≤ t) }
     ensures high { IfSome result (λ t. t < END) }
@@ -61,7 +61,7 @@ fn after_each(calendars: &[Calendar], from: u64) -> Option<u64>
 }
 
 /// The first timestamp from `from` on that no calendar excludes.
-pub fn next_of_all(calendars: &[Calendar], from: u64) -> Option<u64>
+pub fn next_of_all(calendars: &[Calendar<'_>], from: u64) -> Option<u64>
     requires { from < END }
     ensures { IsFirst (are_free_at calendars.now) from END result }
 {

@@ -20,17 +20,17 @@ struct OneDay {
 }
 
 // The fields of a cron calendar.
-fn cron_fields(calendar: &Calendar) -> Option<&CronFields>
+fn cron_fields<'a>(calendar: &Calendar<'a>) -> Option<&'a CronFields>
     ensures { IfSome result (λ fields. calendar.now.kind ≡ Cron fields.now) }
 {
-    match &calendar.kind {
+    match calendar.kind {
         CalendarKind::Cron { fields } => Some(fields),
         _ => None,
     }
 }
 
 /// Whether at least two of the calendars are cron calendars.
-pub fn has_several_crons(calendars: &[Calendar]) -> bool {
+pub fn has_several_crons(calendars: &[Calendar<'_>]) -> bool {
     let mut count = 0u32;
     for calendar in calendars {
         if cron_fields(calendar).is_some() {
@@ -41,27 +41,27 @@ pub fn has_several_crons(calendars: &[Calendar]) -> bool {
 }
 
 // How far the local clock of the first cron calendar is ahead, in ms.
-fn first_shift(calendars: &[Calendar], from: u64) -> Option<u64>
+fn first_shift(calendars: &[Calendar<'_>], from: u64) -> Option<u64>
     requires { from < END }
     ensures { IfSome result (λ shift. shift ≤ 151200000) }
 {
     for calendar in calendars {
         if cron_fields(calendar).is_some() {
-            return Some(span_from(&calendar.zone, from).shift);
+            return Some(span_from(calendar.zone, from).shift);
         }
     }
     None
 }
 
 // Until when a cron calendar excludes what meets its fields on the time of day: on the local day of this ms, at this shift.
-fn met_until(calendar: &Calendar, from: u64, shift: u64) -> Option<(ClockFields, u64)>
+fn met_until(calendar: &Calendar<'_>, from: u64, shift: u64) -> Option<(ClockFields, u64)>
     requires from { from < END }
     requires shift { shift ≤ 151200000 }
     ensures end { IfSome result (λ met. from < met.1) }
     ensures met { IfSome result (λ met. (t : ℕ) → from ≤ t → t < met.1 → (t + shift) / 86400000 ≡ (from + shift) / 86400000 → any_meets (met.0 ∷ []) ((t + shift) % 86400000 / 1000) ≡ true → is_free_at calendar.now t ≡ false) }
 {
     let fields = cron_fields(calendar)?;
-    let span = span_from(&calendar.zone, from);
+    let span = span_from(calendar.zone, from);
     if span.shift == shift && meets_day(fields, (from + shift) / DAY) {
         Some((ClockFields::of(fields), span.end))
     } else {
@@ -70,7 +70,7 @@ fn met_until(calendar: &Calendar, from: u64, shift: u64) -> Option<(ClockFields,
 }
 
 // The cron calendars that have one shift, on the local day of this ms.
-fn gather(calendars: &[Calendar], from: u64, shift: u64) -> OneDay
+fn gather(calendars: &[Calendar<'_>], from: u64, shift: u64) -> OneDay
     requires from { from < END }
     requires shift { shift ≤ 151200000 }
     ensures end { from < result.end }
@@ -91,7 +91,7 @@ fn gather(calendars: &[Calendar], from: u64, shift: u64) -> OneDay
 }
 
 // All timestamps from `from` to before the result are excluded, by the first cron calendar and those of its shift.
-fn skip_today(calendars: &[Calendar], from: u64) -> u64
+fn skip_today(calendars: &[Calendar<'_>], from: u64) -> u64
     requires { from < END }
     ensures later { from ≤ result }
     ensures within { result ≤ END }
@@ -113,7 +113,7 @@ fn skip_today(calendars: &[Calendar], from: u64) -> u64
 
 /// All timestamps from `from` to before the result are excluded: the cron calendars of one local clock are looked at
 /// together, day by day, so that none waits for the others second by second.
-pub fn skip(calendars: &[Calendar], from: u64) -> u64
+pub fn skip(calendars: &[Calendar<'_>], from: u64) -> u64
     requires { from ≤ END }
     ensures later { from ≤ result }
     ensures within { result ≤ END }

@@ -44,7 +44,7 @@ fixed_offset offset = record { from = pos 0; offset = offset } ∷ []
 
 -- the stretches of a zone
 abbrev pub stretches_of : Offsets → List Stretch
-stretches_of (Fixed offset) = fixed_offset offset
+stretches_of (Fixed only) = only
 stretches_of (Table zs) = zs
 
 -- Local time.

@@ -8,6 +8,8 @@ use crate::dates::{Civil, civil_of, local_of};
 use crate::limits::{DAY_MS, GREATEST_SHIFT_MS, LAST, LAST_DAY, OFFSET_LIMIT, STRETCH_LIMIT};
 use crate::lists::List;
 use crate::stretches::{BadZone, Stretch, count_begun, fault_of, offset_of, start_of};
+use std::alloc::AllocError;
+use std::fmt;
 use std::marker::Model;
 
 /// A fixed offset from UTC, or a table of stretches. Contracts see it as the list of its stretches.
@@ -19,7 +21,7 @@ pub struct Zone {
 // Local time less UTC: always so many seconds, or by a table.
 #[derive(Drop)]
 enum Offsets {
-    Fixed(i32),
+    Fixed([Stretch; 1]),
     Table(List<Stretch>),
 }
 
@@ -52,7 +54,10 @@ impl Zone {
         ensures { result ≡ spec.fixed_offset (minutes *ℤ pos 60) }
     {
         Zone {
-            offsets: Offsets::Fixed(minutes * 60),
+            offsets: Offsets::Fixed([Stretch {
+                from: 0,
+                offset: minutes * 60,
+            }]),
         }
     }
 
@@ -71,15 +76,29 @@ impl Zone {
         }
     }
 
+    /// Its stretches, ascending. The one of a fixed offset begins at 1970-01-01T00:00:00Z.
+    pub fn as_slice(&self) -> &[Stretch]
+        ensures value { result.now ≡ self.now }
+        ensures valid { spec.bad_zone self.now ≡ None }
+    {
+        match &self.offsets {
+            Offsets::Fixed(only) => only,
+            Offsets::Table(stretches) => stretches.as_slice(),
+        }
+    }
+
+    /// The same zone again.
+    pub fn copy(&self) -> Result<Zone, AllocError>
+        ensures { IfOk result (λ copy. copy ≡ self.now) }
+    {
+        self.clone()
+    }
+
     // How many stretches have begun at the timestamp.
-    #[tactic(auto, unfolding(crate::specs::Zones::begun))]
     fn begun(&self, ms: i64) -> usize
         ensures { result ≡ spec.begun self.now ms }
     {
-        match &self.offsets {
-            Offsets::Fixed(_) => if 0 <= ms { 1 } else { 0 },
-            Offsets::Table(stretches) => count_begun(stretches.as_slice(), ms),
-        }
+        count_begun(self.as_slice(), ms)
     }
 
     /// The place, from 0, of the stretch in which the timestamp lies. One before all stretches counts as in the first.
@@ -203,20 +222,44 @@ impl Zone {
     fn offset_of(&self, place: usize) -> i32
         ensures { result ≡ spec.offset_of (slice_get self.now place) }
     {
-        match &self.offsets {
-            Offsets::Fixed(offset) => if place == 0 { *offset } else { 0 },
-            Offsets::Table(stretches) => offset_of(stretches.as_slice(), place),
-        }
+        offset_of(self.as_slice(), place)
     }
 
     fn start_of(&self, place: usize) -> Option<i64>
         ensures { result ≡ option_map (λ s. s.from) (slice_get self.now place) }
     {
-        match &self.offsets {
-            Offsets::Fixed(_) => if place == 0 { Some(0) } else { None },
-            Offsets::Table(stretches) => start_of(stretches.as_slice(), place),
-        }
+        start_of(self.as_slice(), place)
     }
+}
+
+impl Clone for Zone {
+    ghost is_clone = { λ a b. b ≡ a };
+
+    fn clone(&self) -> Result<Self, AllocError> {
+        Ok(match &self.offsets {
+            Offsets::Fixed(only) => Zone {
+                offsets: Offsets::Fixed(*only),
+            },
+            Offsets::Table(stretches) => Zone {
+                offsets: Offsets::Table(copy_stretches(stretches)?),
+            },
+        })
+    }
+}
+
+/// Prints the list of its stretches.
+impl fmt::Debug for Zone {
+    fn fmt<W: fmt::Write>(&self, f: &mut fmt::Formatter<W>) -> fmt::Result {
+        self.as_slice().fmt(f)
+    }
+}
+
+// The same stretches again.
+#[tactic(auto, using(crate::proofs::CloneLaws::same_items))]
+fn copy_stretches(stretches: &List<Stretch>) -> Result<List<Stretch>, AllocError>
+    ensures { IfOk result (λ copy. copy ≡ stretches.now) }
+{
+    stretches.clone()
 }
 
 // The local clock at an offset.

@@ -6,14 +6,12 @@ use Rattle.qz_codec.specs.Reading.{node_at, key_at, job_at, spec_at, member_at}
 use Rattle.qz_values.specs.Formats.{IsFormat, Any}
 use Rattle.qz_values.proofs.Formats.{same, Also, field, last}
 use Rattle.qz_values.proofs.SingleFields.{number_format, wide64, integer_format, text_format, wide32, same32, flag_format, optional_format}
-use Rattle.std.specs.Prelude.{is_none, IsTrue}
 use Rattle.qz_types.specs.Rows.{JobData, MemberData, ZoneData, CalendarData}
 use Rattle.qz_types.specs.declared.keys.Key.{Key}
 use Rattle.qz_types.specs.declared.triggers.TriggerSpec.{TriggerSpec}
 use Rattle.qz_codec.specs.Layout.{key, job, spec, member}
 use Rattle.qz_codec.specs.Values.{IsKey, IsJob, IsSpec, IsMember}
 use Rattle.qz_values.proofs.NameFormats.{name_format}
-use Rattle.qz_civil.specs.declared.stretches.BadZone.{BadZone}
 use Rattle.qz_codec.specs.Zones.{zone_row, IsZoneRow, zone_row_at}
 use Rattle.qz_codec.specs.Calendars.{calendar_row, IsCalendarRow, calendar_row_at}
 use Rattle.qz_values.proofs.ZoneFormats.{table_format}
@@ -80,12 +78,6 @@ zone_row_format = same {write' = zone_row} {Is' = IsZoneRow}
     (field (λ (z : ZoneData). Unit {0}) (λ (z : ZoneData). z.name) name_format (λ name.
     last (λ (z : ZoneData). Also (Unit {0}) (z.name ≡ name)) (λ (z : ZoneData). z.stretches) table_format (λ stretches. record { name = name; stretches = stretches }) (λ stretches. record { before = tt; now = refl }) (λ stretches. refl) (λ z h. rw (← h.now) refl)))
     (λ z h. refl) (λ z h p. record { name = p.first; stretches = p.others }) (λ z h p. record { first = p.name; others = p.stretches })
-
--- a row's table
-pub row-table : (o : Option BadZone) (a : Bool) → IsTrue (a && is_none o) → o ≡ None
-row-table None a h = refl
-row-table (Some bad) true h = absurd (grind arith)
-row-table (Some bad) false h = absurd (grind arith)
 
 pub calendar_row_format : IsFormat calendar_row Any IsCalendarRow calendar_row_at 16994
 unfolding calendar_row calendar_row_at

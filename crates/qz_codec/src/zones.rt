@@ -5,7 +5,7 @@ ghost use Rattle.qz_codec.specs.Zones.{zone_row, IsZoneRow, zone_row_at};
 
 use crate::records::Recorded;
 use qz_types::{Text, ZoneRow};
-use qz_values::{Fault, name_of, put_name, put_stretches, stretches_of};
+use qz_values::{Fault, name_of, put_name, put_zone, zone_of};
 use std::alloc::{AllocError, Global};
 
 #[tactic(auto, unfolding(crate::specs::Zones::zone_row_at))]
@@ -13,12 +13,12 @@ pub(crate) fn zone_row_of(alloc: Global, bytes: &[u8]) -> Result<(ZoneRow, &[u8]
     ensures { Gives (λ x. (x.0, x.1.now)) result (zone_row_at bytes.now) }
 {
     let (name, rest) = name_of(bytes)?;
-    let (stretches, rest) = stretches_of(alloc, rest)?;
-    let zone = ZoneRow {
+    let (zone, rest) = zone_of(alloc, rest)?;
+    let row = ZoneRow {
         name: Text::from_str(alloc, name)?,
-        stretches,
+        zone,
     };
-    Ok((zone, rest))
+    Ok((row, rest))
 }
 
 #[tactic(auto, unfolding(crate::specs::Zones::zone_row))]
@@ -27,7 +27,7 @@ pub(crate) fn put_zone_row(out: &mut Vec<u8>, row: &ZoneRow) -> Result<(), Alloc
     ensures valid { OnOk result (IsZoneRow row.now) }
 {
     put_name(out, &row.name)?;
-    put_stretches(out, &row.stretches)
+    put_zone(out, &row.zone)
 }
 
 impl Recorded for ZoneRow {

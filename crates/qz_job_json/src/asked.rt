@@ -82,9 +82,9 @@ fn zone_line(alloc: Global, value: &Value) -> Result<Asked, LineError>
     }
     let name = name_at(value, "name").ok_or(LineFault::Shape)?;
     let table = value.get("stretches").ok_or(LineFault::Shape)?;
-    let stretches = zone_of(alloc, table)?;
-    let (stretches, name) = beside(stretches, Text::from_str(alloc, name))?;
-    let zone = ZoneRow { name, stretches };
+    let zone = zone_of(alloc, table)?;
+    let (zone, name) = beside(zone, Text::from_str(alloc, name))?;
+    let zone = ZoneRow { name, zone };
     Ok(Asked::AddZone { zone })
 }
 

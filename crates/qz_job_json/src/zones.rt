@@ -7,7 +7,7 @@ ghost use Rattle.qz_job_json.specs.Zones as spec;
 
 use crate::faults::{LineError, LineFault};
 use crate::members::integer_in;
-use qz_civil::{List, STRETCH_LIMIT, Stretch, is_offset, may_begin};
+use qz_civil::{List, STRETCH_LIMIT, Stretch, Zone, is_offset, may_begin};
 use serde_json::Value;
 use std::alloc::Global;
 
@@ -79,14 +79,17 @@ fn stretches_of(alloc: Global, items: &[Value]) -> Result<List<Stretch>, LineErr
     Ok(stretches)
 }
 
-/// The table of a zone that the value is. A table that is bad is refused before memory is wanted.
-pub(crate) fn zone_of(alloc: Global, value: &Value) -> Result<List<Stretch>, LineError>
+/// The zone whose table the value is. A table that is bad is refused before memory is wanted.
+pub(crate) fn zone_of(alloc: Global, value: &Value) -> Result<Zone, LineError>
     ensures value { ReadsAs result (or_shape (spec.zone_of (view value.now))) }
-    ensures valid { IfOk result (λ stretches. spec.is_zone stretches ≡ true) }
+    ensures valid { IfOk result (λ zone. spec.is_zone zone ≡ true) }
 {
     let items = value.as_array().ok_or(LineFault::Shape)?;
     if !is_table(items.as_slice()) {
         return Err(LineError::Bad(LineFault::Shape));
     }
-    stretches_of(alloc, items.as_slice())
+    match Zone::table(stretches_of(alloc, items.as_slice())?) {
+        Ok(zone) => Ok(zone),
+        Err(_) => unreachable!(),
+    }
 }

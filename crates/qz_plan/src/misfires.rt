@@ -17,7 +17,7 @@ use qz_misfire::after_misfire;
 pub fn misfired(
     timing: &Timing,
     zone: &Zone,
-    chain: &Chain,
+    chain: &Chain<'_>,
     next: i64,
     times: u64,
     now: i64,

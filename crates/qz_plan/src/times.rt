@@ -9,16 +9,16 @@ use qz_civil::{Times, Timing, Zone};
 /// The fire times of a trigger, in ms since 1970-01-01T00:00:00Z: a timing in the zone that its kind names, and the calendars
 /// that exclude some of its schedule.
 #[derive(Clone, Copy)]
-pub struct FireTimes<'a> {
+pub struct FireTimes<'a, 'c> {
     timing: &'a Timing,
     zone: &'a Zone,
-    chain: &'a Chain,
+    chain: &'a Chain<'c>,
     ghost valid: { IsTrue (is_timing timing.now) },
 }
 
-impl<'a> FireTimes<'a> {
+impl<'a, 'c> FireTimes<'a, 'c> {
     /// Those of a valid timing.
-    pub fn new(timing: &'a Timing, zone: &'a Zone, chain: &'a Chain) -> FireTimes<'a>
+    pub fn new(timing: &'a Timing, zone: &'a Zone, chain: &'a Chain<'c>) -> FireTimes<'a, 'c>
         requires { IsTrue (is_timing timing.now) }
         ensures timing { result.timing.now ≡ timing.now }
         ensures zone { result.zone.now ≡ zone.now }
@@ -32,7 +32,7 @@ impl<'a> FireTimes<'a> {
     }
 }
 
-impl Times for FireTimes<'_> {
+impl Times for FireTimes<'_, '_> {
     ghost use Rattle.qz_plan.specs.FireTimes.{IsFireTime};
 
     ghost timestamps = { λ f. IsFireTime f.timing.now f.zone.now f.chain.now };

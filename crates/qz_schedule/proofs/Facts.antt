@@ -1,5 +1,5 @@
 -- What valid tables say of what the commands read.
-use Rattle.std.proofs.Common.{◌≡◌, ℕ, ◌+◌, ◌++◌, ◌<◌, ◌≤◌, ◌^◌, ℤ, pos, ◌≤ℤ◌, int_le, true, subst, IsTrue, lit<, Option, Some, None, codes, length, refl, arith}
+use Rattle.std.proofs.Common.{◌≡◌, ℕ, ◌+◌, ◌++◌, ◌<◌, ◌≤◌, ◌^◌, ℤ, pos, ◌≤ℤ◌, int_le, true, subst, lit<, Option, Some, None, codes, refl, arith}
 use Rattle.std.proofs.Math.Logic.{∥∥₁_elim}
 use Rattle.std.proofs.Math.Bool.{Bool-set}
 use Rattle.std.proofs.lemmas.Bool.{and_from}
@@ -7,7 +7,7 @@ use Rattle.std.proofs.lemmas.Bool.Decides.{nat_tests}
 use Rattle.std.proofs.lemmas.Int.{ints}
 use Rattle.std.proofs.lemmas.Fmt.{length-decimal-le}
 use Rattle.std.specs.Fmt.{decimal}
-use Rattle.qz_civil.specs.declared.limits.TheConstants.{LAST, LONGEST, NAME_LIMIT}
+use Rattle.qz_civil.specs.declared.limits.TheConstants.{LAST, LONGEST}
 use Rattle.qz_civil.specs.Timings.{is_name, is_span}
 use Rattle.qz_types.specs.Rows.{TriggerData, is_key, is_trigger_spec}
 use Rattle.qz_types.specs.declared.keys.Key.{Key}

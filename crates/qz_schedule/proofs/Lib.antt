@@ -1,5 +1,7 @@
 mod Absent
+mod CalendarRooms
 mod ChainWalks
 mod Counting
 mod Facts
 mod Rooms
+mod Steps

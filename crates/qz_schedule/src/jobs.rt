@@ -1,8 +1,8 @@
 //! Adding and deleting jobs.
-ghost use Rattle.std.specs.Prelude.{◌≡◌, ◌≤◌, IfOk, IfErr, OnErr, MatchOption, find, option_copied};
-ghost use Rattle.qz_types.specs.Outcomes.{accepted, refused, IsAccepted, IsErrorOf};
+ghost use Rattle.std.specs.Prelude.{◌≡◌, ◌≤◌, IfOk, IfErr, OnErr, find, option_copied};
+ghost use Rattle.qz_types.specs.Outcomes.{accepted, IsErrorOf};
 ghost use Rattle.qz_types.specs.Words.{job_of, put_job, without_job};
-ghost use Rattle.qz_model.specs.Jobs.{differ, has_other_flag, flag_refusal, add_job_refusal, add_job};
+ghost use Rattle.qz_model.specs.Jobs.{differ, has_other_flag, flag_refusal, add_job_refusal, add_job, unknown_job, delete_job};
 
 use qz_apply::{is_acquired, same_key};
 use qz_tables::Tables;
@@ -87,4 +87,31 @@ fn set_job(tables: &mut Tables, job: JobRow)
     let old = tables.remove_job(&job.key);
     drop(old);
     tables.insert_job(job);
+}
+
+/// Deletes the job with its triggers. Its executions go on. The moment is in ms since 1970-01-01T00:00:00Z.
+pub fn delete_job(tables: &mut Tables, moment: i64, key: &Key) -> Result<Reply, StepRefused>
+    ensures ok { IfOk result (λ reply. delete_job tables.old.tables moment key.now ≡ accepted tables.new.tables reply) }
+    ensures cause { IfErr result (IsErrorOf (delete_job tables.old.tables moment key.now)) }
+    ensures err { OnErr result (tables.new ≡ tables.old) }
+{
+    if let Some(refusal) = delete_job_refusal(tables, key) {
+        return Err(StepRefused::Refused(refusal));
+    }
+    tables.remove_acquired_of_job(key);
+    let triggers = tables.remove_job_triggers(key) as u64;
+    let removed = tables.remove_job(key);
+    drop(removed);
+    tables.set_last_moment(moment);
+    Ok(Reply::Deleted { triggers })
+}
+
+/// Why the job isn't deleted, if it isn't.
+pub fn delete_job_refusal(tables: &Tables, key: &Key) -> Option<Refusal>
+    ensures { result ≡ unknown_job (job_of key.now tables.now.tables.jobs) }
+{
+    match tables.get_job(key) {
+        None => Some(Refusal::UnknownJob),
+        Some(_) => None,
+    }
 }

@@ -26,29 +26,31 @@ mod uses;
 mod zones;
 
 use calendars::{add_calendar, add_calendar_refusal, delete_calendar, delete_calendar_refusal};
-use jobs::{add_job, add_job_refusal};
+use jobs::{add_job, add_job_refusal, delete_job, delete_job_refusal};
 use manual::{trigger_now, trigger_now_refusal};
-use pausing::{
-    pause_group, pause_group_refusal, pause_trigger, resume_group, resume_trigger, unknown_trigger,
-};
+use pausing::{pause_group, pause_group_refusal, pause_trigger, resume_group, resume_trigger};
 use qz_apply::recorded_moment;
 use qz_tables::Tables;
 use qz_types::{Command, Entry, Refusal, Reply, StepRefused};
 use threshold::set_threshold;
+use triggers::{add_trigger, add_trigger_refusal, delete_trigger, unknown_trigger};
 use zones::{add_zone, add_zone_refusal, delete_zone, delete_zone_refusal};
 
 /// Why the command is refused, if it is.
-#[tactic(auto, using(qz_apply::proofs::Refused::of_one))]
+#[tactic(auto, using(qz_apply::proofs::Refused::of_one), unfolding(qz_types::specs::Entries::is_entry))]
 pub fn refusal(tables: &Tables, entry: &Entry) -> Option<Refusal>
     requires command { IsTrue (is_scheduling entry.now.command) }
     requires valid { ∥ TablesValid tables.now.tables ∥₁ }
+    requires entry { IsTrue (is_entry entry.now) }
     ensures { MatchOption result (IsAccepted (transaction tables.now.tables entry.now)) (λ x. transaction tables.now.tables entry.now ≡ refused x) }
 {
     match &entry.command {
         Command::AddJob { job, replace } => add_job_refusal(tables, job, *replace),
-        Command::PauseTrigger { key } | Command::ResumeTrigger { key } => unknown_trigger(
-            tables, key,
-        ),
+        Command::DeleteJob { key } => delete_job_refusal(tables, key),
+        Command::AddTrigger { spec, replace } => add_trigger_refusal(tables, spec, *replace),
+        Command::DeleteTrigger { key }
+        | Command::PauseTrigger { key }
+        | Command::ResumeTrigger { key } => unknown_trigger(tables, key),
         Command::PauseGroup { group } => pause_group_refusal(tables, group),
         Command::ResumeGroup { .. } => None,
         Command::AddCalendar { calendar, replace } => add_calendar_refusal(
@@ -90,6 +92,9 @@ pub fn apply(tables: &mut Tables, entry: &Entry) -> Result<Reply, StepRefused>
     let moment = recorded_moment(tables, entry.at);
     match &entry.command {
         Command::AddJob { job, replace } => add_job(tables, moment, job, *replace),
+        Command::DeleteJob { key } => delete_job(tables, moment, key),
+        Command::AddTrigger { spec, replace } => add_trigger(tables, moment, spec, *replace),
+        Command::DeleteTrigger { key } => delete_trigger(tables, moment, key),
         Command::PauseTrigger { key } => pause_trigger(tables, moment, key),
         Command::ResumeTrigger { key } => resume_trigger(tables, moment, key),
         Command::PauseGroup { group } => pause_group(tables, moment, group),

@@ -1,13 +1,137 @@
 //! Adding and deleting triggers.
-ghost use Rattle.std.specs.Prelude.{◌≡◌, ℤ, Option, IsTrue, codes, option_copied};
+ghost use Rattle.std.specs.Prelude.{◌≡◌, ◌≤◌, Some, None, IsTrue, IfOk, IfErr, OnErr, codes, option_copied};
 ghost use Rattle.qz_types.specs.Rows.{is_trigger_spec};
 ghost use Rattle.qz_types.specs.States.{first_state};
-ghost use Rattle.qz_types.specs.Words.{is_paused};
-ghost use Rattle.qz_model.specs.Triggers.{is_reserved, new_trigger};
+ghost use Rattle.qz_types.specs.Outcomes.{accepted, IsErrorOf};
+ghost use Rattle.qz_types.specs.Words.{is_paused, trigger_of};
+ghost use Rattle.qz_model.specs.Plan.{first_time};
+ghost use Rattle.qz_model.specs.Triggers.{is_reserved, naming_refusal, add_trigger_refusal, new_trigger, with_new_trigger, add_trigger, unknown_trigger, delete_trigger};
 
-use qz_apply::{is_busy, same_text};
+use crate::known::{has_known_zone, is_known_calendar};
+use qz_apply::{is_busy, next_after, remove_orphan, remove_trigger_and_orphan, same_text};
 use qz_tables::Tables;
-use qz_types::{Text, TriggerRow, TriggerSpec, TriggerState};
+use qz_types::{
+    Key, Refusal, Reply, StepRefused, TRIGGER_LIMIT, Text, TriggerRow, TriggerSpec, TriggerState,
+};
+
+/// Stores the trigger, in place of one of its key. The moment is in ms since 1970-01-01T00:00:00Z.
+#[tactic(auto, using(crate::proofs::Steps::trigger_added))]
+pub fn add_trigger(
+    tables: &mut Tables,
+    moment: i64,
+    spec: &TriggerSpec,
+    replace: bool,
+) -> Result<Reply, StepRefused>
+    requires spec { IsTrue (is_trigger_spec spec.now) }
+    requires spare { 1 ≤ tables.old.spare.triggers }
+    ensures ok { IfOk result (λ reply. add_trigger tables.old.tables moment spec.now replace ≡ accepted tables.new.tables reply) }
+    ensures cause { IfErr result (IsErrorOf (add_trigger tables.old.tables moment spec.now replace)) }
+    ensures err { OnErr result (tables.new ≡ tables.old) }
+{
+    let next = match first_fire_time(tables, spec, replace) {
+        Ok(next) => next,
+        Err(refusal) => return Err(StepRefused::Refused(refusal)),
+    };
+    let spec = spec.copy()?;
+    let trigger = new_trigger(tables, spec, Some(next));
+    set_trigger(tables, trigger);
+    tables.set_last_moment(moment);
+    Ok(Reply::Added { next })
+}
+
+/// Why the trigger isn't added, if it isn't.
+pub fn add_trigger_refusal(tables: &Tables, spec: &TriggerSpec, replace: bool) -> Option<Refusal>
+    requires { IsTrue (is_trigger_spec spec.now) }
+    ensures { result ≡ add_trigger_refusal tables.now.tables spec.now replace }
+{
+    first_fire_time(tables, spec, replace).err()
+}
+
+// The first fire time of the trigger, in ms since 1970-01-01T00:00:00Z, or why the trigger isn't added.
+#[tactic(auto, unfolding(qz_model::specs::Triggers::add_trigger_refusal))]
+fn first_fire_time(tables: &Tables, spec: &TriggerSpec, replace: bool) -> Result<i64, Refusal>
+    requires { IsTrue (is_trigger_spec spec.now) }
+    ensures ok { IfOk result (λ next. add_trigger_refusal tables.now.tables spec.now replace ≡ None) }
+    ensures time { IfOk result (λ next. first_time tables.now.tables spec.now ≡ Some next) }
+    ensures err { IfErr result (λ refusal. add_trigger_refusal tables.now.tables spec.now replace ≡ Some refusal) }
+{
+    if let Some(refusal) = naming_refusal(tables, spec) {
+        return Err(refusal);
+    }
+    let stored = tables.get_trigger(&spec.key).is_some();
+    if stored && !replace {
+        return Err(Refusal::TriggerExists);
+    }
+    let Some(next) = next_after(tables, spec, -1) else {
+        return Err(Refusal::NeverFires);
+    };
+    if !stored && tables.len_triggers() as u64 >= TRIGGER_LIMIT {
+        return Err(Refusal::TooMany {
+            count: TRIGGER_LIMIT,
+        });
+    }
+    Ok(next)
+}
+
+// Why the trigger can't name what it names, if it can't.
+#[tactic(auto, unfolding(qz_model::specs::Triggers::naming_refusal))]
+fn naming_refusal(tables: &Tables, spec: &TriggerSpec) -> Option<Refusal>
+    ensures { result ≡ naming_refusal tables.now.tables spec.now }
+{
+    if is_reserved(&spec.key.group) {
+        return Some(Refusal::ReservedGroup);
+    }
+    if tables.get_job(&spec.job).is_none() {
+        return Some(Refusal::UnknownJob);
+    }
+    if !is_known_calendar(tables, &spec.calendar) {
+        return Some(Refusal::UnknownCalendar);
+    }
+    if !has_known_zone(tables, &spec.timing.kind) {
+        return Some(Refusal::UnknownZone);
+    }
+    None
+}
+
+// Stores the trigger, in place of one of its key. That one goes with its acquired row, and with its job if that is an
+// orphan then.
+#[tactic(auto, using(crate::proofs::Absent::no_trigger))]
+fn set_trigger(tables: &mut Tables, trigger: TriggerRow)
+    requires { 1 ≤ tables.old.spare.triggers }
+    ensures { tables.new.tables ≡ with_new_trigger tables.old.tables trigger }
+{
+    let old = tables.remove_trigger(&trigger.spec.key);
+    tables.remove_acquired(&trigger.spec.key);
+    tables.insert_trigger(trigger);
+    if let Some(old) = old {
+        remove_orphan(tables, &old.spec.job);
+        drop(old);
+    }
+}
+
+/// Deletes the trigger. The moment is in ms since 1970-01-01T00:00:00Z.
+pub fn delete_trigger(tables: &mut Tables, moment: i64, key: &Key) -> Result<Reply, StepRefused>
+    ensures ok { IfOk result (λ reply. delete_trigger tables.old.tables moment key.now ≡ accepted tables.new.tables reply) }
+    ensures cause { IfErr result (IsErrorOf (delete_trigger tables.old.tables moment key.now)) }
+    ensures err { OnErr result (tables.new ≡ tables.old) }
+{
+    if let Some(refusal) = unknown_trigger(tables, key) {
+        return Err(StepRefused::Refused(refusal));
+    }
+    remove_trigger_and_orphan(tables, key);
+    tables.set_last_moment(moment);
+    Ok(Reply::Done)
+}
+
+/// Why a command on the trigger of this key is refused, if it is.
+pub fn unknown_trigger(tables: &Tables, key: &Key) -> Option<Refusal>
+    ensures { result ≡ unknown_trigger (trigger_of key.now tables.now.tables.triggers) }
+{
+    match tables.get_trigger(key) {
+        None => Some(Refusal::UnknownTrigger),
+        Some(_) => None,
+    }
+}
 
 #[tactic(auto, unfolding(qz_model::specs::Triggers::is_reserved))]
 fn is_reserved(group: &Text) -> bool

@@ -1,7 +1,7 @@
 //! Zones.
 ghost use Rattle.std.specs.Prelude.{◌≡◌, IfOk};
 
-use qz_civil::{List, Stretch, Text};
+use qz_civil::{Text, Zone};
 use std::alloc::AllocError;
 use std::marker::Model;
 
@@ -10,8 +10,7 @@ use std::marker::Model;
 pub struct ZoneRow {
     /// 1 to `NAME_LIMIT` bytes.
     pub name: Text,
-    /// A table as `qz_civil::Zone::table` takes it.
-    pub stretches: List<Stretch>,
+    pub zone: Zone,
 }
 
 impl Model for ZoneRow {
@@ -20,19 +19,11 @@ impl Model for ZoneRow {
 
     ghost Value = { ZoneData };
 
-    ghost view = { λ a. record { name = a.name; stretches = a.stretches } };
+    ghost view = { λ a. record { name = a.name; stretches = a.zone } };
 
-    ghost invariant = { λ a. IsTrue (is_zone_row (record { name = a.name; stretches = a.stretches })) };
+    ghost invariant = { λ a. IsTrue (is_zone_row (record { name = a.name; stretches = a.zone })) };
 
-    ghost inverse = { λ d. record { name = d.name; stretches = d.stretches } };
-}
-
-/// The same stretches again.
-#[tactic(auto, using(qz_civil::proofs::CloneLaws::same_items))]
-fn copy_stretches(stretches: &List<Stretch>) -> Result<List<Stretch>, AllocError>
-    ensures { IfOk result (λ copy. copy ≡ stretches.now) }
-{
-    stretches.clone()
+    ghost inverse = { λ d. record { name = d.name; zone = d.stretches } };
 }
 
 impl Clone for ZoneRow {
@@ -41,7 +32,7 @@ impl Clone for ZoneRow {
     fn clone(&self) -> Result<Self, AllocError> {
         Ok(ZoneRow {
             name: self.name.clone()?,
-            stretches: copy_stretches(&self.stretches)?,
+            zone: self.zone.clone()?,
         })
     }
 }

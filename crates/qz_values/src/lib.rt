@@ -25,4 +25,4 @@ pub use numbers::{
 pub use texts::{make_texts, name_of, owned_name_of, put_name, put_str, str_at};
 pub use times::{is_between, put_time, span_of, time_of};
 pub use timings::{put_timing, timing_of};
-pub use zones::{put_stretches, stretches_of};
+pub use zones::{put_zone, zone_of};

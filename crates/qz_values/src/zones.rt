@@ -11,7 +11,7 @@ ghost use Rattle.qz_values.specs.Zones as format;
 use crate::faults::Fault;
 use crate::lists::{Item, list_of, put_list};
 use crate::numbers::{i32_at, i64_at, put_i32, put_i64};
-use qz_civil::{List, STRETCH_LIMIT, Stretch, is_offset, may_begin};
+use qz_civil::{List, STRETCH_LIMIT, Stretch, Zone, is_offset, may_begin};
 use std::alloc::{AllocError, Global};
 
 /// Where a stretch begins, right after one that begins at `before`.
@@ -70,18 +70,29 @@ impl Item for Stretch {
     }
 }
 
-/// The stretches of a zone's table.
-pub fn stretches_of(alloc: Global, bytes: &[u8]) -> Result<(List<Stretch>, &[u8]), Fault>
+// The stretches of a zone's table.
+fn stretches_of(alloc: Global, bytes: &[u8]) -> Result<(List<Stretch>, &[u8]), Fault>
     ensures exact { Gives (λ x. (x.0, x.1.now)) result (list_at 1 STRETCH_LIMIT format.next_stretch_at bytes.now) }
     ensures valid { IfOk result (λ x. spec.bad_zone x.0 ≡ None) }
 {
     list_of(alloc, bytes, 1, STRETCH_LIMIT as u16)
 }
 
-/// The stretches of a zone's table.
-pub fn put_stretches(out: &mut Vec<u8>, stretches: &List<Stretch>) -> Result<(), AllocError>
-    requires { spec.bad_zone stretches.now ≡ None }
-    ensures { OnOk result (out.new.items ≡ out.old.items ++ list format.stretch stretches.now) }
+/// A zone, by its stretches.
+pub fn zone_of(alloc: Global, bytes: &[u8]) -> Result<(Zone, &[u8]), Fault>
+    ensures exact { Gives (λ x. (x.0, x.1.now)) result (list_at 1 STRETCH_LIMIT format.next_stretch_at bytes.now) }
+    ensures valid { IfOk result (λ x. spec.bad_zone x.0 ≡ None) }
 {
-    put_list(out, stretches.as_slice())
+    let (stretches, rest) = stretches_of(alloc, bytes)?;
+    match Zone::table(stretches) {
+        Ok(zone) => Ok((zone, rest)),
+        Err(_) => unreachable!(),
+    }
+}
+
+/// A zone, by its stretches.
+pub fn put_zone(out: &mut Vec<u8>, zone: &Zone) -> Result<(), AllocError>
+    ensures { OnOk result (out.new.items ≡ out.old.items ++ list format.stretch zone.now) }
+{
+    put_list(out, zone.as_slice())
 }

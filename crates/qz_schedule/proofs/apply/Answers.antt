@@ -67,3 +67,18 @@ pub returns-in-ResumeGroup-clause-valid : goal.returns-in-ResumeGroup-clause-val
 returns-in-ResumeGroup-clause-valid c =
     let ok : transaction c.args.tables.now.tables c.args.entry.now ≡ accepted c.resume_group.new.tables.tables c.resume_group.result = search rules in
     valid_after c.args.tables.now c.resume_group.new.tables c.args.entry.now (Ok c.resume_group.result) c.requires.entry c.requires.valid ok tt
+
+pub returns-in-DeleteJob-clause-valid : goal.returns-in-DeleteJob-clause-valid
+returns-in-DeleteJob-clause-valid c =
+    let ok : IfOk c.delete_job.result (λ reply. transaction c.args.tables.now.tables c.args.entry.now ≡ accepted c.delete_job.new.tables.tables reply) = search rules in
+    valid_after c.args.tables.now c.delete_job.new.tables c.args.entry.now c.delete_job.result c.requires.entry c.requires.valid ok c.delete_job.ensures.err
+
+pub returns-in-DeleteTrigger-clause-valid : goal.returns-in-DeleteTrigger-clause-valid
+returns-in-DeleteTrigger-clause-valid c =
+    let ok : IfOk c.delete_trigger.result (λ reply. transaction c.args.tables.now.tables c.args.entry.now ≡ accepted c.delete_trigger.new.tables.tables reply) = search rules in
+    valid_after c.args.tables.now c.delete_trigger.new.tables c.args.entry.now c.delete_trigger.result c.requires.entry c.requires.valid ok c.delete_trigger.ensures.err
+
+pub returns-in-AddTrigger-clause-valid : goal.returns-in-AddTrigger-clause-valid
+returns-in-AddTrigger-clause-valid c =
+    let ok : IfOk c.add_trigger.result (λ reply. transaction c.args.tables.now.tables c.args.entry.now ≡ accepted c.add_trigger.new.tables.tables reply) = search rules in
+    valid_after c.args.tables.now c.add_trigger.new.tables c.args.entry.now c.add_trigger.result c.requires.entry c.requires.valid ok c.add_trigger.ensures.err

@@ -1,7 +1,6 @@
 use Rattle.std.proofs.Common.{◌≡◌, None, IsTrue, sym, ap, subst, ◌∙◌, arith}
 use Rattle.std.proofs.lemmas.Grind.{common_steps}
 use Rattle.qz_types.specs.Rows.{is_trigger_spec}
-use Rattle.qz_types.specs.declared.keys.Key.{Key}
 use Rattle.qz_types.specs.Words.{trigger_of}
 use Rattle.qz_model.specs.Triggers.{manual_trigger}
 use Rattle.qz_schedule.proofs.Facts.{manual_absent, manual_is_spec, new_key}
