@@ -26,6 +26,7 @@ use Rattle.qz_model.specs.Plan.{first_time}
 use Rattle.qz_model.proofs.RowPoints.{length-filter_le}
 use Rattle.qz_apply.proofs.Rooms.{adds-unless}
 use Rattle.qz_schedule.specs.Commands.{is_scheduling}
+use Rattle.qz_schedule.proofs.CalendarRooms.{pause_trigger-adds, resume_trigger-adds, pause_group-adds, resume_group-adds, add_calendar-adds, delete_calendar-adds, add_zone-adds, delete_zone-adds}
 
 one_at_most : (b : Bool) → cond b 0 1 ≤ 1
 one_at_most true = omega arith

@@ -28,9 +28,7 @@ mod zones;
 use calendars::{add_calendar, add_calendar_refusal, delete_calendar, delete_calendar_refusal};
 use jobs::{add_job, add_job_refusal, delete_job, delete_job_refusal};
 use manual::{trigger_now, trigger_now_refusal};
-use pausing::{
-    pause_group, pause_group_refusal, pause_trigger, resume_group, resume_trigger, unknown_trigger,
-};
+use pausing::{pause_group, pause_group_refusal, pause_trigger, resume_group, resume_trigger};
 use qz_apply::recorded_moment;
 use qz_tables::Tables;
 use qz_types::{Command, Entry, Refusal, Reply, StepRefused};
