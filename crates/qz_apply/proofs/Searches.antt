@@ -4,7 +4,7 @@ use Rattle.std.specs.List.{slice_get, list_any}
 use Rattle.std.proofs.lemmas.Option.{slice_get_within, unwrap_or-slice_get}
 use Rattle.std.proofs.lemmas.List.Folds.{list_any_at, list_any_more}
 
-at_place : {R : Type 0} (rows : List R) (place : ℕ) (row : R) → slice_get rows place ≡ Some row → get_or rows place row ≡ row
+pub at_place : {R : Type 0} (rows : List R) (place : ℕ) (row : R) → slice_get rows place ≡ Some row → get_or rows place row ≡ row
 at_place rows place row is = sym (unwrap_or-slice_get rows place row) ∙ ap (λ o. unwrap_or o row) is
 
 -- a row that passes settles the answer

@@ -3,11 +3,12 @@ ghost use Rattle.std.specs.Prelude.{◌≡◌, ◌≤◌, Some, None, IsTrue, If
 ghost use Rattle.qz_types.specs.Rows.{is_trigger_spec};
 ghost use Rattle.qz_types.specs.States.{first_state};
 ghost use Rattle.qz_types.specs.Outcomes.{accepted, IsErrorOf};
-ghost use Rattle.qz_types.specs.Words.{is_paused, trigger_of};
+ghost use Rattle.qz_types.specs.Words.{is_paused};
 ghost use Rattle.qz_model.specs.Plan.{first_time};
-ghost use Rattle.qz_model.specs.Triggers.{is_reserved, naming_refusal, add_trigger_refusal, new_trigger, with_new_trigger, add_trigger, unknown_trigger, delete_trigger};
+ghost use Rattle.qz_model.specs.Triggers.{is_reserved, naming_refusal, add_trigger_refusal, new_trigger, with_new_trigger, add_trigger, delete_trigger};
 
 use crate::known::{has_known_zone, is_known_calendar};
+use crate::pausing::unknown_trigger;
 use qz_apply::{is_busy, next_after, remove_orphan, remove_trigger_and_orphan, same_text};
 use qz_tables::Tables;
 use qz_types::{
@@ -115,22 +116,12 @@ pub fn delete_trigger(tables: &mut Tables, moment: i64, key: &Key) -> Result<Rep
     ensures cause { IfErr result (IsErrorOf (delete_trigger tables.old.tables moment key.now)) }
     ensures err { OnErr result (tables.new ≡ tables.old) }
 {
-    if let Some(refusal) = delete_trigger_refusal(tables, key) {
+    if let Some(refusal) = unknown_trigger(tables, key) {
         return Err(StepRefused::Refused(refusal));
     }
     remove_trigger_and_orphan(tables, key);
     tables.set_last_moment(moment);
     Ok(Reply::Done)
-}
-
-/// Why the trigger isn't deleted, if it isn't.
-pub fn delete_trigger_refusal(tables: &Tables, key: &Key) -> Option<Refusal>
-    ensures { result ≡ unknown_trigger (trigger_of key.now tables.now.tables.triggers) }
-{
-    match tables.get_trigger(key) {
-        None => Some(Refusal::UnknownTrigger),
-        Some(_) => None,
-    }
 }
 
 #[tactic(auto, unfolding(qz_model::specs::Triggers::is_reserved))]
@@ -159,7 +150,8 @@ pub fn new_trigger(tables: &Tables, spec: TriggerSpec, next: Option<i64>) -> Tri
     }
 }
 
-fn is_paused(tables: &Tables, group: &Text) -> bool
+/// Whether the group is paused.
+pub fn is_paused(tables: &Tables, group: &Text) -> bool
     ensures { result ≡ is_paused group.now tables.now.tables.paused_groups }
 {
     tables.get_group(group).is_some()

@@ -28,6 +28,46 @@ returns-in-Threshold-clause-valid c =
     let ok : transaction c.args.tables.now.tables c.args.entry.now ≡ accepted c.set_threshold.new.tables.tables c.set_threshold.result = search rules in
     valid_after c.args.tables.now c.set_threshold.new.tables c.args.entry.now (Ok c.set_threshold.result) c.requires.entry c.requires.valid ok tt
 
+pub returns-in-PauseTrigger-clause-valid : goal.returns-in-PauseTrigger-clause-valid
+returns-in-PauseTrigger-clause-valid c =
+    let ok : IfOk c.pause_trigger.result (λ reply. transaction c.args.tables.now.tables c.args.entry.now ≡ accepted c.pause_trigger.new.tables.tables reply) = search rules in
+    valid_after c.args.tables.now c.pause_trigger.new.tables c.args.entry.now c.pause_trigger.result c.requires.entry c.requires.valid ok c.pause_trigger.ensures.err
+
+pub returns-in-ResumeTrigger-clause-valid : goal.returns-in-ResumeTrigger-clause-valid
+returns-in-ResumeTrigger-clause-valid c =
+    let ok : IfOk c.resume_trigger.result (λ reply. transaction c.args.tables.now.tables c.args.entry.now ≡ accepted c.resume_trigger.new.tables.tables reply) = search rules in
+    valid_after c.args.tables.now c.resume_trigger.new.tables c.args.entry.now c.resume_trigger.result c.requires.entry c.requires.valid ok c.resume_trigger.ensures.err
+
+pub returns-in-PauseGroup-clause-valid : goal.returns-in-PauseGroup-clause-valid
+returns-in-PauseGroup-clause-valid c =
+    let ok : IfOk c.pause_group.result (λ reply. transaction c.args.tables.now.tables c.args.entry.now ≡ accepted c.pause_group.new.tables.tables reply) = search rules in
+    valid_after c.args.tables.now c.pause_group.new.tables c.args.entry.now c.pause_group.result c.requires.entry c.requires.valid ok c.pause_group.ensures.err
+
+pub returns-in-AddCalendar-clause-valid : goal.returns-in-AddCalendar-clause-valid
+returns-in-AddCalendar-clause-valid c =
+    let ok : IfOk c.add_calendar.result (λ reply. transaction c.args.tables.now.tables c.args.entry.now ≡ accepted c.add_calendar.new.tables.tables reply) = search rules in
+    valid_after c.args.tables.now c.add_calendar.new.tables c.args.entry.now c.add_calendar.result c.requires.entry c.requires.valid ok c.add_calendar.ensures.err
+
+pub returns-in-DeleteCalendar-clause-valid : goal.returns-in-DeleteCalendar-clause-valid
+returns-in-DeleteCalendar-clause-valid c =
+    let ok : IfOk c.delete_calendar.result (λ reply. transaction c.args.tables.now.tables c.args.entry.now ≡ accepted c.delete_calendar.new.tables.tables reply) = search rules in
+    valid_after c.args.tables.now c.delete_calendar.new.tables c.args.entry.now c.delete_calendar.result c.requires.entry c.requires.valid ok c.delete_calendar.ensures.err
+
+pub returns-in-AddZone-clause-valid : goal.returns-in-AddZone-clause-valid
+returns-in-AddZone-clause-valid c =
+    let ok : IfOk c.add_zone.result (λ reply. transaction c.args.tables.now.tables c.args.entry.now ≡ accepted c.add_zone.new.tables.tables reply) = search rules in
+    valid_after c.args.tables.now c.add_zone.new.tables c.args.entry.now c.add_zone.result c.requires.entry c.requires.valid ok c.add_zone.ensures.err
+
+pub returns-in-DeleteZone-clause-valid : goal.returns-in-DeleteZone-clause-valid
+returns-in-DeleteZone-clause-valid c =
+    let ok : IfOk c.delete_zone.result (λ reply. transaction c.args.tables.now.tables c.args.entry.now ≡ accepted c.delete_zone.new.tables.tables reply) = search rules in
+    valid_after c.args.tables.now c.delete_zone.new.tables c.args.entry.now c.delete_zone.result c.requires.entry c.requires.valid ok c.delete_zone.ensures.err
+
+pub returns-in-ResumeGroup-clause-valid : goal.returns-in-ResumeGroup-clause-valid
+returns-in-ResumeGroup-clause-valid c =
+    let ok : transaction c.args.tables.now.tables c.args.entry.now ≡ accepted c.resume_group.new.tables.tables c.resume_group.result = search rules in
+    valid_after c.args.tables.now c.resume_group.new.tables c.args.entry.now (Ok c.resume_group.result) c.requires.entry c.requires.valid ok tt
+
 pub returns-in-DeleteJob-clause-valid : goal.returns-in-DeleteJob-clause-valid
 returns-in-DeleteJob-clause-valid c =
     let ok : IfOk c.delete_job.result (λ reply. transaction c.args.tables.now.tables c.args.entry.now ≡ accepted c.delete_job.new.tables.tables reply) = search rules in
