@@ -1,6 +1,8 @@
-mod DueHeads
-mod DueWalk
 mod Facts
-mod Firings
+mod Lists
+mod MisfireWalk
+mod Missed
+mod Moving
 mod Refused
 mod Rooms
+mod Walk

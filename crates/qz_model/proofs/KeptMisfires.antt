@@ -158,7 +158,7 @@ valid-moved_each T m triggers (t ∷ ts) is within valid each apart =
 abbrev waits_misfired : SchedulerTables → ℤ → TriggerData → Bool
 waits_misfired T m t = is_waiting t.state && is_misfired T m t
 
-each_misfired : (T : SchedulerTables) (m : ℤ) → IsAscending key_cmp (λ r. r.spec.key) T.triggers → AllByRecursion (IsStoredWaiting T) (misfired_triggers T m)
+pub each_misfired : (T : SchedulerTables) (m : ℤ) → IsAscending key_cmp (λ r. r.spec.key) T.triggers → AllByRecursion (IsStoredWaiting T) (misfired_triggers T m)
 unfolding misfired_triggers
 each_misfired T m ordered =
     All-take (IsStoredWaiting T) MISFIRE_LIMIT (in_due_order (filter (waits_misfired T m) T.triggers))
@@ -167,7 +167,7 @@ each_misfired T m ordered =
     (All-weaker (λ t. trigger_of t.spec.key T.triggers ≡ Some t) (λ t. waits_misfired T m t ≡ true → IsStoredWaiting T t) T.triggers
     (λ t found passes. record { stored = found; waits = waiting_from t.state (and_parts (is_waiting t.state) (is_misfired T m t) passes).0 }) (each_trigger T.triggers ordered))))
 
-apart_misfired : (T : SchedulerTables) (m : ℤ) → IsAscending key_cmp (λ r. r.spec.key) T.triggers → AreApart (misfired_triggers T m)
+pub apart_misfired : (T : SchedulerTables) (m : ℤ) → IsAscending key_cmp (λ r. r.spec.key) T.triggers → AreApart (misfired_triggers T m)
 unfolding misfired_triggers
 apart_misfired T m ordered =
     apart-take MISFIRE_LIMIT (in_due_order (filter (waits_misfired T m) T.triggers))

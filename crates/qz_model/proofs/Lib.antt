@@ -12,6 +12,7 @@ pub mod KeptCalendars
 pub mod KeptCompletion
 pub mod KeptFiring
 mod KeptJobs
+pub mod KeptMembership
 pub mod KeptMisfires
 pub mod KeptPausing
 pub mod KeptReleasing

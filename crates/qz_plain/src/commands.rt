@@ -1,4 +1,4 @@
-//! Which crate applies which command.
+//! Which crate applies which command. What isn't built is refused.
 ghost use Rattle.std.specs.Prelude.{◌≡◌, IsTrue, IfOk, IfErr, OnErr, MatchOption};
 ghost use Rattle.qz_types.specs.Entries.{is_entry};
 ghost use Rattle.qz_types.specs.Outcomes.{accepted, refused, IsAccepted, IsErrorOf};
@@ -32,8 +32,7 @@ pub fn refusal(tables: &Tables, entry: &Entry) -> Option<Refusal>
         Command::TriggerNow { .. } => qz_schedule::refusal(tables, entry),
         Command::Threshold { .. } => qz_schedule::refusal(tables, entry),
         Command::Join { .. } => qz_recover::refusal(tables, entry),
-        Command::Leave => qz_recover::refusal(tables, entry),
-        Command::Recover { .. } => qz_recover::refusal(tables, entry),
+        Command::Leave | Command::Recover { .. } => Some(Refusal::Unbuilt),
         Command::Acquire { .. } => qz_acquire::refusal(tables, entry),
         Command::Release { .. } => qz_acquire::refusal(tables, entry),
         Command::Fire { .. } => qz_acquire::refusal(tables, entry),
@@ -43,32 +42,31 @@ pub fn refusal(tables: &Tables, entry: &Entry) -> Option<Refusal>
 }
 
 /// How many rows more of each kind there has to be room for.
-pub fn room(tables: &Tables, entry: &Entry) -> usize
-    ensures { result ≡ rows_added tables.now.tables entry.now.command }
+pub fn room(entry: &Entry) -> usize
+    ensures { result ≡ rows_added entry.now.command }
 {
     match &entry.command {
-        Command::AddJob { .. } => qz_schedule::room(tables, entry),
-        Command::DeleteJob { .. } => qz_schedule::room(tables, entry),
-        Command::AddTrigger { .. } => qz_schedule::room(tables, entry),
-        Command::DeleteTrigger { .. } => qz_schedule::room(tables, entry),
-        Command::PauseTrigger { .. } => qz_schedule::room(tables, entry),
-        Command::ResumeTrigger { .. } => qz_schedule::room(tables, entry),
-        Command::PauseGroup { .. } => qz_schedule::room(tables, entry),
-        Command::ResumeGroup { .. } => qz_schedule::room(tables, entry),
-        Command::AddCalendar { .. } => qz_schedule::room(tables, entry),
-        Command::DeleteCalendar { .. } => qz_schedule::room(tables, entry),
-        Command::AddZone { .. } => qz_schedule::room(tables, entry),
-        Command::DeleteZone { .. } => qz_schedule::room(tables, entry),
-        Command::TriggerNow { .. } => qz_schedule::room(tables, entry),
-        Command::Threshold { .. } => qz_schedule::room(tables, entry),
-        Command::Join { .. } => qz_recover::room(tables, entry),
-        Command::Leave => qz_recover::room(tables, entry),
-        Command::Recover { .. } => qz_recover::room(tables, entry),
-        Command::Acquire { .. } => qz_acquire::room(tables, entry),
-        Command::Release { .. } => qz_acquire::room(tables, entry),
-        Command::Fire { .. } => qz_acquire::room(tables, entry),
-        Command::Misfires => qz_acquire::room(tables, entry),
-        Command::Complete { .. } => qz_complete::room(tables, entry),
+        Command::AddJob { .. } => qz_schedule::room(entry),
+        Command::DeleteJob { .. } => qz_schedule::room(entry),
+        Command::AddTrigger { .. } => qz_schedule::room(entry),
+        Command::DeleteTrigger { .. } => qz_schedule::room(entry),
+        Command::PauseTrigger { .. } => qz_schedule::room(entry),
+        Command::ResumeTrigger { .. } => qz_schedule::room(entry),
+        Command::PauseGroup { .. } => qz_schedule::room(entry),
+        Command::ResumeGroup { .. } => qz_schedule::room(entry),
+        Command::AddCalendar { .. } => qz_schedule::room(entry),
+        Command::DeleteCalendar { .. } => qz_schedule::room(entry),
+        Command::AddZone { .. } => qz_schedule::room(entry),
+        Command::DeleteZone { .. } => qz_schedule::room(entry),
+        Command::TriggerNow { .. } => qz_schedule::room(entry),
+        Command::Threshold { .. } => qz_schedule::room(entry),
+        Command::Join { .. } => qz_recover::room(entry),
+        Command::Leave | Command::Recover { .. } => 1,
+        Command::Acquire { .. } => qz_acquire::room(entry),
+        Command::Release { .. } => qz_acquire::room(entry),
+        Command::Fire { .. } => qz_acquire::room(entry),
+        Command::Misfires => qz_acquire::room(entry),
+        Command::Complete { .. } => qz_complete::room(entry),
     }
 }
 
@@ -76,7 +74,7 @@ pub fn room(tables: &Tables, entry: &Entry) -> usize
 pub fn apply(tables: &mut Tables, entry: &Entry) -> Result<Reply, StepRefused>
     requires valid { ∥ TablesValid tables.old.tables ∥₁ }
     requires entry { IsTrue (is_entry entry.now) }
-    requires spare { HasSpare (rows_added tables.old.tables entry.now.command) tables.old.spare }
+    requires spare { HasSpare (rows_added entry.now.command) tables.old.spare }
     ensures ok { IfOk result (λ reply. transaction tables.old.tables entry.now ≡ accepted tables.new.tables reply) }
     ensures cause { IfErr result (IsErrorOf (transaction tables.old.tables entry.now)) }
     ensures err { OnErr result (tables.new ≡ tables.old) }
@@ -98,8 +96,7 @@ pub fn apply(tables: &mut Tables, entry: &Entry) -> Result<Reply, StepRefused>
         Command::TriggerNow { .. } => qz_schedule::apply(tables, entry),
         Command::Threshold { .. } => qz_schedule::apply(tables, entry),
         Command::Join { .. } => qz_recover::apply(tables, entry),
-        Command::Leave => qz_recover::apply(tables, entry),
-        Command::Recover { .. } => qz_recover::apply(tables, entry),
+        Command::Leave | Command::Recover { .. } => Err(StepRefused::Refused(Refusal::Unbuilt)),
         Command::Acquire { .. } => qz_acquire::apply(tables, entry),
         Command::Release { .. } => qz_acquire::apply(tables, entry),
         Command::Fire { .. } => qz_acquire::apply(tables, entry),

@@ -108,7 +108,7 @@ impl PlainStore {
         if let Some(refusal) = refusal(&self.tables, entry) {
             return Err(StepRefused::Refused(refusal));
         }
-        self.tables.reserve(room(&self.tables, entry))?;
+        self.tables.reserve(room(entry))?;
         apply(&mut self.tables, entry)
     }
 
@@ -123,7 +123,7 @@ impl PlainStore {
         if let Some(refusal) = refusal(&self.tables, entry) {
             return Err(StepRefused::Refused(refusal));
         }
-        let mut tables = copy_with_room(&self.tables, room(&self.tables, entry))?;
+        let mut tables = copy_with_room(&self.tables, room(entry))?;
         match apply(&mut tables, entry) {
             Ok(reply) => Ok(Worked {
                 tables: PlainStore { tables },
