@@ -1,29 +1,29 @@
 -- A command of a client adds a row at most.
-use Rattle.std.proofs.Common.{ℕ, ◌+◌, ◌≤◌, ℤ, Bool, true, false, cond, List, length, Some, is_some, IsTrue, arith, not, Option, None, if◌then◌else◌}
-use Rattle.qz_types.specs.Rows.{JobData, CalendarData, ZoneData, TriggerData}
+use Rattle.std.proofs.Common.{ℕ, ◌+◌, ◌≤◌, ℤ, Bool, true, false, not, cond, List, length, Option, Some, None, is_some, IsTrue, arith, if◌then◌else◌}
+use Rattle.qz_types.specs.Rows.{JobData, TriggerData, CalendarData, ZoneData}
 use Rattle.qz_types.specs.Entries.{EntryData}
 use Rattle.qz_types.specs.declared.commands.Command.{Command}
 use Rattle.qz_types.specs.declared.commands.Command.TheVariants.{AddJob, DeleteJob, AddTrigger, DeleteTrigger, PauseTrigger, ResumeTrigger, PauseGroup, ResumeGroup, AddCalendar, DeleteCalendar, AddZone, DeleteZone, TriggerNow, Threshold, Join, Leave, Acquire, Release, Fire, Complete, Misfires, Recover}
 use Rattle.qz_types.specs.declared.commands.Actor.{Actor}
-use Rattle.qz_types.specs.Words.{without_job, trigger_of, calendar_of, is_paused, put_group, without_group, job_of, put_trigger, without_trigger}
+use Rattle.qz_types.specs.declared.triggers.TriggerSpec.{TriggerSpec}
+use Rattle.qz_types.specs.Words.{job_of, without_job, trigger_of, put_trigger, without_trigger, calendar_of, is_paused, put_group, without_group}
 use Rattle.qz_types.specs.Changes.{with_state}
 use Rattle.qz_types.specs.States.{paused, resumed}
 use Rattle.qz_types.specs.Tables.{SchedulerTables, recorded_moment}
 use Rattle.qz_types.specs.declared.keys.Key.{Key}
 use Rattle.qz_model.specs.Calendars.{with_new_calendar, add_calendar_refusal, add_calendar, delete_calendar_refusal, delete_calendar, add_zone_refusal, add_zone, delete_zone_refusal, delete_zone}
 use Rattle.qz_model.specs.Pausing.{is_in_group, is_row_of_group, pause_trigger, resume_trigger, pause_group_refusal, pause_group, resume_group}
-use Rattle.qz_model.specs.Tests.{is_row_of_trigger, is_trigger_of, is_row_of_job}
+use Rattle.qz_model.specs.Tests.{is_trigger_of, is_row_of_job, is_row_of_trigger}
 use Rattle.qz_model.specs.Jobs.{add_job_refusal, add_job, unknown_job, delete_job, is_orphan, without_orphan, without_orphan_of}
-use Rattle.qz_model.specs.Triggers.{unknown_trigger, new_trigger, manual_trigger, trigger_now_refusal, trigger_now, set_threshold, without_old_orphan, with_new_trigger, add_trigger_refusal, add_trigger, without_trigger_and_orphan, delete_trigger}
+use Rattle.qz_model.specs.Plan.{first_time}
+use Rattle.qz_model.specs.Triggers.{new_trigger, without_old_orphan, with_new_trigger, add_trigger_refusal, add_trigger, without_trigger_and_orphan, unknown_trigger, delete_trigger, manual_trigger, trigger_now_refusal, trigger_now, set_threshold}
 use Rattle.qz_model.specs.Transaction.{by_command, transaction}
 use Rattle.qz_model.proofs.KeptPausing.{length-with_group, length-without_group}
 use Rattle.qz_model.proofs.NamedRows.{length-put_zone, length-without_zone, length-without_calendar, length-with_new_calendar}
 use Rattle.qz_model.proofs.RowLaws.{length-put_job, length-without_job, length-put_trigger, length-with_trigger, length-without_trigger}
-use Rattle.qz_model.proofs.StateLaws.{length-with_states, length-without_acquired}
-use Rattle.qz_apply.specs.Room.{AddsUpTo, GrowsUpTo}
-use Rattle.qz_types.specs.declared.triggers.TriggerSpec.{TriggerSpec}
-use Rattle.qz_model.specs.Plan.{first_time}
 use Rattle.qz_model.proofs.RowPoints.{length-filter_le}
+use Rattle.qz_model.proofs.StateLaws.{length-with_states, length-without_acquired}
+use Rattle.qz_apply.specs.Room.{GrowsUpTo, AddsUpTo}
 use Rattle.qz_apply.proofs.Rooms.{adds-unless}
 use Rattle.qz_schedule.specs.Commands.{is_scheduling}
 use Rattle.qz_schedule.proofs.CalendarRooms.{pause_trigger-adds, resume_trigger-adds, pause_group-adds, resume_group-adds, add_calendar-adds, delete_calendar-adds, add_zone-adds, delete_zone-adds}

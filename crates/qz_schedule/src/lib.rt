@@ -33,7 +33,7 @@ use qz_apply::recorded_moment;
 use qz_tables::Tables;
 use qz_types::{Command, Entry, Refusal, Reply, StepRefused};
 use threshold::set_threshold;
-use triggers::{add_trigger, add_trigger_refusal, delete_trigger, delete_trigger_refusal};
+use triggers::{add_trigger, add_trigger_refusal, delete_trigger};
 use zones::{add_zone, add_zone_refusal, delete_zone, delete_zone_refusal};
 
 /// Why the command is refused, if it is.
@@ -41,14 +41,15 @@ use zones::{add_zone, add_zone_refusal, delete_zone, delete_zone_refusal};
 pub fn refusal(tables: &Tables, entry: &Entry) -> Option<Refusal>
     requires command { IsTrue (is_scheduling entry.now.command) }
     requires valid { ∥ TablesValid tables.now.tables ∥₁ }
-    requires entry { IsTrue (is_entry entry.now) }
     ensures { MatchOption result (IsAccepted (transaction tables.now.tables entry.now)) (λ x. transaction tables.now.tables entry.now ≡ refused x) }
 {
     match &entry.command {
         Command::AddJob { job, replace } => add_job_refusal(tables, job, *replace),
-        Command::PauseTrigger { key } | Command::ResumeTrigger { key } => unknown_trigger(
-            tables, key,
-        ),
+        Command::DeleteJob { key } => delete_job_refusal(tables, key),
+        Command::AddTrigger { spec, replace } => add_trigger_refusal(tables, spec, *replace),
+        Command::DeleteTrigger { key }
+        | Command::PauseTrigger { key }
+        | Command::ResumeTrigger { key } => unknown_trigger(tables, key),
         Command::PauseGroup { group } => pause_group_refusal(tables, group),
         Command::ResumeGroup { .. } => None,
         Command::AddCalendar { calendar, replace } => add_calendar_refusal(
@@ -57,9 +58,6 @@ pub fn refusal(tables: &Tables, entry: &Entry) -> Option<Refusal>
         Command::DeleteCalendar { name } => delete_calendar_refusal(tables, name),
         Command::AddZone { zone } => add_zone_refusal(tables, zone),
         Command::DeleteZone { name } => delete_zone_refusal(tables, name),
-        Command::DeleteJob { key } => delete_job_refusal(tables, key),
-        Command::AddTrigger { spec, replace } => add_trigger_refusal(tables, spec, *replace),
-        Command::DeleteTrigger { key } => delete_trigger_refusal(tables, key),
         Command::TriggerNow { job } => trigger_now_refusal(tables, job),
         Command::Threshold { .. } => None,
         _ => unreachable!(),
@@ -93,6 +91,9 @@ pub fn apply(tables: &mut Tables, entry: &Entry) -> Result<Reply, StepRefused>
     let moment = recorded_moment(tables, entry.at);
     match &entry.command {
         Command::AddJob { job, replace } => add_job(tables, moment, job, *replace),
+        Command::DeleteJob { key } => delete_job(tables, moment, key),
+        Command::AddTrigger { spec, replace } => add_trigger(tables, moment, spec, *replace),
+        Command::DeleteTrigger { key } => delete_trigger(tables, moment, key),
         Command::PauseTrigger { key } => pause_trigger(tables, moment, key),
         Command::ResumeTrigger { key } => resume_trigger(tables, moment, key),
         Command::PauseGroup { group } => pause_group(tables, moment, group),
@@ -103,9 +104,6 @@ pub fn apply(tables: &mut Tables, entry: &Entry) -> Result<Reply, StepRefused>
         Command::DeleteCalendar { name } => delete_calendar(tables, moment, name),
         Command::AddZone { zone } => add_zone(tables, moment, zone),
         Command::DeleteZone { name } => delete_zone(tables, moment, name),
-        Command::DeleteJob { key } => delete_job(tables, moment, key),
-        Command::AddTrigger { spec, replace } => add_trigger(tables, moment, spec, *replace),
-        Command::DeleteTrigger { key } => delete_trigger(tables, moment, key),
         Command::TriggerNow { job } => trigger_now(tables, moment, job),
         Command::Threshold { ms } => Ok(set_threshold(tables, moment, *ms)),
         _ => unreachable!(),
