@@ -33,7 +33,7 @@ use qz_apply::recorded_moment;
 use qz_tables::Tables;
 use qz_types::{Command, Entry, Refusal, Reply, StepRefused};
 use threshold::set_threshold;
-use triggers::{add_trigger, add_trigger_refusal, delete_trigger};
+use triggers::{add_trigger, add_trigger_refusal, delete_trigger, unknown_trigger};
 use zones::{add_zone, add_zone_refusal, delete_zone, delete_zone_refusal};
 
 /// Why the command is refused, if it is.
@@ -41,6 +41,7 @@ use zones::{add_zone, add_zone_refusal, delete_zone, delete_zone_refusal};
 pub fn refusal(tables: &Tables, entry: &Entry) -> Option<Refusal>
     requires command { IsTrue (is_scheduling entry.now.command) }
     requires valid { ∥ TablesValid tables.now.tables ∥₁ }
+    requires entry { IsTrue (is_entry entry.now) }
     ensures { MatchOption result (IsAccepted (transaction tables.now.tables entry.now)) (λ x. transaction tables.now.tables entry.now ≡ refused x) }
 {
     match &entry.command {

@@ -3,12 +3,11 @@ ghost use Rattle.std.specs.Prelude.{◌≡◌, ◌≤◌, Some, None, IsTrue, If
 ghost use Rattle.qz_types.specs.Rows.{is_trigger_spec};
 ghost use Rattle.qz_types.specs.States.{first_state};
 ghost use Rattle.qz_types.specs.Outcomes.{accepted, IsErrorOf};
-ghost use Rattle.qz_types.specs.Words.{is_paused};
+ghost use Rattle.qz_types.specs.Words.{is_paused, trigger_of};
 ghost use Rattle.qz_model.specs.Plan.{first_time};
-ghost use Rattle.qz_model.specs.Triggers.{is_reserved, naming_refusal, add_trigger_refusal, new_trigger, with_new_trigger, add_trigger, delete_trigger};
+ghost use Rattle.qz_model.specs.Triggers.{is_reserved, naming_refusal, add_trigger_refusal, new_trigger, with_new_trigger, add_trigger, unknown_trigger, delete_trigger};
 
 use crate::known::{has_known_zone, is_known_calendar};
-use crate::pausing::unknown_trigger;
 use qz_apply::{is_busy, next_after, remove_orphan, remove_trigger_and_orphan, same_text};
 use qz_tables::Tables;
 use qz_types::{
