@@ -1,15 +1,19 @@
 //! What the application of every command needs, over the tables of the trigger store: the recorded moment, the fence of
-//! nodes, tests on texts and keys, and the executions that exclude others. Nothing here takes memory or changes a table.
+//! nodes, tests on texts and keys, the executions that exclude others, the fire times of stored triggers, and jobs that go with
+//! nodes, tests on texts and keys, the executions that exclude others, fire times of stored triggers, and jobs that go with
+//! their last trigger. Nothing here takes memory.
 #![tactic(auto)]
 
 mod executions;
 mod members;
 mod moments;
 mod names;
+mod orphans;
 mod plans;
 
 pub use executions::{is_acquired, is_busy};
-pub use members::{is_of, node_refusal};
+pub use members::{is_of, node_refusal, owner_refusal};
 pub use moments::recorded_moment;
 pub use names::{same_key, same_text};
+pub use orphans::{remove_orphan, remove_trigger_and_orphan};
 pub use plans::{move_of, next_after};

@@ -1,5 +1,5 @@
 -- Look-ups in rows that are in the order of their ids, after edits.
-use Rattle.std.proofs.Common.{◌≡◌, ◌+◌, ◌≤◌, Bool, true, false, cond, List, [], ◌∷◌, map, filter, count_by, Some, None, option_map, refl, sym, ap, ◌∙◌, subst, arith, if◌then◌else◌}
+use Rattle.std.proofs.Common.{◌≡◌, ◌+◌, ◌≤◌, Bool, true, false, cond, List, [], ◌∷◌, length, map, filter, count_by, Some, None, IsSome, option_map, refl, sym, ap, ◌∙◌, subst, arith, if◌then◌else◌}
 use Rattle.std.specs.List.{AllByRecursion}
 use Rattle.std.specs.Cmp.{IsTotalOrder}
 use Rattle.std.specs.Ordering.{is_gt, is_eq, ordering_reverse}
@@ -7,7 +7,7 @@ use Rattle.std.specs.declared.cmp.Ordering.{Ordering}
 use Rattle.std.specs.declared.cmp.Ordering.TheVariants.{Less, Equal, Greater}
 use Rattle.std.proofs.lemmas.Cmp.{tied_itself}
 use Rattle.qz_types.specs.Sorted.{row_of, put, IsBefore, IsAscending}
-use Rattle.qz_model.proofs.RowPoints.{All-weaker, All-both, All-filter, count_by-cons, none_from_count}
+use Rattle.qz_model.proofs.RowPoints.{length-filter_le, All-weaker, All-both, All-filter, count_by-cons, none_from_count, count_by-none}
 
 pub equal_from : (o : Ordering) → is_eq o ≡ true → o ≡ Equal
 equal_from Less e = absurd (cc)
@@ -74,6 +74,17 @@ module _ {R K : Type 0} (cmp : K → K → Ordering) (id : R → K) where
   row_of-filter_none k q xs absent =
       row_of_none k (filter q xs) (All-filter (λ x. is_eq (cmp k (id x)) ≡ false) q xs (All-weaker (λ x. is_eq (cmp k (id x)) ≡ false) (λ x. q x ≡ true → is_eq (cmp k (id x)) ≡ false) xs (λ x no passes. no) (none_of_row k xs absent)))
 
+  -- a row that is found, and is left out by a filter, leaves room
+  pub length-filter_found : (k : K) (q : R → Bool) (xs : List R) → IsSome (row_of cmp id k xs) → ((x : R) → is_eq (cmp k (id x)) ≡ true → q x ≡ false) → length (filter q xs) + 1 ≤ length xs
+  length-filter_found k q [] found out = absurd (cc)
+  length-filter_found k q (x ∷ xs) found out = elim (is_eq (cmp k (id x))) as (λ b. is_eq (cmp k (id x)) ≡ b → IsSome (if b then Some x else row_of cmp id k xs) → length (filter q (x ∷ xs)) + 1 ≤ length (x ∷ xs)) [
+    | true ↦ λ same is. rw (out x same) (omega (arith, length-filter_le q xs))
+    | false ↦ λ other is. elim (q x) as (λ b. length (cond b (x ∷ filter q xs) (filter q xs)) + 1 ≤ length (x ∷ xs)) [
+      | true ↦ omega (arith, length-filter_found k q xs is out)
+      | false ↦ omega (arith, length-filter_found k q xs is out)
+    ]
+  ] refl found
+
   -- a row that is found and passes is counted
   pub count_found : (p : R → Bool) (k : K) (r : R) (xs : List R) → row_of cmp id k xs ≡ Some r → p r ≡ true → 1 ≤ count_by p xs
   count_found p k r [] found passes = absurd (cc)
@@ -120,6 +131,19 @@ module _ {R K : Type 0} (cmp : K → K → Ordering) (id : R → K) (order : IsT
         (below (id x) xs ascending.0) (each_found xs ascending.1),
   )
 
+  -- in ascending rows no more than one has an id
+  pub count_of_id : (p : R → Bool) (k : K) (xs : List R) → ((x : R) → p x ≡ is_eq (cmp k (id x))) → IsAscending cmp id xs → count_by p xs ≤ 1
+  count_of_id p k [] is ascending = omega arith
+  count_of_id p k (x ∷ xs) is ascending =
+      rw (count_by-cons p x xs) (elim (p x) as (λ b. p x ≡ b → cond b 1 0 + count_by p xs ≤ 1) [
+        | true ↦ λ e.
+            let same : cmp k (id x) ≡ Equal = equal_from (cmp k (id x)) (sym (is x) ∙ e) in
+            let none : count_by p xs ≡ 0 =
+            count_by-none p xs (All-weaker (λ y. cmp (id x) (id y) ≡ Less) (λ y. p y ≡ false) xs (λ y less. is y ∙ ap is_eq (order.congr k (id x) (id y) same ∙ less)) (below (id x) xs ascending.0)) in
+            omega arith
+        | false ↦ λ e. omega (arith, count_of_id p k xs is ascending.1)
+      ] refl)
+
   -- ids that are the same find the same row
   pub row_of-alike : (j k : K) (xs : List R) → cmp j k ≡ Equal → row_of cmp id j xs ≡ row_of cmp id k xs
   row_of-alike j k [] same = refl
@@ -137,6 +161,17 @@ module _ {R K : Type 0} (cmp : K → K → Ordering) (id : R → K) (order : IsT
   row_of-put_new k r t xs absent found = elim (is_eq (cmp k (id r))) as (λ b. is_eq (cmp k (id r)) ≡ b → row_of cmp id k (put cmp id r xs) ≡ Some t) [
     | true ↦ λ e. let alike = row_of-alike k (id r) xs (equal_from (cmp k (id r)) e) in absurd (cc)
     | false ↦ λ e. row_of-put cmp id k r xs e ∙ found
+  ] refl
+
+  -- a row that is put is found
+  pub row_of-put_own : (r : R) (xs : List R) → row_of cmp id (id r) xs ≡ None → row_of cmp id (id r) (put cmp id r xs) ≡ Some r
+  row_of-put_own r [] absent = rw (tied_itself order (id r)) refl
+  row_of-put_own r (x ∷ xs) absent = elim (is_gt (cmp (id r) (id x))) as (λ b. is_gt (cmp (id r) (id x)) ≡ b → row_of cmp id (id r) (if b then x ∷ put cmp id r xs else r ∷ x ∷ xs) ≡ Some r) [
+    | true ↦ λ later. elim (is_eq (cmp (id r) (id x))) as (λ b. (if b then Some x else row_of cmp id (id r) xs) ≡ None → (if b then Some x else row_of cmp id (id r) (put cmp id r xs)) ≡ Some r) [
+      | true ↦ λ e. absurd (cc)
+      | false ↦ λ e. row_of-put_own r xs e
+    ] absent
+    | false ↦ λ first. rw (tied_itself order (id r)) refl
   ] refl
 
   before-map : (k : K) (f : R → R) (xs : List R) → ((x : R) → id (f x) ≡ id x) → IsBefore cmp id k xs → IsBefore cmp id k (map f xs)

@@ -1,9 +1,9 @@
 -- References and limits, where one list is changed.
-use Rattle.std.proofs.Common.{ℕ, ◌≤◌, ℤ, List, length}
+use Rattle.std.proofs.Common.{ℕ, ◌≤◌, ℤ, List, length, IsTrue}
 use Rattle.std.specs.Ordering.{nat_cmp}
 use Rattle.qz_types.specs.Sorted.{IsAscending}
-use Rattle.qz_types.specs.Rows.{JobData, TriggerData, MemberData, FiredData}
-use Rattle.qz_types.specs.declared.limits.TheConstants.{JOB_LIMIT, TRIGGER_LIMIT, MEMBER_LIMIT, FIRED_LIMIT, NUMBER_LIMIT}
+use Rattle.qz_types.specs.Rows.{JobData, TriggerData, MemberData, FiredData, is_interval, CalendarData, ZoneData}
+use Rattle.qz_types.specs.declared.limits.TheConstants.{JOB_LIMIT, TRIGGER_LIMIT, MEMBER_LIMIT, FIRED_LIMIT, NUMBER_LIMIT, CALENDAR_LIMIT, ZONE_LIMIT, GROUP_LIMIT}
 use Rattle.qz_types.specs.Tables.{SchedulerTables}
 use Rattle.qz_types.specs.Words.{key_cmp, text_cmp}
 use Rattle.qz_model.specs.Invariant.{AreStored, ReferencesAndLimits}
@@ -24,6 +24,25 @@ module _ (T : SchedulerTables) (was : ReferencesAndLimits T) where
       next_entry = limits.next_entry;
       next_epoch = limits.next_epoch;
       threshold = limits.threshold;
+      horizon = limits.horizon;
+    };
+  }
+
+  pub references-threshold : (ms : ℤ) → IsTrue (is_interval ms) → ReferencesAndLimits (record T { threshold = ms })
+  references-threshold ms is = let order = was.ordered in let limits = was.limits in record {
+    ordered = record { jobs = order.jobs; triggers = order.triggers; calendars = order.calendars; zones = order.zones; paused_groups = order.paused_groups; members = order.members; fired = order.fired };
+    stored = was.stored;
+    limits = record {
+      jobs = limits.jobs;
+      triggers = limits.triggers;
+      calendars = limits.calendars;
+      zones = limits.zones;
+      paused_groups = limits.paused_groups;
+      members = limits.members;
+      fired = limits.fired;
+      next_entry = limits.next_entry;
+      next_epoch = limits.next_epoch;
+      threshold = is;
       horizon = limits.horizon;
     };
   }
@@ -102,6 +121,65 @@ module _ (T : SchedulerTables) (was : ReferencesAndLimits T) where
       members = limits.members;
       fired = short;
       next_entry = number;
+      next_epoch = limits.next_epoch;
+      threshold = limits.threshold;
+      horizon = limits.horizon;
+    };
+  }
+
+  pub references-groups : (groups : List (List ℕ)) → IsAscending text_cmp (λ r. r) groups → length groups ≤ GROUP_LIMIT → ReferencesAndLimits (record T { paused_groups = groups })
+  references-groups groups ordered short = let order = was.ordered in let limits = was.limits in record {
+    ordered = record { jobs = order.jobs; triggers = order.triggers; calendars = order.calendars; zones = order.zones; paused_groups = ordered; members = order.members; fired = order.fired };
+    stored = was.stored;
+    limits = record {
+      jobs = limits.jobs;
+      triggers = limits.triggers;
+      calendars = limits.calendars;
+      zones = limits.zones;
+      paused_groups = short;
+      members = limits.members;
+      fired = limits.fired;
+      next_entry = limits.next_entry;
+      next_epoch = limits.next_epoch;
+      threshold = limits.threshold;
+      horizon = limits.horizon;
+    };
+  }
+
+  pub references-calendars : (calendars : List CalendarData) → IsAscending text_cmp (λ r. r.name) calendars → AreStored T.jobs T.triggers calendars T.zones → length calendars ≤ CALENDAR_LIMIT
+      → ReferencesAndLimits (record T { calendars = calendars })
+  references-calendars calendars ordered stored short = let order = was.ordered in let limits = was.limits in record {
+    ordered = record { jobs = order.jobs; triggers = order.triggers; calendars = ordered; zones = order.zones; paused_groups = order.paused_groups; members = order.members; fired = order.fired };
+    stored = stored;
+    limits = record {
+      jobs = limits.jobs;
+      triggers = limits.triggers;
+      calendars = short;
+      zones = limits.zones;
+      paused_groups = limits.paused_groups;
+      members = limits.members;
+      fired = limits.fired;
+      next_entry = limits.next_entry;
+      next_epoch = limits.next_epoch;
+      threshold = limits.threshold;
+      horizon = limits.horizon;
+    };
+  }
+
+  pub references-zones : (zones : List ZoneData) → IsAscending text_cmp (λ r. r.name) zones → AreStored T.jobs T.triggers T.calendars zones → length zones ≤ ZONE_LIMIT
+      → ReferencesAndLimits (record T { zones = zones })
+  references-zones zones ordered stored short = let order = was.ordered in let limits = was.limits in record {
+    ordered = record { jobs = order.jobs; triggers = order.triggers; calendars = order.calendars; zones = ordered; paused_groups = order.paused_groups; members = order.members; fired = order.fired };
+    stored = stored;
+    limits = record {
+      jobs = limits.jobs;
+      triggers = limits.triggers;
+      calendars = limits.calendars;
+      zones = short;
+      paused_groups = limits.paused_groups;
+      members = limits.members;
+      fired = limits.fired;
+      next_entry = limits.next_entry;
       next_epoch = limits.next_epoch;
       threshold = limits.threshold;
       horizon = limits.horizon;

@@ -1,5 +1,6 @@
 -- What the words on rows of each kind do.
 use Rattle.std.proofs.Common.{◌≡◌, ℕ, ◌+◌, ◌<◌, ◌≤◌, ◌==◌, Bool, true, false, not, cond, List, length, count_by, Option, Some, None, IsSome, is_some, is_none, option_map, refl, sym, ap, ◌∙◌, arith, if◌then◌else◌}
+use Rattle.std.specs.Prelude.{⊤}
 use Rattle.std.specs.List.{AllByRecursion}
 use Rattle.std.specs.Cmp.{IsTotalOrder, IsEquivalence}
 use Rattle.std.specs.Ordering.{nat_cmp, is_eq, ordering_then}
@@ -16,7 +17,7 @@ use Rattle.qz_types.specs.declared.keys.Key.{Key}
 use Rattle.qz_types.proofs.Ascending.{IsAscending-put}
 use Rattle.qz_types.specs.Words.{text_cmp, key_cmp, same_key, job_of, put_job, without_job, trigger_of, put_trigger, with_trigger, without_trigger, member_of, put_member, fired_of, put_fired, with_fired, without_fired}
 use Rattle.qz_model.proofs.RowPoints.{All-from, All-weaker, All-put, All-changed, All-left, changed_keeps, count_by-put, count_by-changed, count_by-left, length-put, length-filter_le}
-use Rattle.qz_model.proofs.LookUps.{All-row_of, row_of-id, row_of_none, row_of-map, row_of-put, row_of-put_new, row_of-filter, row_of-filter_none, one_found, each_found, only_found, row_of-alike, equal_from, IsAscending-map, IsAscending-filter}
+use Rattle.qz_model.proofs.LookUps.{All-row_of, row_of-id, row_of_none, row_of-map, row_of-put, row_of-put_new, row_of-put_own, length-filter_found, row_of-filter, row_of-filter_none, one_found, each_found, only_found, row_of-alike, equal_from, IsAscending-map, IsAscending-filter, count_found}
 
 pub key_total : IsTotalOrder key_cmp
 key_total = then_total (on_total (λ k. k.group) nat_list_cmp_total) (on_total (λ k. k.name) nat_list_cmp_total)
@@ -102,6 +103,25 @@ pub job_of-without_job : (j k : Key) (rows : List JobData) → same_key j k ≡ 
 unfolding job_of without_job same_key
 job_of-without_job j k rows differ = row_of-filter key_cmp (λ r. r.key) k (λ r. not (same_key j r.key)) rows (All-from (λ r. same_key k r.key ≡ true → not (same_key j r.key) ≡ true) rows (λ r same. ap not (other_key j k r.key differ same)))
 
+pub job_of-alike : (j k : Key) (rows : List JobData) → same_key j k ≡ true → job_of j rows ≡ job_of k rows
+unfolding job_of same_key
+job_of-alike j k rows same = row_of-alike key_cmp (λ r. r.key) key_total j k rows (equal_from (key_cmp j k) same)
+
+-- a job that is put is found
+pub job_of-put_own : (row : JobData) (rows : List JobData) → job_of row.key rows ≡ None → job_of row.key (put_job row rows) ≡ Some row
+unfolding job_of put_job
+job_of-put_own row rows absent = row_of-put_own key_cmp (λ r. r.key) key_total row rows absent
+
+-- and one that is left out isn't
+pub job_of-without_own : (k : Key) (rows : List JobData) → job_of k (without_job k rows) ≡ None
+unfolding job_of without_job same_key
+job_of-without_own k rows = row_of_none key_cmp (λ r. r.key) k (without_job k rows) (All-without_job (λ r. ⊤) (λ r. same_key k r.key ≡ false) k rows (All-from (λ r. ⊤) rows (λ r. tt)) (λ r differ x. differ))
+
+-- a job that is stored leaves room
+pub length-without_stored : (k : Key) (rows : List JobData) → IsSome (job_of k rows) → length (without_job k rows) + 1 ≤ length rows
+unfolding job_of without_job same_key
+length-without_stored k rows stored = length-filter_found key_cmp (λ r. r.key) k (λ r. not (same_key k r.key)) rows stored (λ r same. ap not same)
+
 pub length-put_job : (row : JobData) (rows : List JobData) → length (put_job row rows) ≡ length rows + 1
 unfolding put_job
 length-put_job row rows = length-put key_cmp (λ r. r.key) row rows
@@ -182,6 +202,20 @@ pub All-without_trigger : (P Q : TriggerData → Type 0) (k : Key) (rows : List 
 unfolding without_trigger
 All-without_trigger P Q k rows all left = All-left P Q (λ r. same_key k r.spec.key) rows all left
 
+pub trigger_of-put_own : (row : TriggerData) (rows : List TriggerData) → trigger_of row.spec.key rows ≡ None → trigger_of row.spec.key (put_trigger row rows) ≡ Some row
+unfolding trigger_of put_trigger
+trigger_of-put_own row rows absent = row_of-put_own key_cmp (λ r. r.spec.key) key_total row rows absent
+
+pub trigger_of-without_own : (k : Key) (rows : List TriggerData) → trigger_of k (without_trigger k rows) ≡ None
+unfolding trigger_of without_trigger same_key
+trigger_of-without_own k rows =
+    row_of_none key_cmp (λ r. r.spec.key) k (without_trigger k rows) (All-without_trigger (λ r. ⊤) (λ r. same_key k r.spec.key ≡ false) k rows (All-from (λ r. ⊤) rows (λ r. tt)) (λ r differ x. differ))
+
+-- a trigger that is stored leaves room
+pub length-without_stored_trigger : (k : Key) (rows : List TriggerData) → IsSome (trigger_of k rows) → length (without_trigger k rows) + 1 ≤ length rows
+unfolding trigger_of without_trigger same_key
+length-without_stored_trigger k rows stored = length-filter_found key_cmp (λ r. r.spec.key) k (λ r. not (same_key k r.spec.key)) rows stored (λ r same. ap not same)
+
 pub length-put_trigger : (row : TriggerData) (rows : List TriggerData) → length (put_trigger row rows) ≡ length rows + 1
 unfolding put_trigger
 length-put_trigger row rows = length-put key_cmp (λ r. r.spec.key) row rows
@@ -212,7 +246,7 @@ unfolding put_member
 length-put_member row rows = length-put text_cmp (λ r. r.node) row rows
 
 -- fired rows
-same_number : (a b : ℕ) → is_eq (nat_cmp a b) ≡ (a == b)
+pub same_number : (a b : ℕ) → is_eq (nat_cmp a b) ≡ (a == b)
 same_number a b = grind (arith, nat_tests)
 
 pub ordered-put_fired : (row : FiredData) (rows : List FiredData) → IsAscending nat_cmp (λ r. r.entry) rows → fired_of row.entry rows ≡ None → IsAscending nat_cmp (λ r. r.entry) (put_fired row rows)
@@ -246,6 +280,11 @@ pub one_fired : (p : FiredData → Bool) (n : ℕ) (f : FiredData) (rows : List 
 unfolding fired_of
 one_fired p n f rows found passes one =
     All-weaker (λ g. p g ≡ true → is_eq (nat_cmp n g.entry) ≡ true) (λ g. p g ≡ true → (n == g.entry) ≡ true) rows (λ g is yes. sym (same_number n g.entry) ∙ is yes) (one_found nat_cmp (λ r. r.entry) p n f rows found passes one)
+
+-- a row that is found and passes is counted
+pub counted_fired : (p : FiredData → Bool) (n : ℕ) (f : FiredData) (rows : List FiredData) → fired_of n rows ≡ Some f → p f ≡ true → 1 ≤ count_by p rows
+unfolding fired_of
+counted_fired p n f rows found passes = count_found nat_cmp (λ r. r.entry) p n f rows found passes
 
 -- no row has a number that is above all
 pub fired_of-above : (n : ℕ) (rows : List FiredData) → AllByRecursion (λ f. f.entry < n) rows → fired_of n rows ≡ None

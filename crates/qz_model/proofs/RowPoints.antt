@@ -49,7 +49,7 @@ module _ {R : Type 0} where
   count_by-none p (x ∷ xs) none = rw (count_by-cons p x xs, none.0) (omega (arith, count_by-none p xs none.1))
 
   -- some row passes where the count isn't 0
-  any_is_count : (p : R → Bool) (xs : List R) → list_any p xs ≡ nat_lt 0 (count_by p xs)
+  pub any_is_count : (p : R → Bool) (xs : List R) → list_any p xs ≡ nat_lt 0 (count_by p xs)
   any_is_count p [] = refl
   any_is_count p (x ∷ xs) = rw (count_by-cons p x xs) (elim (p x) as (λ b. (b || list_any p xs) ≡ nat_lt 0 (cond b 1 0 + count_by p xs)) [
     | true ↦ grind (arith, nat_tests)

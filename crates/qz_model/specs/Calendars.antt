@@ -1,7 +1,7 @@
 -- The transactions of clients on calendars and zones.
 use Rattle.std.specs.Prelude.{ℕ, suc, ◌+◌, ℤ, List, [], ◌∷◌, Bool, false, not, ◌&&◌, ◌||◌, length, nat_le, nat_lt, count_by, if◌then◌else◌, Option, Some, None, is_some, is_none, option_map}
 use Rattle.std.specs.List.{list_any}
-use Rattle.qz_types.specs.Rows.{TriggerData, CalendarData, ZoneData}
+use Rattle.qz_types.specs.Rows.{CalendarData, ZoneData}
 use Rattle.qz_types.specs.declared.limits.TheConstants.{CALENDAR_LIMIT, CHAIN_LIMIT, ZONE_LIMIT}
 use Rattle.qz_types.specs.declared.replies.Reply.TheVariants.{Done}
 use Rattle.qz_types.specs.declared.replies.Refusal.{Refusal}
@@ -10,7 +10,7 @@ use Rattle.qz_types.specs.Tables.{SchedulerTables}
 use Rattle.qz_types.specs.Outcomes.{Outcome, accepted, unless}
 use Rattle.qz_types.specs.Words.{same_text, calendar_of, put_calendar, without_calendar, zone_of, put_zone, without_zone}
 use Rattle.qz_types.specs.Chains.{calendar_named, chain_of, ends_within}
-use Rattle.qz_model.specs.Plan.{zone_named_by, is_utc, is_known_zone, is_known_calendar}
+use Rattle.qz_model.specs.Plan.{zone_named_by, is_known_zone, is_known_calendar}
 use Rattle.qz_model.specs.Tests.{refuse_if, or_refusal}
 
 -- AddCalendar.
@@ -33,11 +33,11 @@ with_new_calendar c calendars = put_calendar c (without_calendar c.name calendar
 abbrev pub is_too_long : List CalendarData → CalendarData → Bool
 is_too_long calendars d = not (ends_within calendars CHAIN_LIMIT (Some d))
 
--- Some chain would be too long: its own, or where it takes the place of a stored calendar any.
+-- Some chain would be too long: its own, or where it takes the place of a stored calendar that of any other.
 unfoldable pub makes_too_long : List CalendarData → CalendarData → Bool
 makes_too_long calendars c =
     is_too_long (with_new_calendar c calendars) c
-    || (is_some (calendar_of c.name calendars) && list_any (is_too_long (with_new_calendar c calendars)) (with_new_calendar c calendars))
+    || (is_some (calendar_of c.name calendars) && list_any (is_too_long (with_new_calendar c calendars)) (without_calendar c.name calendars))
 
 unfoldable pub add_calendar_refusal : SchedulerTables → CalendarData → Bool → Option Refusal
 add_calendar_refusal T c replace =

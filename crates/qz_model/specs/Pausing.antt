@@ -1,5 +1,5 @@
 -- The transactions of clients that pause triggers and groups of them, and resume them.
-use Rattle.std.specs.Prelude.{ℕ, ℤ, List, Bool, not, ◌&&◌, length, nat_le, if◌then◌else◌, Option, None}
+use Rattle.std.specs.Prelude.{ℕ, ℤ, List, Bool, not, ◌&&◌, length, nat_le, Option, None}
 use Rattle.qz_types.specs.Rows.{TriggerData, FiredData}
 use Rattle.qz_types.specs.declared.keys.Key.{Key}
 use Rattle.qz_types.specs.declared.limits.TheConstants.{GROUP_LIMIT}

@@ -17,7 +17,7 @@ use Rattle.qz_types.specs.Words.{same_text, job_of, trigger_of, put_trigger, wit
 use Rattle.qz_model.specs.Executions.{is_busy}
 use Rattle.qz_model.specs.Jobs.{without_orphan_of}
 use Rattle.qz_model.specs.Plan.{zone_named_by, is_known_zone_name, is_known_calendar, first_time}
-use Rattle.qz_model.specs.Tests.{refuse_if, is_row_of_trigger}
+use Rattle.qz_model.specs.Tests.{refuse_if, or_refusal, is_row_of_trigger}
 
 -- the groups in which the scheduler itself adds triggers
 unfoldable pub is_reserved : List ℕ → Bool
@@ -35,15 +35,19 @@ new_trigger T s next = record {
 
 -- AddTrigger.
 
-unfoldable pub add_trigger_refusal : SchedulerTables → TriggerSpec → Bool → Option Refusal
-add_trigger_refusal T s replace =
+-- what the trigger names can't be named
+unfoldable pub naming_refusal : SchedulerTables → TriggerSpec → Option Refusal
+naming_refusal T s =
     refuse_if (is_reserved s.key.group) ReservedGroup
     (refuse_if (is_none (job_of s.job T.jobs)) UnknownJob
     (refuse_if (not (is_known_calendar T.calendars s.calendar)) UnknownCalendar
-    (refuse_if (not (is_known_zone_name T.zones (zone_named_by s.timing.kind))) UnknownZone
+    (refuse_if (not (is_known_zone_name T.zones (zone_named_by s.timing.kind))) UnknownZone None)))
+
+unfoldable pub add_trigger_refusal : SchedulerTables → TriggerSpec → Bool → Option Refusal
+add_trigger_refusal T s replace = or_refusal (naming_refusal T s)
     (refuse_if (is_some (trigger_of s.key T.triggers) && not replace) TriggerExists
     (refuse_if (is_none (first_time T s)) NeverFires
-    (refuse_if (is_none (trigger_of s.key T.triggers) && nat_le TRIGGER_LIMIT (length T.triggers)) (TooMany TRIGGER_LIMIT) None))))))
+    (refuse_if (is_none (trigger_of s.key T.triggers) && nat_le TRIGGER_LIMIT (length T.triggers)) (TooMany TRIGGER_LIMIT) None)))
 
 -- the jobs, without that of the trigger that was replaced, if it is an orphan then
 abbrev pub without_old_orphan : Option TriggerData → List TriggerData → List JobData → List JobData

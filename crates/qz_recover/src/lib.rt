@@ -22,7 +22,7 @@ use qz_tables::Tables;
 use qz_types::{Command, Entry, Refusal, Reply, StepRefused};
 
 /// Why the command is refused, if it is.
-#[tactic(auto, using(qz_apply::proofs::Refused::of_one))]
+#[tactic(auto, using(crate::proofs::Joins::of_join))]
 pub fn refusal(tables: &Tables, entry: &Entry) -> Option<Refusal>
     requires { IsTrue (is_of_members entry.now.command) }
     ensures { MatchOption result (IsAccepted (transaction tables.now.tables entry.now)) (λ x. transaction tables.now.tables entry.now ≡ refused x) }

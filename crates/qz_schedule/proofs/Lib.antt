@@ -1,1 +1,6 @@
+mod Absent
+mod ChainWalks
+mod Counting
+mod Facts
 mod Rooms
+mod Steps

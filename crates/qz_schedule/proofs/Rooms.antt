@@ -1,22 +1,35 @@
--- A command on jobs or triggers adds a row at most.
-use Rattle.std.proofs.Common.{ℤ, Bool, IsTrue, arith}
-use Rattle.qz_types.specs.Rows.{JobData}
+-- A command of a client adds a row at most.
+use Rattle.std.proofs.Common.{ℕ, ◌+◌, ◌≤◌, ℤ, Bool, true, false, cond, List, length, Some, is_some, IsTrue, arith, not, Option, None, if◌then◌else◌}
+use Rattle.qz_types.specs.Rows.{JobData, CalendarData, ZoneData, TriggerData}
 use Rattle.qz_types.specs.Entries.{EntryData}
 use Rattle.qz_types.specs.declared.commands.Command.{Command}
 use Rattle.qz_types.specs.declared.commands.Command.TheVariants.{AddJob, DeleteJob, AddTrigger, DeleteTrigger, PauseTrigger, ResumeTrigger, PauseGroup, ResumeGroup, AddCalendar, DeleteCalendar, AddZone, DeleteZone, TriggerNow, Threshold, Join, Leave, Acquire, Release, Fire, Complete, Misfires, Recover}
 use Rattle.qz_types.specs.declared.commands.Actor.{Actor}
-use Rattle.qz_types.specs.declared.triggers.TriggerSpec.{TriggerSpec}
+use Rattle.qz_types.specs.Words.{without_job, trigger_of, calendar_of, is_paused, put_group, without_group, job_of, put_trigger, without_trigger}
+use Rattle.qz_types.specs.Changes.{with_state}
+use Rattle.qz_types.specs.States.{paused, resumed}
 use Rattle.qz_types.specs.Tables.{SchedulerTables, recorded_moment}
-use Rattle.qz_model.specs.Scheduling.{add_job_refusal, add_job, new_trigger, add_trigger_refusal, add_trigger}
+use Rattle.qz_types.specs.declared.keys.Key.{Key}
+use Rattle.qz_model.specs.Calendars.{with_new_calendar, add_calendar_refusal, add_calendar, delete_calendar_refusal, delete_calendar, add_zone_refusal, add_zone, delete_zone_refusal, delete_zone}
+use Rattle.qz_model.specs.Pausing.{is_in_group, is_row_of_group, pause_trigger, resume_trigger, pause_group_refusal, pause_group, resume_group}
+use Rattle.qz_model.specs.Tests.{is_row_of_trigger, is_trigger_of, is_row_of_job}
+use Rattle.qz_model.specs.Jobs.{add_job_refusal, add_job, unknown_job, delete_job, is_orphan, without_orphan, without_orphan_of}
+use Rattle.qz_model.specs.Triggers.{unknown_trigger, new_trigger, manual_trigger, trigger_now_refusal, trigger_now, set_threshold, without_old_orphan, with_new_trigger, add_trigger_refusal, add_trigger, without_trigger_and_orphan, delete_trigger}
 use Rattle.qz_model.specs.Transaction.{by_command, transaction}
-use Rattle.qz_model.proofs.RowLaws.{length-put_job, length-put_trigger}
-use Rattle.qz_apply.specs.Room.{AddsUpTo}
+use Rattle.qz_model.proofs.KeptPausing.{length-with_group, length-without_group}
+use Rattle.qz_model.proofs.NamedRows.{length-put_zone, length-without_zone, length-without_calendar, length-with_new_calendar}
+use Rattle.qz_model.proofs.RowLaws.{length-put_job, length-without_job, length-put_trigger, length-with_trigger, length-without_trigger}
+use Rattle.qz_model.proofs.StateLaws.{length-with_states, length-without_acquired}
+use Rattle.qz_apply.specs.Room.{AddsUpTo, GrowsUpTo}
+use Rattle.qz_types.specs.declared.triggers.TriggerSpec.{TriggerSpec}
+use Rattle.qz_model.specs.Plan.{first_time}
+use Rattle.qz_model.proofs.RowPoints.{length-filter_le}
 use Rattle.qz_apply.proofs.Rooms.{adds-unless}
 use Rattle.qz_schedule.specs.Commands.{is_scheduling}
 
 add_job-adds : (T : SchedulerTables) (m : ℤ) (job : JobData) (replace : Bool) → AddsUpTo 1 T (add_job T m job replace)
 add_job-adds T m job replace = adds-unless 1 T (add_job_refusal T job replace) _ (record {
-  jobs = omega (arith, length-put_job job T.jobs);
+  jobs = omega (arith, length-put_job job (without_job job.key T.jobs), length-without_job job.key T.jobs);
   triggers = omega arith;
   calendars = omega arith;
   zones = omega arith;
@@ -25,10 +38,60 @@ add_job-adds T m job replace = adds-unless 1 T (add_job_refusal T job replace) _
   fired = omega arith;
 })
 
-add_trigger-adds : (T : SchedulerTables) (m : ℤ) (s : TriggerSpec) (replace : Bool) → AddsUpTo 1 T (add_trigger T m s replace)
-add_trigger-adds T m s replace = adds-unless 1 T (add_trigger_refusal T s replace) _ (record {
+one_at_most : (b : Bool) → cond b 0 1 ≤ 1
+one_at_most true = omega arith
+one_at_most false = omega arith
+
+with_group-adds : (group : List ℕ) (groups : List (List ℕ)) → length (put_group group (without_group group groups)) ≤ length groups + 1
+with_group-adds group groups = omega (arith, length-with_group group groups, one_at_most (is_paused group groups))
+
+with_new_calendar-adds : (c : CalendarData) (calendars : List CalendarData) → length (with_new_calendar c calendars) ≤ length calendars + 1
+with_new_calendar-adds c calendars = omega (arith, length-with_new_calendar c calendars, one_at_most (is_some (calendar_of c.name calendars)))
+
+pause_trigger-adds : (T : SchedulerTables) (m : ℤ) (key : Key) → AddsUpTo 1 T (pause_trigger T m key)
+pause_trigger-adds T m key = adds-unless 1 T (unknown_trigger (trigger_of key T.triggers)) _ (record {
   jobs = omega arith;
-  triggers = omega (arith, length-put_trigger (new_trigger s) T.triggers);
+  triggers = omega (arith, length-with_trigger key (with_state paused) T.triggers);
+
+delete_job-adds : (T : SchedulerTables) (m : ℤ) (key : Key) → AddsUpTo 1 T (delete_job T m key)
+delete_job-adds T m key = adds-unless 1 T (unknown_job (job_of key T.jobs)) _ (record {
+  jobs = omega (arith, length-without_job key T.jobs);
+  triggers = omega (arith, length-filter_le (λ t. not (is_trigger_of key t)) T.triggers);
+  calendars = omega arith;
+  zones = omega arith;
+  paused_groups = omega arith;
+  members = omega arith;
+  fired = omega (arith, length-without_acquired (is_row_of_trigger key) T.fired);
+})
+
+resume_trigger-adds : (T : SchedulerTables) (m : ℤ) (key : Key) → AddsUpTo 1 T (resume_trigger T m key)
+resume_trigger-adds T m key = adds-unless 1 T (unknown_trigger (trigger_of key T.triggers)) _ (record {
+  jobs = omega arith;
+  triggers = omega (arith, length-with_trigger key (with_state resumed) T.triggers);
+
+  fired = omega (arith, length-without_acquired (is_row_of_job key) T.fired);
+})
+
+length-without_orphan : (triggers : List TriggerData) (job : Option JobData) (jobs : List JobData) → length (without_orphan triggers job jobs) ≤ length jobs
+length-without_orphan triggers None jobs = omega arith
+length-without_orphan triggers (Some job) jobs = elim (is_orphan triggers job) as (λ b. length (if b then without_job job.key jobs else jobs) ≤ length jobs) [
+  | true ↦ length-without_job job.key jobs
+  | false ↦ omega arith
+]
+
+length-without_orphan_of : (key : Key) (triggers : List TriggerData) (jobs : List JobData) → length (without_orphan_of key triggers jobs) ≤ length jobs
+unfolding without_orphan_of
+length-without_orphan_of key triggers jobs = length-without_orphan triggers (job_of key jobs) jobs
+
+length-without_old_orphan : (old : Option TriggerData) (triggers : List TriggerData) (jobs : List JobData) → length (without_old_orphan old triggers jobs) ≤ length jobs
+length-without_old_orphan None triggers jobs = omega arith
+length-without_old_orphan (Some old) triggers jobs = length-without_orphan_of old.spec.job triggers jobs
+
+addition-grows : (T : SchedulerTables) (m : ℤ) (t : TriggerData) → GrowsUpTo 1 T (record (with_new_trigger T t) { last_moment = m })
+unfolding with_new_trigger
+addition-grows T m t = record {
+  jobs = omega (arith, length-without_old_orphan (trigger_of t.spec.key T.triggers) (put_trigger t (without_trigger t.spec.key T.triggers)) T.jobs);
+  triggers = omega (arith, length-put_trigger t (without_trigger t.spec.key T.triggers), length-without_trigger t.spec.key T.triggers);
   calendars = omega arith;
   zones = omega arith;
   paused_groups = omega arith;
@@ -36,21 +99,139 @@ add_trigger-adds T m s replace = adds-unless 1 T (add_trigger_refusal T s replac
   fired = omega arith;
 })
 
+pause_group-adds : (T : SchedulerTables) (m : ℤ) (group : List ℕ) → AddsUpTo 1 T (pause_group T m group)
+pause_group-adds T m group = adds-unless 1 T (pause_group_refusal T group) _ (record {
+  jobs = omega arith;
+  triggers = omega (arith, length-with_states paused (is_in_group group) T.triggers);
+  calendars = omega arith;
+  zones = omega arith;
+  paused_groups = with_group-adds group T.paused_groups;
+  members = omega arith;
+  fired = omega (arith, length-without_acquired (is_row_of_group group) T.fired);
+})
+
+resume_group-adds : (T : SchedulerTables) (m : ℤ) (group : List ℕ) → AddsUpTo 1 T (resume_group T m group)
+resume_group-adds T m group = record {
+  jobs = omega arith;
+  triggers = omega (arith, length-with_states resumed (is_in_group group) T.triggers);
+  calendars = omega arith;
+  zones = omega arith;
+  paused_groups = omega (arith, length-without_group group T.paused_groups);
+  members = omega arith;
+  fired = omega arith;
+}
+
+add_calendar-adds : (T : SchedulerTables) (m : ℤ) (c : CalendarData) (replace : Bool) → AddsUpTo 1 T (add_calendar T m c replace)
+add_calendar-adds T m c replace = adds-unless 1 T (add_calendar_refusal T c replace) _ (record {
+  jobs = omega arith;
+  triggers = omega arith;
+  calendars = with_new_calendar-adds c T.calendars;
+  zones = omega arith;
+  paused_groups = omega arith;
+  members = omega arith;
+  fired = omega arith;
+})
+
+delete_calendar-adds : (T : SchedulerTables) (m : ℤ) (name : List ℕ) → AddsUpTo 1 T (delete_calendar T m name)
+delete_calendar-adds T m name = adds-unless 1 T (delete_calendar_refusal T name) _ (record {
+  jobs = omega arith;
+  triggers = omega arith;
+  calendars = omega (arith, length-without_calendar name T.calendars);
+  zones = omega arith;
+  paused_groups = omega arith;
+  members = omega arith;
+  fired = omega arith;
+})
+
+add_zone-adds : (T : SchedulerTables) (m : ℤ) (z : ZoneData) → AddsUpTo 1 T (add_zone T m z)
+add_zone-adds T m z = adds-unless 1 T (add_zone_refusal T z) _ (record {
+  jobs = omega arith;
+  triggers = omega arith;
+  calendars = omega arith;
+  zones = omega (arith, length-put_zone z T.zones);
+  paused_groups = omega arith;
+  members = omega arith;
+  fired = omega arith;
+})
+
+delete_zone-adds : (T : SchedulerTables) (m : ℤ) (name : List ℕ) → AddsUpTo 1 T (delete_zone T m name)
+delete_zone-adds T m name = adds-unless 1 T (delete_zone_refusal T name) _ (record {
+  jobs = omega arith;
+  triggers = omega arith;
+  calendars = omega arith;
+  zones = omega (arith, length-without_zone name T.zones);
+  paused_groups = omega arith;
+  members = omega arith;
+  fired = omega arith;
+})
+
+  fired = omega (arith, length-without_acquired (is_row_of_trigger t.spec.key) T.fired);
+}
+
+add_trigger-adds : (T : SchedulerTables) (m : ℤ) (s : TriggerSpec) (replace : Bool) → AddsUpTo 1 T (add_trigger T m s replace)
+add_trigger-adds T m s replace = adds-unless 1 T (add_trigger_refusal T s replace) _ (addition-grows T m (new_trigger T s (first_time T s)))
+
+deletion-grows : (T : SchedulerTables) (m : ℤ) (t : Option TriggerData) → GrowsUpTo 1 T (record (without_trigger_and_orphan T t) { last_moment = m })
+unfolding without_trigger_and_orphan
+deletion-grows T m None = record {
+  jobs = omega arith;
+  triggers = omega arith;
+  calendars = omega arith;
+  zones = omega arith;
+  paused_groups = omega arith;
+  members = omega arith;
+  fired = omega arith;
+}
+deletion-grows T m (Some t) = record {
+  jobs = omega (arith, length-without_orphan_of t.spec.job (without_trigger t.spec.key T.triggers) T.jobs);
+  triggers = omega (arith, length-without_trigger t.spec.key T.triggers);
+  calendars = omega arith;
+  zones = omega arith;
+  paused_groups = omega arith;
+  members = omega arith;
+  fired = omega (arith, length-without_acquired (is_row_of_trigger t.spec.key) T.fired);
+}
+
+delete_trigger-adds : (T : SchedulerTables) (m : ℤ) (key : Key) → AddsUpTo 1 T (delete_trigger T m key)
+delete_trigger-adds T m key = adds-unless 1 T (unknown_trigger (trigger_of key T.triggers)) _ (deletion-grows T m (trigger_of key T.triggers))
+
+trigger_now-adds : (T : SchedulerTables) (m : ℤ) (job : Key) → AddsUpTo 1 T (trigger_now T m job)
+trigger_now-adds T m job = adds-unless 1 T (trigger_now_refusal T job) _ (record {
+  jobs = omega arith;
+  triggers = omega (arith, length-put_trigger (new_trigger T (manual_trigger m T.next_entry job) (Some m)) T.triggers);
+  calendars = omega arith;
+  zones = omega arith;
+  paused_groups = omega arith;
+  members = omega arith;
+  fired = omega arith;
+})
+
+set_threshold-adds : (T : SchedulerTables) (m ms : ℤ) → AddsUpTo 1 T (set_threshold T m ms)
+set_threshold-adds T m ms = record {
+  jobs = omega arith;
+  triggers = omega arith;
+  calendars = omega arith;
+  zones = omega arith;
+  paused_groups = omega arith;
+  members = omega arith;
+  fired = omega arith;
+}
+
 by_command-adds : (T : SchedulerTables) (m : ℤ) (actor : Actor) (c : Command) → IsTrue (is_scheduling c) → AddsUpTo 1 T (by_command T m actor c)
 by_command-adds T m actor (AddJob job replace) is = add_job-adds T m job replace
 by_command-adds T m actor (AddTrigger spec replace) is = add_trigger-adds T m spec replace
-by_command-adds T m actor (DeleteJob key) is = absurd cc
-by_command-adds T m actor (DeleteTrigger key) is = absurd cc
-by_command-adds T m actor (PauseTrigger key) is = absurd cc
-by_command-adds T m actor (ResumeTrigger key) is = absurd cc
-by_command-adds T m actor (PauseGroup group) is = absurd cc
-by_command-adds T m actor (ResumeGroup group) is = absurd cc
-by_command-adds T m actor (AddCalendar calendar replace) is = absurd cc
-by_command-adds T m actor (DeleteCalendar name) is = absurd cc
-by_command-adds T m actor (AddZone zone) is = absurd cc
-by_command-adds T m actor (DeleteZone name) is = absurd cc
-by_command-adds T m actor (TriggerNow job) is = absurd cc
-by_command-adds T m actor (Threshold ms) is = absurd cc
+by_command-adds T m actor (DeleteJob key) is = delete_job-adds T m key
+by_command-adds T m actor (DeleteTrigger key) is = delete_trigger-adds T m key
+by_command-adds T m actor (PauseTrigger key) is = pause_trigger-adds T m key
+by_command-adds T m actor (ResumeTrigger key) is = resume_trigger-adds T m key
+by_command-adds T m actor (PauseGroup group) is = pause_group-adds T m group
+by_command-adds T m actor (ResumeGroup group) is = resume_group-adds T m group
+by_command-adds T m actor (AddCalendar calendar replace) is = add_calendar-adds T m calendar replace
+by_command-adds T m actor (DeleteCalendar name) is = delete_calendar-adds T m name
+by_command-adds T m actor (AddZone zone) is = add_zone-adds T m zone
+by_command-adds T m actor (DeleteZone name) is = delete_zone-adds T m name
+by_command-adds T m actor (TriggerNow job) is = trigger_now-adds T m job
+by_command-adds T m actor (Threshold ms) is = set_threshold-adds T m ms
 by_command-adds T m actor (Join node) is = absurd cc
 by_command-adds T m actor Leave is = absurd cc
 by_command-adds T m actor (Acquire no_later window max) is = absurd cc

@@ -1,18 +1,21 @@
-//! Adding a trigger.
-ghost use Rattle.std.specs.Prelude.{◌≡◌, ◌≤◌, None, IfNone, IfOk, IfErr, OnErr, IsTrue, codes, option_copied};
+//! Adding and deleting triggers.
+ghost use Rattle.std.specs.Prelude.{◌≡◌, ◌≤◌, Some, None, IsTrue, IfOk, IfErr, OnErr, codes, option_copied};
 ghost use Rattle.qz_types.specs.Rows.{is_trigger_spec};
+ghost use Rattle.qz_types.specs.States.{first_state};
 ghost use Rattle.qz_types.specs.Outcomes.{accepted, IsErrorOf};
 ghost use Rattle.qz_types.specs.Words.{is_paused, trigger_of};
-ghost use Rattle.qz_model.specs.Scheduling.{is_one_shot, is_plain_trigger, is_reserved, new_trigger, add_trigger_refusal, add_trigger};
+ghost use Rattle.qz_model.specs.Plan.{first_time};
+ghost use Rattle.qz_model.specs.Triggers.{is_reserved, naming_refusal, add_trigger_refusal, new_trigger, with_new_trigger, add_trigger, unknown_trigger, delete_trigger};
 
-use qz_apply::{is_busy, same_text};
+use crate::known::{has_known_zone, is_known_calendar};
+use qz_apply::{is_busy, next_after, remove_orphan, remove_trigger_and_orphan, same_text};
 use qz_tables::Tables;
 use qz_types::{
-    Kind, Refusal, Reply, StepRefused, TRIGGER_LIMIT, Text, TriggerRow, TriggerSpec, TriggerState,
+    Key, Refusal, Reply, StepRefused, TRIGGER_LIMIT, Text, TriggerRow, TriggerSpec, TriggerState,
 };
 
-/// Stores the trigger.
-#[tactic(auto, unfolding(qz_model::specs::Scheduling::new_trigger))]
+/// Stores the trigger, in place of one of its key. The moment is in ms since 1970-01-01T00:00:00Z.
+#[tactic(auto, using(crate::proofs::Steps::trigger_added))]
 pub fn add_trigger(
     tables: &mut Tables,
     moment: i64,
@@ -25,94 +28,152 @@ pub fn add_trigger(
     ensures cause { IfErr result (IsErrorOf (add_trigger tables.old.tables moment spec.now replace)) }
     ensures err { OnErr result (tables.new ≡ tables.old) }
 {
-    if let Some(refusal) = add_trigger_refusal(tables, spec, replace) {
-        return Err(StepRefused::Refused(refusal));
-    }
-    let next = spec.timing.start;
+    let next = match first_fire_time(tables, spec, replace) {
+        Ok(next) => next,
+        Err(refusal) => return Err(StepRefused::Refused(refusal)),
+    };
     let spec = spec.copy()?;
-    tables.insert_trigger(new_trigger(spec));
+    let trigger = new_trigger(tables, spec, Some(next));
+    set_trigger(tables, trigger);
     tables.set_last_moment(moment);
     Ok(Reply::Added { next })
 }
 
 /// Why the trigger isn't added, if it isn't.
-#[tactic(auto, unfolding(qz_model::specs::Scheduling::add_trigger_refusal))]
 pub fn add_trigger_refusal(tables: &Tables, spec: &TriggerSpec, replace: bool) -> Option<Refusal>
-    ensures value { result ≡ add_trigger_refusal tables.now.tables spec.now replace }
-    ensures absent { IfNone result (trigger_of spec.now.key tables.now.tables.triggers ≡ None) }
+    requires { IsTrue (is_trigger_spec spec.now) }
+    ensures { result ≡ add_trigger_refusal tables.now.tables spec.now replace }
 {
+    first_fire_time(tables, spec, replace).err()
+}
+
+// The first fire time of the trigger, in ms since 1970-01-01T00:00:00Z, or why the trigger isn't added.
+#[tactic(auto, unfolding(qz_model::specs::Triggers::add_trigger_refusal))]
+fn first_fire_time(tables: &Tables, spec: &TriggerSpec, replace: bool) -> Result<i64, Refusal>
+    requires { IsTrue (is_trigger_spec spec.now) }
+    ensures ok { IfOk result (λ next. add_trigger_refusal tables.now.tables spec.now replace ≡ None) }
+    ensures time { IfOk result (λ next. first_time tables.now.tables spec.now ≡ Some next) }
+    ensures err { IfErr result (λ refusal. add_trigger_refusal tables.now.tables spec.now replace ≡ Some refusal) }
+{
+    if let Some(refusal) = naming_refusal(tables, spec) {
+        return Err(refusal);
+    }
+    let stored = tables.get_trigger(&spec.key).is_some();
+    if stored && !replace {
+        return Err(Refusal::TriggerExists);
+    }
+    let Some(next) = next_after(tables, spec, -1) else {
+        return Err(Refusal::NeverFires);
+    };
+    if !stored && tables.len_triggers() as u64 >= TRIGGER_LIMIT {
+        return Err(Refusal::TooMany {
+            count: TRIGGER_LIMIT,
+        });
+    }
+    Ok(next)
+}
+
+// Why the trigger can't name what it names, if it can't.
+#[tactic(auto, unfolding(qz_model::specs::Triggers::naming_refusal))]
+fn naming_refusal(tables: &Tables, spec: &TriggerSpec) -> Option<Refusal>
+    ensures { result ≡ naming_refusal tables.now.tables spec.now }
+{
+    if is_reserved(&spec.key.group) {
+        return Some(Refusal::ReservedGroup);
+    }
     if tables.get_job(&spec.job).is_none() {
-        Some(Refusal::UnknownJob)
-    } else if replace
-        || !is_plain_trigger(spec)
-        || is_paused(tables, &spec.key.group)
-        || is_busy(tables, &spec.job)
-    {
-        Some(Refusal::Unbuilt)
-    } else if is_reserved(&spec.key.group) {
-        Some(Refusal::Unbuilt)
-    } else if tables.get_trigger(&spec.key).is_some() {
-        Some(Refusal::Unbuilt)
-    } else if spec.timing.start > tables.horizon() {
-        Some(Refusal::Unbuilt)
-    } else if tables.len_triggers() as u64 >= TRIGGER_LIMIT {
-        Some(Refusal::Unbuilt)
-    } else {
-        None
+        return Some(Refusal::UnknownJob);
+    }
+    if !is_known_calendar(tables, &spec.calendar) {
+        return Some(Refusal::UnknownCalendar);
+    }
+    if !has_known_zone(tables, &spec.timing.kind) {
+        return Some(Refusal::UnknownZone);
+    }
+    None
+}
+
+// Stores the trigger, in place of one of its key. That one goes with its acquired row, and with its job if that is an
+// orphan then.
+#[tactic(auto, using(crate::proofs::Absent::no_trigger))]
+fn set_trigger(tables: &mut Tables, trigger: TriggerRow)
+    requires { 1 ≤ tables.old.spare.triggers }
+    ensures { tables.new.tables ≡ with_new_trigger tables.old.tables trigger }
+{
+    let old = tables.remove_trigger(&trigger.spec.key);
+    tables.remove_acquired(&trigger.spec.key);
+    tables.insert_trigger(trigger);
+    if let Some(old) = old {
+        remove_orphan(tables, &old.spec.job);
+        drop(old);
     }
 }
 
-fn is_paused(tables: &Tables, group: &Text) -> bool
-    ensures { result ≡ is_paused group.now tables.now.tables.paused_groups }
+/// Deletes the trigger. The moment is in ms since 1970-01-01T00:00:00Z.
+pub fn delete_trigger(tables: &mut Tables, moment: i64, key: &Key) -> Result<Reply, StepRefused>
+    ensures ok { IfOk result (λ reply. delete_trigger tables.old.tables moment key.now ≡ accepted tables.new.tables reply) }
+    ensures cause { IfErr result (IsErrorOf (delete_trigger tables.old.tables moment key.now)) }
+    ensures err { OnErr result (tables.new ≡ tables.old) }
 {
-    tables.get_group(group).is_some()
+    if let Some(refusal) = delete_trigger_refusal(tables, key) {
+        return Err(StepRefused::Refused(refusal));
+    }
+    remove_trigger_and_orphan(tables, key);
+    tables.set_last_moment(moment);
+    Ok(Reply::Done)
 }
 
-fn is_one_shot(kind: &Kind) -> bool
-    ensures { result ≡ is_one_shot kind.now }
+/// Why the trigger isn't deleted, if it isn't.
+pub fn delete_trigger_refusal(tables: &Tables, key: &Key) -> Option<Refusal>
+    ensures { result ≡ unknown_trigger (trigger_of key.now tables.now.tables.triggers) }
 {
-    match kind {
-        Kind::Simple { interval, count } => *interval == 0 && *count == 0,
-        Kind::Cron { .. } | Kind::Interval { .. } | Kind::Daily { .. } => false,
+    match tables.get_trigger(key) {
+        None => Some(Refusal::UnknownTrigger),
+        Some(_) => None,
     }
 }
 
-#[tactic(auto, unfolding(qz_model::specs::Scheduling::is_plain_trigger))]
-fn is_plain_trigger(spec: &TriggerSpec) -> bool
-    ensures { result ≡ is_plain_trigger spec.now }
-{
-    is_one_shot(&spec.timing.kind)
-        && spec.timing.misfire == 0
-        && spec.timing.end.is_none()
-        && spec.calendar.is_none()
-        && spec.priority == 5
-}
-
-#[tactic(auto, unfolding(qz_model::specs::Scheduling::is_reserved))]
+#[tactic(auto, unfolding(qz_model::specs::Triggers::is_reserved))]
 fn is_reserved(group: &Text) -> bool
     ensures { result ≡ is_reserved group.now }
 {
     same_text(group.as_str(), "RECOVERING_JOBS") || same_text(group.as_str(), "MANUAL_TRIGGERS")
 }
 
-// A new trigger waits for its first fire time.
-#[tactic(auto, unfolding(qz_model::specs::Scheduling::new_trigger))]
-fn new_trigger(spec: TriggerSpec) -> TriggerRow
+/// A trigger that hasn't fired yet, with this next time, in ms since 1970-01-01T00:00:00Z.
+#[tactic(auto, unfolding(qz_model::specs::Triggers::new_trigger))]
+pub fn new_trigger(tables: &Tables, spec: TriggerSpec, next: Option<i64>) -> TriggerRow
     requires { IsTrue (is_trigger_spec spec) }
-    ensures { result ≡ new_trigger spec }
+    ensures { result ≡ new_trigger tables.now.tables spec next }
 {
-    let next = Some(start_of(&spec));
+    let state = first_state(
+        is_paused(tables, &spec.key.group),
+        is_busy(tables, &spec.job),
+    );
     TriggerRow {
         spec,
         next,
         prev: None,
         times: 0,
-        state: TriggerState::Waiting,
+        state,
     }
 }
 
-fn start_of(spec: &TriggerSpec) -> i64
-    ensures { result ≡ spec.now.timing.start }
+/// Whether the group is paused.
+pub fn is_paused(tables: &Tables, group: &Text) -> bool
+    ensures { result ≡ is_paused group.now tables.now.tables.paused_groups }
 {
-    spec.timing.start
+    tables.get_group(group).is_some()
+}
+
+// The state of a trigger that is stored now.
+fn first_state(paused: bool, busy: bool) -> TriggerState
+    ensures { result ≡ first_state paused busy }
+{
+    match (paused, busy) {
+        (false, false) => TriggerState::Waiting,
+        (true, false) => TriggerState::Paused,
+        (false, true) => TriggerState::Blocked,
+        (true, true) => TriggerState::PausedBlocked,
+    }
 }

@@ -1,0 +1,6 @@
+use Rattle.std.proofs.Common.{◌≡◌, count_by, take}
+use Rattle.qz_model.specs.Calendars.{is_named}
+use Rattle.qz_schedule.proofs.uses.triggers_with_calendar.Given as goal
+
+abbrev pub invariant-loop-place : goal.invariant-loop-place
+invariant-loop-place l = l.count ≡ count_by (λ t. is_named l.name t.spec.calendar) (take l.place l.tables.tables.triggers)

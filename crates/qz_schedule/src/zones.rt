@@ -1,0 +1,78 @@
+//! Storing a zone, and deleting one that nothing names.
+ghost use Rattle.std.specs.Prelude.{◌≡◌, ◌≤◌, None, IfNone, IfOk, IfErr, OnErr, option_copied};
+ghost use Rattle.qz_types.specs.Outcomes.{accepted, IsErrorOf};
+ghost use Rattle.qz_types.specs.Words.{zone_of};
+ghost use Rattle.qz_model.specs.Calendars.{add_zone_refusal, add_zone, zone_uses, delete_zone_refusal, delete_zone};
+ghost use Rattle.qz_model.specs.Invariant.{TablesValid};
+
+use crate::known::is_known_zone;
+use crate::uses::{calendars_in_zone, triggers_in_zone, use_refusal};
+use qz_tables::Tables;
+use qz_types::{Refusal, Reply, StepRefused, Text, ZONE_LIMIT, ZoneRow};
+
+/// Stores a zone of a new name.
+pub fn add_zone(tables: &mut Tables, moment: i64, zone: &ZoneRow) -> Result<Reply, StepRefused>
+    requires spare { 1 ≤ tables.old.spare.zones }
+    ensures ok { IfOk result (λ reply. add_zone tables.old.tables moment zone.now ≡ accepted tables.new.tables reply) }
+    ensures cause { IfErr result (IsErrorOf (add_zone tables.old.tables moment zone.now)) }
+    ensures err { OnErr result (tables.new ≡ tables.old) }
+{
+    if let Some(refusal) = add_zone_refusal(tables, zone) {
+        return Err(StepRefused::Refused(refusal));
+    }
+    let zone = zone.copy()?;
+    tables.insert_zone(zone);
+    tables.set_last_moment(moment);
+    Ok(Reply::Done)
+}
+
+/// Why the zone isn't stored, if it isn't.
+#[tactic(auto, using(crate::proofs::Counting::new_zone), unfolding(qz_model::specs::Calendars::add_zone_refusal))]
+pub fn add_zone_refusal(tables: &Tables, zone: &ZoneRow) -> Option<Refusal>
+    ensures value { result ≡ add_zone_refusal tables.now.tables zone.now }
+    ensures absent { IfNone result (zone_of zone.now.name tables.now.tables.zones ≡ None) }
+{
+    if is_known_zone(tables, &zone.name) {
+        Some(Refusal::ZoneExists)
+    } else if tables.len_zones() as u64 >= ZONE_LIMIT {
+        Some(Refusal::TooMany { count: ZONE_LIMIT })
+    } else {
+        None
+    }
+}
+
+/// Deletes the zone of this name.
+pub fn delete_zone(tables: &mut Tables, moment: i64, name: &Text) -> Result<Reply, StepRefused>
+    requires valid { ∥ TablesValid tables.old.tables ∥₁ }
+    ensures ok { IfOk result (λ reply. delete_zone tables.old.tables moment name.now ≡ accepted tables.new.tables reply) }
+    ensures cause { IfErr result (IsErrorOf (delete_zone tables.old.tables moment name.now)) }
+    ensures err { OnErr result (tables.new ≡ tables.old) }
+{
+    if let Some(refusal) = delete_zone_refusal(tables, name) {
+        return Err(StepRefused::Refused(refusal));
+    }
+    let removed = tables.remove_zone(name);
+    drop(removed);
+    tables.set_last_moment(moment);
+    Ok(Reply::Done)
+}
+
+/// Why the zone isn't deleted, if it isn't.
+#[tactic(auto, unfolding(qz_model::specs::Calendars::delete_zone_refusal))]
+pub fn delete_zone_refusal(tables: &Tables, name: &Text) -> Option<Refusal>
+    requires valid { ∥ TablesValid tables.now.tables ∥₁ }
+    ensures { result ≡ delete_zone_refusal tables.now.tables name.now }
+{
+    if tables.get_zone(name).is_none() {
+        return Some(Refusal::UnknownZone);
+    }
+    use_refusal(zone_uses(tables, name))
+}
+
+#[tactic(auto, using(crate::proofs::Counting::few_uses), unfolding(qz_model::specs::Calendars::zone_uses))]
+fn zone_uses(tables: &Tables, name: &Text) -> u64
+    requires valid { ∥ TablesValid tables.now.tables ∥₁ }
+    ensures { result ≡ zone_uses tables.now.tables name.now }
+{
+    triggers_in_zone(tables, name) + calendars_in_zone(tables, name)
+}
