@@ -6,5 +6,6 @@ mod MisfireWalk
 mod Missed
 mod Moving
 mod Refused
+mod Releases
 mod Rooms
 mod Walk

@@ -1,4 +1,5 @@
-//! The commands of a node that takes triggers, applied to the tables of the trigger store: Acquire and Misfires.
+//! The commands of a node that takes triggers, applied to the tables of the trigger store: Acquire,
+//! Release and Misfires.
 //!
 //! Each is applied in three phases: what refuses it, which takes no memory; the copies that the change needs, which may
 //! take memory; and the change, which can't fail.
@@ -19,12 +20,14 @@ mod choosing;
 mod due;
 mod jobs;
 mod misfires;
+mod releasing;
 
 use acquiring::{acquire, acquire_refused};
 use misfires::{misfires, misfires_refused};
 use qz_apply::recorded_moment;
 use qz_tables::Tables;
 use qz_types::{Actor, Command, Entry, Refusal, Reply, StepRefused};
+use releasing::{release, release_refused};
 
 /// Why the command is refused, if it is.
 pub fn refusal(tables: &Tables, entry: &Entry) -> Option<Refusal>
@@ -43,6 +46,10 @@ pub fn refusal(tables: &Tables, entry: &Entry) -> Option<Refusal>
         Command::Misfires => match &entry.actor {
             Actor::Client => Some(Refusal::Fenced { live: None }),
             Actor::Node(me) => misfires_refused(tables, me),
+        },
+        Command::Release { entry: number } => match &entry.actor {
+            Actor::Client => Some(Refusal::Fenced { live: None }),
+            Actor::Node(me) => release_refused(tables, me, *number),
         },
         _ => unreachable!(),
     }
@@ -91,6 +98,10 @@ pub fn apply(tables: &mut Tables, entry: &Entry) -> Result<Reply, StepRefused>
         Command::Misfires => match &entry.actor {
             Actor::Client => Err(StepRefused::Refused(Refusal::Fenced { live: None })),
             Actor::Node(me) => misfires(tables, moment, me),
+        },
+        Command::Release { entry: number } => match &entry.actor {
+            Actor::Client => Err(StepRefused::Refused(Refusal::Fenced { live: None })),
+            Actor::Node(me) => release(tables, moment, me, *number),
         },
         _ => unreachable!(),
     }

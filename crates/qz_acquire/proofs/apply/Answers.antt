@@ -27,3 +27,8 @@ pub returns-in-Node-actor-clause-valid : goal.returns-in-Node-actor-clause-valid
 returns-in-Node-actor-clause-valid c =
     let ok : IfOk c.misfires.result (λ reply. transaction c.args.tables.now.tables c.args.entry.now ≡ accepted c.misfires.new.tables.tables reply) = search rules in
     valid_after c.args.tables.now c.misfires.new.tables c.args.entry.now c.misfires.result c.requires.entry c.requires.valid ok c.misfires.ensures.err
+
+pub returns-in-Node-actor-2-clause-valid : goal.returns-in-Node-actor-2-clause-valid
+returns-in-Node-actor-2-clause-valid c =
+    let ok : IfOk c.release.result (λ reply. transaction c.args.tables.now.tables c.args.entry.now ≡ accepted c.release.new.tables.tables reply) = search rules in
+    valid_after c.args.tables.now c.release.new.tables c.args.entry.now c.release.result c.requires.entry c.requires.valid ok c.release.ensures.err
