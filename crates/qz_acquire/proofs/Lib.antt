@@ -1,8 +1,11 @@
+mod ChoosingWalk
 mod Facts
+mod Granting
 mod Lists
 mod MisfireWalk
 mod Missed
 mod Moving
 mod Refused
+mod Releases
 mod Rooms
 mod Walk

@@ -1,4 +1,5 @@
 mod Absent
+mod CalendarRooms
 mod ChainWalks
 mod Counting
 mod Facts

@@ -1,10 +1,13 @@
--- The commands that are applied here.
+-- The commands of clients, which are applied here.
 use Rattle.std.specs.Prelude.{Bool, true, false}
 use Rattle.qz_types.specs.declared.commands.Command.{Command}
-use Rattle.qz_types.specs.declared.commands.Command.TheVariants.{AddJob, PauseTrigger, ResumeTrigger, PauseGroup, ResumeGroup, AddCalendar, DeleteCalendar, AddZone, DeleteZone, TriggerNow, Threshold, DeleteJob, AddTrigger, DeleteTrigger}
+use Rattle.qz_types.specs.declared.commands.Command.TheVariants.{AddJob, DeleteJob, AddTrigger, DeleteTrigger, PauseTrigger, ResumeTrigger, PauseGroup, ResumeGroup, AddCalendar, DeleteCalendar, AddZone, DeleteZone, TriggerNow, Threshold}
 
 abbrev pub is_scheduling : Command → Bool
 is_scheduling (AddJob job replace) = true
+is_scheduling (DeleteJob key) = true
+is_scheduling (AddTrigger spec replace) = true
+is_scheduling (DeleteTrigger key) = true
 is_scheduling (PauseTrigger key) = true
 is_scheduling (ResumeTrigger key) = true
 is_scheduling (PauseGroup group) = true
@@ -13,9 +16,6 @@ is_scheduling (AddCalendar calendar replace) = true
 is_scheduling (DeleteCalendar name) = true
 is_scheduling (AddZone zone) = true
 is_scheduling (DeleteZone name) = true
-is_scheduling (DeleteJob key) = true
-is_scheduling (AddTrigger spec replace) = true
-is_scheduling (DeleteTrigger key) = true
 is_scheduling (TriggerNow job) = true
 is_scheduling (Threshold ms) = true
 is_scheduling c = false

@@ -10,7 +10,7 @@ ghost use Rattle.qz_types.specs.Outcomes.{accepted, refused, IsAccepted, IsError
 ghost use Rattle.qz_model.specs.Invariant.{TablesValid};
 ghost use Rattle.qz_model.specs.Transaction.{transaction};
 ghost use Rattle.qz_tables.specs.Contents.{HasSpare};
-ghost use Rattle.qz_apply.specs.Room.{AddsUpTo};
+ghost use Rattle.qz_apply.specs.Room.{AddsUpTo, rows_added};
 ghost use Rattle.qz_schedule.specs.Commands.{is_scheduling};
 ghost use Rattle.qz_types.specs.Tables.{SchedulerTables};
 
@@ -28,14 +28,12 @@ mod zones;
 use calendars::{add_calendar, add_calendar_refusal, delete_calendar, delete_calendar_refusal};
 use jobs::{add_job, add_job_refusal, delete_job, delete_job_refusal};
 use manual::{trigger_now, trigger_now_refusal};
-use pausing::{
-    pause_group, pause_group_refusal, pause_trigger, resume_group, resume_trigger, unknown_trigger,
-};
+use pausing::{pause_group, pause_group_refusal, pause_trigger, resume_group, resume_trigger};
 use qz_apply::recorded_moment;
 use qz_tables::Tables;
 use qz_types::{Command, Entry, Refusal, Reply, StepRefused};
 use threshold::set_threshold;
-use triggers::{add_trigger, add_trigger_refusal, delete_trigger, delete_trigger_refusal};
+use triggers::{add_trigger, add_trigger_refusal, delete_trigger, unknown_trigger};
 use zones::{add_zone, add_zone_refusal, delete_zone, delete_zone_refusal};
 
 /// Why the command is refused, if it is.
@@ -48,9 +46,11 @@ pub fn refusal(tables: &Tables, entry: &Entry) -> Option<Refusal>
 {
     match &entry.command {
         Command::AddJob { job, replace } => add_job_refusal(tables, job, *replace),
-        Command::PauseTrigger { key } | Command::ResumeTrigger { key } => unknown_trigger(
-            tables, key,
-        ),
+        Command::DeleteJob { key } => delete_job_refusal(tables, key),
+        Command::AddTrigger { spec, replace } => add_trigger_refusal(tables, spec, *replace),
+        Command::DeleteTrigger { key }
+        | Command::PauseTrigger { key }
+        | Command::ResumeTrigger { key } => unknown_trigger(tables, key),
         Command::PauseGroup { group } => pause_group_refusal(tables, group),
         Command::ResumeGroup { .. } => None,
         Command::AddCalendar { calendar, replace } => add_calendar_refusal(
@@ -59,9 +59,6 @@ pub fn refusal(tables: &Tables, entry: &Entry) -> Option<Refusal>
         Command::DeleteCalendar { name } => delete_calendar_refusal(tables, name),
         Command::AddZone { zone } => add_zone_refusal(tables, zone),
         Command::DeleteZone { name } => delete_zone_refusal(tables, name),
-        Command::DeleteJob { key } => delete_job_refusal(tables, key),
-        Command::AddTrigger { spec, replace } => add_trigger_refusal(tables, spec, *replace),
-        Command::DeleteTrigger { key } => delete_trigger_refusal(tables, key),
         Command::TriggerNow { job } => trigger_now_refusal(tables, job),
         Command::Threshold { .. } => None,
         _ => unreachable!(),
@@ -72,7 +69,7 @@ pub fn refusal(tables: &Tables, entry: &Entry) -> Option<Refusal>
 #[tactic(auto, using(crate::proofs::Rooms::adds_one))]
 pub fn room(entry: &Entry) -> usize
     requires { IsTrue (is_scheduling entry.now.command) }
-    ensures value { result ≡ 1 }
+    ensures value { result ≡ rows_added entry.now.command }
     ensures bound { (T : SchedulerTables) → AddsUpTo result T (transaction T entry.now) }
 {
     let _ = entry;
@@ -86,7 +83,7 @@ pub fn apply(tables: &mut Tables, entry: &Entry) -> Result<Reply, StepRefused>
     requires command { IsTrue (is_scheduling entry.now.command) }
     requires valid { ∥ TablesValid tables.old.tables ∥₁ }
     requires entry { IsTrue (is_entry entry.now) }
-    requires spare { HasSpare 1 tables.old.spare }
+    requires spare { HasSpare (rows_added entry.now.command) tables.old.spare }
     ensures ok { IfOk result (λ reply. transaction tables.old.tables entry.now ≡ accepted tables.new.tables reply) }
     ensures cause { IfErr result (IsErrorOf (transaction tables.old.tables entry.now)) }
     ensures err { OnErr result (tables.new ≡ tables.old) }
@@ -95,6 +92,9 @@ pub fn apply(tables: &mut Tables, entry: &Entry) -> Result<Reply, StepRefused>
     let moment = recorded_moment(tables, entry.at);
     match &entry.command {
         Command::AddJob { job, replace } => add_job(tables, moment, job, *replace),
+        Command::DeleteJob { key } => delete_job(tables, moment, key),
+        Command::AddTrigger { spec, replace } => add_trigger(tables, moment, spec, *replace),
+        Command::DeleteTrigger { key } => delete_trigger(tables, moment, key),
         Command::PauseTrigger { key } => pause_trigger(tables, moment, key),
         Command::ResumeTrigger { key } => resume_trigger(tables, moment, key),
         Command::PauseGroup { group } => pause_group(tables, moment, group),
@@ -105,9 +105,6 @@ pub fn apply(tables: &mut Tables, entry: &Entry) -> Result<Reply, StepRefused>
         Command::DeleteCalendar { name } => delete_calendar(tables, moment, name),
         Command::AddZone { zone } => add_zone(tables, moment, zone),
         Command::DeleteZone { name } => delete_zone(tables, moment, name),
-        Command::DeleteJob { key } => delete_job(tables, moment, key),
-        Command::AddTrigger { spec, replace } => add_trigger(tables, moment, spec, *replace),
-        Command::DeleteTrigger { key } => delete_trigger(tables, moment, key),
         Command::TriggerNow { job } => trigger_now(tables, moment, job),
         Command::Threshold { ms } => Ok(set_threshold(tables, moment, *ms)),
         _ => unreachable!(),

@@ -1,11 +1,10 @@
 //! Pausing and resuming triggers and groups of them.
 ghost use Rattle.std.specs.Prelude.{◌≡◌, ◌≤◌, IfOk, IfErr, OnErr, option_copied};
 ghost use Rattle.qz_types.specs.Outcomes.{accepted, IsErrorOf};
-ghost use Rattle.qz_types.specs.Words.{trigger_of, is_paused, put_group, without_group};
+ghost use Rattle.qz_types.specs.Words.{is_paused, put_group, without_group};
 ghost use Rattle.qz_model.specs.Pausing.{pause_trigger, resume_trigger, pause_group_refusal, pause_group, resume_group};
-ghost use Rattle.qz_model.specs.Triggers.{unknown_trigger};
 
-use crate::triggers::is_paused;
+use crate::triggers::{is_paused, unknown_trigger};
 use qz_tables::{StateChange, Tables};
 use qz_types::{GROUP_LIMIT, Key, Refusal, Reply, StepRefused, Text};
 
@@ -36,16 +35,6 @@ pub fn resume_trigger(tables: &mut Tables, moment: i64, key: &Key) -> Result<Rep
     tables.change_state(key, StateChange::Resume);
     tables.set_last_moment(moment);
     Ok(Reply::Done)
-}
-
-/// Why a command on a stored trigger is refused, if it is.
-pub fn unknown_trigger(tables: &Tables, key: &Key) -> Option<Refusal>
-    ensures { result ≡ unknown_trigger (trigger_of key.now tables.now.tables.triggers) }
-{
-    match tables.get_trigger(key) {
-        Some(_) => None,
-        None => Some(Refusal::UnknownTrigger),
-    }
 }
 
 /// Pauses the group, with the triggers that are stored in it now and later. The fired rows of those that are acquired go.

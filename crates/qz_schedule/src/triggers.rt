@@ -115,7 +115,7 @@ pub fn delete_trigger(tables: &mut Tables, moment: i64, key: &Key) -> Result<Rep
     ensures cause { IfErr result (IsErrorOf (delete_trigger tables.old.tables moment key.now)) }
     ensures err { OnErr result (tables.new ≡ tables.old) }
 {
-    if let Some(refusal) = delete_trigger_refusal(tables, key) {
+    if let Some(refusal) = unknown_trigger(tables, key) {
         return Err(StepRefused::Refused(refusal));
     }
     remove_trigger_and_orphan(tables, key);
@@ -123,8 +123,8 @@ pub fn delete_trigger(tables: &mut Tables, moment: i64, key: &Key) -> Result<Rep
     Ok(Reply::Done)
 }
 
-/// Why the trigger isn't deleted, if it isn't.
-pub fn delete_trigger_refusal(tables: &Tables, key: &Key) -> Option<Refusal>
+/// Why a command on the trigger of this key is refused, if it is.
+pub fn unknown_trigger(tables: &Tables, key: &Key) -> Option<Refusal>
     ensures { result ≡ unknown_trigger (trigger_of key.now tables.now.tables.triggers) }
 {
     match tables.get_trigger(key) {
