@@ -38,7 +38,7 @@ length-with_unblocked true job rows = length-with_states unblocked (is_trigger_o
 length-with_unblocked false job rows = refl
 
 -- an acquired trigger isn't changed
-row_unblocked : (p : TriggerData → Bool) (g : FiredData) (o : Option TriggerData) → IsSomeAnd o (IsRowOf g) → IsSomeAnd (option_map (λ t. if p t then with_state unblocked t else t) o) (IsRowOf g)
+pub row_unblocked : (p : TriggerData → Bool) (g : FiredData) (o : Option TriggerData) → IsSomeAnd o (IsRowOf g) → IsSomeAnd (option_map (λ t. if p t then with_state unblocked t else t) o) (IsRowOf g)
 row_unblocked p g None is = absurd is
 row_unblocked p g (Some t) is = elim (p t) as (λ b. IsRowOf g (if b then with_state unblocked t else t)) [
   | true ↦ record { state = ap unblocked is.state; job = is.job; next = is.next }
@@ -51,7 +51,7 @@ row-with_unblocked true job g rows is =
 row-with_unblocked false job g rows is = is
 
 -- States of triggers that are unblocked.
-was_acquired : (s : TriggerState) → unblocked s ≡ state.Acquired → s ≡ state.Acquired
+pub was_acquired : (s : TriggerState) → unblocked s ≡ state.Acquired → s ≡ state.Acquired
 was_acquired state.Waiting e = absurd (cc)
 was_acquired state.Acquired e = refl
 was_acquired state.Complete e = absurd (cc)
@@ -60,7 +60,7 @@ was_acquired state.Paused e = absurd (cc)
 was_acquired state.PausedBlocked e = absurd (cc)
 was_acquired state.Error e = absurd (cc)
 
-not_blocked : (s : TriggerState) → is_blocked (unblocked s) ≡ false
+pub not_blocked : (s : TriggerState) → is_blocked (unblocked s) ≡ false
 not_blocked state.Waiting = refl
 not_blocked state.Acquired = refl
 not_blocked state.Complete = refl
@@ -69,7 +69,7 @@ not_blocked state.Paused = refl
 not_blocked state.PausedBlocked = refl
 not_blocked state.Error = refl
 
-same_live : (s : TriggerState) → is_live_state (unblocked s) ≡ is_live_state s
+pub same_live : (s : TriggerState) → is_live_state (unblocked s) ≡ is_live_state s
 same_live state.Waiting = refl
 same_live state.Acquired = refl
 same_live state.Complete = refl

@@ -55,18 +55,18 @@ names_known T s none =
     record { client = reserved.0; job = job.0; calendar = not-false _ calendar.0; zone = not-false _ zone.0 }
 
 -- the first state of a trigger fits what goes on of its job
-first_free : (paused busy : Bool) → first_state paused busy ≡ state.Acquired → ⊥
+pub first_free : (paused busy : Bool) → first_state paused busy ≡ state.Acquired → ⊥
 first_free false false e = cc
 first_free true false e = cc
 first_free false true e = cc
 first_free true true e = cc
 
-first_stays : (paused busy : Bool) → busy ≡ true → is_blocked_or_done (first_state paused busy) ≡ true
+pub first_stays : (paused busy : Bool) → busy ≡ true → is_blocked_or_done (first_state paused busy) ≡ true
 first_stays paused false e = absurd (cc)
 first_stays false true e = refl
 first_stays true true e = refl
 
-first_blocked : (paused busy : Bool) → is_blocked (first_state paused busy) ≡ true → busy ≡ true
+pub first_blocked : (paused busy : Bool) → is_blocked (first_state paused busy) ≡ true → busy ≡ true
 first_blocked paused true e = refl
 first_blocked false false e = absurd (cc)
 first_blocked true false e = absurd (cc)

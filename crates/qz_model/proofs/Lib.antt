@@ -5,6 +5,7 @@ pub mod Dropping
 pub mod DueLaws
 mod DueOrder
 pub mod Ended
+pub mod ExecutionsGone
 pub mod GivenBack
 pub mod Histories
 pub mod Kept
@@ -26,6 +27,7 @@ pub mod NamedRows
 pub mod NextTimes
 mod Numbers
 pub mod Putting
+pub mod RecoveryTriggers
 pub mod References
 mod Refusals
 pub mod Replaced

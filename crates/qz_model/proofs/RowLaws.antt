@@ -202,6 +202,11 @@ pub All-without_trigger : (P Q : TriggerData → Type 0) (k : Key) (rows : List 
 unfolding without_trigger
 All-without_trigger P Q k rows all left = All-left P Q (λ r. same_key k r.spec.key) rows all left
 
+-- a key that no trigger has
+pub trigger_of-none : (k : Key) (rows : List TriggerData) → AllByRecursion (λ t. same_key k t.spec.key ≡ false) rows → trigger_of k rows ≡ None
+unfolding trigger_of same_key
+trigger_of-none k rows absent = row_of_none key_cmp (λ r. r.spec.key) k rows absent
+
 pub trigger_of-put_own : (row : TriggerData) (rows : List TriggerData) → trigger_of row.spec.key rows ≡ None → trigger_of row.spec.key (put_trigger row rows) ≡ Some row
 unfolding trigger_of put_trigger
 trigger_of-put_own row rows absent = row_of-put_own key_cmp (λ r. r.spec.key) key_total row rows absent
@@ -332,6 +337,12 @@ one_fired p n f rows found passes one =
 pub counted_fired : (p : FiredData → Bool) (n : ℕ) (f : FiredData) (rows : List FiredData) → fired_of n rows ≡ Some f → p f ≡ true → 1 ≤ count_by p rows
 unfolding fired_of
 counted_fired p n f rows found passes = count_found nat_cmp (λ r. r.entry) p n f rows found passes
+
+-- a number that no row has
+pub fired_of-none : (n : ℕ) (rows : List FiredData) → AllByRecursion (λ f. (n == f.entry) ≡ false) rows → fired_of n rows ≡ None
+unfolding fired_of
+fired_of-none n rows absent =
+    row_of_none nat_cmp (λ r. r.entry) n rows (All-weaker (λ f. (n == f.entry) ≡ false) (λ f. is_eq (nat_cmp n f.entry) ≡ false) rows (λ f other. same_number n f.entry ∙ other) absent)
 
 -- no row has a number that is above all
 pub fired_of-above : (n : ℕ) (rows : List FiredData) → AllByRecursion (λ f. f.entry < n) rows → fired_of n rows ≡ None

@@ -1,5 +1,5 @@
 -- What edits make of what holds of each row, of counts and of lengths.
-use Rattle.std.proofs.Common.{◌≡◌, ◌+◌, ◌≤◌, Bool, true, false, not, cond, ◌||◌, List, [], ◌∷◌, length, map, filter, count_by, nat_lt, refl, sym, ap, ◌∙◌, arith, if◌then◌else◌}
+use Rattle.std.proofs.Common.{◌≡◌, ◌+◌, ◌≤◌, Bool, true, false, not, cond, ◌&&◌, ◌||◌, List, [], ◌∷◌, length, map, filter, count_by, nat_lt, refl, sym, ap, ◌∙◌, arith, if◌then◌else◌}
 use Rattle.std.specs.List.{AllByRecursion, list_any}
 use Rattle.std.specs.Ordering.{is_gt}
 use Rattle.std.specs.declared.cmp.Ordering.{Ordering}
@@ -78,6 +78,46 @@ module _ {R : Type 0} where
   pub count_by-map : (p : R → Bool) (f : R → R) (xs : List R) → AllByRecursion (λ x. p (f x) ≡ p x) xs → count_by p (map f xs) ≡ count_by p xs
   count_by-map p f [] same = refl
   count_by-map p f (x ∷ xs) same = rw (count_by-cons p (f x) (map f xs), count_by-cons p x xs, same.0, count_by-map p f xs same.1) refl
+
+  -- a test of those that a filter keeps
+  pub any-filter : (p q : R → Bool) (xs : List R) → list_any p (filter q xs) ≡ list_any (λ x. q x && p x) xs
+  any-filter p q [] = refl
+  any-filter p q (x ∷ xs) = elim (q x) as (λ b. list_any p (cond b (x ∷ filter q xs) (filter q xs)) ≡ ((b && p x) || list_any (λ y. q y && p y) xs)) [
+    | true ↦ ap (λ b. p x || b) (any-filter p q xs)
+    | false ↦ any-filter p q xs
+  ]
+
+  pub any-alike : (p q : R → Bool) (xs : List R) → ((x : R) → p x ≡ q x) → list_any p xs ≡ list_any q xs
+  any-alike p q [] same = refl
+  any-alike p q (x ∷ xs) same = rw (same x, any-alike p q xs same) refl
+
+  -- of those that a filter keeps there are no more
+  pub count_by-left_le : (p q : R → Bool) (xs : List R) → count_by p (filter (λ x. not (q x)) xs) ≤ count_by p xs
+  count_by-left_le p q [] = omega arith
+  count_by-left_le p q (x ∷ xs) = rw (count_by-cons p x xs) (elim (q x) as (λ b. count_by p (cond (not b) (x ∷ filter (λ y. not (q y)) xs) (filter (λ y. not (q y)) xs)) ≤ cond (p x) 1 0 + count_by p xs) [
+    | true ↦ omega (arith, count_by-left_le p q xs)
+    | false ↦ rw (count_by-cons p x (filter (λ y. not (q y)) xs)) (omega (arith, count_by-left_le p q xs))
+  ])
+
+  -- and fewer where one that passes goes
+  pub count_by-left_lt : (p q : R → Bool) (xs : List R) → list_any (λ x. q x && p x) xs ≡ true → count_by p (filter (λ x. not (q x)) xs) + 1 ≤ count_by p xs
+  count_by-left_lt p q [] one = absurd (cc)
+  count_by-left_lt p q (x ∷ xs) one = rw (count_by-cons p x xs) (elim (q x) as (λ b. ((b && p x) || list_any (λ y. q y && p y) xs) ≡ true
+      → count_by p (cond (not b) (x ∷ filter (λ y. not (q y)) xs) (filter (λ y. not (q y)) xs)) + 1 ≤ cond (p x) 1 0 + count_by p xs) [
+    | true ↦ λ some. elim (p x) as (λ b. (b || list_any (λ y. q y && p y) xs) ≡ true → count_by p (filter (λ y. not (q y)) xs) + 1 ≤ cond b 1 0 + count_by p xs) [
+      | true ↦ λ e. omega (arith, count_by-left_le p q xs)
+      | false ↦ λ e. omega (arith, count_by-left_lt p q xs e)
+    ] some
+    | false ↦ λ some. rw (count_by-cons p x (filter (λ y. not (q y)) xs)) (omega (arith, count_by-left_lt p q xs some))
+  ] one)
+
+  -- a filter of what another keeps, where that one leaves out none that passes
+  pub filter-filter : (p q : R → Bool) (xs : List R) → ((x : R) → q x ≡ false → p x ≡ false) → filter p (filter q xs) ≡ filter p xs
+  filter-filter p q [] out = refl
+  filter-filter p q (x ∷ xs) out = elim (q x) as (λ b. q x ≡ b → filter p (cond b (x ∷ filter q xs) (filter q xs)) ≡ filter p (x ∷ xs)) [
+    | true ↦ λ e. rw (filter-filter p q xs out) refl
+    | false ↦ λ e. rw (out x e) (filter-filter p q xs out)
+  ] refl
 
   -- filters by tests that agree keep the same
   pub filter-alike : (p q : R → Bool) (xs : List R) → AllByRecursion (λ x. p x ≡ q x) xs → filter p xs ≡ filter q xs
