@@ -1,5 +1,5 @@
 -- Triggers and jobs that go, and what keeps the tables valid then.
-use Rattle.std.proofs.Common.{◌≡◌, ℕ, ◌<◌, ◌≤◌, Bool, true, false, not, ◌&&◌, List, length, filter, count_by, Option, Some, None, IsSome, IsSomeAnd, refl, sym, subst, ap, ◌∙◌, arith, if◌then◌else◌}
+use Rattle.std.proofs.Common.{◌≡◌, ℕ, ◌<◌, ◌≤◌, Bool, true, false, not, ◌&&◌, List, [], ◌∷◌, length, filter, count_by, Option, Some, None, IsSome, IsSomeAnd, refl, sym, subst, ap, ◌∙◌, arith, if◌then◌else◌}
 use Rattle.std.specs.List.{AllByRecursion, list_any}
 use Rattle.std.specs.Ordering.{nat_cmp}
 use Rattle.std.proofs.lemmas.Bool.{and_parts, not-true}
@@ -19,7 +19,7 @@ use Rattle.qz_model.specs.Triggers.{without_trigger_and_orphan}
 use Rattle.qz_model.proofs.RowPoints.{All-from, All-weaker, All-both, All-none, All-left, count_by-left, length-filter_le}
 use Rattle.qz_model.proofs.LookUps.{row_of-filter, row_of-filter_none, IsAscending-filter}
 use Rattle.qz_model.proofs.References.{references-jobs, references-triggers, references-fired}
-use Rattle.qz_model.proofs.RowLaws.{key_total, same_key-exact, All-without_job, ordered-without_job, job_of-without_job, length-without_job, each_trigger, only_trigger, trigger_of-key, trigger_of-alike}
+use Rattle.qz_model.proofs.RowLaws.{key_total, same_key_laws, same_key-exact, All-without_job, ordered-without_job, job_of-without_job, length-without_job, each_trigger, only_trigger, trigger_of-key, trigger_of-alike}
 use Rattle.qz_model.proofs.Changes.{HasOneRow, HasItsTrigger, HasNextTime, HasJob, HasCalendar, HasZone, AgreesWithRows, AgreesWithJob, StaysBlocked, IsBlockedBy, HasMember, HasRowTimes, busy-same, HasNumber, SharesNone, HasNumber-kept}
 
 -- Filters of triggers.
@@ -224,9 +224,60 @@ module _ (T : SchedulerTables) (k : Key) (valid : TablesValid T) (unused : AllBy
     row_times = valid.row_times;
   }
 
+-- Jobs that no trigger has go, all that pass at once.
+module _ (T : SchedulerTables) (p : JobData → Bool) (valid : TablesValid T) (unused : (j : JobData) → p j ≡ true → AllByRecursion (λ t. is_trigger_of j.key t ≡ false) T.triggers) where
+  abbrev jobs_left : List JobData
+  jobs_left = filter (λ j. not (p j)) T.jobs
+
+  abbrev without_those_jobs : SchedulerTables
+  without_those_jobs = record T { jobs = jobs_left }
+
+  of_each : (ts : List TriggerData) → ((j : JobData) → p j ≡ true → AllByRecursion (λ t. is_trigger_of j.key t ≡ false) ts) → AllByRecursion (λ t. (j : JobData) → p j ≡ true → is_trigger_of j.key t ≡ false) ts
+  of_each [] each = tt
+  of_each (t ∷ ts) each = (λ j goes. (each j goes).0, of_each ts (λ j goes. (each j goes).1))
+
+  still_stored : (t : TriggerData) → ((j : JobData) → p j ≡ true → is_trigger_of j.key t ≡ false) → HasJob T.jobs t → HasJob jobs_left t
+  unfolding job_of same_key
+  still_stored t none stored =
+      subst IsSome
+      (sym (row_of-filter key_cmp (λ r. r.key) t.spec.job (λ j. not (p j)) T.jobs
+      (All-from (λ j. same_key t.spec.job j.key ≡ true → not (p j) ≡ true) T.jobs (λ j same. elim (p j) as (λ b. p j ≡ b → not b ≡ true) [
+        | true ↦ λ goes. let other : same_key j.key t.spec.job ≡ false = none j goes in let own = same_key_laws.symm j.key t.spec.job in absurd (cc)
+        | false ↦ λ stays. refl
+      ] refl)))) stored
+
+  pub valid-without_jobs : TablesValid without_those_jobs
+  valid-without_jobs = let was = valid.references_and_limits in record {
+    references_and_limits = references-jobs T was jobs_left (IsAscending-filter key_cmp (λ r. r.key) key_total (λ j. not (p j)) T.jobs was.ordered.jobs)
+        (record {
+          trigger_jobs = All-both (λ t. (j : JobData) → p j ≡ true → is_trigger_of j.key t ≡ false) (HasJob T.jobs) (HasJob jobs_left) T.triggers still_stored (of_each T.triggers unused) was.stored.trigger_jobs;
+          trigger_calendars = was.stored.trigger_calendars;
+          trigger_zones = was.stored.trigger_zones;
+          bases = was.stored.bases;
+          calendar_zones = was.stored.calendar_zones;
+          chains = was.stored.chains;
+        })
+        (omega (arith, length-filter_le (λ j. not (p j)) T.jobs, was.limits.jobs));
+    acquired_match = valid.acquired_match;
+    concurrency_agrees = record {
+      with_rows = valid.concurrency_agrees.with_rows;
+      with_jobs = All-left (AgreesWithJob T.fired) (AgreesWithJob T.fired) p T.jobs valid.concurrency_agrees.with_jobs (λ j stays is. is);
+    };
+    one_exclusive = valid.one_exclusive;
+    blocked_are_busy = valid.blocked_are_busy;
+    rows_of_members = valid.rows_of_members;
+    next_times = valid.next_times;
+    fresh = record {
+      fired = valid.fresh.fired;
+      added = All-weaker (HasNumber T) (HasNumber without_those_jobs) T.triggers
+          (λ t has. HasNumber-kept T without_those_jobs t (omega arith) (λ n below none. none) (λ n all. all) has) valid.fresh.added;
+    };
+    row_times = valid.row_times;
+  }
+
 -- Jobs that go with their last trigger.
 
-orphan_unused : (triggers : List TriggerData) (job : JobData) → is_orphan triggers job ≡ true → AllByRecursion (λ t. is_trigger_of job.key t ≡ false) triggers
+pub orphan_unused : (triggers : List TriggerData) (job : JobData) → is_orphan triggers job ≡ true → AllByRecursion (λ t. is_trigger_of job.key t ≡ false) triggers
 unfolding is_orphan
 orphan_unused triggers job is =
     All-none (is_trigger_of job.key) triggers (not-true (list_any (is_trigger_of job.key) triggers) (and_parts (not job.durable) (not (list_any (is_trigger_of job.key) triggers)) is).1)

@@ -114,7 +114,7 @@ module _ (T : SchedulerTables) (me : MemberData) (valid : TablesValid T) (begun 
   unfolding fired_of
   still_none n absent = row_of-filter_none nat_cmp (λ r. r.entry) n (λ f. not (is_of me f)) T.fired absent
 
-  valid_then : TablesValid after_ends
+  pub valid_then : TablesValid after_ends
   valid_then = record {
     references_and_limits = references_then;
     acquired_match = record {

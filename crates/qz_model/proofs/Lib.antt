@@ -18,6 +18,7 @@ pub mod KeptLeaving
 pub mod KeptMembership
 pub mod KeptMisfires
 pub mod KeptPausing
+pub mod KeptRecovery
 pub mod KeptReleasing
 pub mod KeptTriggers
 pub mod KeptZones
