@@ -11,10 +11,12 @@ use Rattle.qz_types.specs.Tables.{SchedulerTables, IsMoment, empty, new_tables, 
 use Rattle.qz_types.specs.declared.replies.Refusal.{Refusal}
 use Rattle.qz_types.specs.declared.replies.Refusal.TheVariants.{Unbuilt, Fenced}
 use Rattle.qz_types.specs.Outcomes.{accepted, refused}
+use Rattle.qz_types.specs.Words.{member_of}
+use Rattle.qz_model.specs.Recovery.{rejoin_refusal}
 use Rattle.qz_model.specs.Transaction.{by_command, transaction}
 use Rattle.qz_model.specs.Executions.{is_busy}
 use Rattle.qz_model.specs.Invariant.{TablesValid}
-use Rattle.qz_model.proofs.Changes.{moment_within}
+use Rattle.qz_model.proofs.Changes.{moment_within, passes}
 use Rattle.qz_model.proofs.KeptAcquiring.{kept-acquire}
 use Rattle.qz_model.proofs.KeptCalendars.{kept-add_calendar, kept-delete_calendar}
 use Rattle.qz_model.proofs.KeptCompletion.{kept-complete}
@@ -47,7 +49,7 @@ kept-by_command T T' m actor (AddZone zone) r good valid is e = kept-add_zone T 
 kept-by_command T T' m actor (DeleteZone name) r good valid is e = kept-delete_zone T T' m name r valid is e
 kept-by_command T T' m actor (TriggerNow job) r good valid is e = kept-trigger_now T T' m job r valid is e
 kept-by_command T T' m actor (Threshold ms) r good valid is e = kept-set_threshold T T' m ms r good valid is e
-kept-by_command T T' m actor (Join node) r good valid is e = kept-join T T' m node r valid is e
+kept-by_command T T' m actor (Join node) r good valid is e = kept-join T T' m node r valid is (passes (rejoin_refusal (member_of node T.members)) _ T' r e).outcome
 kept-by_command T T' m Client Leave r good valid is e = refused-keeps T' r (Fenced None) e
 kept-by_command T T' m (Node me) Leave r good valid is e = kept-leave T T' m me r valid is e
 kept-by_command T T' m Client (Acquire no_later window max) r good valid is e = refused-keeps T' r (Fenced None) e

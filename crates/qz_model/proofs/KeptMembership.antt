@@ -1,5 +1,5 @@
 -- A join keeps the tables valid.
-use Rattle.std.proofs.Common.{◌≡◌, ℕ, ◌+◌, ◌<◌, ◌≤◌, ℤ, List, length, nat_le, nat_lt, Option, Some, None, IsSomeAnd, refl, sym, subst, arith}
+use Rattle.std.proofs.Common.{◌≡◌, ℕ, ◌+◌, ◌<◌, ◌≤◌, ℤ, List, length, nat_le, nat_lt, Option, Some, None, IsSomeAnd, true, refl, sym, ◌∙◌, subst, arith}
 use Rattle.std.specs.List.{AllByRecursion}
 use Rattle.std.proofs.lemmas.Bool.{leb-false, ltb-false}
 use Rattle.qz_types.specs.Rows.{MemberData, FiredData}
@@ -8,13 +8,14 @@ use Rattle.qz_types.specs.declared.replies.Reply.{Reply}
 use Rattle.qz_types.specs.declared.replies.Refusal.TheVariants.{TooMany}
 use Rattle.qz_types.specs.Tables.{SchedulerTables, IsMoment}
 use Rattle.qz_types.specs.Outcomes.{accepted, unless}
-use Rattle.qz_types.specs.Words.{member_of, put_member}
-use Rattle.qz_model.specs.Recovery.{with_new_member, epoch_refusal, join_refusal, joined, join, rejoin_refusal}
+use Rattle.qz_types.specs.Words.{same_text, member_of, put_member, without_member}
+use Rattle.qz_model.specs.Recovery.{recovered, recovery_refusal, with_new_member, epoch_refusal, join_refusal, joined, join}
 use Rattle.qz_model.specs.Invariant.{TablesValid}
+use Rattle.qz_model.proofs.KeptRecovery.{valid-recovered, recovery_room, found_itself}
 use Rattle.qz_model.proofs.RowPoints.{All-weaker, All-both}
 use Rattle.qz_model.proofs.References.{references-members}
-use Rattle.qz_model.proofs.Refusals.{not_refused}
-use Rattle.qz_model.proofs.RowLaws.{ordered-put_member, All-put_member, member_of-put_member, length-put_member}
+use Rattle.qz_model.proofs.Refusals.{not_refused, no_first}
+use Rattle.qz_model.proofs.RowLaws.{ordered-put_member, All-put_member, member_of-put_member, length-put_member, some_row, member_of-alike, member_of-node, member_of-without_own, length-without_stored_member}
 use Rattle.qz_model.proofs.Changes.{HasMember, passes, HasNumber, HasNumber-kept, valid-moment}
 
 -- each row is still a member's
@@ -51,19 +52,41 @@ valid-put_member T member valid absent own room number = let U : SchedulerTables
   row_times = valid.row_times;
 }
 
+-- a node joins under a name that no member has
+valid-joined : (T : SchedulerTables) (m : ℤ) (node : List ℕ) → TablesValid T → IsMoment T.horizon m → member_of node T.members ≡ None → length T.members + 1 ≤ MEMBER_LIMIT
+    → T.next_epoch + 1 ≤ NUMBER_LIMIT → TablesValid (record (with_new_member T node) { last_moment = m })
+unfolding with_new_member
+valid-joined T m node valid is absent room number =
+    valid-put_member (record T { last_moment = m }) (record { node = node; epoch = T.next_epoch }) (valid-moment T m valid is) absent refl room number
+
+number_room : (T : SchedulerTables) → epoch_refusal T ≡ None → T.next_epoch + 1 ≤ NUMBER_LIMIT
+unfolding epoch_refusal
+number_room T clear = let under = (not_refused (nat_lt NUMBER_LIMIT (T.next_epoch + 1)) (TooMany NUMBER_LIMIT) None clear).0 in omega (arith, ltb-false NUMBER_LIMIT (T.next_epoch + 1) under)
+
+-- or under that of a member, which is recovered first
+valid-rejoined : (T : SchedulerTables) (m : ℤ) (node : List ℕ) (member : MemberData) → TablesValid T → IsMoment T.horizon m → member_of node T.members ≡ Some member
+    → recovery_refusal T member ≡ None → epoch_refusal T ≡ None → TablesValid (record (with_new_member (recovered T member) node) { last_moment = m })
+unfolding recovered
+valid-rejoined T m node member valid is found clear numbered =
+    let itself = found_itself T node member valid found in
+    let same : same_text node member.node ≡ true = member_of-node node member T.members found in
+    let absent : member_of node (without_member member.node T.members) ≡ None = member_of-alike node member.node (without_member member.node T.members) same ∙ member_of-without_own member.node T.members in
+    let fewer = length-without_stored_member member.node T.members (some_row (member_of member.node T.members) member itself) in
+    valid-joined (recovered T member) m node (valid-recovered T member valid itself (recovery_room T member clear)) is absent (omega (arith, fewer, valid.references_and_limits.limits.members)) (number_room T numbered)
+
 join_at : (T T' : SchedulerTables) (m : ℤ) (node : List ℕ) (r : Reply) (o : Option MemberData) → TablesValid T → IsMoment T.horizon m → member_of node T.members ≡ o
-    → unless (rejoin_refusal o) (unless (join_refusal T o) (joined T m node o)) ≡ accepted T' r → TablesValid T'
-unfolding join_refusal epoch_refusal with_new_member
-join_at T T' m node r (Some member) valid is found e = absurd (cc)
+    → unless (join_refusal T o) (joined T m node o) ≡ accepted T' r → TablesValid T'
+unfolding join_refusal
+join_at T T' m node r (Some member) valid is found e =
+    let way = passes (join_refusal T (Some member)) _ T' r e in
+    let clear = no_first (recovery_refusal T member) (epoch_refusal T) way.clear in
+    let same : accepted (record (with_new_member (recovered T member) node) { last_moment = m }) _ ≡ accepted T' r = way.outcome in
+    subst TablesValid (cc) (valid-rejoined T m node member valid is found clear.0 clear.1)
 join_at T T' m node r None valid is found e =
     let way = passes (join_refusal T None) _ T' r e in
     let room = not_refused (nat_le MEMBER_LIMIT (length T.members)) (TooMany MEMBER_LIMIT) (epoch_refusal T) way.clear in
-    let number = not_refused (nat_lt NUMBER_LIMIT (T.next_epoch + 1)) (TooMany NUMBER_LIMIT) None room.1 in
-    let member : MemberData = record { node = node; epoch = T.next_epoch } in
-    let same : accepted (record T { members = put_member member T.members; next_epoch = T.next_epoch + 1; last_moment = m }) _ ≡ accepted T' r = way.outcome in
-    subst TablesValid (cc)
-    (valid-put_member (record T { last_moment = m }) member (valid-moment T m valid is) found refl (omega (arith, leb-false _ _ room.0)) (omega (arith, ltb-false _ _ number.0)))
+    let same : accepted (record (with_new_member T node) { last_moment = m }) _ ≡ accepted T' r = way.outcome in
+    subst TablesValid (cc) (valid-joined T m node valid is found (omega (arith, leb-false _ _ room.0)) (number_room T room.1))
 
-pub kept-join : (T T' : SchedulerTables) (m : ℤ) (node : List ℕ) (r : Reply) → TablesValid T → IsMoment T.horizon m
-    → unless (rejoin_refusal (member_of node T.members)) (join T m node) ≡ accepted T' r → TablesValid T'
+pub kept-join : (T T' : SchedulerTables) (m : ℤ) (node : List ℕ) (r : Reply) → TablesValid T → IsMoment T.horizon m → join T m node ≡ accepted T' r → TablesValid T'
 kept-join T T' m node r valid is e = join_at T T' m node r (member_of node T.members) valid is refl e

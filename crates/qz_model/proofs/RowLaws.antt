@@ -54,7 +54,7 @@ a_row : {R : Type 0} {G : Type 0} (o : Option R) → IsSome o → ((r : R) → o
 a_row None is goal = absurd (cc)
 a_row (Some r) is goal = goal r refl
 
-some_row : {R : Type 0} (o : Option R) (r : R) → o ≡ Some r → IsSome o
+pub some_row : {R : Type 0} (o : Option R) (r : R) → o ≡ Some r → IsSome o
 some_row o r is = ap is_some is
 
 pub no_row : {R : Type 0} (o : Option R) → is_some o ≡ false → o ≡ None
@@ -250,6 +250,10 @@ pub member_of-alike : (a b : List ℕ) (rows : List MemberData) → same_text a 
 unfolding member_of same_text
 member_of-alike a b rows same = row_of-alike text_cmp (λ r. r.node) nat_list_cmp_total a b rows (equal_from (text_cmp a b) same)
 
+pub member_of-node : (node : List ℕ) (m : MemberData) (rows : List MemberData) → member_of node rows ≡ Some m → same_text node m.node ≡ true
+unfolding member_of same_text
+member_of-node node m rows found = row_of-id text_cmp (λ r. r.node) node m rows found
+
 -- each member is found by its name
 pub each_member : (rows : List MemberData) → IsAscending text_cmp (λ r. r.node) rows → AllByRecursion (λ m. member_of m.node rows ≡ Some m) rows
 unfolding member_of
@@ -278,6 +282,16 @@ unfolding member_of without_member same_text
 member_of-without_member j k rows differ =
     row_of-filter text_cmp (λ r. r.node) k (λ r. not (same_text j r.node)) rows
     (All-from (λ r. same_text k r.node ≡ true → not (same_text j r.node) ≡ true) rows (λ r same. ap not (other_text j k r.node differ same)))
+
+pub member_of-without_own : (node : List ℕ) (rows : List MemberData) → member_of node (without_member node rows) ≡ None
+unfolding member_of without_member same_text
+member_of-without_own node rows =
+    row_of_none text_cmp (λ r. r.node) node (without_member node rows) (All-without_member (λ r. ⊤) (λ r. same_text node r.node ≡ false) node rows (All-from (λ r. ⊤) rows (λ r. tt)) (λ r differ x. differ))
+
+-- a member that is stored leaves room
+pub length-without_stored_member : (node : List ℕ) (rows : List MemberData) → IsSome (member_of node rows) → length (without_member node rows) + 1 ≤ length rows
+unfolding member_of without_member same_text
+length-without_stored_member node rows stored = length-filter_found text_cmp (λ r. r.node) node (λ r. not (same_text node r.node)) rows stored (λ r same. ap not same)
 
 pub length-without_member : (node : List ℕ) (rows : List MemberData) → length (without_member node rows) ≤ length rows
 unfolding without_member
