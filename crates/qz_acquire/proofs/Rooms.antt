@@ -1,5 +1,5 @@
 -- How many rows a command of a node that takes triggers adds.
-use Rattle.std.proofs.Common.{◌≡◌, ℕ, ◌+◌, ◌≤◌, ℤ, List, [], ◌∷◌, ◌+ℤ◌, fold, length, Option, Some, None, refl, IsTrue, ap, ◌∙◌, arith}
+use Rattle.std.proofs.Common.{◌≡◌, ℕ, ◌+◌, ℤ, List, [], ◌∷◌, ◌+ℤ◌, fold, length, Option, Some, None, refl, IsTrue, ap, ◌∙◌, arith}
 use Rattle.qz_types.specs.Changes.{in_state, moved_trigger}
 use Rattle.qz_types.specs.declared.triggers.TriggerState.TheVariants as state
 use Rattle.qz_model.specs.Acquiring.{acquire_refusal, chosen, acquired_row, with_acquired, acquire, acquired_refusal, release_row}
