@@ -1,4 +1,6 @@
+mod ChoosingWalk
 mod Facts
+mod Granting
 mod Lists
 mod MisfireWalk
 mod Missed

@@ -1,11 +1,16 @@
 -- What refuses a transaction, and that nothing else does.
-use Rattle.std.proofs.Common.{◌≡◌, ℤ, MatchOption}
+use Rattle.std.proofs.Common.{◌≡◌, ℕ, ℤ, None, MatchOption}
 use Rattle.qz_types.specs.Rows.{MemberData}
 use Rattle.qz_types.specs.Tables.{SchedulerTables}
 use Rattle.qz_types.specs.Outcomes.{refused, IsAccepted}
+use Rattle.qz_model.specs.Acquiring.{acquire_refusal, acquire}
 use Rattle.qz_model.specs.Membership.{node_refusal}
 use Rattle.qz_model.specs.Misfires.{misfires}
 use Rattle.qz_apply.proofs.Refused.{of_one}
 
 pub of_misfires : (T : SchedulerTables) (m : ℤ) (me : MemberData) → MatchOption (node_refusal T me) (IsAccepted (misfires T m me)) (λ x. misfires T m me ≡ refused x)
 of_misfires T m me = of_one (node_refusal T me) _ tt
+
+pub of_acquire : (T : SchedulerTables) (m : ℤ) (me : MemberData) (no_later window : ℤ) (max : ℕ) → node_refusal T me ≡ None
+    → MatchOption (acquire_refusal T max) (IsAccepted (acquire T m me no_later window max)) (λ x. acquire T m me no_later window max ≡ refused x)
+of_acquire T m me no_later window max clear = rw clear (of_one (acquire_refusal T max) _ tt)

@@ -1,6 +1,10 @@
 -- How many rows a command of a node that takes triggers adds.
-use Rattle.std.proofs.Common.{◌≡◌, ℕ, ◌+◌, ◌≤◌, ℤ, List, [], ◌∷◌, fold, length, refl, IsTrue, ◌∙◌, arith}
-use Rattle.qz_types.specs.Changes.{moved_trigger}
+use Rattle.std.proofs.Common.{◌≡◌, ℕ, ◌+◌, ◌≤◌, ℤ, List, [], ◌∷◌, ◌+ℤ◌, fold, length, refl, IsTrue, ap, ◌∙◌, arith}
+use Rattle.qz_types.specs.Changes.{in_state, moved_trigger}
+use Rattle.qz_types.specs.declared.triggers.TriggerState.TheVariants as state
+use Rattle.qz_model.specs.Acquiring.{acquire_refusal, chosen, acquired_row, with_acquired, acquire}
+use Rattle.qz_model.specs.Tests.{or_refusal, stored_job}
+use Rattle.qz_model.proofs.KeptAcquiring.{few_chosen}
 use Rattle.qz_types.specs.Rows.{TriggerData, MemberData}
 use Rattle.qz_types.specs.Entries.{EntryData}
 use Rattle.qz_types.specs.declared.commands.Command.{Command}
@@ -11,7 +15,7 @@ use Rattle.qz_types.specs.Tables.{SchedulerTables, recorded_moment}
 use Rattle.qz_model.specs.Membership.{node_refusal}
 use Rattle.qz_model.specs.Misfires.{misfired_triggers, move_of, with_moved, misfires}
 use Rattle.qz_model.specs.Transaction.{by_command, transaction}
-use Rattle.qz_model.proofs.RowLaws.{length-with_trigger}
+use Rattle.qz_model.proofs.RowLaws.{length-with_trigger, length-put_fired}
 use Rattle.qz_apply.specs.Room.{AddsUpTo}
 use Rattle.qz_apply.proofs.Rooms.{adds-unless}
 use Rattle.qz_acquire.specs.Commands.{is_acquiring, room_of}
@@ -32,10 +36,52 @@ misfires-adds T m me = adds-unless 0 T (node_refusal T me) _ (record {
   fired = omega arith;
 })
 
+-- each acquired trigger adds a fired row, and nothing else
+pub record AddsRows (T U : SchedulerTables) (n : ℕ) : Type 0 where
+  pub jobs : U.jobs ≡ T.jobs
+  pub triggers : length U.triggers ≡ length T.triggers
+  pub calendars : U.calendars ≡ T.calendars
+  pub zones : U.zones ≡ T.zones
+  pub paused_groups : U.paused_groups ≡ T.paused_groups
+  pub members : U.members ≡ T.members
+  pub fired : length U.fired ≡ length T.fired + n
+
+acquired-adds : (me : MemberData) (T : SchedulerTables) (ts : List TriggerData) → AddsRows T (fold (with_acquired me) T ts) (length ts)
+unfolding with_acquired
+acquired-adds me T [] = record { jobs = refl; triggers = refl; calendars = refl; zones = refl; paused_groups = refl; members = refl; fired = omega arith }
+acquired-adds me T (t ∷ ts) =
+    let rest = acquired-adds me (with_acquired me T t) ts in
+    let row = acquired_row T.next_entry me t (stored_job t.spec.job T.jobs) in
+    record {
+      jobs = rest.jobs;
+      triggers = rest.triggers ∙ length-with_trigger t.spec.key (in_state state.Acquired) T.triggers;
+      calendars = rest.calendars;
+      zones = rest.zones;
+      paused_groups = rest.paused_groups;
+      members = rest.members;
+      fired = omega (arith, rest.fired, length-put_fired row T.fired);
+    }
+
+acquire-adds : (T : SchedulerTables) (m : ℤ) (me : MemberData) (no_later window : ℤ) (max : ℕ) → AddsUpTo max T (acquire T m me no_later window max)
+acquire-adds T m me no_later window max =
+    let ts = chosen T m (no_later +ℤ window) max in
+    let grown = acquired-adds me T ts in
+    let few = few_chosen T m (no_later +ℤ window) max in
+    adds-unless max T (or_refusal (node_refusal T me) (acquire_refusal T max)) _ (record {
+      jobs = omega (arith, ap length grown.jobs);
+      triggers = omega (arith, grown.triggers);
+      calendars = omega (arith, ap length grown.calendars);
+      zones = omega (arith, ap length grown.zones);
+      paused_groups = omega (arith, ap length grown.paused_groups);
+      members = omega (arith, ap length grown.members);
+      fired = omega (arith, grown.fired, few);
+    })
+
 by_command-adds : (T : SchedulerTables) (m : ℤ) (actor : Actor) (c : Command) → IsTrue (is_acquiring c) → AddsUpTo (room_of c) T (by_command T m actor c)
+by_command-adds T m Client (Acquire no_later window max) is = tt
+by_command-adds T m (Node me) (Acquire no_later window max) is = acquire-adds T m me no_later window max
 by_command-adds T m Client Misfires is = tt
 by_command-adds T m (Node me) Misfires is = misfires-adds T m me
-by_command-adds T m actor (Acquire no_later window max) is = absurd cc
 by_command-adds T m actor (Release entry) is = absurd cc
 by_command-adds T m actor (Fire entry) is = absurd cc
 by_command-adds T m actor (AddJob job replace) is = absurd cc

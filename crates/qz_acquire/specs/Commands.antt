@@ -4,6 +4,7 @@ use Rattle.qz_types.specs.declared.commands.Command.{Command}
 use Rattle.qz_types.specs.declared.commands.Command.TheVariants.{Acquire, Misfires}
 
 abbrev pub is_acquiring : Command → Bool
+is_acquiring (Acquire no_later window max) = true
 is_acquiring Misfires = true
 is_acquiring c = false
 

@@ -1,4 +1,4 @@
-//! The commands of a node that takes triggers, applied to the tables of the trigger store: Misfires.
+//! The commands of a node that takes triggers, applied to the tables of the trigger store: Acquire and Misfires.
 //!
 //! Each is applied in three phases: what refuses it, which takes no memory; the copies that the change needs, which may
 //! take memory; and the change, which can't fail.
@@ -14,9 +14,13 @@ ghost use Rattle.qz_tables.specs.Contents.{HasSpare};
 ghost use Rattle.qz_apply.specs.Room.{AddsUpTo};
 ghost use Rattle.qz_acquire.specs.Commands.{is_acquiring, room_of};
 
+mod acquiring;
+mod choosing;
 mod due;
+mod jobs;
 mod misfires;
 
+use acquiring::{acquire, acquire_refused};
 use misfires::{misfires, misfires_refused};
 use qz_apply::recorded_moment;
 use qz_tables::Tables;
@@ -28,6 +32,14 @@ pub fn refusal(tables: &Tables, entry: &Entry) -> Option<Refusal>
     ensures { MatchOption result (IsAccepted (transaction tables.now.tables entry.now)) (λ x. transaction tables.now.tables entry.now ≡ refused x) }
 {
     match &entry.command {
+        Command::Acquire {
+            no_later: _,
+            window: _,
+            max,
+        } => match &entry.actor {
+            Actor::Client => Some(Refusal::Fenced { live: None }),
+            Actor::Node(me) => acquire_refused(tables, me, *max),
+        },
         Command::Misfires => match &entry.actor {
             Actor::Client => Some(Refusal::Fenced { live: None }),
             Actor::Node(me) => misfires_refused(tables, me),
@@ -68,6 +80,14 @@ pub fn apply(tables: &mut Tables, entry: &Entry) -> Result<Reply, StepRefused>
 {
     let moment = recorded_moment(tables, entry.at);
     match &entry.command {
+        Command::Acquire {
+            no_later,
+            window,
+            max,
+        } => match &entry.actor {
+            Actor::Client => Err(StepRefused::Refused(Refusal::Fenced { live: None })),
+            Actor::Node(me) => acquire(tables, moment, me, *no_later, *window, *max),
+        },
         Command::Misfires => match &entry.actor {
             Actor::Client => Err(StepRefused::Refused(Refusal::Fenced { live: None })),
             Actor::Node(me) => misfires(tables, moment, me),

@@ -37,7 +37,7 @@ ordered-with_blocked : (b : Bool) (job : Key) (rows : List TriggerData) → IsAs
 ordered-with_blocked true job rows ordered = ordered-with_states blocked (is_trigger_of job) rows ordered
 ordered-with_blocked false job rows ordered = ordered
 
-length-with_blocked : (b : Bool) (job : Key) (rows : List TriggerData) → length (with_blocked b job rows) ≡ length rows
+pub length-with_blocked : (b : Bool) (job : Key) (rows : List TriggerData) → length (with_blocked b job rows) ≡ length rows
 length-with_blocked true job rows = length-with_states blocked (is_trigger_of job) rows
 length-with_blocked false job rows = refl
 
@@ -57,7 +57,7 @@ ordered-without_siblings : (b : Bool) (job : Key) (rows : List FiredData) → Is
 ordered-without_siblings true job rows ordered = ordered-without_acquired (is_row_of_job job) rows ordered
 ordered-without_siblings false job rows ordered = ordered
 
-length-without_siblings : (b : Bool) (job : Key) (rows : List FiredData) → length (without_siblings b job rows) ≤ length rows
+pub length-without_siblings : (b : Bool) (job : Key) (rows : List FiredData) → length (without_siblings b job rows) ≤ length rows
 length-without_siblings true job rows = length-without_acquired (is_row_of_job job) rows
 length-without_siblings false job rows = omega arith
 

@@ -33,7 +33,7 @@ ordered-with_unblocked : (b : Bool) (job : Key) (rows : List TriggerData) → Is
 ordered-with_unblocked true job rows ordered = ordered-with_states unblocked (is_trigger_of job) rows ordered
 ordered-with_unblocked false job rows ordered = ordered
 
-length-with_unblocked : (b : Bool) (job : Key) (rows : List TriggerData) → length (with_unblocked b job rows) ≡ length rows
+pub length-with_unblocked : (b : Bool) (job : Key) (rows : List TriggerData) → length (with_unblocked b job rows) ≡ length rows
 length-with_unblocked true job rows = length-with_states unblocked (is_trigger_of job) rows
 length-with_unblocked false job rows = refl
 

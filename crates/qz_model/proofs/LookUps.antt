@@ -7,7 +7,7 @@ use Rattle.std.specs.declared.cmp.Ordering.{Ordering}
 use Rattle.std.specs.declared.cmp.Ordering.TheVariants.{Less, Equal, Greater}
 use Rattle.std.proofs.lemmas.Cmp.{tied_itself}
 use Rattle.qz_types.specs.Sorted.{row_of, put, IsBefore, IsAscending}
-use Rattle.qz_model.proofs.RowPoints.{length-filter_le, All-weaker, All-both, All-filter, count_by-cons, none_from_count, count_by-none}
+use Rattle.qz_model.proofs.RowPoints.{All-weaker, All-both, All-filter, count_by-cons, count_by-none, none_from_count, length-filter_le}
 
 pub equal_from : (o : Ordering) → is_eq o ≡ true → o ≡ Equal
 equal_from Less e = absurd (cc)

@@ -17,7 +17,7 @@ use Rattle.qz_types.specs.declared.keys.Key.{Key}
 use Rattle.qz_types.proofs.Ascending.{IsAscending-put}
 use Rattle.qz_types.specs.Words.{text_cmp, key_cmp, same_key, job_of, put_job, without_job, trigger_of, put_trigger, with_trigger, without_trigger, member_of, put_member, fired_of, put_fired, with_fired, without_fired}
 use Rattle.qz_model.proofs.RowPoints.{All-from, All-weaker, All-put, All-changed, All-left, changed_keeps, count_by-put, count_by-changed, count_by-left, length-put, length-filter_le}
-use Rattle.qz_model.proofs.LookUps.{All-row_of, row_of-id, row_of_none, row_of-map, row_of-put, row_of-put_new, row_of-put_own, length-filter_found, row_of-filter, row_of-filter_none, one_found, each_found, only_found, row_of-alike, equal_from, IsAscending-map, IsAscending-filter, count_found}
+use Rattle.qz_model.proofs.LookUps.{All-row_of, row_of-id, row_of_none, row_of-map, row_of-put, row_of-put_new, row_of-filter, row_of-filter_none, count_found, one_found, each_found, only_found, row_of-alike, equal_from, IsAscending-map, IsAscending-filter, row_of-put_own, length-filter_found}
 
 pub key_total : IsTotalOrder key_cmp
 key_total = then_total (on_total (λ k. k.group) nat_list_cmp_total) (on_total (λ k. k.name) nat_list_cmp_total)
