@@ -1,53 +1,72 @@
 -- What a Fire that isn't refused comes to.
-use Rattle.std.proofs.Common.{◌≡◌, ℕ, ℤ, Bool, true, ◌&&◌, Some, None, refl, ap, ◌∙◌, subst}
-use Rattle.std.proofs.lemmas.Bool.{and_parts}
-use Rattle.qz_types.specs.Rows.{MemberData, FiredData}
-use Rattle.qz_types.specs.declared.replies.Refusal.TheVariants.{Unbuilt}
+use Rattle.std.proofs.Common.{◌≡◌, ℕ, ℤ, pos, true, List, Option, Some, None, IsSomeAnd, unwrap_or, refl, sym, ap, ◌∙◌, subst}
+use Rattle.std.proofs.Math.Logic.{∥∥₁_elim}
+use Rattle.std.proofs.Props.{props}
+use Rattle.qz_civil.specs.declared.limits.TheConstants.{LAST}
+use Rattle.qz_types.specs.Rows.{JobData, TriggerData, MemberData, FiredData}
 use Rattle.qz_types.specs.declared.keys.Key.{Key}
-use Rattle.qz_types.specs.Tables.{SchedulerTables}
+use Rattle.qz_types.specs.declared.replies.Reply.TheVariants as reply
+use Rattle.qz_types.specs.Changes.{after_fire, begun}
+use Rattle.qz_types.specs.States.{is_acquired}
+use Rattle.qz_types.specs.Tables.{SchedulerTables, IsMoment}
 use Rattle.qz_types.specs.Outcomes.{accepted, IsAccepted}
-use Rattle.qz_types.specs.Words.{fired_of, with_trigger, with_fired}
-use Rattle.qz_types.specs.Changes.{begun}
-use Rattle.qz_apply.proofs.Accepted.{no_refusal, accepted_within, when_accepted}
+use Rattle.qz_types.specs.Words.{job_of, trigger_of, with_trigger, fired_of, with_fired}
+use Rattle.qz_apply.proofs.Accepted.{no_refusal, accepted_within}
+use Rattle.qz_model.specs.Acquiring.{acquired_refusal, next_time}
 use Rattle.qz_model.specs.Membership.{node_refusal}
-use Rattle.qz_model.specs.Executions.{is_acquired}
-use Rattle.qz_model.specs.Firing.{is_of, spent, executing, stored_job, fire_refusal, fired_reply, fire_one, fire_row, fire}
-
--- the tables where the execution of a row has begun
-abbrev pub tables_begun : SchedulerTables → ℤ → FiredData → SchedulerTables
-tables_begun T m f = record T {
-  triggers = with_trigger f.trigger spent T.triggers;
-  fired = with_fired f.entry (executing m (stored_job f.job T.jobs)) T.fired;
-  last_moment = m;
-}
+use Rattle.qz_model.specs.Firing.{early, next_of, fired_state, fire_refusal, following, with_blocked, without_siblings, with_begun, fire_one, fire_row, fire}
+use Rattle.qz_model.specs.Invariant.{IsRowOf, is_live_state, TablesValid}
+use Rattle.qz_model.specs.Tests.{stored_job}
+use Rattle.qz_model.proofs.Changes.{HasItsTrigger, HasNextTime, passes}
+use Rattle.qz_model.proofs.RowLaws.{same_key-exact, job_of-key, All-trigger_of, All-fired_of}
+use Rattle.qz_model.proofs.KeptFiring.{clear_both, acquired_clear}
 
 -- an accepted Fire begins the execution of this row, which was acquired
 pub record Fires (T : SchedulerTables) (m : ℤ) (me : MemberData) (entry : ℕ) (f : FiredData) : Type 0 where
   pub taken : is_acquired f.state ≡ true
-  pub outcome : fire T m me entry ≡ accepted (tables_begun T m f) (fired_reply m f (stored_job f.job T.jobs))
+  pub outcome : fire T m me entry ≡ fire_one T m f (stored_job f.job T.jobs) (following T f)
 
-one_fires : (T : SchedulerTables) (m : ℤ) (f : FiredData) → IsAccepted (fire_one T m f) → fire_one T m f ≡ accepted (tables_begun T m f) (fired_reply m f (stored_job f.job T.jobs))
-unfolding fire_one
-one_fires T m f is = no_refusal (fire_refusal T m f) _ is
+refusal_clear : (T : SchedulerTables) (m : ℤ) (me : MemberData) (f : FiredData) → fire_refusal T m me f ≡ None → is_acquired f.state ≡ true
+unfolding fire_refusal
+refusal_clear T m me f clear = acquired_clear me f (clear_both (acquired_refusal me f) (early m (next_of f.trigger T.triggers)) clear).0
 
 pub fires : (T : SchedulerTables) (m : ℤ) (me : MemberData) (entry : ℕ) (f : FiredData) → IsAccepted (fire T m me entry) → fired_of entry T.fired ≡ Some f → Fires T m me entry f
 fires T m me entry f is stored =
     let at : fire_row T m me (fired_of entry T.fired) ≡ fire_row T m me (Some f) = ap (fire_row T m me) stored in
     let row : IsAccepted (fire_row T m me (Some f)) = subst IsAccepted at (accepted_within (node_refusal T me) (fire_row T m me (fired_of entry T.fired)) is) in
-    let own = when_accepted (is_of me f && is_acquired f.state) Unbuilt (fire_one T m f) row in
+    let one = no_refusal (fire_refusal T m me f) (fire_one T m f (stored_job f.job T.jobs) (following T f)) row in
     record {
-      taken = (and_parts (is_of me f) (is_acquired f.state) own.0).1;
-      outcome = no_refusal (node_refusal T me) (fire_row T m me (fired_of entry T.fired)) is ∙ at ∙ own.2 ∙ one_fires T m f own.1;
+      taken = refusal_clear T m me f (passes (fire_refusal T m me f) _ _ _ one).clear;
+      outcome = no_refusal (node_refusal T me) (fire_row T m me (fired_of entry T.fired)) is ∙ at ∙ one;
     }
 
--- an accepted Fire has its row
-pub row_of_fire : (T : SchedulerTables) (m : ℤ) (me : MemberData) (entry : ℕ) → IsAccepted (fire T m me entry) → fired_of entry T.fired ≡ None → ⊥
-row_of_fire T m me entry is none =
-    subst IsAccepted (ap (fire_row T m me) none) (accepted_within (node_refusal T me) (fire_row T m me (fired_of entry T.fired)) is)
+-- the next time of the trigger of an acquired row is within the horizon
+pub time_of_row : (T : SchedulerTables) (n : ℕ) (f : FiredData) (t : TriggerData) → ∥ TablesValid T ∥₁ → fired_of n T.fired ≡ Some f → is_acquired f.state ≡ true → trigger_of f.trigger T.triggers ≡ Some t → IsMoment LAST (next_time t)
+unfolding next_time
+time_of_row T n f t valid stored taken found = ∥∥₁_elim valid (hlevel props) (λ is.
+    let row : IsRowOf f t = subst (λ o. IsSomeAnd o (IsRowOf f)) found (All-fired_of (HasItsTrigger T.triggers) n f T.fired is.acquired_match.a_trigger stored taken) in
+    let next : IsMoment T.horizon f.scheduled = subst (λ o. IsSomeAnd o (IsMoment T.horizon)) row.next (All-trigger_of (HasNextTime T.horizon) f.trigger t T.triggers is.next_times.next found (ap is_live_state row.state)) in
+    let time : unwrap_or t.next (pos 0) ≡ f.scheduled = ap (λ o. unwrap_or o (pos 0)) row.next in
+    subst (λ h. IsMoment h (unwrap_or t.next (pos 0))) is.references_and_limits.limits.horizon (subst (IsMoment T.horizon) (sym time) next))
 
--- what was begun with the parts of the row and its job
-pub begun_is : (T : SchedulerTables) (m n : ℤ) (f : FiredData) (trigger : Key) (entry : ℕ) (no_concurrent requests_recovery : Bool)
-    → n ≡ m → trigger ≡ f.trigger → entry ≡ f.entry → no_concurrent ≡ (stored_job f.job T.jobs).no_concurrent → requests_recovery ≡ (stored_job f.job T.jobs).requests_recovery
-    → record T { triggers = with_trigger trigger spent T.triggers; fired = with_fired entry (begun n no_concurrent requests_recovery) T.fired; last_moment = n } ≡ tables_begun T m f
-unfolding executing
-begun_is T m n f trigger entry no_concurrent requests_recovery moment key number exclusive recovered = rw (moment, key, number, exclusive, recovered) refl
+-- the job of a key has this key
+key_of : (key : Key) (jobs : List JobData) (o : Option JobData) → job_of key jobs ≡ o → (stored_job key jobs).key ≡ key
+unfolding stored_job
+key_of key jobs None is = rw is refl
+key_of key jobs (Some job) is = rw is (sym (same_key-exact key job.key (job_of-key key job jobs is)))
+
+-- what was begun with the row's trigger and its job
+pub begun_is : (T : SchedulerTables) (m n : ℤ) (f : FiredData) (entry : ℕ) (trigger : Key) (job : JobData) (next : Option ℤ) → n ≡ m → entry ≡ f.entry → trigger ≡ f.trigger → job ≡ stored_job f.job T.jobs
+    → record T {
+      triggers = with_trigger trigger (after_fire next (fired_state next job.no_concurrent)) (with_blocked job.no_concurrent job.key T.triggers);
+      fired = without_siblings job.no_concurrent job.key (with_fired entry (begun n job.no_concurrent job.requests_recovery) T.fired);
+      last_moment = n;
+    } ≡ with_begun T m f (stored_job f.job T.jobs) next
+unfolding with_begun
+begun_is T m n f entry trigger job next moment number key own =
+    rw (moment, number, key, own, key_of f.job T.jobs (job_of f.job T.jobs) refl) refl
+
+-- and the outcome
+pub fired_is : (T U : SchedulerTables) (m n s : ℤ) (f : FiredData) (entry : ℕ) (trigger : Key) (job : JobData) (next : Option ℤ) → n ≡ m → s ≡ f.scheduled → entry ≡ f.entry → trigger ≡ f.trigger → job ≡ stored_job f.job T.jobs
+    → U ≡ with_begun T m f (stored_job f.job T.jobs) next → accepted U (reply.Fired entry s n next trigger job) ≡ fire_one T m f (stored_job f.job T.jobs) next
+fired_is T U m n s f entry trigger job next moment scheduled number key own tables = rw (moment, scheduled, number, key, own, tables) refl

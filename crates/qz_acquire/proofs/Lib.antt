@@ -1,6 +1,11 @@
-mod DueHeads
-mod DueWalk
+mod ChoosingWalk
 mod Facts
-mod Firings
+mod Granting
+mod Lists
+mod MisfireWalk
+mod Missed
+mod Moving
 mod Refused
+mod Releases
 mod Rooms
+mod Walk

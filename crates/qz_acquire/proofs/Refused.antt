@@ -1,32 +1,22 @@
 -- What refuses a transaction, and that nothing else does.
-use Rattle.std.proofs.Common.{◌≡◌, ℤ, ℕ, List, [], ◌∷◌, Option, None, MatchOption, refl, sym, subst}
-use Rattle.qz_types.specs.Rows.{TriggerData, MemberData}
-use Rattle.qz_types.specs.Entries.{EntryData}
-use Rattle.qz_types.specs.declared.commands.Command.TheVariants.{Acquire}
-use Rattle.qz_types.specs.declared.commands.Actor.TheVariants.{Node}
-use Rattle.qz_types.specs.declared.replies.Refusal.{Refusal}
-use Rattle.qz_types.specs.Tables.{SchedulerTables, recorded_moment}
+use Rattle.std.proofs.Common.{◌≡◌, ℕ, ℤ, Some, None, MatchOption}
+use Rattle.qz_types.specs.Rows.{MemberData, FiredData}
+use Rattle.qz_types.specs.Tables.{SchedulerTables}
 use Rattle.qz_types.specs.Outcomes.{refused, IsAccepted}
+use Rattle.qz_types.specs.Words.{fired_of}
+use Rattle.qz_model.specs.Acquiring.{acquire_refusal, acquire, acquired_refusal, release}
 use Rattle.qz_model.specs.Membership.{node_refusal}
-use Rattle.qz_model.specs.Firing.{acquire_refusal, acquire_one, acquire_first, acquire}
-use Rattle.qz_model.specs.Transaction.{transaction}
+use Rattle.qz_model.specs.Misfires.{misfires}
 use Rattle.qz_apply.proofs.Refused.{of_one}
 
--- what is acquired is accepted
-pub first_accepted : (T : SchedulerTables) (m : ℤ) (me : MemberData) (ts : List TriggerData) → IsAccepted (acquire_first T m me ts)
-unfolding acquire_one
-first_accepted T m me [] = tt
-first_accepted T m me (t ∷ ts) = tt
+pub of_misfires : (T : SchedulerTables) (m : ℤ) (me : MemberData) → MatchOption (node_refusal T me) (IsAccepted (misfires T m me)) (λ x. misfires T m me ≡ refused x)
+of_misfires T m me = of_one (node_refusal T me) _ tt
 
--- an Acquire that passes the fence
 pub of_acquire : (T : SchedulerTables) (m : ℤ) (me : MemberData) (no_later window : ℤ) (max : ℕ) → node_refusal T me ≡ None
-    → MatchOption (acquire_refusal T window max) (IsAccepted (acquire T m me no_later window max)) (λ r. acquire T m me no_later window max ≡ refused r)
-of_acquire T m me no_later window max clear = rw clear (of_one (acquire_refusal T window max) _ (first_accepted T m me _))
+    → MatchOption (acquire_refusal T max) (IsAccepted (acquire T m me no_later window max)) (λ x. acquire T m me no_later window max ≡ refused x)
+of_acquire T m me no_later window max clear = rw clear (of_one (acquire_refusal T max) _ tt)
 
--- what refuses an entry that acquires
-pub at_acquire : (T : SchedulerTables) (e : EntryData) (me : MemberData) (no_later window : ℤ) (max : ℕ) (x : Option Refusal) → e.command ≡ Acquire no_later window max → e.actor ≡ Node me
-    → ((m limit : ℤ) → MatchOption x (IsAccepted (acquire T m me limit window max)) (λ r. acquire T m me limit window max ≡ refused r))
-    → MatchOption x (IsAccepted (transaction T e)) (λ r. transaction T e ≡ refused r)
-at_acquire T e me no_later window max x command actor all =
-    let is : transaction T e ≡ acquire T (recorded_moment T e.at) me no_later window max = rw (command, actor) refl in
-    subst (λ o. MatchOption x (IsAccepted o) (λ r. o ≡ refused r)) (sym is) (all (recorded_moment T e.at) no_later)
+-- what refuses the row refuses the Release
+pub of_release : (T : SchedulerTables) (m : ℤ) (me : MemberData) (entry : ℕ) (f : FiredData) → node_refusal T me ≡ None → fired_of entry T.fired ≡ Some f
+    → MatchOption (acquired_refusal me f) (IsAccepted (release T m me entry)) (λ x. release T m me entry ≡ refused x)
+of_release T m me entry f clear found = rw (clear, found) (of_one (acquired_refusal me f) _ tt)

@@ -1,2 +1,4 @@
+pub mod Choosing
 pub mod Commands
+pub mod Moves
 pub mod Walk

@@ -1,36 +1,18 @@
-//! Which trigger is due first.
-ghost use Rattle.std.specs.Prelude.{◌≡◌, ◌-ℤ◌, negsuc, option_copied, slice_get};
+//! Which triggers are due, and which are misfired. Times are in ms since 1970-01-01T00:00:00Z.
+ghost use Rattle.std.specs.Prelude.{◌≡◌, ◌-ℤ◌, negsuc};
 ghost use Rattle.std.specs.Ordering.{int_eq};
 ghost use Rattle.qz_types.specs.Tables.{IsMoment};
 ghost use Rattle.qz_types.specs.Due.{is_waiting};
-ghost use Rattle.qz_model.specs.Due.{is_up_to, is_before, is_misfired, is_due, due_triggers};
+ghost use Rattle.qz_model.specs.Due.{is_up_to, is_before, is_misfired, is_due};
 ghost use Rattle.qz_model.specs.Invariant.{TablesValid};
-ghost use Rattle.qz_acquire.specs.Walk.{is_past};
+ghost use Rattle.qz_acquire.specs.Walk.{is_past, is_from, is_waiting_misfired};
 
 use qz_tables::Tables;
 use qz_types::{TriggerRow, TriggerSpec, TriggerState};
 
-/// The first of the triggers that are due up to this limit, in due order. Both are in ms since 1970-01-01T00:00:00Z.
-pub fn first_due(tables: &Tables, moment: i64, limit: i64) -> Option<&TriggerRow>
-    requires valid { ∥ TablesValid tables.now.tables ∥₁ }
-    requires moment { IsMoment tables.now.tables.horizon moment }
-    ensures { option_copied result ≡ slice_get (due_triggers tables.now.tables moment limit) 0 }
-{
-    let mut next = tables.due_first();
-    while let Some(trigger) = next {
-        if is_due(tables, moment, limit, trigger) {
-            return Some(trigger);
-        }
-        if is_past(limit, trigger.next) {
-            return None;
-        }
-        next = tables.due_after(&trigger.spec.key);
-    }
-    None
-}
-
+/// Whether the trigger waits, its next time isn't past the limit, and it isn't misfired.
 #[tactic(auto, unfolding(qz_model::specs::Due::is_due))]
-fn is_due(tables: &Tables, moment: i64, limit: i64, trigger: &TriggerRow) -> bool
+pub fn is_due(tables: &Tables, moment: i64, limit: i64, trigger: &TriggerRow) -> bool
     requires valid { ∥ TablesValid tables.now.tables ∥₁ }
     requires moment { IsMoment tables.now.tables.horizon moment }
     ensures { result ≡ is_due tables.now.tables moment limit trigger.now }
@@ -38,6 +20,15 @@ fn is_due(tables: &Tables, moment: i64, limit: i64, trigger: &TriggerRow) -> boo
     is_waiting(trigger.state)
         && is_up_to(limit, trigger.next)
         && !is_misfired(tables, moment, trigger)
+}
+
+/// Whether the trigger waits, and is misfired.
+pub fn is_waiting_misfired(tables: &Tables, moment: i64, trigger: &TriggerRow) -> bool
+    requires valid { ∥ TablesValid tables.now.tables ∥₁ }
+    requires moment { IsMoment tables.now.tables.horizon moment }
+    ensures { result ≡ is_waiting_misfired tables.now.tables moment trigger.now }
+{
+    is_waiting(trigger.state) && is_misfired(tables, moment, trigger)
 }
 
 #[tactic(auto, unfolding(qz_model::specs::Due::is_misfired))]
@@ -49,8 +40,8 @@ fn is_misfired(tables: &Tables, moment: i64, trigger: &TriggerRow) -> bool
     !ignores_misfires(&trigger.spec) && is_before(earliest(tables, moment), trigger.next)
 }
 
-// The earliest next time that isn't misfired.
-fn earliest(tables: &Tables, moment: i64) -> i64
+/// The earliest next time that isn't misfired.
+pub fn earliest(tables: &Tables, moment: i64) -> i64
     requires valid { ∥ TablesValid tables.now.tables ∥₁ }
     requires moment { IsMoment tables.now.tables.horizon moment }
     ensures { result ≡ moment -ℤ tables.now.tables.threshold }
@@ -79,8 +70,7 @@ fn is_up_to(limit: i64, next: Option<i64>) -> bool
     }
 }
 
-/// Whether there is a next time, and it lies before this one.
-pub fn is_before(time: i64, next: Option<i64>) -> bool
+fn is_before(time: i64, next: Option<i64>) -> bool
     ensures { result ≡ is_before time next }
 {
     match next {
@@ -89,11 +79,22 @@ pub fn is_before(time: i64, next: Option<i64>) -> bool
     }
 }
 
-fn is_past(limit: i64, next: Option<i64>) -> bool
+/// Whether there is a next time, and it is past the limit.
+pub fn is_past(limit: i64, next: Option<i64>) -> bool
     ensures { result ≡ is_past limit next }
 {
     match next {
         None => false,
         Some(next) => next > limit,
+    }
+}
+
+/// Whether there is a next time, and it doesn't lie before this one.
+pub fn is_from(time: i64, next: Option<i64>) -> bool
+    ensures { result ≡ is_from time next }
+{
+    match next {
+        None => false,
+        Some(next) => next >= time,
     }
 }

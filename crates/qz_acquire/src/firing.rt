@@ -1,20 +1,20 @@
 //! A node begins the execution of a trigger that it acquired.
-ghost use Rattle.std.specs.Prelude.{◌≡◌, true, None, Some, MatchOption, IfOk, IfErr, OnErr, IsSome, option_copied};
-ghost use Rattle.qz_types.specs.Tables.{IsMoment};
+ghost use Rattle.std.specs.Prelude.{◌≡◌, true, MatchOption, Some, IfOk, IfErr, OnErr, option_copied};
+ghost use Rattle.qz_types.specs.Changes.{after_fire, begun};
 ghost use Rattle.qz_types.specs.Outcomes.{accepted, refused, IsAccepted, IsErrorOf};
+ghost use Rattle.qz_types.specs.States.{is_acquired};
 ghost use Rattle.qz_types.specs.Words.{fired_of, with_trigger, with_fired};
-ghost use Rattle.qz_types.specs.Changes.{begun};
-ghost use Rattle.qz_model.specs.Executions.{is_acquired};
-ghost use Rattle.qz_model.specs.Firing.{is_of, early, next_of, spent, stored_job, fire_refusal, fired_reply, fire_one, fire_row, fire};
+ghost use Rattle.qz_model.specs.Acquiring.{acquired_refusal, next_time};
+ghost use Rattle.qz_model.specs.Firing.{early, next_of, following, fired_state, fire_refusal, with_blocked, without_siblings, fire_row, fire};
 ghost use Rattle.qz_model.specs.Invariant.{TablesValid};
+ghost use Rattle.qz_model.specs.Tests.{stored_job};
 
-use crate::due::is_before;
-use crate::jobs::is_exclusive;
-use qz_apply::{is_acquired, is_of, node_refusal};
+use qz_apply::{is_acquired, next_after, node_refusal, owner_refusal};
 use qz_civil::beside;
-use qz_tables::{Begin, Tables};
-use qz_types::{FiredRow, JobRow, Key, MemberRow, Refusal, Reply, StepRefused, TriggerState};
-use std::alloc::AllocError;
+use qz_tables::{Begin, StateChange, Tables};
+use qz_types::{
+    FiredRow, JobRow, Key, MemberRow, Refusal, Reply, StepRefused, TriggerRow, TriggerState,
+};
 
 /// Why a Fire of the member is refused, if it is.
 pub fn fire_refused(tables: &Tables, moment: i64, me: &MemberRow, entry: u64) -> Option<Refusal>
@@ -29,25 +29,53 @@ pub fn fire_refused(tables: &Tables, moment: i64, me: &MemberRow, entry: u64) ->
     }
 }
 
-#[tactic(auto, using(qz_apply::proofs::Refused::of_one), unfolding(qz_model::specs::Firing::fire_one))]
+#[tactic(auto, using(qz_apply::proofs::Refused::of_one))]
 fn fire_row_refused(tables: &Tables, moment: i64, me: &MemberRow, row: &FiredRow) -> Option<Refusal>
     ensures { MatchOption result (IsAccepted (fire_row tables.now.tables moment me.now (Some row.now))) (λ x. fire_row tables.now.tables moment me.now (Some row.now) ≡ refused x) }
 {
-    if is_of(me, row) && is_acquired(row.state) {
-        fire_refusal(tables, moment, row)
-    } else {
-        Some(Refusal::Unbuilt)
-    }
+    fire_refusal(tables, moment, me, row)
 }
 
 #[tactic(auto, unfolding(qz_model::specs::Firing::fire_refusal))]
-fn fire_refusal(tables: &Tables, moment: i64, row: &FiredRow) -> Option<Refusal>
-    ensures { result ≡ fire_refusal tables.now.tables moment row.now }
+fn fire_refusal(tables: &Tables, moment: i64, me: &MemberRow, row: &FiredRow) -> Option<Refusal>
+    ensures { result ≡ fire_refusal tables.now.tables moment me.now row.now }
 {
-    if is_exclusive(tables, &row.job) {
-        Some(Refusal::Unbuilt)
-    } else {
-        early(moment, next_of(tables, &row.trigger))
+    match acquired_refusal(me, row) {
+        Some(refusal) => Some(refusal),
+        None => early(moment, next_of(tables, &row.trigger)),
+    }
+}
+
+/// Why the row is refused to this member as one that it acquired, if it is: it has to be its own, and its execution mustn't
+/// have begun.
+#[tactic(auto, unfolding(qz_model::specs::Acquiring::acquired_refusal))]
+pub fn acquired_refusal(me: &MemberRow, row: &FiredRow) -> Option<Refusal>
+    ensures { result ≡ acquired_refusal me.now row.now }
+{
+    match owner_refusal(me, row) {
+        Some(refusal) => Some(refusal),
+        None if is_acquired(row.state) => None,
+        None => Some(Refusal::NotAcquired),
+    }
+}
+
+fn early(moment: i64, next: Option<i64>) -> Option<Refusal>
+    ensures { result ≡ early moment next }
+{
+    match next {
+        Some(next) if moment < next => Some(Refusal::Early { next }),
+        _ => None,
+    }
+}
+
+// The next time of the trigger of this key, if it has one.
+#[tactic(auto, unfolding(qz_model::specs::Firing::next_of))]
+fn next_of(tables: &Tables, key: &Key) -> Option<i64>
+    ensures { result ≡ next_of key.now tables.now.tables.triggers }
+{
+    match tables.get_trigger(key) {
+        Some(trigger) => trigger.next,
+        None => None,
     }
 }
 
@@ -70,64 +98,23 @@ pub fn fire(
     let Some(row) = tables.get_fired(entry) else {
         unreachable!()
     };
+    let scheduled = row.scheduled;
+    let next = following(tables, entry, row);
     let job = job_of_row(tables, entry, row);
-    let number = row.entry;
-    let begin = Begin {
-        moment,
-        no_concurrent: job.no_concurrent,
-        requests_recovery: job.requests_recovery,
-    };
-    let Start { trigger, reply } = make_start(moment, row, job)?;
-    begin_execution(tables, &trigger, number, begin);
-    drop(trigger);
-    Ok(reply)
-}
-
-// What is made when an execution begins: the key of its trigger again, and the reply.
-#[derive(Drop)]
-struct Start {
-    trigger: Key,
-    reply: Reply,
-}
-
-#[tactic(auto, unfolding(qz_model::specs::Firing::fired_reply))]
-fn make_start(moment: i64, row: &FiredRow, job: &JobRow) -> Result<Start, AllocError>
-    ensures trigger { IfOk result (λ start. start.trigger ≡ row.now.trigger) }
-    ensures reply { IfOk result (λ start. start.reply ≡ fired_reply moment row.now job.now) }
-{
-    let trigger = row.trigger.copy()?;
-    let (trigger, again) = beside(trigger, row.trigger.copy())?;
-    let ((trigger, again), job) = beside((trigger, again), job.copy())?;
-    Ok(Start {
+    let (trigger, job) = beside(row.trigger.copy()?, job.copy())?;
+    begin(tables, moment, entry, &trigger, &job, next);
+    Ok(Reply::Fired {
+        entry,
+        scheduled,
+        fired: moment,
+        next,
         trigger,
-        reply: Reply::Fired {
-            entry: row.entry,
-            scheduled: row.scheduled,
-            fired: moment,
-            next: None,
-            trigger: again,
-            job,
-        },
+        job,
     })
 }
 
-// The trigger of this key has fired for the last time, and the execution of the row of this entry number begins. It takes
-// no memory.
-#[tactic(auto, unfolding(qz_model::specs::Firing::spent))]
-fn begin_execution(tables: &mut Tables, trigger: &Key, entry: u64, begin: Begin)
-    ensures { tables.new.tables ≡ record tables.old.tables {
-      triggers = with_trigger trigger.now spent tables.old.tables.triggers;
-      fired = with_fired entry (begun begin.moment begin.no_concurrent begin.requests_recovery) tables.old.tables.fired;
-      last_moment = begin.moment;
-    } }
-{
-    tables.fire_trigger(trigger, None, TriggerState::Complete);
-    tables.begin_execution(entry, begin);
-    tables.set_last_moment(begin.moment);
-}
-
 // The job of an acquired row: tables that are valid have it.
-#[tactic(auto, unfolding(qz_model::specs::Firing::stored_job))]
+#[tactic(auto, unfolding(qz_model::specs::Tests::stored_job))]
 fn job_of_row<'a>(tables: &'a Tables, entry: u64, row: &FiredRow) -> &'a JobRow
     requires valid { ∥ TablesValid tables.now.tables ∥₁ }
     requires stored { fired_of entry tables.now.tables.fired ≡ Some row.now }
@@ -140,22 +127,80 @@ fn job_of_row<'a>(tables: &'a Tables, entry: u64, row: &FiredRow) -> &'a JobRow
     }
 }
 
-// The next time of the trigger of this key, if it has one.
-#[tactic(auto, unfolding(qz_model::specs::Firing::next_of))]
-fn next_of(tables: &Tables, key: &Key) -> Option<i64>
-    ensures { result ≡ next_of key.now tables.now.tables.triggers }
+// The next time of the trigger of an acquired row, once this one has fired.
+#[tactic(auto, unfolding(qz_model::specs::Firing::following))]
+fn following(tables: &Tables, entry: u64, row: &FiredRow) -> Option<i64>
+    requires valid { ∥ TablesValid tables.now.tables ∥₁ }
+    requires stored { fired_of entry tables.now.tables.fired ≡ Some row.now }
+    requires taken { is_acquired row.now.state ≡ true }
+    ensures { result ≡ following tables.now.tables row.now }
 {
-    match tables.get_trigger(key) {
-        Some(trigger) => trigger.next,
+    match tables.get_trigger(&row.trigger) {
+        Some(trigger) => next_after(tables, &trigger.spec, next_time(trigger)),
         None => None,
     }
 }
 
-fn early(moment: i64, next: Option<i64>) -> Option<Refusal>
-    ensures { result ≡ early moment next }
+#[tactic(auto, unfolding(qz_model::specs::Acquiring::next_time))]
+fn next_time(trigger: &TriggerRow) -> i64
+    ensures { result ≡ next_time trigger.now }
+{
+    trigger.next.unwrap_or(0)
+}
+
+// The execution of the row of this entry number begins, and the trigger of this key, which is the job's, has fired. If
+// executions of the job exclude each other, its other triggers are blocked, and none of them stays acquired. It takes no memory.
+fn begin(
+    tables: &mut Tables,
+    moment: i64,
+    entry: u64,
+    trigger: &Key,
+    job: &JobRow,
+    next: Option<i64>,
+)
+    ensures { tables.new.tables ≡ record tables.old.tables {
+      triggers = with_trigger trigger.now (after_fire next (fired_state next job.now.no_concurrent)) (with_blocked job.now.no_concurrent job.now.key tables.old.tables.triggers);
+      fired = without_siblings job.now.no_concurrent job.now.key (with_fired entry (begun moment job.now.no_concurrent job.now.requests_recovery) tables.old.tables.fired);
+      last_moment = moment;
+    } }
+{
+    block_siblings(tables, job);
+    tables.fire_trigger(trigger, next, fired_state(next, job.no_concurrent));
+    tables.begin_execution(
+        entry,
+        Begin {
+            moment,
+            no_concurrent: job.no_concurrent,
+            requests_recovery: job.requests_recovery,
+        },
+    );
+    free_siblings(tables, job);
+    tables.set_last_moment(moment);
+}
+
+fn block_siblings(tables: &mut Tables, job: &JobRow)
+    ensures { tables.new.tables ≡ record tables.old.tables { triggers = with_blocked job.now.no_concurrent job.now.key tables.old.tables.triggers } }
+{
+    if job.no_concurrent {
+        tables.change_job_states(&job.key, StateChange::Block);
+    }
+}
+
+fn free_siblings(tables: &mut Tables, job: &JobRow)
+    ensures { tables.new.tables ≡ record tables.old.tables { fired = without_siblings job.now.no_concurrent job.now.key tables.old.tables.fired } }
+{
+    if job.no_concurrent {
+        tables.remove_acquired_of_job(&job.key);
+    }
+}
+
+// The state of a trigger that fired, by its next time and by whether executions of its job exclude each other.
+fn fired_state(next: Option<i64>, exclusive: bool) -> TriggerState
+    ensures { result ≡ fired_state next exclusive }
 {
     match next {
-        Some(next) if is_before(next, Some(moment)) => Some(Refusal::Early { next }),
-        _ => None,
+        None => TriggerState::Complete,
+        Some(_) if exclusive => TriggerState::Blocked,
+        Some(_) => TriggerState::Waiting,
     }
 }

@@ -1,4 +1,5 @@
-//! The commands of a node that takes triggers, applied to the tables of the trigger store: Acquire and Fire.
+//! The commands of a node that takes triggers, applied to the tables of the trigger store: Acquire,
+//! Release and Misfires.
 //!
 //! Each is applied in three phases: what refuses it, which takes no memory; the copies that the change needs, which may
 //! take memory; and the change, which can't fail.
@@ -12,51 +13,63 @@ ghost use Rattle.qz_model.specs.Invariant.{TablesValid};
 ghost use Rattle.qz_model.specs.Transaction.{transaction};
 ghost use Rattle.qz_tables.specs.Contents.{HasSpare};
 ghost use Rattle.qz_apply.specs.Room.{AddsUpTo};
-ghost use Rattle.qz_acquire.specs.Commands.{is_acquiring};
+ghost use Rattle.qz_acquire.specs.Commands.{is_acquiring, room_of};
 
 mod acquiring;
+mod choosing;
 mod due;
-mod firing;
 mod jobs;
+mod misfires;
+mod releasing;
 
 use acquiring::{acquire, acquire_refused};
-use firing::{fire, fire_refused};
+use misfires::{misfires, misfires_refused};
 use qz_apply::recorded_moment;
 use qz_tables::Tables;
 use qz_types::{Actor, Command, Entry, Refusal, Reply, StepRefused};
+use releasing::{release, release_refused};
 
 /// Why the command is refused, if it is.
 pub fn refusal(tables: &Tables, entry: &Entry) -> Option<Refusal>
     requires { IsTrue (is_acquiring entry.now.command) }
     ensures { MatchOption result (IsAccepted (transaction tables.now.tables entry.now)) (λ x. transaction tables.now.tables entry.now ≡ refused x) }
 {
-    let moment = recorded_moment(tables, entry.at);
     match &entry.command {
         Command::Acquire {
             no_later: _,
-            window,
+            window: _,
             max,
         } => match &entry.actor {
             Actor::Client => Some(Refusal::Fenced { live: None }),
-            Actor::Node(me) => acquire_refused(tables, me, *window, *max),
+            Actor::Node(me) => acquire_refused(tables, me, *max),
         },
-        Command::Fire { entry: number } => match &entry.actor {
+        Command::Misfires => match &entry.actor {
             Actor::Client => Some(Refusal::Fenced { live: None }),
-            Actor::Node(me) => fire_refused(tables, moment, me, *number),
+            Actor::Node(me) => misfires_refused(tables, me),
+        },
+        Command::Release { entry: number } => match &entry.actor {
+            Actor::Client => Some(Refusal::Fenced { live: None }),
+            Actor::Node(me) => release_refused(tables, me, *number),
         },
         _ => unreachable!(),
     }
 }
 
 /// How many rows the command adds to any one kind at most.
-#[tactic(auto, using(crate::proofs::Rooms::adds_one))]
+#[tactic(auto, using(crate::proofs::Rooms::adds))]
 pub fn room(entry: &Entry) -> usize
     requires { IsTrue (is_acquiring entry.now.command) }
-    ensures value { result ≡ 1 }
+    ensures value { result ≡ room_of entry.now.command }
     ensures bound { (T : SchedulerTables) → AddsUpTo result T (transaction T entry.now) }
 {
-    let _ = entry;
-    1
+    match &entry.command {
+        Command::Acquire {
+            no_later: _,
+            window: _,
+            max,
+        } => *max as usize,
+        _ => 0,
+    }
 }
 
 /// Does the command's transaction. The caller sees to it that the tables are valid, and makes the room by `Tables::reserve`
@@ -66,7 +79,7 @@ pub fn apply(tables: &mut Tables, entry: &Entry) -> Result<Reply, StepRefused>
     requires command { IsTrue (is_acquiring entry.now.command) }
     requires valid { ∥ TablesValid tables.old.tables ∥₁ }
     requires entry { IsTrue (is_entry entry.now) }
-    requires spare { HasSpare 1 tables.old.spare }
+    requires spare { HasSpare (room_of entry.now.command) tables.old.spare }
     ensures ok { IfOk result (λ reply. transaction tables.old.tables entry.now ≡ accepted tables.new.tables reply) }
     ensures cause { IfErr result (IsErrorOf (transaction tables.old.tables entry.now)) }
     ensures err { OnErr result (tables.new ≡ tables.old) }
@@ -82,9 +95,13 @@ pub fn apply(tables: &mut Tables, entry: &Entry) -> Result<Reply, StepRefused>
             Actor::Client => Err(StepRefused::Refused(Refusal::Fenced { live: None })),
             Actor::Node(me) => acquire(tables, moment, me, *no_later, *window, *max),
         },
-        Command::Fire { entry: number } => match &entry.actor {
+        Command::Misfires => match &entry.actor {
             Actor::Client => Err(StepRefused::Refused(Refusal::Fenced { live: None })),
-            Actor::Node(me) => fire(tables, moment, me, *number),
+            Actor::Node(me) => misfires(tables, moment, me),
+        },
+        Command::Release { entry: number } => match &entry.actor {
+            Actor::Client => Err(StepRefused::Refused(Refusal::Fenced { live: None })),
+            Actor::Node(me) => release(tables, moment, me, *number),
         },
         _ => unreachable!(),
     }

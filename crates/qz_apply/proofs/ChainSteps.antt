@@ -16,12 +16,10 @@ unfolding chain_of
 chain_zero cs limit None none = refl
 chain_zero cs limit (Some c) none = rw none refl
 
-pub chain_some : (cs : List CalendarData) (limit : ℕ) (c : CalendarData) → 0 < limit → chain_of cs limit (Some c) ≡ c ∷ chain_of cs (limit - 1) (calendar_named cs c.base)
+chain_some : (cs : List CalendarData) (limit : ℕ) (c : CalendarData) → 0 < limit → chain_of cs limit (Some c) ≡ c ∷ chain_of cs (limit - 1) (calendar_named cs c.base)
 unfolding chain_of
 chain_some cs zero c some = absurd (omega arith)
 chain_some cs (suc limit) c some = let less : suc limit - 1 ≡ limit = omega arith in rw less refl
-
-pub ruleset chain_steps = (chain_none, chain_zero, chain_some)
 
 abbrev at_zone : CalendarKind → List Stretch → ZonedCalendar
 at_zone kind zone = record { kind = kind; zone = zone }

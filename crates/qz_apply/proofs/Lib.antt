@@ -1,7 +1,7 @@
 pub mod Accepted
+pub mod ChainSteps
 pub mod Deletions
 pub mod JobLists
-pub mod ChainSteps
 pub mod Moves
 pub mod Refused
 pub mod Rooms

@@ -2,6 +2,8 @@
 use Rattle.std.specs.Prelude.{⊤, ℕ, ◌+◌, ◌≤◌, length}
 use Rattle.qz_types.specs.Tables.{SchedulerTables}
 use Rattle.qz_types.specs.Outcomes.{Outcome, accepted, refused}
+use Rattle.qz_types.specs.declared.commands.Command.{Command}
+use Rattle.qz_types.specs.declared.commands.Command.TheVariants.{Acquire}
 
 -- no kind has more than so many rows more
 pub record GrowsUpTo (rows : ℕ) (old new : SchedulerTables) : Type 0 where
@@ -17,3 +19,8 @@ pub record GrowsUpTo (rows : ℕ) (old new : SchedulerTables) : Type 0 where
 abbrev pub AddsUpTo : ℕ → SchedulerTables → Outcome → Type 0
 AddsUpTo rows old (accepted new reply) = GrowsUpTo rows old new
 AddsUpTo rows old (refused refusal) = ⊤
+
+-- how many rows the command may add to a kind
+abbrev pub rows_added : Command → ℕ
+rows_added (Acquire no_later window max) = max
+rows_added command = 1

@@ -1,4 +1,5 @@
 //! What the application of every command needs, over the tables of the trigger store: the recorded moment, the fence of
+//! nodes, tests on texts and keys, the executions that exclude others, the fire times of stored triggers, and jobs that go with
 //! nodes, tests on texts and keys, the executions that exclude others, fire times of stored triggers, and jobs that go with
 //! their last trigger. Nothing here takes memory.
 #![tactic(auto)]
@@ -11,7 +12,7 @@ mod orphans;
 mod plans;
 
 pub use executions::{is_acquired, is_busy};
-pub use members::{is_of, node_refusal};
+pub use members::{is_of, node_refusal, owner_refusal};
 pub use moments::recorded_moment;
 pub use names::{same_key, same_text};
 pub use orphans::{remove_orphan, remove_trigger_and_orphan};

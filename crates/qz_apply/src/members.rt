@@ -1,5 +1,6 @@
 //! The fence for nodes that aren't members any more, and the rows of a member.
 ghost use Rattle.std.specs.Prelude.{◌≡◌, option_copied};
+ghost use Rattle.qz_model.specs.Acquiring.{owner_refusal};
 ghost use Rattle.qz_model.specs.Tests.{is_of};
 ghost use Rattle.qz_model.specs.Membership.{live_epoch, is_live, node_refusal};
 
@@ -34,4 +35,16 @@ pub fn is_of(me: &MemberRow, row: &FiredRow) -> bool
     ensures { result ≡ is_of me.now row.now }
 {
     same_text(me.node.as_str(), row.node.as_str()) && me.epoch == row.epoch
+}
+
+/// Why the row is refused to this member, if it is: it has to be the member's own.
+#[tactic(auto, unfolding(qz_model::specs::Acquiring::owner_refusal))]
+pub fn owner_refusal(me: &MemberRow, row: &FiredRow) -> Option<Refusal>
+    ensures { result ≡ owner_refusal me.now row.now }
+{
+    if is_of(me, row) {
+        None
+    } else {
+        Some(Refusal::NotYours { owner: row.owner() })
+    }
 }

@@ -72,7 +72,6 @@ fn calendar_named<'a>(tables: &'a Tables, name: Option<&Text>) -> Option<&'a Cal
 }
 
 // Puts the calendar with its zone, that below it and so on, up to so many, after those of the chain.
-#[tactic(auto, using(crate::proofs::ChainSteps::chain_steps))]
 fn push_to<'a>(
     tables: &'a Tables,
     utc: &'a Zone,
@@ -99,7 +98,7 @@ fn push_to<'a>(
     push_to(tables, utc, base, limit - 1, chain);
 }
 
-// The calendars of a trigger that names this one.
+// The chain of a trigger that names this calendar.
 #[tactic(auto, unfolding(qz_model::specs::Plan::zoned_chain))]
 fn zoned_chain<'a>(tables: &'a Tables, utc: &'a Zone, calendar: Option<&Text>) -> Chain<'a>
     requires { utc.now ≡ fixed_offset (pos 0) }
@@ -127,8 +126,8 @@ pub fn next_after(tables: &Tables, spec: &TriggerSpec, t: i64) -> Option<i64>
     qz_plan::after(&spec.timing, zone, &chain, t)
 }
 
-/// What the misfire table makes of a trigger that is misfired at this moment, in ms since 1970-01-01T00:00:00Z. The trigger
-/// that is moved so is valid again.
+/// What the misfire table makes of a trigger whose next time lies before this moment, in ms since 1970-01-01T00:00:00Z. The
+/// trigger that is moved so is valid again. Whether it is misfired, by the threshold, is for the caller to say.
 #[tactic(auto, unfolding(qz_model::specs::Misfires::move_of, qz_model::specs::Plan::next_after, qz_model::specs::Acquiring::next_time))]
 pub fn move_of(tables: &Tables, trigger: &TriggerRow, moment: i64) -> Moved
     requires next { pos 0 ≤ℤ next_time trigger.now }

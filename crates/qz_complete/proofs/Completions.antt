@@ -1,62 +1,147 @@
 -- What a Complete that isn't refused comes to.
-use Rattle.std.proofs.Common.{◌≡◌, ℕ, ℤ, not, ◌&&◌, List, Option, Some, None, MatchOption, refl, sym, ap, ◌∙◌, subst}
-use Rattle.qz_types.specs.Rows.{JobData, TriggerData, MemberData, FiredData}
+use Rattle.std.proofs.Common.{◌≡◌, ℕ, ℤ, Bool, true, false, not, cond, ◌==◌, ◌&&◌, List, [], ◌∷◌, filter, Option, Some, None, MatchOption, refl, sym, ap, ◌∙◌, subst}
+use Rattle.qz_types.specs.Rows.{TriggerData, MemberData, FiredData}
 use Rattle.qz_types.specs.Entries.{EntryData}
 use Rattle.qz_types.specs.declared.keys.Key.{Key}
 use Rattle.qz_types.specs.declared.commands.Code.{Code}
+use Rattle.qz_types.specs.declared.commands.Code.TheVariants as code
 use Rattle.qz_types.specs.declared.commands.Command.TheVariants.{Complete}
 use Rattle.qz_types.specs.declared.commands.Actor.TheVariants.{Node}
+use Rattle.qz_types.specs.declared.triggers.TriggerState.{TriggerState}
 use Rattle.qz_types.specs.declared.replies.Reply.TheVariants as reply
 use Rattle.qz_types.specs.declared.replies.Refusal.{Refusal}
-use Rattle.qz_types.specs.declared.replies.Refusal.TheVariants.{Unbuilt}
+use Rattle.qz_types.specs.Changes.{without_acquired}
+use Rattle.qz_types.specs.States.{is_acquired}
 use Rattle.qz_types.specs.Tables.{SchedulerTables, recorded_moment}
 use Rattle.qz_types.specs.Outcomes.{accepted, refused, IsAccepted}
-use Rattle.qz_types.specs.Words.{job_of, trigger_of, fired_of, without_fired}
-use Rattle.qz_apply.proofs.Accepted.{no_refusal, when_accepted}
+use Rattle.qz_types.specs.Words.{trigger_of, fired_of, without_fired}
+use Rattle.qz_apply.proofs.Accepted.{no_refusal}
+use Rattle.qz_apply.proofs.Refused.{of_one}
+use Rattle.qz_model.specs.Completing.{with_trigger_ended, with_job_ended, with_code, without_execution, without_finished, completed, complete_refusal, complete_one, complete_row, complete}
 use Rattle.qz_model.specs.Membership.{node_refusal}
-use Rattle.qz_model.specs.Executions.{is_acquired}
-use Rattle.qz_model.specs.Firing.{is_of, is_noop, without_finished, completed, complete_row, complete}
+use Rattle.qz_model.specs.Tests.{is_row_of_trigger, is_row_of_job}
+use Rattle.qz_model.specs.Triggers.{without_trigger_and_orphan}
 use Rattle.qz_model.specs.Transaction.{transaction}
-use Rattle.qz_model.proofs.RowLaws.{same_key-exact, job_of-key, trigger_of-key}
+use Rattle.qz_complete.specs.Ended.{is_again, unblocked_after, ended}
 
-pub key_of_trigger : (k : Key) (t : TriggerData) (rows : List TriggerData) → trigger_of k rows ≡ Some t → k ≡ t.spec.key
-key_of_trigger k t rows found = same_key-exact k t.spec.key (trigger_of-key k t rows found)
+-- each code is accepted
+one_accepted : (T : SchedulerTables) (m : ℤ) (f : FiredData) (c : Code) → IsAccepted (complete_one T m f c)
+one_accepted T m f code.Noop = tt
+one_accepted T m f code.ReExecuteJob = tt
+one_accepted T m f code.SetTriggerComplete = tt
+one_accepted T m f code.DeleteTrigger = tt
+one_accepted T m f code.SetAllJobTriggersComplete = tt
+one_accepted T m f code.SetTriggerError = tt
+one_accepted T m f code.SetAllJobTriggersError = tt
 
-pub key_of_job : (k : Key) (j : JobData) (rows : List JobData) → job_of k rows ≡ Some j → k ≡ j.key
-key_of_job k j rows found = same_key-exact k j.key (job_of-key k j rows found)
+pub of_row : (T : SchedulerTables) (m : ℤ) (me : MemberData) (f : FiredData) (c : Code) → MatchOption (complete_refusal me f) (IsAccepted (complete_row T m me (Some f) c)) (λ r. complete_row T m me (Some f) c ≡ refused r)
+of_row T m me f c = of_one (complete_refusal me f) (complete_one T m f c) (one_accepted T m f c)
 
-row_completes : (T : SchedulerTables) (m : ℤ) (me : MemberData) (f : FiredData) (code : Code) → IsAccepted (complete_row T m me (Some f) code)
-    → complete_row T m me (Some f) code ≡ accepted (completed T m f) (reply.Completed f.entry)
-row_completes T m me f code is = (when_accepted (is_of me f && not (is_acquired f.state) && not f.no_concurrent && is_noop code) Unbuilt _ is).2
+-- where there is no trigger, none goes
+pub none_goes : (T : SchedulerTables) → without_trigger_and_orphan T None ≡ T
+unfolding without_trigger_and_orphan
+none_goes T = refl
 
--- an accepted Complete ends the execution of this row
-pub completes : (T : SchedulerTables) (m : ℤ) (me : MemberData) (entry : ℕ) (code : Code) (f : FiredData) → IsAccepted (complete T m me entry code) → fired_of entry T.fired ≡ Some f
-    → complete T m me entry code ≡ accepted (completed T m f) (reply.Completed f.entry)
-completes T m me entry code f is stored =
-    let clear : complete T m me entry code ≡ complete_row T m me (fired_of entry T.fired) code = no_refusal (node_refusal T me) (complete_row T m me (fired_of entry T.fired) code) is in
-    let at : complete T m me entry code ≡ complete_row T m me (Some f) code = clear ∙ ap (λ o. complete_row T m me o code) stored in
-    at ∙ row_completes T m me f code (subst IsAccepted at is)
+-- an accepted Complete is that of its row
+pub completes : (T : SchedulerTables) (m : ℤ) (me : MemberData) (entry : ℕ) (c : Code) (f : FiredData) → IsAccepted (complete T m me entry c) → fired_of entry T.fired ≡ Some f → complete T m me entry c ≡ complete_one T m f c
+completes T m me entry c f is stored =
+    let clear : complete T m me entry c ≡ complete_row T m me (fired_of entry T.fired) c = no_refusal (node_refusal T me) (complete_row T m me (fired_of entry T.fired) c) is in
+    let at : complete T m me entry c ≡ complete_row T m me (Some f) c = clear ∙ ap (λ o. complete_row T m me o c) stored in
+    at ∙ no_refusal (complete_refusal me f) (complete_one T m f c) (subst IsAccepted at is)
 
--- which has a row
-pub row_of_complete : (T : SchedulerTables) (m : ℤ) (me : MemberData) (entry : ℕ) (code : Code) → IsAccepted (complete T m me entry code) → fired_of entry T.fired ≡ None → ⊥
-row_of_complete T m me entry code is none =
-    let clear : complete T m me entry code ≡ complete_row T m me (fired_of entry T.fired) code = no_refusal (node_refusal T me) (complete_row T m me (fired_of entry T.fired) code) is in
-    subst IsAccepted (clear ∙ ap (λ o. complete_row T m me o code) none) is
+-- which it has
+pub row_of_complete : (T : SchedulerTables) (m : ℤ) (me : MemberData) (entry : ℕ) (c : Code) → IsAccepted (complete T m me entry c) → fired_of entry T.fired ≡ None → ⊥
+row_of_complete T m me entry c is none =
+    let clear : complete T m me entry c ≡ complete_row T m me (fired_of entry T.fired) c = no_refusal (node_refusal T me) (complete_row T m me (fired_of entry T.fired) c) is in
+    subst IsAccepted (clear ∙ ap (λ o. complete_row T m me o c) none) is
+
+some_row : (T : SchedulerTables) (m : ℤ) (me : MemberData) (entry : ℕ) (c : Code) (o : Option FiredData) {G : Type 0} → IsAccepted (complete T m me entry c) → fired_of entry T.fired ≡ o
+    → ((f : FiredData) → fired_of entry T.fired ≡ Some f → G) → G
+some_row T m me entry c None is found goal = absurd (row_of_complete T m me entry c is found)
+some_row T m me entry c (Some f) is found goal = goal f found
 
 -- what refuses an entry that completes
-pub at_complete : (T : SchedulerTables) (e : EntryData) (me : MemberData) (entry : ℕ) (code : Code) (x : Option Refusal) → e.command ≡ Complete entry code → e.actor ≡ Node me
-    → ((m : ℤ) → MatchOption x (IsAccepted (complete T m me entry code)) (λ r. complete T m me entry code ≡ refused r))
+pub at_complete : (T : SchedulerTables) (e : EntryData) (me : MemberData) (entry : ℕ) (c : Code) (x : Option Refusal) → e.command ≡ Complete entry c → e.actor ≡ Node me
+    → ((m : ℤ) (d : Code) → MatchOption x (IsAccepted (complete T m me entry d)) (λ r. complete T m me entry d ≡ refused r))
     → MatchOption x (IsAccepted (transaction T e)) (λ r. transaction T e ≡ refused r)
-at_complete T e me entry code x command actor all =
-    let is : transaction T e ≡ complete T (recorded_moment T e.at) me entry code = rw (command, actor) refl in
-    subst (λ o. MatchOption x (IsAccepted o) (λ r. o ≡ refused r)) (sym is) (all (recorded_moment T e.at))
+at_complete T e me entry c x command actor all =
+    let is : transaction T e ≡ complete T (recorded_moment T e.at) me entry c = rw (command, actor) refl in
+    subst (λ o. MatchOption x (IsAccepted o) (λ r. o ≡ refused r)) (sym is) (all (recorded_moment T e.at) c)
 
--- what the changes, one after the other, come to
-pub ended_is : (T U V : SchedulerTables) (m n : ℤ) (f : FiredData) (entry : ℕ) (key : Key) → U ≡ record T { fired = without_fired entry T.fired; last_moment = n }
-    → V ≡ without_finished U (trigger_of key U.triggers) → n ≡ m → entry ≡ f.entry → key ≡ f.trigger → V ≡ completed T m f
-unfolding completed
-ended_is T U V m n f entry key before ended moment number trigger =
-    ended ∙ ap (λ (u : SchedulerTables). without_finished u (trigger_of key u.triggers)) before
-    ∙ ap (λ (x : ℤ). without_finished (record T { fired = without_fired entry T.fired; last_moment = x }) (trigger_of key T.triggers)) moment
-    ∙ ap (λ (e : ℕ). without_finished (record T { fired = without_fired e T.fired; last_moment = m }) (trigger_of key T.triggers)) number
-    ∙ ap (λ (k : Key). without_finished (record T { fired = without_fired f.entry T.fired; last_moment = m }) (trigger_of k T.triggers)) trigger
+-- Filters in either order.
+filter_filter : (p q : FiredData → Bool) (xs : List FiredData) → filter p (filter q xs) ≡ filter q (filter p xs)
+filter_filter p q [] = refl
+filter_filter p q (x ∷ xs) = elim (q x) as (λ b. q x ≡ b → filter p (cond b (x ∷ filter q xs) (filter q xs)) ≡ filter q (cond (p x) (x ∷ filter p xs) (filter p xs))) [
+  | true ↦ λ passes. elim (p x) as (λ a. cond a (x ∷ filter p (filter q xs)) (filter p (filter q xs)) ≡ filter q (cond a (x ∷ filter p xs) (filter p xs))) [
+    | true ↦ rw passes (ap (λ (ys : List FiredData). x ∷ ys) (filter_filter p q xs))
+    | false ↦ filter_filter p q xs
+  ]
+  | false ↦ λ fails. elim (p x) as (λ a. filter p (filter q xs) ≡ filter q (cond a (x ∷ filter p xs) (filter p xs))) [
+    | true ↦ rw fails (filter_filter p q xs)
+    | false ↦ filter_filter p q xs
+  ]
+] refl
+
+acquired_first : (q : FiredData → Bool) (entry : ℕ) (rows : List FiredData) → without_acquired q (without_fired entry rows) ≡ without_fired entry (without_acquired q rows)
+unfolding without_acquired without_fired
+acquired_first q entry rows = filter_filter (λ f. not (is_acquired f.state && q f)) (λ f. not (entry == f.entry)) rows
+
+-- the tables without the row of this entry number
+abbrev pub without_row : ℕ → SchedulerTables → SchedulerTables
+without_row entry T = record T { fired = without_fired entry T.fired }
+
+trigger_first : (T : SchedulerTables) (t : Option TriggerData) (entry : ℕ) → without_trigger_and_orphan (without_row entry T) t ≡ without_row entry (without_trigger_and_orphan T t)
+unfolding without_trigger_and_orphan
+trigger_first T None entry = refl
+trigger_first T (Some t) entry = rw (acquired_first (is_row_of_trigger t.spec.key) entry T.fired) refl
+
+trigger_ended_first : (T : SchedulerTables) (key : Key) (s : TriggerState) (entry : ℕ) → with_trigger_ended (without_row entry T) key s ≡ without_row entry (with_trigger_ended T key s)
+unfolding with_trigger_ended
+trigger_ended_first T key s entry = rw (acquired_first (is_row_of_trigger key) entry T.fired) refl
+
+job_ended_first : (T : SchedulerTables) (job : Key) (s : TriggerState) (entry : ℕ) → with_job_ended (without_row entry T) job s ≡ without_row entry (with_job_ended T job s)
+unfolding with_job_ended
+job_ended_first T job s entry = rw (acquired_first (is_row_of_job job) entry T.fired) refl
+
+-- the code can be applied where the row is gone already
+code_first : (c : Code) (T : SchedulerTables) (f : FiredData) (entry : ℕ) → with_code c (without_row entry T) f ≡ without_row entry (with_code c T f)
+code_first code.Noop T f entry = refl
+code_first code.ReExecuteJob T f entry = refl
+code_first code.SetTriggerComplete T f entry = trigger_ended_first T f.trigger _ entry
+code_first code.DeleteTrigger T f entry = trigger_first T (trigger_of f.trigger T.triggers) entry
+code_first code.SetAllJobTriggersComplete T f entry = job_ended_first T f.job _ entry
+code_first code.SetTriggerError T f entry = trigger_ended_first T f.trigger _ entry
+code_first code.SetAllJobTriggersError T f entry = job_ended_first T f.job _ entry
+
+-- the changes, one after the other, come to the end of the execution
+pub ended_is : (c : Code) (T : SchedulerTables) (f : FiredData) (entry : ℕ) → entry ≡ f.entry → ended c (without_row entry T) f ≡ completed T f c
+unfolding without_execution
+ended_is c T f entry number =
+    ap (λ (u : SchedulerTables). without_finished c (unblocked_after u f) f.trigger) (code_first c T f entry)
+    ∙ ap (λ (n : ℕ). without_finished c (unblocked_after (without_row n (with_code c T f)) f) f.trigger) number
+
+-- with any code but RE_EXECUTE_JOB
+pub one_ended : (T : SchedulerTables) (m : ℤ) (f : FiredData) (c : Code) → is_again c ≡ false → complete_one T m f c ≡ accepted (record (completed T f c) { last_moment = m }) (reply.Completed f.entry)
+one_ended T m f code.Noop other = refl
+one_ended T m f code.ReExecuteJob other = absurd (cc)
+one_ended T m f code.SetTriggerComplete other = refl
+one_ended T m f code.DeleteTrigger other = refl
+one_ended T m f code.SetAllJobTriggersComplete other = refl
+one_ended T m f code.SetTriggerError other = refl
+one_ended T m f code.SetAllJobTriggersError other = refl
+
+-- and with that
+one_again : (T : SchedulerTables) (m : ℤ) (f : FiredData) (c : Code) → is_again c ≡ true → complete_one T m f c ≡ accepted (record T { last_moment = m }) (reply.Again f.entry)
+one_again T m f code.Noop again = absurd (cc)
+one_again T m f code.ReExecuteJob again = refl
+one_again T m f code.SetTriggerComplete again = absurd (cc)
+one_again T m f code.DeleteTrigger again = absurd (cc)
+one_again T m f code.SetAllJobTriggersComplete again = absurd (cc)
+one_again T m f code.SetTriggerError again = absurd (cc)
+one_again T m f code.SetAllJobTriggersError again = absurd (cc)
+
+pub again_is : (T : SchedulerTables) (m : ℤ) (me : MemberData) (entry : ℕ) (c : Code) → ((f : FiredData) → fired_of entry T.fired ≡ Some f → entry ≡ f.entry) → IsAccepted (complete T m me entry c) → is_again c ≡ true
+    → complete T m me entry c ≡ accepted (record T { last_moment = m }) (reply.Again entry)
+again_is T m me entry c number is again =
+    some_row T m me entry c (fired_of entry T.fired) is refl (λ f stored.
+    completes T m me entry c f is stored ∙ one_again T m f c again ∙ ap (λ (n : ℕ). accepted (record T { last_moment = m }) (reply.Again n)) (sym (number f stored)))

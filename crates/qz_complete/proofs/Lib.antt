@@ -1,3 +1,2 @@
-mod Completions
-mod Rooms
-mod TriggerLists
+pub mod Completions
+pub mod Rooms

@@ -1,39 +1,49 @@
 //! A node ends an execution.
-ghost use Rattle.std.specs.Prelude.{◌≡◌, ℤ, Err, Some, MatchOption, IfOk, IfErr, OnErr, option_copied};
+ghost use Rattle.std.specs.Prelude.{◌≡◌, ℤ, Err, MatchOption, Some, IfOk, IfErr, OnErr, option_copied};
 ghost use Rattle.std.specs.List.{list_any};
+ghost use Rattle.qz_types.specs.declared.commands.Code.{Code};
 ghost use Rattle.qz_types.specs.Outcomes.{accepted, refused, IsAccepted, IsErrorOf};
 ghost use Rattle.qz_types.specs.Tables.{SchedulerTables};
-ghost use Rattle.qz_types.specs.Words.{same_key, trigger_of};
-ghost use Rattle.qz_model.specs.Executions.{is_acquired};
-ghost use Rattle.qz_model.specs.Firing.{is_of, is_noop, is_complete, is_finished, without_finished, completed, complete_row, complete};
+ghost use Rattle.qz_types.specs.Words.{trigger_of};
+ghost use Rattle.qz_model.specs.Completing.{is_complete, is_finished, finished, with_trigger_ended, with_job_ended, with_code, with_unblocked, without_finished, complete_refusal, complete_row, complete};
+ghost use Rattle.qz_model.specs.Tests.{is_row_of_trigger};
+ghost use Rattle.qz_complete.specs.Ended.{is_again, is_noop, ended};
+ghost use Rattle.qz_model.specs.Triggers.{without_trigger_and_orphan};
 
-use crate::orphans::remove_orphan;
-use qz_apply::{is_acquired, is_of, node_refusal, same_key};
-use qz_tables::Tables;
+use qz_apply::{is_acquired, node_refusal, owner_refusal, remove_trigger_and_orphan, same_key};
+use qz_tables::{StateChange, Tables};
 use qz_types::{
     Code, FiredRow, Key, MemberRow, Refusal, Reply, StepRefused, TriggerRow, TriggerState,
 };
 
 /// Why a Complete of the member is refused, if it is.
-pub fn complete_refused(tables: &Tables, me: &MemberRow, entry: u64, code: Code) -> Option<Refusal>
-    ensures { (m : ℤ) → MatchOption result (IsAccepted (complete tables.now.tables m me.now entry code)) (λ x. complete tables.now.tables m me.now entry code ≡ refused x) }
+pub fn complete_refused(tables: &Tables, me: &MemberRow, entry: u64) -> Option<Refusal>
+    ensures { (m : ℤ) (code : Code) → MatchOption result (IsAccepted (complete tables.now.tables m me.now entry code)) (λ x. complete tables.now.tables m me.now entry code ≡ refused x) }
 {
     if let Some(refusal) = node_refusal(tables, me) {
         return Some(refusal);
     }
     match tables.get_fired(entry) {
         None => Some(Refusal::UnknownEntry),
-        Some(row) => row_refusal(me, row, code),
+        Some(row) => row_refused(me, row),
     }
 }
 
-fn row_refusal(me: &MemberRow, row: &FiredRow, code: Code) -> Option<Refusal>
-    ensures { (T : SchedulerTables) (m : ℤ) → MatchOption result (IsAccepted (complete_row T m me.now (Some row.now) code)) (λ x. complete_row T m me.now (Some row.now) code ≡ refused x) }
+#[tactic(auto, using(crate::proofs::Completions::of_row))]
+fn row_refused(me: &MemberRow, row: &FiredRow) -> Option<Refusal>
+    ensures { (T : SchedulerTables) (m : ℤ) (code : Code) → MatchOption result (IsAccepted (complete_row T m me.now (Some row.now) code)) (λ x. complete_row T m me.now (Some row.now) code ≡ refused x) }
 {
-    if is_of(me, row) && !is_acquired(row.state) && !row.no_concurrent && is_noop(code) {
-        None
-    } else {
-        Some(Refusal::Unbuilt)
+    complete_refusal(me, row)
+}
+
+#[tactic(auto, unfolding(qz_model::specs::Completing::complete_refusal))]
+fn complete_refusal(me: &MemberRow, row: &FiredRow) -> Option<Refusal>
+    ensures { result ≡ complete_refusal me.now row.now }
+{
+    match owner_refusal(me, row) {
+        Some(refusal) => Some(refusal),
+        None if is_acquired(row.state) => Some(Refusal::NotExecuting),
+        None => None,
     }
 }
 
@@ -50,37 +60,100 @@ pub fn complete(
     ensures err { OnErr result (tables.new ≡ tables.old) }
     ensures memory { result ≡ Err StepRefused.NoMemory → ⊥ }
 {
-    if let Some(refusal) = complete_refused(tables, me, entry, code) {
+    if let Some(refusal) = complete_refused(tables, me, entry) {
         return Err(StepRefused::Refused(refusal));
+    }
+    if is_again(code) {
+        tables.set_last_moment(moment);
+        return Ok(Reply::Again { entry });
     }
     let Some(row) = tables.remove_fired(entry) else {
         unreachable!()
     };
+    end_execution(tables, &row, code);
     tables.set_last_moment(moment);
-    remove_finished(tables, &row.trigger);
     drop(row);
     Ok(Reply::Completed { entry })
 }
 
+fn is_again(code: Code) -> bool
+    ensures { result ≡ is_again code }
+{
+    matches!(code, Code::ReExecuteJob)
+}
+
+// The execution of a row that was taken out ends with this code.
+fn end_execution(tables: &mut Tables, row: &FiredRow, code: Code)
+    ensures { tables.new.tables ≡ ended code tables.old.tables row.now }
+{
+    apply_code(tables, row, code);
+    unblock(tables, row);
+    if is_noop(code) {
+        remove_finished(tables, &row.trigger);
+    }
+}
+
+fn apply_code(tables: &mut Tables, row: &FiredRow, code: Code)
+    ensures { tables.new.tables ≡ with_code code tables.old.tables row.now }
+{
+    match code {
+        Code::Noop => {}
+        Code::ReExecuteJob => {}
+        Code::SetTriggerComplete => end_trigger(tables, &row.trigger, TriggerState::Complete),
+        Code::DeleteTrigger => remove_trigger_and_orphan(tables, &row.trigger),
+        Code::SetAllJobTriggersComplete => end_job(tables, &row.job, TriggerState::Complete),
+        Code::SetTriggerError => end_trigger(tables, &row.trigger, TriggerState::Error),
+        Code::SetAllJobTriggersError => end_job(tables, &row.job, TriggerState::Error),
+    }
+}
+
+// The trigger of this key gets this state, and its acquired row goes.
+#[tactic(auto, unfolding(qz_model::specs::Completing::with_trigger_ended))]
+fn end_trigger(tables: &mut Tables, key: &Key, state: TriggerState)
+    ensures { tables.new.tables ≡ with_trigger_ended tables.old.tables key.now state }
+{
+    tables.change_state(key, StateChange::Set(state));
+    tables.remove_acquired(key);
+}
+
+// The same of all triggers of this job.
+#[tactic(auto, unfolding(qz_model::specs::Completing::with_job_ended))]
+fn end_job(tables: &mut Tables, job: &Key, state: TriggerState)
+    ensures { tables.new.tables ≡ with_job_ended tables.old.tables job.now state }
+{
+    tables.change_job_states(job, StateChange::Set(state));
+    tables.remove_acquired_of_job(job);
+}
+
+// The triggers of the row's job are unblocked, if its execution excluded others.
+fn unblock(tables: &mut Tables, row: &FiredRow)
+    ensures { tables.new.tables ≡ record tables.old.tables { triggers = with_unblocked row.now.no_concurrent row.now.job tables.old.tables.triggers } }
+{
+    if row.no_concurrent {
+        tables.change_job_states(&row.job, StateChange::Unblock);
+    }
+}
+
+fn is_noop(code: Code) -> bool
+    ensures { result ≡ is_noop code }
+{
+    matches!(code, Code::Noop)
+}
+
 // The trigger of this key goes, if it is finished, and with it its job if that is an orphan then.
-#[tactic(auto, using(crate::proofs::Completions::key_of_trigger))]
+#[tactic(auto, using(crate::proofs::Completions::none_goes))]
 fn remove_finished(tables: &mut Tables, key: &Key)
-    ensures { tables.new.tables ≡ without_finished tables.old.tables (trigger_of key.now tables.old.tables.triggers) }
+    ensures { tables.new.tables ≡ without_trigger_and_orphan tables.old.tables (finished tables.old.tables.fired (trigger_of key.now tables.old.tables.triggers)) }
 {
     let Some(trigger) = tables.get_trigger(key) else {
         return;
     };
-    if !is_finished(tables, trigger) {
-        return;
+    if is_finished(tables, trigger) {
+        remove_trigger_and_orphan(tables, key);
     }
-    let Some(trigger) = tables.remove_trigger(key) else {
-        unreachable!()
-    };
-    remove_orphan(tables, &trigger.spec.job);
-    drop(trigger);
 }
 
-#[tactic(auto, unfolding(qz_model::specs::Firing::is_finished))]
+#[tactic(auto, unfolding(qz_model::specs::Completing::is_finished))]
 fn is_finished(tables: &Tables, trigger: &TriggerRow) -> bool
     ensures { result ≡ is_finished tables.now.tables.fired trigger.now }
 {
@@ -90,7 +163,7 @@ fn is_finished(tables: &Tables, trigger: &TriggerRow) -> bool
 // Whether a fired row names the trigger of this key. It looks at each fired row.
 #[tactic(auto, using(qz_apply::proofs::Searches::found_at))]
 fn has_row(tables: &Tables, trigger: &Key) -> bool
-    ensures { result ≡ list_any (λ f. same_key trigger.now f.trigger) tables.now.tables.fired }
+    ensures { result ≡ list_any (is_row_of_trigger trigger.now) tables.now.tables.fired }
 {
     for place in 0..tables.len_fired() {
         let Some(row) = tables.nth_fired(place) else {
@@ -101,12 +174,6 @@ fn has_row(tables: &Tables, trigger: &Key) -> bool
         }
     }
     false
-}
-
-fn is_noop(code: Code) -> bool
-    ensures { result ≡ is_noop code }
-{
-    matches!(code, Code::Noop)
 }
 
 fn is_complete(state: TriggerState) -> bool

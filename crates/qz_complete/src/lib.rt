@@ -10,11 +10,10 @@ ghost use Rattle.qz_types.specs.Tables.{SchedulerTables};
 ghost use Rattle.qz_model.specs.Invariant.{TablesValid};
 ghost use Rattle.qz_model.specs.Transaction.{transaction};
 ghost use Rattle.qz_tables.specs.Contents.{HasSpare};
-ghost use Rattle.qz_apply.specs.Room.{AddsUpTo};
+ghost use Rattle.qz_apply.specs.Room.{AddsUpTo, rows_added};
 ghost use Rattle.qz_complete.specs.Commands.{is_completing};
 
 mod completing;
-mod orphans;
 
 use completing::{complete, complete_refused};
 use qz_apply::recorded_moment;
@@ -30,10 +29,10 @@ pub fn refusal(tables: &Tables, entry: &Entry) -> Option<Refusal>
     match &entry.command {
         Command::Complete {
             entry: number,
-            code,
+            code: _,
         } => match &entry.actor {
             Actor::Client => Some(Refusal::Fenced { live: None }),
-            Actor::Node(me) => complete_refused(tables, me, *number, *code),
+            Actor::Node(me) => complete_refused(tables, me, *number),
         },
         _ => unreachable!(),
     }
@@ -43,7 +42,7 @@ pub fn refusal(tables: &Tables, entry: &Entry) -> Option<Refusal>
 #[tactic(auto, using(crate::proofs::Rooms::adds_one))]
 pub fn room(entry: &Entry) -> usize
     requires { IsTrue (is_completing entry.now.command) }
-    ensures value { result ≡ 1 }
+    ensures value { result ≡ rows_added entry.now.command }
     ensures bound { (T : SchedulerTables) → AddsUpTo result T (transaction T entry.now) }
 {
     let _ = entry;
@@ -56,7 +55,7 @@ pub fn apply(tables: &mut Tables, entry: &Entry) -> Result<Reply, StepRefused>
     requires command { IsTrue (is_completing entry.now.command) }
     requires valid { ∥ TablesValid tables.old.tables ∥₁ }
     requires entry { IsTrue (is_entry entry.now) }
-    requires spare { HasSpare 1 tables.old.spare }
+    requires spare { HasSpare (rows_added entry.now.command) tables.old.spare }
     ensures ok { IfOk result (λ reply. transaction tables.old.tables entry.now ≡ accepted tables.new.tables reply) }
     ensures cause { IfErr result (IsErrorOf (transaction tables.old.tables entry.now)) }
     ensures err { OnErr result (tables.new ≡ tables.old) }

@@ -6,7 +6,7 @@ ghost use Rattle.qz_civil.specs.Timings.{is_timing};
 
 use crate::zoned::{Begin, is_moment, zone_of};
 use qz_calendar::{Chain, are_annual_days, are_holidays, included, next_included};
-use qz_civil::{CalendarKind, Kind, LAST, List, Times, Timing, Zone};
+use qz_civil::{CalendarKind, Kind, LAST, List, Times, Timing, Zone, beside};
 use qz_cron_text::parse;
 use qz_plan::{FireTimes, first};
 use std::alloc::Global;
@@ -562,16 +562,39 @@ fn kind_of(alloc: Global, plain: Plain) -> Result<CalendarKind, Fail>
     }
 }
 
-pub fn chain_of(alloc: Global, links: &[(Plain, &'static [Begin])]) -> Result<Chain, Fail> {
+/// A calendar with its zone.
+#[derive(Drop)]
+pub struct Link {
+    kind: CalendarKind,
+    zone: Zone,
+    ghost valid: { IsTrue (is_calendar_kind kind) },
+}
+
+fn link_of(alloc: Global, plain: Plain, stretches: &[Begin]) -> Result<Link, Fail> {
+    let kind = kind_of(alloc, plain)?;
+    let (kind, zone) = beside(kind, zone_of(alloc, stretches))?;
+    Ok(Link { kind, zone })
+}
+
+/// The calendars of a chain.
+pub fn links_of(alloc: Global, rows: &[(Plain, &'static [Begin])]) -> Result<Vec<Link>, Fail> {
+    let mut links = Vec::new(alloc);
+    for &(plain, stretches) in rows {
+        links.push(link_of(alloc, plain, stretches)?)?;
+    }
+    Ok(links)
+}
+
+pub fn chain_of(links: &[Link]) -> Result<Chain<'_>, Fail> {
     let mut chain = Chain::empty();
-    for &(plain, stretches) in links {
-        chain.push(kind_of(alloc, plain)?, zone_of(alloc, stretches)?)?;
+    for link in links {
+        chain.push(&link.kind, &link.zone)?;
     }
     Ok(chain)
 }
 
 // Whether the chain includes first, from the timestamp on, what is wanted.
-fn includes(chain: &Chain, from: i64, wanted: Option<i64>) -> bool {
+fn includes(chain: &Chain<'_>, from: i64, wanted: Option<i64>) -> bool {
     0 <= from
         && from <= LAST
         && next_included(chain, from) == wanted
@@ -582,7 +605,8 @@ fn includes(chain: &Chain, from: i64, wanted: Option<i64>) -> bool {
 fn what_chains_include(rt: HostRuntime) -> Result<(), Fail> {
     for rows in TABLES.iter() {
         for row in rows.iter() {
-            let chain = chain_of(rt.alloc(), row.0)?;
+            let links = links_of(rt.alloc(), row.0)?;
+            let chain = chain_of(&links)?;
             assert!(rt; includes(&chain, row.1, row.2), "at {row:?}");
         }
     }
@@ -626,7 +650,8 @@ const BY_TURNS: &[ChainRow] = &[
 #[test]
 fn cron_calendars_by_turns(rt: HostRuntime) -> Result<(), Fail> {
     for row in BY_TURNS.iter() {
-        let chain = chain_of(rt.alloc(), row.0)?;
+        let links = links_of(rt.alloc(), row.0)?;
+        let chain = chain_of(&links)?;
         assert!(rt; includes(&chain, row.1, row.2), "at {row:?}");
     }
     Ok(())
@@ -634,11 +659,13 @@ fn cron_calendars_by_turns(rt: HostRuntime) -> Result<(), Fail> {
 
 #[test]
 fn at_most_eight_calendars(rt: HostRuntime) -> Result<(), Fail> {
+    let kind = set(0, false)?;
+    let zone = Zone::utc();
     let mut chain = Chain::empty();
     for _ in 0..8 {
-        chain.push(set(0, false)?, Zone::utc())?;
+        chain.push(&kind, &zone)?;
     }
-    assert!(rt; chain.push(set(0, false)?, Zone::utc()).is_err());
+    assert!(rt; chain.push(&kind, &zone).is_err());
     Ok(())
 }
 
@@ -679,16 +706,17 @@ fn each_day() -> Timing
 #[test]
 fn fire_times_with_calendars(rt: HostRuntime) -> Result<(), Fail> {
     let timing = each_day();
-    for (links, start, wanted) in MIDNIGHTS.iter() {
-        let chain = chain_of(rt.alloc(), links)?;
+    for (rows, start, wanted) in MIDNIGHTS.iter() {
+        let links = links_of(rt.alloc(), rows)?;
+        let chain = chain_of(&links)?;
         let zone = Zone::utc();
         let times = FireTimes::new(&timing, &zone, &chain);
-        assert!(rt; first(&timing, &zone, &chain) == Some(*start), "{links:?}");
+        assert!(rt; first(&timing, &zone, &chain) == Some(*start), "{rows:?}");
         let mut after = *start;
         for time in wanted.iter() {
             assert!(rt;
                 is_moment(after) && times.next(after) == Some(*time),
-                "{links:?}"
+                "{rows:?}"
             );
             after = *time;
         }

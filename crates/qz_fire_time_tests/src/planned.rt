@@ -2,7 +2,7 @@
 ghost use Rattle.std.specs.Prelude.{IsTrue, IfOk};
 ghost use Rattle.qz_civil.specs.Timings.{is_kind, is_timing};
 
-use crate::calendars::{Plain, chain_of};
+use crate::calendars::{Plain, chain_of, links_of};
 use crate::misfires::{Wanted, is_end};
 use crate::zoned::{Begin, is_span};
 use Plain::Weekly;
@@ -159,7 +159,8 @@ fn is_moved(
     if next < 0 || next >= now || now > LAST || times > 1 << 63 {
         return Ok(false);
     }
-    let chain = chain_of(alloc, links)?;
+    let links = links_of(alloc, links)?;
+    let chain = chain_of(&links)?;
     let timing = timing_of(alloc, trigger)?;
     let moved = Moved {
         start,

@@ -1,21 +1,21 @@
--- What a line of `times` says, and which fault it has.
-use Rattle.std.specs.Prelude.{ℕ, List, Bool, true, ◌||◌, is_some, if◌then◌else◌, Option, None, Result, Ok, Err, option_and_then, codes}
+-- What a line of `times` says, and which fault it has. It is read as a line of a script.
+use Rattle.std.specs.Prelude.{ℕ, List, Bool, true, false, if◌then◌else◌, Option, Result, Ok, Err}
 use Rattle.serde_json.specs.Data.{Data}
-use Rattle.serde_json.specs.Find.{get}
-use Rattle.qz_civil.specs.declared.stretches.Stretch.{Stretch}
 use Rattle.qz_types.specs.Rows.{is_trigger_spec}
+use Rattle.qz_types.specs.declared.commands.Command.{Command}
+use Rattle.qz_types.specs.declared.commands.Command.TheVariants as command
+use Rattle.qz_types.specs.declared.steps.Step.{Step}
+use Rattle.qz_types.specs.declared.steps.Step.TheVariants as step
 use Rattle.qz_job_json.specs.declared.asked.Asked.{Asked}
 use Rattle.qz_job_json.specs.declared.asked.Asked.TheVariants.{AddZone, AddCalendar, AddTrigger}
-use Rattle.qz_job_json.specs.declared.forms.Form.TheVariants.{ZoneLine, CalendarLine, TriggerLine}
+use Rattle.qz_job_json.specs.declared.words.ClientWord.{ClientWord}
+use Rattle.qz_job_json.specs.declared.words.ClientWord.TheVariants as client
+use Rattle.qz_job_json.specs.declared.words.Word.{Word}
+use Rattle.qz_job_json.specs.declared.words.Word.TheVariants.{Client, Join, Node}
 use Rattle.qz_job_json.specs.declared.faults.LineFault.{LineFault}
-use Rattle.qz_job_json.specs.declared.faults.LineFault.TheVariants.{NotHere, Shape}
-use Rattle.qz_job_json.specs.Faults.{◌>>=◌, or_shape}
-use Rattle.qz_job_json.specs.Forms.{built, unbuilt_words, word_of}
-use Rattle.qz_job_json.specs.Lines.{json_of, said_by}
-use Rattle.qz_job_json.specs.Members.{is_text, is_among, has_only, both, text_at, name_at, optional_integer_at, optional_bool_at, flag_at}
-use Rattle.qz_job_json.specs.Calendars.{calendar_by_kind}
-use Rattle.qz_job_json.specs.Schedules.{trigger_by_kind}
-use Rattle.qz_job_json.specs.Zones.{zone_of}
+use Rattle.qz_job_json.specs.declared.faults.LineFault.TheVariants.{NotHere}
+use Rattle.qz_job_json.specs.Faults.{◌>>=◌}
+use Rattle.qz_job_json.specs.Lines.{json_of, said_by, word_in, given_of}
 
 -- the trigger is valid; a zone and a calendar always are
 abbrev pub is_asked : Asked → Bool
@@ -23,59 +23,36 @@ is_asked (AddZone zone) = true
 is_asked (AddCalendar calendar replace) = true
 is_asked (AddTrigger spec) = is_trigger_spec spec
 
-abbrev pub make_zone : List ℕ → List Stretch → Asked
-make_zone name stretches = AddZone (record { name = name; stretches = stretches })
+abbrev pub is_client_of_times : ClientWord → Bool
+is_client_of_times client.AddTrigger = true
+is_client_of_times client.AddCalendar = true
+is_client_of_times client.AddZone = true
+is_client_of_times what = false
 
-abbrev pub add_zone : Data → Option Asked
-add_zone d = both make_zone (name_at (codes "name") d) (option_and_then zone_of (get (codes "stretches") d))
+-- it is a line of `times` too
+abbrev pub is_of_times : Word → Bool
+is_of_times (Client what) = is_client_of_times what
+is_of_times Join = false
+is_of_times (Node what) = false
 
--- its member `at` is right and has no meaning
-unfoldable pub zone_line : Data → Option Asked
-zone_line d =
-    if has_only (built ZoneLine) d
-    then both (λ at asked. asked) (optional_integer_at (codes "at") d) (add_zone d)
-    else None
+abbrev pub asked_of_command : Command → Result Asked LineFault
+asked_of_command (command.AddZone zone) = Ok (AddZone zone)
+asked_of_command (command.AddCalendar calendar replace) = Ok (AddCalendar calendar replace)
+asked_of_command (command.AddTrigger spec replace) = Ok (AddTrigger spec)
+asked_of_command other = Err NotHere
 
--- its member `at` is right and has no meaning
-unfoldable pub calendar_line : Data → Result Asked LineFault
-calendar_line d =
-    if has_only (built CalendarLine) d
-    then (or_shape (optional_integer_at (codes "at") d) >>= λ at.
-    or_shape (flag_at (codes "replace") d) >>= λ replace.
-    or_shape (get (codes "calendar") d) >>= λ object.
-    calendar_by_kind object >>= λ calendar.
-    Ok (AddCalendar calendar replace))
-    else Err Shape
+-- what a step asks for in `times`, where a trigger isn't stored and so replaces none
+abbrev pub asked_of : Step → Result Asked LineFault
+asked_of (step.Client command) = asked_of_command command
+asked_of (step.Join node interval) = Err NotHere
+asked_of (step.Node node command) = Err NotHere
 
--- its members `at` and `replace` are right and have no meaning
-unfoldable pub trigger_line : Data → Result Asked LineFault
-trigger_line d =
-    if has_only (built TriggerLine) d
-    then (or_shape (optional_integer_at (codes "at") d) >>= λ at.
-    or_shape (optional_bool_at (codes "replace") d) >>= λ replace.
-    or_shape (get (codes "trigger") d) >>= λ trigger.
-    trigger_by_kind trigger >>= λ spec.
-    Ok (AddTrigger spec))
-    else Err Shape
+-- the line's reading of the clock has no meaning
+unfoldable pub asked_by_word : Word → Data → Result Asked LineFault
+asked_by_word word d = if is_of_times word then (given_of word d >>= λ given. asked_of given.step) else Err NotHere
 
--- a word of the format
-abbrev pub is_word : List ℕ → Bool
-is_word text = is_among unbuilt_words text || is_some (word_of text)
-
--- the fault of a line that isn't one of `times`
-abbrev pub fault_of_word : List ℕ → LineFault
-fault_of_word text = if is_word text then NotHere else Shape
-
-abbrev pub asked_by : List ℕ → Data → Result Asked LineFault
-asked_by text d =
-    if is_text text (codes "add_zone") then or_shape (zone_line d)
-    else if is_text text (codes "add_calendar") then calendar_line d
-    else if is_text text (codes "add_trigger") then trigger_line d
-    else Err (fault_of_word text)
-
--- the text of the member `do` names the line
 abbrev pub asked_by_value : Data → Result Asked LineFault
-asked_by_value d = or_shape (text_at (codes "do") d) >>= λ text. asked_by text d
+asked_by_value d = word_in d >>= λ word. asked_by_word word d
 
 -- a line, without its line feed; Ok None is a blank line
 abbrev pub asked_meaning : List ℕ → Result (Option Asked) LineFault

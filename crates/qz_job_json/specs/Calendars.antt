@@ -1,4 +1,4 @@
--- The calendars in lines of `times`. The members are read in this order up to the first fault, and the cron text last.
+-- The calendars in lines. The members are read in this order up to the first fault, and the cron text last.
 use Rattle.std.specs.Prelude.{ℕ, ◌+◌, ◌*◌, List, [], ◌∷◌, length, slice_index, Bool, ◌&&◌, ◌==◌, nat_lt, if◌then◌else◌, is_none, Option, Some, None, Result, Ok, Err, option_map, option_and_then, codes}
 use Rattle.serde_json.specs.Data.{Data, Items}
 use Rattle.serde_json.specs.Find.{get, at, as_array, as_str}
@@ -17,7 +17,7 @@ use Rattle.qz_job_json.specs.declared.faults.LineFault.{LineFault}
 use Rattle.qz_job_json.specs.declared.faults.LineFault.TheVariants.{Shape}
 use Rattle.qz_job_json.specs.Clocks.{two_digits, number_to, listed, set_to}
 use Rattle.qz_job_json.specs.Faults.{◌>>=◌, or_shape}
-use Rattle.qz_job_json.specs.Forms.{built, calendar_word_of}
+use Rattle.qz_job_json.specs.Forms.{members_of, calendar_word_of}
 use Rattle.qz_job_json.specs.Members.{has_only, kept, both, said_or, text_at, number_at, name_at, optional_name_at, flag_at}
 use Rattle.qz_job_json.specs.Schedules.{or_cron, zone_at}
 
@@ -141,7 +141,7 @@ calendar_word_at d = option_and_then calendar_word_of (text_at (codes "kind") d)
 -- a calendar of its kind, which has only members of that kind
 abbrev pub only_calendar_of : CalendarWord → Data → Result CalendarData LineFault
 only_calendar_of word d =
-    if has_only (built (CalendarOf word)) d then calendar_of word d else Err Shape
+    if has_only (members_of (CalendarOf word)) d then calendar_of word d else Err Shape
 
 -- a calendar of the kind that it says
 abbrev pub calendar_by_kind : Data → Result CalendarData LineFault

@@ -1,17 +1,58 @@
 -- The table of the format: which members each object has. An object is a line, named by the word of its member
--- `do`, or the job, the calendar or the trigger in one.
+-- `do`, or the job, the calendar or the trigger in one. What the members say is in `Commands` and in `Objects`,
+-- `Calendars` and `Schedules`.
 use Rattle.std.specs.Prelude.{ℕ, List, [], ◌∷◌, ◌++◌, if◌then◌else◌, Option, Some, None, codes}
 use Rattle.qz_job_json.specs.Members.{is_text}
-use Rattle.qz_job_json.specs.declared.forms.Word.{Word}
-use Rattle.qz_job_json.specs.declared.forms.Word.TheVariants.{AddJob, AddTrigger, Join, Acquire, Fire, Complete}
+use Rattle.qz_job_json.specs.declared.words.ClientWord.{ClientWord}
+use Rattle.qz_job_json.specs.declared.words.ClientWord.TheVariants.{AddJob, AddTrigger, AddCalendar, AddZone, OfKey, OfGroup, OfName, Threshold}
+use Rattle.qz_job_json.specs.declared.words.NodeWord.{NodeWord}
+use Rattle.qz_job_json.specs.declared.words.NodeWord.TheVariants.{Leave, Acquire, Release, Fire, Complete, Misfires, Recover}
+use Rattle.qz_job_json.specs.declared.words.Word.{Word}
+use Rattle.qz_job_json.specs.declared.words.Word.TheVariants as word
 use Rattle.qz_job_json.specs.declared.forms.KindWord.{KindWord}
 use Rattle.qz_job_json.specs.declared.forms.KindWord.TheVariants.{Simple, Cron, Interval, Daily}
 use Rattle.qz_job_json.specs.declared.forms.CalendarWord.{CalendarWord}
 use Rattle.qz_job_json.specs.declared.forms.CalendarWord.TheVariants as calendar
 use Rattle.qz_job_json.specs.declared.forms.Form.{Form}
-use Rattle.qz_job_json.specs.declared.forms.Form.TheVariants.{Line, Job, Trigger, ZoneLine, CalendarLine, CalendarOf, TriggerLine, TriggerOf}
+use Rattle.qz_job_json.specs.declared.forms.Form.TheVariants.{Line, Job, CalendarOf, TriggerOf}
 
--- the members of a trigger in a line of `times`, of whichever kind
+-- the members of every line
+abbrev pub line_shared : List (List ℕ)
+line_shared = codes "do" ∷ codes "at" ∷ []
+
+-- the further ones of a client's line
+abbrev pub client_own : ClientWord → List (List ℕ)
+client_own AddJob = codes "job" ∷ codes "replace" ∷ []
+client_own AddTrigger = codes "trigger" ∷ codes "replace" ∷ []
+client_own AddCalendar = codes "calendar" ∷ codes "replace" ∷ []
+client_own AddZone = codes "name" ∷ codes "stretches" ∷ []
+client_own (OfKey what) = codes "name" ∷ codes "group" ∷ []
+client_own (OfGroup what) = codes "group" ∷ []
+client_own (OfName what) = codes "name" ∷ []
+client_own Threshold = codes "ms" ∷ []
+
+-- and of a node's
+abbrev pub node_own : NodeWord → List (List ℕ)
+node_own Leave = codes "node" ∷ []
+node_own Acquire = codes "node" ∷ codes "no_later" ∷ codes "window" ∷ codes "max" ∷ []
+node_own Release = codes "node" ∷ codes "entry" ∷ []
+node_own Fire = codes "node" ∷ codes "entry" ∷ []
+node_own Complete = codes "node" ∷ codes "entry" ∷ codes "code" ∷ []
+node_own Misfires = codes "node" ∷ []
+node_own Recover = codes "node" ∷ codes "failed" ∷ []
+
+abbrev pub line_own : Word → List (List ℕ)
+line_own (word.Client what) = client_own what
+line_own word.Join = codes "node" ∷ codes "interval" ∷ []
+line_own (word.Node what) = node_own what
+
+-- the members of a job
+abbrev pub job_members : List (List ℕ)
+job_members =
+    codes "name" ∷ codes "group" ∷ codes "class" ∷ codes "durable" ∷ codes "no_concurrent"
+    ∷ codes "requests_recovery" ∷ codes "data" ∷ []
+
+-- the members of a trigger, of whichever kind
 abbrev pub shared : List (List ℕ)
 shared =
     codes "name" ∷ codes "group" ∷ codes "job" ∷ codes "job_group" ∷ codes "priority" ∷ codes "calendar"
@@ -37,71 +78,12 @@ calendar_own calendar.Monthly = codes "days" ∷ []
 calendar_own calendar.Daily = codes "from" ∷ codes "to" ∷ codes "inverted" ∷ []
 calendar_own calendar.Cron = codes "cron" ∷ []
 
--- the members that are read
-abbrev pub built : Form → List (List ℕ)
-built (Line AddJob) = codes "do" ∷ codes "at" ∷ codes "job" ∷ []
-built (Line AddTrigger) = codes "do" ∷ codes "at" ∷ codes "trigger" ∷ []
-built (Line Join) = codes "do" ∷ codes "at" ∷ codes "node" ∷ []
-built (Line Acquire) = codes "do" ∷ codes "at" ∷ codes "node" ∷ codes "no_later" ∷ []
-built (Line Fire) = codes "do" ∷ codes "at" ∷ codes "node" ∷ codes "entry" ∷ []
-built (Line Complete) = codes "do" ∷ codes "at" ∷ codes "node" ∷ codes "entry" ∷ []
-built Job = codes "name" ∷ codes "group" ∷ codes "class" ∷ []
-built Trigger =
-    codes "name" ∷ codes "group" ∷ codes "job" ∷ codes "job_group" ∷ codes "start" ∷ codes "kind" ∷ []
-built ZoneLine = codes "do" ∷ codes "at" ∷ codes "name" ∷ codes "stretches" ∷ []
-built CalendarLine = codes "do" ∷ codes "at" ∷ codes "calendar" ∷ codes "replace" ∷ []
-built (CalendarOf kind) = calendar_shared ++ calendar_own kind
-built TriggerLine = codes "do" ∷ codes "at" ∷ codes "trigger" ∷ codes "replace" ∷ []
-built (TriggerOf kind) = shared ++ own kind
-
--- the members of the format that aren't built yet
-abbrev pub unbuilt : Form → List (List ℕ)
-unbuilt (Line AddJob) = codes "replace" ∷ []
-unbuilt (Line AddTrigger) = codes "replace" ∷ []
-unbuilt (Line Join) = codes "interval" ∷ []
-unbuilt (Line Acquire) = codes "window" ∷ codes "max" ∷ []
-unbuilt (Line Fire) = []
-unbuilt (Line Complete) = codes "code" ∷ []
-unbuilt Job = codes "durable" ∷ codes "no_concurrent" ∷ codes "requests_recovery" ∷ codes "data" ∷ []
-unbuilt Trigger =
-    codes "priority" ∷ codes "calendar" ∷ codes "misfire" ∷ codes "end" ∷ codes "interval" ∷ codes "count"
-    ∷ codes "cron" ∷ codes "zone" ∷ codes "unit" ∷ codes "every" ∷ codes "from" ∷ codes "to" ∷ codes "days" ∷ []
-unbuilt ZoneLine = []
-unbuilt CalendarLine = []
-unbuilt (CalendarOf kind) = []
-unbuilt TriggerLine = []
-unbuilt (TriggerOf kind) = []
-
--- the kinds of triggers that aren't built yet
-abbrev pub unbuilt_kinds : List (List ℕ)
-unbuilt_kinds = codes "cron" ∷ codes "interval" ∷ codes "daily" ∷ []
-
--- the words of lines that aren't built yet: what a client asks for
-abbrev pub unbuilt_client_words : List (List ℕ)
-unbuilt_client_words =
-    codes "add_calendar" ∷ codes "add_zone" ∷ codes "delete_job" ∷ codes "delete_trigger"
-    ∷ codes "pause_trigger" ∷ codes "resume_trigger" ∷ codes "trigger_now" ∷ codes "pause_group"
-    ∷ codes "resume_group" ∷ codes "delete_calendar" ∷ codes "delete_zone" ∷ codes "threshold" ∷ []
-
--- and what a node does, or what is done with one
-abbrev pub unbuilt_node_words : List (List ℕ)
-unbuilt_node_words =
-    codes "check_in" ∷ codes "leave" ∷ codes "misfires" ∷ codes "stop" ∷ codes "release"
-    ∷ codes "recover" ∷ codes "forget" ∷ codes "restart" ∷ []
-
-abbrev pub unbuilt_words : List (List ℕ)
-unbuilt_words = unbuilt_client_words ++ unbuilt_node_words
-
--- the line that a text names, where it is built
-unfoldable pub word_of : List ℕ → Option Word
-word_of text =
-    if is_text text (codes "add_job") then Some AddJob
-    else if is_text text (codes "add_trigger") then Some AddTrigger
-    else if is_text text (codes "join") then Some Join
-    else if is_text text (codes "acquire") then Some Acquire
-    else if is_text text (codes "fire") then Some Fire
-    else if is_text text (codes "complete") then Some Complete
-    else None
+-- all members that an object may have
+abbrev pub members_of : Form → List (List ℕ)
+members_of (Line what) = line_shared ++ line_own what
+members_of Job = job_members
+members_of (CalendarOf kind) = calendar_shared ++ calendar_own kind
+members_of (TriggerOf kind) = shared ++ own kind
 
 -- the kind that a text names
 unfoldable pub kind_word_of : List ℕ → Option KindWord

@@ -1,6 +1,7 @@
 pub mod Asked
 pub mod Calendars
 pub mod Clocks
+pub mod Commands
 pub mod Faults
 pub mod Forms
 pub mod Lines
@@ -8,4 +9,5 @@ pub mod Members
 pub mod Objects
 pub mod Schedules
 pub mod Tables
+pub mod Words
 pub mod Zones

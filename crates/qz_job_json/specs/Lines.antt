@@ -1,97 +1,72 @@
 -- What a line of a script says, and which fault it has. Of several faults the first in the order TooLong, NotJson,
--- NotHere, Shape is meant.
-use Rattle.std.specs.Prelude.{◌≡◌, ℕ, ℤ, pos, List, length, Bool, false, ◌==◌, ◌||◌, nat_lt, if◌then◌else◌, Option, Some, None, Result, Ok, Err, option_map, option_and_then, codes}
+-- NotHere, Shape, Cron is meant.
+use Rattle.std.specs.Prelude.{◌≡◌, ℕ, ℤ, pos, List, length, Bool, false, ◌==◌, ◌||◌, nat_lt, if◌then◌else◌, Option, Some, None, Result, Ok, Err, codes}
 use Rattle.std.specs.List.{list_all}
 use Rattle.std.specs.Str.{is_utf8}
 use Rattle.serde_json.specs.Data.{Data}
-use Rattle.serde_json.specs.Find.{get}
 use Rattle.serde_json.specs.Read.{read}
-use Rattle.qz_types.specs.declared.commands.Code.TheVariants.{Noop}
-use Rattle.qz_types.specs.declared.commands.Command.{Command}
-use Rattle.qz_types.specs.declared.commands.Command.TheVariants as command
+use Rattle.qz_types.specs.declared.limits.TheConstants.{INTERVAL_LIMIT}
 use Rattle.qz_types.specs.declared.steps.Step.{Step}
 use Rattle.qz_types.specs.declared.steps.Step.TheVariants as step
-use Rattle.qz_job_json.specs.declared.forms.Word.{Word}
-use Rattle.qz_job_json.specs.declared.forms.Word.TheVariants.{AddJob, AddTrigger, Join, Acquire, Fire, Complete}
-use Rattle.qz_job_json.specs.declared.forms.Form.TheVariants.{Line, Job, Trigger}
 use Rattle.qz_io.specs.declared.limits.TheConstants.{LINE_LIMIT}
+use Rattle.qz_job_json.specs.declared.words.Word.{Word}
+use Rattle.qz_job_json.specs.declared.words.Word.TheVariants.{Client, Join, Node}
+use Rattle.qz_job_json.specs.declared.forms.Form.TheVariants.{Line}
 use Rattle.qz_job_json.specs.declared.lines.Given.{Given}
 use Rattle.qz_job_json.specs.declared.faults.LineError.{LineError}
 use Rattle.qz_job_json.specs.declared.faults.LineError.TheVariants as error
 use Rattle.qz_job_json.specs.declared.faults.LineFault.{LineFault}
 use Rattle.qz_job_json.specs.declared.faults.LineFault.TheVariants.{TooLong, NotJson, NotHere}
+use Rattle.qz_job_json.specs.Commands.{client_command, node_command}
 use Rattle.qz_job_json.specs.Faults.{◌>>=◌, or_shape}
-use Rattle.qz_job_json.specs.Forms.{built, unbuilt, unbuilt_kinds, unbuilt_words, word_of}
-use Rattle.qz_job_json.specs.Members.{is_among, has_any, has_only, both, text_at, number_at, node_at, span_at, optional_integer_at}
-use Rattle.qz_job_json.specs.Objects.{job_of, trigger_of}
+use Rattle.qz_job_json.specs.Forms.{members_of}
+use Rattle.qz_job_json.specs.Members.{is_among, has_only, text_at, node_at, integer_or, optional_integer_at}
+use Rattle.qz_job_json.specs.Words.{unbuilt_words, word_of}
 
-abbrev pub is_unbuilt_kind : Option (List ℕ) → Bool
-is_unbuilt_kind None = false
-is_unbuilt_kind (Some kind) = is_among unbuilt_kinds kind
+-- how often a node that joins will check in, in ms
+abbrev pub interval_at : Data → Option ℤ
+interval_at d = integer_or (pos 1) INTERVAL_LIMIT (pos 15000) (codes "interval") d
 
--- a trigger with a member or a kind that isn't built yet
-abbrev pub is_unbuilt_trigger : Data → Bool
-is_unbuilt_trigger d = has_any (unbuilt Trigger) d || is_unbuilt_kind (text_at (codes "kind") d)
-
--- what stands under a name, if anything does, passes the test
-abbrev pub some_is : (Data → Bool) → Option Data → Bool
-some_is test None = false
-some_is test (Some d) = test d
-
--- the job or the trigger in the line has something that isn't built yet
-abbrev pub has_unbuilt_part : Word → Data → Bool
-has_unbuilt_part AddJob d = some_is (has_any (unbuilt Job)) (get (codes "job") d)
-has_unbuilt_part AddTrigger d = some_is is_unbuilt_trigger (get (codes "trigger") d)
-has_unbuilt_part Join d = false
-has_unbuilt_part Acquire d = false
-has_unbuilt_part Fire d = false
-has_unbuilt_part Complete d = false
-
-unfoldable pub is_unbuilt : Word → Data → Bool
-is_unbuilt word d = has_any (unbuilt (Line word)) d || has_unbuilt_part word d
-
-abbrev pub acquire_of : Data → Option Command
-acquire_of d = option_map (λ no_later. command.Acquire no_later (pos 0) 1) (span_at (codes "no_later") d)
-
-abbrev pub fire_of : Data → Option Command
-fire_of d = option_map (λ entry. command.Fire entry) (number_at (codes "entry") d)
-
-abbrev pub complete_of : Data → Option Command
-complete_of d = option_map (λ entry. command.Complete entry Noop) (number_at (codes "entry") d)
+unfoldable pub join_step : Data → Result Step LineFault
+join_step d =
+    or_shape (node_at (codes "node") d) >>= λ node.
+    or_shape (interval_at d) >>= λ interval.
+    Ok (step.Join node interval)
 
 -- the step of a line by its own members
-unfoldable pub step_of : Word → Data → Option Step
-step_of AddJob d =
-    option_map (λ job. step.Client (command.AddJob job false)) (option_and_then job_of (get (codes "job") d))
-step_of AddTrigger d =
-    option_map (λ spec. step.Client (command.AddTrigger spec false)) (option_and_then trigger_of (get (codes "trigger") d))
-step_of Join d =
-    option_map (λ node. step.Join node (pos 15000)) (node_at (codes "node") d)
-step_of Acquire d = both step.Node (node_at (codes "node") d) (acquire_of d)
-step_of Fire d = both step.Node (node_at (codes "node") d) (fire_of d)
-step_of Complete d = both step.Node (node_at (codes "node") d) (complete_of d)
+unfoldable pub step_of : Word → Data → Result Step LineFault
+step_of (Client what) d = client_command what d >>= λ command. Ok (step.Client command)
+step_of Join d = join_step d
+step_of (Node what) d =
+    or_shape (node_at (codes "node") d) >>= λ node.
+    node_command what d >>= λ command.
+    Ok (step.Node node command)
+
+-- the line's own reading, where each of its members is one that such a line has
+abbrev pub reading_of : Word → Data → Option (Option ℤ)
+reading_of word d = if has_only (members_of (Line word)) d then optional_integer_at (codes "at") d else None
 
 abbrev pub make_given : Option ℤ → Step → Given
 make_given at step = record { at = at; step = step }
 
--- the step with its reading; None is a line that isn't a step
-unfoldable pub given_of : Word → Data → Option Given
+-- the step with its reading
+unfoldable pub given_of : Word → Data → Result Given LineFault
 given_of word d =
-    if has_only (built (Line word)) d
-    then both make_given (optional_integer_at (codes "at") d) (step_of word d)
-    else None
+    or_shape (reading_of word d) >>= λ at.
+    step_of word d >>= λ step.
+    Ok (make_given at step)
 
-abbrev pub meaning_of_word : Word → Data → Result Given LineFault
-meaning_of_word word d = if is_unbuilt word d then Err NotHere else or_shape (given_of word d)
+-- the line that a text names
+unfoldable pub line_word : List ℕ → Result Word LineFault
+line_word text = if is_among unbuilt_words text then Err NotHere else or_shape (word_of text)
 
-abbrev pub meaning_of_text : List ℕ → Data → Result Given LineFault
-meaning_of_text text d =
-    if is_among unbuilt_words text then Err NotHere
-    else or_shape (word_of text) >>= λ word. meaning_of_word word d
+-- the line that a JSON value is, by the text of its member `do`
+abbrev pub word_in : Data → Result Word LineFault
+word_in d = or_shape (text_at (codes "do") d) >>= λ text. line_word text
 
--- what a JSON value says: the text of its member `do` names the line
+-- what a JSON value says
 abbrev pub meaning_of_value : Data → Result Given LineFault
-meaning_of_value d = or_shape (text_at (codes "do") d) >>= λ text. meaning_of_text text d
+meaning_of_value d = word_in d >>= λ word. given_of word d
 
 -- the JSON value that the bytes are
 abbrev pub value_of : List ℕ → Option Data

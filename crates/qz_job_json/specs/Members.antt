@@ -29,9 +29,6 @@ member_names d = names_if (as_object d)
 abbrev pub has_only : List (List ℕ) → Data → Bool
 has_only names d = list_all (is_among names) (member_names d)
 
-abbrev pub has_any : List (List ℕ) → Data → Bool
-has_any names d = list_any (is_among names) (member_names d)
-
 -- what passes a test
 abbrev pub kept : {T : Type 0} → (T → Bool) → Option T → Option T
 kept test None = None
@@ -104,9 +101,6 @@ optional_span_at name d = said_if span_of (get name d)
 
 abbrev pub optional_name_at : List ℕ → Data → Option (Option (List ℕ))
 optional_name_at name d = said_if name_of (get name d)
-
-abbrev pub optional_bool_at : List ℕ → Data → Option (Option Bool)
-optional_bool_at name d = said_if as_bool (get name d)
 
 -- a truth value, false only where there is no such member
 abbrev pub flag_at : List ℕ → Data → Option Bool

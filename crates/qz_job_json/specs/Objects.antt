@@ -1,13 +1,16 @@
--- The jobs and triggers in lines. None is an object of another shape.
-use Rattle.std.specs.Prelude.{ℕ, ℤ, pos, List, [], Bool, false, ◌&&◌, if◌then◌else◌, Option, Some, None, option_and_then, codes}
+-- The keys and the jobs in lines. Members are read in this order up to the first fault.
+use Rattle.std.specs.Prelude.{ℕ, List, [], length, Bool, nat_le, if◌then◌else◌, Option, Result, Ok, Err, codes}
 use Rattle.serde_json.specs.Data.{Data}
-use Rattle.qz_civil.specs.declared.timings.Kind.TheVariants.{Simple}
+use Rattle.serde_json.specs.Find.{get, as_str}
 use Rattle.qz_types.specs.declared.keys.Key.{Key}
-use Rattle.qz_types.specs.declared.triggers.TriggerSpec.{TriggerSpec}
+use Rattle.qz_types.specs.declared.limits.TheConstants.{PAYLOAD_LIMIT}
 use Rattle.qz_types.specs.Rows.{JobData}
-use Rattle.qz_job_json.specs.declared.forms.Form.TheVariants.{Job, Trigger}
-use Rattle.qz_job_json.specs.Forms.{built}
-use Rattle.qz_job_json.specs.Members.{is_text, has_only, both, text_at, name_at, group_at, span_at}
+use Rattle.qz_job_json.specs.declared.faults.LineFault.{LineFault}
+use Rattle.qz_job_json.specs.declared.faults.LineFault.TheVariants.{Shape}
+use Rattle.qz_job_json.specs.declared.forms.Form.TheVariants.{Job}
+use Rattle.qz_job_json.specs.Faults.{◌>>=◌, or_shape}
+use Rattle.qz_job_json.specs.Forms.{members_of}
+use Rattle.qz_job_json.specs.Members.{has_only, kept, both, said_or, name_at, group_at, flag_at}
 
 abbrev pub make_key : List ℕ → List ℕ → Key
 make_key group name = record { group = group; name = name }
@@ -16,45 +19,40 @@ make_key group name = record { group = group; name = name }
 unfoldable pub key_at : List ℕ → List ℕ → Data → Option Key
 key_at group name d = both make_key (group_at group d) (name_at name d)
 
--- a job without flags and payload
-abbrev pub plain_job : Key → List ℕ → JobData
-plain_job key class = record {
-  key = key;
-  class = class;
-  durable = false;
-  no_concurrent = false;
-  requests_recovery = false;
-  payload = [];
-}
+-- what the executing class is given
+abbrev pub is_payload : List ℕ → Bool
+is_payload text = nat_le (length text) PAYLOAD_LIMIT
 
-unfoldable pub job_of : Data → Option JobData
-job_of d =
-    if has_only (built Job) d
-    then both plain_job (key_at (codes "group") (codes "name") d) (name_at (codes "class") d)
-    else None
+abbrev pub payload_of : Data → Option (List ℕ)
+payload_of d = kept is_payload (as_str d)
 
--- a trigger that fires once, at its start
-abbrev pub one_shot : ℤ → Key → Key → TriggerSpec
-one_shot start key job = record {
-  key = key;
-  job = job;
-  priority = pos 5;
-  calendar = None;
-  timing = record { kind = Simple (pos 0) (pos 0); misfire = pos 0; start = start; end = None };
-}
+-- empty only where there is no such member
+abbrev pub payload_at : Data → Option (List ℕ)
+payload_at d = said_or [] payload_of (get (codes "data") d)
 
-abbrev pub is_simple : Option (List ℕ) → Bool
-is_simple None = false
-is_simple (Some kind) = is_text kind (codes "simple")
+unfoldable pub job_by_members : Data → Result JobData LineFault
+job_by_members d =
+    or_shape (key_at (codes "group") (codes "name") d) >>= λ key.
+    or_shape (name_at (codes "class") d) >>= λ class.
+    or_shape (flag_at (codes "durable") d) >>= λ durable.
+    or_shape (flag_at (codes "no_concurrent") d) >>= λ no_concurrent.
+    or_shape (flag_at (codes "requests_recovery") d) >>= λ requests_recovery.
+    or_shape (payload_at d) >>= λ payload.
+    Ok (record {
+      key = key;
+      class = class;
+      durable = durable;
+      no_concurrent = no_concurrent;
+      requests_recovery = requests_recovery;
+      payload = payload;
+    })
+
+-- a job, which has only members of one
+abbrev pub job_of : Data → Result JobData LineFault
+job_of d = if has_only (members_of Job) d then job_by_members d else Err Shape
 
 abbrev pub trigger_key : Data → Option Key
 trigger_key d = key_at (codes "group") (codes "name") d
 
 abbrev pub job_key : Data → Option Key
 job_key d = key_at (codes "job_group") (codes "job") d
-
-unfoldable pub trigger_of : Data → Option TriggerSpec
-trigger_of d =
-    if has_only (built Trigger) d && is_simple (text_at (codes "kind") d)
-    then option_and_then (λ start. both (one_shot start) (trigger_key d) (job_key d)) (span_at (codes "start") d)
-    else None

@@ -1,4 +1,4 @@
--- The triggers in lines of `times`. The members are read in this order up to the first fault, and the cron text last.
+-- The triggers in lines. The members are read in this order up to the first fault, and the cron text last.
 use Rattle.std.specs.Prelude.{ℕ, ℤ, pos, negsuc, List, if◌then◌else◌, Option, Some, None, Result, Ok, Err, option_and_then, codes}
 use Rattle.serde_json.specs.Data.{Data}
 use Rattle.qz_civil.specs.declared.fields.CronFields.{CronFields}
@@ -19,7 +19,7 @@ use Rattle.qz_job_json.specs.declared.faults.LineFault.{LineFault}
 use Rattle.qz_job_json.specs.declared.faults.LineFault.TheVariants as fault
 use Rattle.qz_job_json.specs.Clocks.{second_or, days_at}
 use Rattle.qz_job_json.specs.Faults.{◌>>=◌, or_shape}
-use Rattle.qz_job_json.specs.Forms.{built, kind_word_of}
+use Rattle.qz_job_json.specs.Forms.{members_of, kind_word_of}
 use Rattle.qz_job_json.specs.Members.{is_text, has_only, kept, text_at, number_at, span_at, name_or, integer_or, optional_span_at, optional_name_at}
 use Rattle.qz_job_json.specs.Objects.{trigger_key, job_key}
 
@@ -148,7 +148,7 @@ kind_word_at d = option_and_then kind_word_of (text_at (codes "kind") d)
 -- a trigger of its kind, which has only members of that kind
 abbrev pub only_timed_trigger_of : KindWord → Data → Result TriggerSpec LineFault
 only_timed_trigger_of word d =
-    if has_only (built (TriggerOf word)) d then timed_trigger_of word d else Err fault.Shape
+    if has_only (members_of (TriggerOf word)) d then timed_trigger_of word d else Err fault.Shape
 
 -- a trigger of the kind that it says
 abbrev pub trigger_by_kind : Data → Result TriggerSpec LineFault

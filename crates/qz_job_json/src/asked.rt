@@ -1,20 +1,17 @@
 //! Lines of `times`.
 ghost use Rattle.std.specs.Prelude.{◌≡◌, ◌⊎◌, Err, Bool, true, IsTrue, IfOk, IfSome};
 ghost use Rattle.serde_json.specs.View.{view};
+ghost use Rattle.qz_types.specs.Entries.{is_command};
 ghost use Rattle.qz_types.specs.Rows.{is_trigger_spec};
+ghost use Rattle.qz_types.specs.Steps.{is_step};
 ghost use Rattle.qz_job_json.specs.Asked as spec;
-ghost use Rattle.qz_job_json.specs.Faults.{ReadsAs, or_shape};
+ghost use Rattle.qz_job_json.specs.Faults.{ReadsAs};
 ghost use Rattle.qz_job_json.specs.Lines.{ReadsLineAs};
 
-use crate::calendars::calendar_by_kind;
 use crate::faults::{LineError, LineFault};
-use crate::forms::{Form, Word, is_unbuilt_word};
-use crate::lines::json_of;
-use crate::members::{flag_at, has_only, name_at, optional_bool_at, optional_integer_at, text_at};
-use crate::schedules::trigger_by_kind;
-use crate::zones::zone_of;
-use qz_civil::beside;
-use qz_types::{CalendarRow, Text, TriggerSpec, ZoneRow};
+use crate::lines::{Given, given_of, json_of, word_in};
+use crate::words::{ClientWord, Word};
+use qz_types::{CalendarRow, Command, Step, TriggerSpec, ZoneRow};
 use serde_json::Value;
 use std::alloc::Global;
 
@@ -52,70 +49,55 @@ fn read_value(alloc: Global, value: &Value) -> Result<Asked, LineError>
     ensures meaning { ReadsAs result (spec.asked_by_value (view value.now)) }
     ensures valid { IfOk result (λ asked. IsTrue (spec.is_asked asked)) }
 {
-    match text_at(value, "do").ok_or(LineFault::Shape)? {
-        "add_zone" => zone_line(alloc, value),
-        "add_calendar" => calendar_line(alloc, value),
-        "add_trigger" => trigger_line(alloc, value),
-        text => Err(LineError::Bad(fault_of_word(text))),
-    }
+    let word = word_in(value)?;
+    asked_by_word(alloc, word, value)
 }
 
-/// The fault of a line that is none of `times`, by its word.
-fn fault_of_word(text: &str) -> LineFault
-    ensures { result ≡ spec.fault_of_word text.now }
+/// Whether the line is one of `times` too.
+fn is_of_times(word: Word) -> bool
+    ensures { result ≡ spec.is_of_times word }
 {
-    if is_unbuilt_word(text) || Word::of(text).is_some() {
-        LineFault::NotHere
-    } else {
-        LineFault::Shape
-    }
+    matches!(
+        word,
+        Word::Client(ClientWord::AddZone | ClientWord::AddCalendar | ClientWord::AddTrigger)
+    )
 }
 
-/// A zone.
-#[tactic(auto, unfolding(crate::specs::Asked::zone_line))]
-fn zone_line(alloc: Global, value: &Value) -> Result<Asked, LineError>
-    ensures value { ReadsAs result (or_shape (spec.zone_line (view value.now))) }
+/// What a line of this word asks for.
+#[tactic(auto, using(crate::proofs::AskedLaws::reads_asked), unfolding(crate::specs::Asked::asked_by_word))]
+fn asked_by_word(alloc: Global, word: Word, value: &Value) -> Result<Asked, LineError>
+    ensures meaning { ReadsAs result (spec.asked_by_word word (view value.now)) }
     ensures valid { IfOk result (λ asked. IsTrue (spec.is_asked asked)) }
 {
-    if !has_only(value, Form::ZoneLine) || optional_integer_at(value, "at").is_none() {
-        return Err(LineError::Bad(LineFault::Shape));
+    if !is_of_times(word) {
+        return Err(LineError::Bad(LineFault::NotHere));
     }
-    let name = name_at(value, "name").ok_or(LineFault::Shape)?;
-    let table = value.get("stretches").ok_or(LineFault::Shape)?;
-    let zone = zone_of(alloc, table)?;
-    let (zone, name) = beside(zone, Text::from_str(alloc, name))?;
-    let zone = ZoneRow { name, zone };
-    Ok(Asked::AddZone { zone })
+    let Given { at: _, step } = given_of(alloc, word, value)?;
+    Ok(asked_of(step)?)
 }
 
-/// A calendar.
-#[tactic(auto, unfolding(crate::specs::Asked::calendar_line))]
-fn calendar_line(alloc: Global, value: &Value) -> Result<Asked, LineError>
-    ensures value { ReadsAs result (spec.calendar_line (view value.now)) }
+/// What a step asks for in `times`.
+fn asked_of(step: Step) -> Result<Asked, LineFault>
+    requires { IsTrue (is_step step) }
+    ensures value { result ≡ spec.asked_of step }
     ensures valid { IfOk result (λ asked. IsTrue (spec.is_asked asked)) }
 {
-    if !has_only(value, Form::CalendarLine) || optional_integer_at(value, "at").is_none() {
-        return Err(LineError::Bad(LineFault::Shape));
+    match step {
+        Step::Client(command) => asked_of_command(command),
+        Step::Join { .. } | Step::Node { .. } => Err(LineFault::NotHere),
     }
-    let replace = flag_at(value, "replace").ok_or(LineFault::Shape)?;
-    let object = value.get("calendar").ok_or(LineFault::Shape)?;
-    let calendar = calendar_by_kind(alloc, object)?;
-    Ok(Asked::AddCalendar { calendar, replace })
 }
 
-/// A trigger.
-#[tactic(auto, unfolding(crate::specs::Asked::trigger_line))]
-fn trigger_line(alloc: Global, value: &Value) -> Result<Asked, LineError>
-    ensures value { ReadsAs result (spec.trigger_line (view value.now)) }
+/// The same of a client's command. A trigger isn't stored, and so replaces none.
+fn asked_of_command(command: Command) -> Result<Asked, LineFault>
+    requires { IsTrue (is_command command) }
+    ensures value { result ≡ spec.asked_of_command command }
     ensures valid { IfOk result (λ asked. IsTrue (spec.is_asked asked)) }
 {
-    if !has_only(value, Form::TriggerLine)
-        || optional_integer_at(value, "at").is_none()
-        || optional_bool_at(value, "replace").is_none()
-    {
-        return Err(LineError::Bad(LineFault::Shape));
+    match command {
+        Command::AddZone { zone } => Ok(Asked::AddZone { zone }),
+        Command::AddCalendar { calendar, replace } => Ok(Asked::AddCalendar { calendar, replace }),
+        Command::AddTrigger { spec, replace: _ } => Ok(Asked::AddTrigger { spec }),
+        _ => Err(LineFault::NotHere),
     }
-    let trigger = value.get("trigger").ok_or(LineFault::Shape)?;
-    let spec = trigger_by_kind(alloc, trigger)?;
-    Ok(Asked::AddTrigger { spec })
 }

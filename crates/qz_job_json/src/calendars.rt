@@ -1,4 +1,4 @@
-//! The calendars in lines of `times`.
+//! The calendars in lines.
 ghost use Rattle.std.specs.Prelude.{◌≡◌, ◌⊎◌, ◌+◌, ◌<◌, ◌≤◌, ◌^◌, ℕ, None, true, false, length, All, IsTrue, IfOk, IfSome, IfNone, option_map};
 ghost use Rattle.std.specs.List.{insert};
 ghost use Rattle.serde_json.specs.View.{view, items_view};
@@ -12,6 +12,7 @@ use crate::clocks::{number_to, set_to, two_digits};
 use crate::faults::{LineError, LineFault};
 use crate::forms::{CalendarWord, Form};
 use crate::members::{flag_at, has_only, name_at, number_at, optional_name_at, text_at};
+use crate::objects::make_both;
 use crate::schedules::{make_calendar, zone_at};
 use arrayvec::ArrayVec;
 use qz_civil::{CalendarKind, DAY_MS, List, NoMemory, beside, is_holiday};
@@ -248,14 +249,6 @@ fn make_names(
 {
     let base = make_calendar(alloc, base)?;
     beside(base, make_both(alloc, name, zone))
-}
-
-fn make_both(alloc: Global, name: &str, zone: &str) -> Result<(Text, Text), AllocError>
-    ensures name { IfOk result (λ made. made.0 ≡ name.now) }
-    ensures zone { IfOk result (λ made. made.1 ≡ zone.now) }
-{
-    let name = Text::from_str(alloc, name)?;
-    beside(name, Text::from_str(alloc, zone))
 }
 
 /// A calendar of that kind.

@@ -15,13 +15,13 @@ pub enum LineFault {
     /// The bytes aren't UTF-8, or they aren't one JSON value.
     #[error("not JSON")]
     NotJson,
-    /// The format has this line or this member of it, and the scheduler doesn't read it yet.
+    /// The format has this line, and the scheduler doesn't read it yet; or `times` doesn't take it.
     #[error("not here")]
     NotHere,
     /// An unknown or missing member, a value of another type, `null`, or a value out of its range.
     #[error("not a step")]
     Shape,
-    /// The line is right except for its cron text. Script lines have none yet.
+    /// The line is right except for its cron text.
     #[error("bad cron {}", .0.number())]
     Cron(CronError),
 }

@@ -3,14 +3,17 @@
 
 mod asked;
 mod calendars;
+mod clients;
 mod clocks;
 mod faults;
 mod forms;
 mod lines;
 mod members;
+mod nodes;
 mod objects;
 mod schedules;
 mod steps;
+mod words;
 mod zones;
 
 pub use asked::{Asked, read_asked};

@@ -3,13 +3,14 @@ ghost use Rattle.std.specs.Prelude.{◌≡◌, ◌⊎◌, Ok, Some, None, IsTrue
 ghost use Rattle.std.specs.List.{list_all};
 ghost use Rattle.serde_json.specs.View.{view};
 ghost use Rattle.qz_types.specs.Steps.{is_step};
-ghost use Rattle.qz_job_json.specs.Faults.{ReadsAs, or_shape};
-ghost use Rattle.qz_job_json.specs.Lines.{is_blank, value_of, json_of, NeedsJson, HasNoJson, ReadsLineAs, is_unbuilt, is_unbuilt_trigger, given_of, meaning_of, meaning_of_value};
+ghost use Rattle.qz_job_json.specs.Faults.{ReadsAs};
+ghost use Rattle.qz_job_json.specs.Lines.{is_blank, value_of, json_of, NeedsJson, HasNoJson, ReadsLineAs, line_word, word_in, reading_of, given_of, meaning_of, meaning_of_value};
 
 use crate::faults::{LineError, LineFault};
-use crate::forms::{Form, Word, is_unbuilt_kind, is_unbuilt_word};
-use crate::members::{has_only, has_unbuilt, optional_integer_at, text_at};
+use crate::forms::Form;
+use crate::members::{has_only, optional_integer_at, text_at};
 use crate::steps::step_of;
+use crate::words::{Word, is_unbuilt_word};
 use qz_io::LINE_LIMIT;
 use qz_types::Step;
 use serde_json::Value;
@@ -73,65 +74,52 @@ pub(crate) fn json_of(alloc: Global, line: &[u8]) -> Result<Option<Value>, LineE
     value_of(alloc, line).map(Some)
 }
 
+/// The line that a text names.
+#[tactic(auto, unfolding(crate::specs::Lines::line_word))]
+fn line_word(text: &str) -> Result<Word, LineFault>
+    ensures { result ≡ line_word text.now }
+{
+    if is_unbuilt_word(text) {
+        return Err(LineFault::NotHere);
+    }
+    Word::of(text).ok_or(LineFault::Shape)
+}
+
+/// The line that the JSON value is, by the text of its member `do`.
+pub(crate) fn word_in(value: &Value) -> Result<Word, LineFault>
+    ensures { result ≡ word_in (view value.now) }
+{
+    let text = text_at(value, "do").ok_or(LineFault::Shape)?;
+    line_word(text)
+}
+
 /// What a line says whose JSON value this is.
 fn read_value(alloc: Global, value: &Value) -> Result<Given, LineError>
     ensures meaning { ReadsAs result (meaning_of_value (view value.now)) }
     ensures valid { IfOk result (λ given. IsTrue (is_step given.step)) }
 {
-    let text = text_at(value, "do").ok_or(LineFault::Shape)?;
-    if is_unbuilt_word(text) {
-        return Err(LineError::Bad(LineFault::NotHere));
-    }
-    let word = Word::of(text).ok_or(LineFault::Shape)?;
-    if is_unbuilt(word, value) {
-        return Err(LineError::Bad(LineFault::NotHere));
-    }
+    let word = word_in(value)?;
     given_of(alloc, word, value)
 }
 
-/// Whether the line has a member that isn't built yet, or its job or trigger has, or the trigger's kind isn't built.
-#[tactic(auto, unfolding(crate::specs::Lines::is_unbuilt))]
-fn is_unbuilt(word: Word, value: &Value) -> bool
-    ensures { result ≡ is_unbuilt word (view value.now) }
+/// The line's own reading, where each of its members is one that such a line has.
+fn reading_of(value: &Value, word: Word) -> Option<Option<i64>>
+    ensures { result ≡ reading_of word (view value.now) }
 {
-    if has_unbuilt(value, Form::Line(word)) {
-        return true;
-    }
-    match word {
-        Word::AddJob => match value.get("job") {
-            Some(job) => has_unbuilt(job, Form::Job),
-            None => false,
-        },
-        Word::AddTrigger => match value.get("trigger") {
-            Some(trigger) => is_unbuilt_trigger(trigger),
-            None => false,
-        },
-        Word::Join | Word::Acquire | Word::Fire | Word::Complete => false,
-    }
-}
-
-fn is_unbuilt_trigger(value: &Value) -> bool
-    ensures { result ≡ is_unbuilt_trigger (view value.now) }
-{
-    if has_unbuilt(value, Form::Trigger) {
-        return true;
-    }
-    match text_at(value, "kind") {
-        Some(kind) => is_unbuilt_kind(kind),
-        None => false,
+    if has_only(value, Form::Line(word)) {
+        optional_integer_at(value, "at")
+    } else {
+        None
     }
 }
 
 /// The step with its reading.
 #[tactic(auto, unfolding(crate::specs::Lines::given_of))]
-fn given_of(alloc: Global, word: Word, value: &Value) -> Result<Given, LineError>
-    ensures value { ReadsAs result (or_shape (given_of word (view value.now))) }
+pub(crate) fn given_of(alloc: Global, word: Word, value: &Value) -> Result<Given, LineError>
+    ensures value { ReadsAs result (given_of word (view value.now)) }
     ensures valid { IfOk result (λ given. IsTrue (is_step given.step)) }
 {
-    if !has_only(value, Form::Line(word)) {
-        return Err(LineError::Bad(LineFault::Shape));
-    }
-    let at = optional_integer_at(value, "at").ok_or(LineFault::Shape)?;
+    let at = reading_of(value, word).ok_or(LineFault::Shape)?;
     let step = step_of(alloc, word, value)?;
     Ok(Given { at, step })
 }

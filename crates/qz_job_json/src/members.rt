@@ -1,48 +1,31 @@
 //! What the members of an object say.
 ghost use Rattle.std.specs.Prelude.{◌≡◌, ◌≤ℤ◌, IsTrue, IfSome, option_map, string_bytes};
-ghost use Rattle.std.specs.List.{list_all, list_any};
+ghost use Rattle.std.specs.List.{list_all};
 ghost use Rattle.std.specs.BTreeMap.{keys};
 ghost use Rattle.serde_json.specs.View.{view};
 ghost use Rattle.qz_civil.specs.Timings.{is_span, is_name, is_end};
 ghost use Rattle.qz_types.specs.Rows.{is_calendar, is_node};
-ghost use Rattle.qz_job_json.specs.Forms.{built, unbuilt};
-ghost use Rattle.qz_job_json.specs.Members.{is_among, has_any, has_only, text_at, number_at, span_at, name_at, node_at, name_or, group_at, integer_in, integer_or, optional_integer_at, optional_span_at, optional_name_at, optional_bool_at, flag_at};
+ghost use Rattle.qz_job_json.specs.Forms.{members_of};
+ghost use Rattle.qz_job_json.specs.Members.{is_among, has_only, text_at, number_at, span_at, name_at, node_at, name_or, group_at, integer_in, integer_or, optional_integer_at, optional_span_at, optional_name_at, flag_at};
 
 use crate::forms::Form;
 use qz_types::{LONGEST, NAME_LIMIT, NODE_LIMIT};
 use serde_json::{Map, Value};
 
 fn map_has_only(map: &Map<String, Value>, form: Form) -> bool
-    ensures { result ≡ list_all (λ name. is_among (built form) (string_bytes name)) (keys map.now) }
+    ensures { result ≡ list_all (λ name. is_among (members_of form) (string_bytes name)) (keys map.now) }
 {
-    map.keys().all(|name| form.is_built(name.as_str()))
+    map.keys().all(|name| form.has(name.as_str()))
 }
 
-fn map_has_unbuilt(map: &Map<String, Value>, form: Form) -> bool
-    ensures { result ≡ list_any (λ name. is_among (unbuilt form) (string_bytes name)) (keys map.now) }
-{
-    map.keys().any(|name| form.is_unbuilt(name.as_str()))
-}
-
-/// Whether each member of the object is one that is read.
+/// Whether each member of the object is one that it may have.
 #[tactic(auto, using(crate::proofs::Names::all_names))]
 pub(crate) fn has_only(value: &Value, form: Form) -> bool
-    ensures { result ≡ has_only (built form) (view value.now) }
+    ensures { result ≡ has_only (members_of form) (view value.now) }
 {
     match value.as_object() {
         Some(map) => map_has_only(map, form),
         None => true,
-    }
-}
-
-/// Whether the object has a member that isn't built yet.
-#[tactic(auto, using(crate::proofs::Names::any_names))]
-pub(crate) fn has_unbuilt(value: &Value, form: Form) -> bool
-    ensures { result ≡ has_any (unbuilt form) (view value.now) }
-{
-    match value.as_object() {
-        Some(map) => map_has_unbuilt(map, form),
-        None => false,
     }
 }
 
@@ -192,15 +175,5 @@ pub(crate) fn flag_at(value: &Value, name: &str) -> Option<bool>
     match value.get(name) {
         Some(member) => member.as_bool(),
         None => Some(false),
-    }
-}
-
-/// The truth value under this name, which may be missing. None is a member that is none.
-pub(crate) fn optional_bool_at(value: &Value, name: &str) -> Option<Option<bool>>
-    ensures { result ≡ optional_bool_at name.now (view value.now) }
-{
-    match value.get(name) {
-        Some(member) => member.as_bool().map(Some),
-        None => Some(None),
     }
 }

@@ -1,16 +1,15 @@
-//! The jobs and triggers in lines.
-ghost use Rattle.std.specs.Prelude.{◌≡◌, ◌⊎◌, Err, IsTrue, IfOk, IfSome, option_map, codes};
+//! The keys and the jobs in lines.
+ghost use Rattle.std.specs.Prelude.{◌≡◌, ◌⊎◌, Err, IsTrue, IfOk, IfSome, option_map};
 ghost use Rattle.serde_json.specs.View.{view};
-ghost use Rattle.qz_types.specs.Rows.{is_key, is_trigger_spec};
-ghost use Rattle.qz_job_json.specs.Faults.{ReadsAs, or_shape};
-ghost use Rattle.qz_job_json.specs.Members.{text_at};
-ghost use Rattle.qz_job_json.specs.Objects.{make_key, key_at, job_of, trigger_of, plain_job, one_shot, is_simple};
+ghost use Rattle.qz_types.specs.Rows.{is_key};
+ghost use Rattle.qz_job_json.specs.Faults.{ReadsAs};
+ghost use Rattle.qz_job_json.specs.Objects.{make_key, key_at, is_payload, payload_at, job_by_members, job_of};
 
 use crate::faults::{LineError, LineFault};
 use crate::forms::Form;
-use crate::members::{group_at, has_only, name_at, span_at, text_at};
+use crate::members::{flag_at, group_at, has_only, name_at};
 use qz_civil::beside;
-use qz_types::{JobRow, Key, Kind, Text, Timing, TriggerSpec};
+use qz_types::{JobRow, Key, PAYLOAD_LIMIT, Text};
 use serde_json::Value;
 use std::alloc::{AllocError, Global};
 
@@ -38,70 +37,66 @@ pub(crate) fn make_keys(
     beside(key, Key::new(alloc, job.0, job.1))
 }
 
+/// Memory for two texts.
+pub(crate) fn make_both(
+    alloc: Global,
+    first: &str,
+    second: &str,
+) -> Result<(Text, Text), AllocError>
+    ensures first { IfOk result (λ made. made.0 ≡ first.now) }
+    ensures second { IfOk result (λ made. made.1 ≡ second.now) }
+{
+    let first = Text::from_str(alloc, first)?;
+    beside(first, Text::from_str(alloc, second))
+}
+
+/// The payload of a job, empty where there is no such member.
+fn payload_at(value: &Value) -> Option<&str>
+    ensures value { option_map (λ text. text.now) result ≡ payload_at (view value.now) }
+    ensures valid { IfSome result (λ text. IsTrue (is_payload text.now)) }
+{
+    match value.get("data") {
+        Some(member) => {
+            let text = member.as_str()?;
+            if text.len() as u64 <= PAYLOAD_LIMIT {
+                Some(text)
+            } else {
+                None
+            }
+        }
+        None => Some(""),
+    }
+}
+
+/// A job by its members.
+#[tactic(auto, unfolding(crate::specs::Objects::job_by_members))]
+fn job_by_members(alloc: Global, value: &Value) -> Result<JobRow, LineError>
+    ensures { ReadsAs result (job_by_members (view value.now)) }
+{
+    let (group, name) = names_at(value, "group", "name").ok_or(LineFault::Shape)?;
+    let class = name_at(value, "class").ok_or(LineFault::Shape)?;
+    let durable = flag_at(value, "durable").ok_or(LineFault::Shape)?;
+    let no_concurrent = flag_at(value, "no_concurrent").ok_or(LineFault::Shape)?;
+    let requests_recovery = flag_at(value, "requests_recovery").ok_or(LineFault::Shape)?;
+    let payload = payload_at(value).ok_or(LineFault::Shape)?;
+    let key = Key::new(alloc, group, name)?;
+    let (key, (class, payload)) = beside(key, make_both(alloc, class, payload))?;
+    Ok(JobRow {
+        key,
+        class,
+        durable,
+        no_concurrent,
+        requests_recovery,
+        payload,
+    })
+}
+
 /// The job that the object is.
-#[tactic(auto, unfolding(crate::specs::Objects::job_of))]
 pub(crate) fn job_of(alloc: Global, value: &Value) -> Result<JobRow, LineError>
-    ensures { ReadsAs result (or_shape (job_of (view value.now))) }
+    ensures { ReadsAs result (job_of (view value.now)) }
 {
     if !has_only(value, Form::Job) {
         return Err(LineError::Bad(LineFault::Shape));
     }
-    let class = name_at(value, "class").ok_or(LineFault::Shape)?;
-    let (group, name) = names_at(value, "group", "name").ok_or(LineFault::Shape)?;
-    let key = Key::new(alloc, group, name)?;
-    let (key, class) = beside(key, Text::from_str(alloc, class))?;
-    Ok(JobRow {
-        key,
-        class,
-        durable: false,
-        no_concurrent: false,
-        requests_recovery: false,
-        payload: Text::new(alloc),
-    })
-}
-
-fn is_simple(value: &Value) -> bool
-    ensures { result ≡ is_simple (text_at (codes "kind") (view value.now)) }
-{
-    match text_at(value, "kind") {
-        Some(kind) => kind == "simple",
-        None => false,
-    }
-}
-
-/// A trigger that fires once, at its start.
-fn one_shot(start: i64, key: Key, job: Key) -> TriggerSpec
-    ensures { result ≡ one_shot start key job }
-{
-    TriggerSpec {
-        key,
-        job,
-        priority: 5,
-        calendar: None,
-        timing: Timing {
-            kind: Kind::Simple {
-                interval: 0,
-                count: 0,
-            },
-            misfire: 0,
-            start,
-            end: None,
-        },
-    }
-}
-
-/// The trigger that the object is.
-#[tactic(auto, unfolding(crate::specs::Objects::trigger_of))]
-pub(crate) fn trigger_of(alloc: Global, value: &Value) -> Result<TriggerSpec, LineError>
-    ensures value { ReadsAs result (or_shape (trigger_of (view value.now))) }
-    ensures valid { IfOk result (λ spec. IsTrue (is_trigger_spec spec)) }
-{
-    if !has_only(value, Form::Trigger) || !is_simple(value) {
-        return Err(LineError::Bad(LineFault::Shape));
-    }
-    let start = span_at(value, "start").ok_or(LineFault::Shape)?;
-    let key = names_at(value, "group", "name").ok_or(LineFault::Shape)?;
-    let job = names_at(value, "job_group", "job").ok_or(LineFault::Shape)?;
-    let (key, job) = make_keys(alloc, key, job)?;
-    Ok(one_shot(start, key, job))
+    job_by_members(alloc, value)
 }

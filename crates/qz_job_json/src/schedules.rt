@@ -1,4 +1,4 @@
-//! The triggers in lines of `times`.
+//! The triggers in lines.
 ghost use Rattle.std.specs.Prelude.{◌≡◌, ◌⊎◌, ◌≤ℤ◌, pos, negsuc, Err, IsTrue, IfOk, IfSome, option_map};
 ghost use Rattle.serde_json.specs.View.{view};
 ghost use Rattle.qz_civil.specs.Timings.{is_name, is_every, is_kind, is_misfire, is_timing, is_daily_time};

@@ -1,7 +1,9 @@
 //! Replies with their lines.
 use qz_civil::beside;
 use qz_report::{reply_line, times_line};
-use qz_types::{JobRow, Key, List, NoMemory, Refusal, Reply, StepReply, Taken, Text};
+use qz_types::{
+    JobRow, Key, List, MemberRow, MovedRow, NoMemory, Refusal, Reply, StepReply, Taken, Text,
+};
 use std::alloc::{AllocError, Global};
 
 // Whether this is the reply's line. The reply and its line are let go here and nowhere else.
@@ -27,6 +29,13 @@ fn joined() -> Reply {
     }
 }
 
+fn recovered() -> Reply {
+    Reply::Recovered {
+        executions: 20,
+        triggers: 3,
+    }
+}
+
 #[test]
 fn replies_have_their_lines(rt: HostRuntime) {
     let alloc = rt.alloc();
@@ -42,6 +51,9 @@ fn replies_have_their_lines(rt: HostRuntime) {
             "completed 18446744073709551615\n"
         )
     );
+    assert!(rt; is_answered(alloc, Reply::Again { entry: 1 }, "again 1\n"));
+    assert!(rt; is_answered(alloc, Reply::Deleted { triggers: 2 }, "deleted 2\n"));
+    assert!(rt; is_answered(alloc, recovered(), "recovered executions 20 triggers 3\n"));
 }
 
 #[test]
@@ -83,6 +95,67 @@ fn refusals_have_their_lines(rt: HostRuntime) {
             "refused 22 count 4096\n"
         )
     );
+}
+
+// A member that a reply names.
+fn owner(alloc: Global) -> Result<MemberRow, AllocError> {
+    Ok(MemberRow {
+        node: Text::from_str(alloc, "n 1")?,
+        epoch: 7,
+    })
+}
+
+#[test]
+fn refusals_have_their_fields(rt: HostRuntime) -> Result<(), AllocError> {
+    let alloc = rt.alloc();
+    let not_yours = Refusal::NotYours {
+        owner: owner(alloc)?,
+    };
+    assert!(rt; is_refused(alloc, not_yours, "refused 16 owner n%201 7\n"));
+    assert!(rt; is_refused(alloc, Refusal::InUse { by: 3 }, "refused 11 by 3\n"));
+    assert!(rt; is_refused(alloc, Refusal::Circle { at: 0 }, "refused 12 at 0\n"));
+    assert!(rt;
+        is_refused(
+            alloc,
+            Refusal::FlagInUse { entry: 9 },
+            "refused 13 entry 9\n"
+        )
+    );
+    assert!(rt;
+        is_refused(
+            alloc,
+            Refusal::StillFresh { until: -1 },
+            "refused 21 until -1\n"
+        )
+    );
+    assert!(rt; is_refused(alloc, Refusal::Renewed { last: 5 }, "refused 26 last 5\n"));
+    Ok(())
+}
+
+fn triggered(alloc: Global) -> Result<Reply, AllocError> {
+    Ok(Reply::Triggered {
+        trigger: Key::new(alloc, "MANUAL_TRIGGERS", "now_1")?,
+        next: 5000,
+    })
+}
+
+// One trigger was moved.
+fn misfired(alloc: Global, next: Option<i64>) -> Result<Reply, AllocError> {
+    let trigger = Key::new(alloc, "g", "t")?;
+    let mut rows = List::new(alloc);
+    rows.push(MovedRow { trigger, next })?;
+    Ok(Reply::Misfired(rows))
+}
+
+#[test]
+fn moved_triggers_have_their_lines(rt: HostRuntime) -> Result<(), AllocError> {
+    let alloc = rt.alloc();
+    let now = "triggered MANUAL_TRIGGERS/now_1 5000\n";
+    assert!(rt; is_answered(alloc, triggered(alloc)?, now));
+    assert!(rt; is_answered(alloc, Reply::Misfired(List::new(alloc)), "misfired none\n"));
+    assert!(rt; is_answered(alloc, misfired(alloc, Some(9))?, "misfired g/t 9\n"));
+    assert!(rt; is_answered(alloc, misfired(alloc, None)?, "misfired g/t none\n"));
+    Ok(())
 }
 
 #[test]

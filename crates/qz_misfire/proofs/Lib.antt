@@ -1,2 +1,3 @@
 pub mod MovedLaws
+pub mod Moves
 pub mod NextLaws

@@ -17,7 +17,7 @@ pub All-in_due_order : (P : TriggerData → Type 0) (ts : List TriggerData) → 
 All-in_due_order P [] all = tt
 All-in_due_order P (t ∷ ts) all = All-put due_cmp (λ x. x) P t (in_due_order ts) all.0 (All-in_due_order P ts all.1)
 
-waiting_from : (s : TriggerState) → is_waiting s ≡ true → s ≡ Waiting
+pub waiting_from : (s : TriggerState) → is_waiting s ≡ true → s ≡ Waiting
 waiting_from Waiting e = refl
 waiting_from Acquired e = absurd (cc)
 waiting_from Complete e = absurd (cc)

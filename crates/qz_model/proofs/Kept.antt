@@ -1,24 +1,31 @@
 -- The tables are valid after every transaction.
-use Rattle.std.proofs.Common.{◌≡◌, ℕ, ℤ, IsTrue, refl, arith}
+use Rattle.std.proofs.Common.{◌≡◌, ℕ, ℤ, None, IsTrue, refl, arith}
 use Rattle.std.proofs.lemmas.Bool.{and_parts}
 use Rattle.qz_types.specs.Entries.{EntryData, is_command, is_of_node, has_actor, is_entry}
 use Rattle.qz_types.specs.declared.commands.Command.{Command}
 use Rattle.qz_types.specs.declared.commands.Command.TheVariants.{AddJob, DeleteJob, AddTrigger, DeleteTrigger, PauseTrigger, ResumeTrigger, PauseGroup, ResumeGroup, AddCalendar, DeleteCalendar, AddZone, DeleteZone, TriggerNow, Threshold, Join, Leave, Acquire, Release, Fire, Complete, Misfires, Recover}
 use Rattle.qz_types.specs.declared.commands.Actor.{Actor}
+use Rattle.qz_types.specs.declared.commands.Actor.TheVariants.{Client, Node}
 use Rattle.qz_types.specs.declared.replies.Reply.{Reply}
 use Rattle.qz_types.specs.Tables.{SchedulerTables, IsMoment, empty, new_tables, recorded_moment}
 use Rattle.qz_types.specs.declared.replies.Refusal.{Refusal}
-use Rattle.qz_types.specs.declared.replies.Refusal.TheVariants.{Unbuilt}
+use Rattle.qz_types.specs.declared.replies.Refusal.TheVariants.{Unbuilt, Fenced}
 use Rattle.qz_types.specs.Outcomes.{accepted, refused}
 use Rattle.qz_model.specs.Transaction.{by_command, transaction}
 use Rattle.qz_model.specs.Executions.{is_busy}
 use Rattle.qz_model.specs.Invariant.{TablesValid}
 use Rattle.qz_model.proofs.Changes.{moment_within}
+use Rattle.qz_model.proofs.KeptAcquiring.{kept-acquire}
 use Rattle.qz_model.proofs.KeptCalendars.{kept-add_calendar, kept-delete_calendar}
-use Rattle.qz_model.proofs.KeptPausing.{kept-pause_trigger, kept-resume_trigger, kept-pause_group, kept-resume_group}
-use Rattle.qz_model.proofs.KeptZones.{kept-add_zone, kept-delete_zone}
+use Rattle.qz_model.proofs.KeptCompletion.{kept-complete}
+use Rattle.qz_model.proofs.KeptFiring.{kept-fire}
 use Rattle.qz_model.proofs.KeptJobs.{kept-add_job, kept-delete_job}
+use Rattle.qz_model.proofs.KeptMembership.{kept-join}
+use Rattle.qz_model.proofs.KeptMisfires.{kept-misfires}
+use Rattle.qz_model.proofs.KeptPausing.{kept-pause_trigger, kept-resume_trigger, kept-pause_group, kept-resume_group}
+use Rattle.qz_model.proofs.KeptReleasing.{kept-release}
 use Rattle.qz_model.proofs.KeptTriggers.{kept-add_trigger, kept-delete_trigger, kept-trigger_now, kept-set_threshold}
+use Rattle.qz_model.proofs.KeptZones.{kept-add_zone, kept-delete_zone}
 
 -- what is refused leaves no other tables
 refused-keeps : (T' : SchedulerTables) (r : Reply) (x : Refusal) → refused x ≡ accepted T' r → TablesValid T'
@@ -39,13 +46,18 @@ kept-by_command T T' m actor (AddZone zone) r good valid is e = kept-add_zone T 
 kept-by_command T T' m actor (DeleteZone name) r good valid is e = kept-delete_zone T T' m name r valid is e
 kept-by_command T T' m actor (TriggerNow job) r good valid is e = kept-trigger_now T T' m job r valid is e
 kept-by_command T T' m actor (Threshold ms) r good valid is e = kept-set_threshold T T' m ms r good valid is e
-kept-by_command T T' m actor (Join node) r good valid is e = refused-keeps T' r Unbuilt e
+kept-by_command T T' m actor (Join node) r good valid is e = kept-join T T' m node r valid is e
 kept-by_command T T' m actor Leave r good valid is e = refused-keeps T' r Unbuilt e
-kept-by_command T T' m actor (Acquire no_later window max) r good valid is e = refused-keeps T' r Unbuilt e
-kept-by_command T T' m actor (Release entry) r good valid is e = refused-keeps T' r Unbuilt e
-kept-by_command T T' m actor (Fire entry) r good valid is e = refused-keeps T' r Unbuilt e
-kept-by_command T T' m actor (Complete entry code) r good valid is e = refused-keeps T' r Unbuilt e
-kept-by_command T T' m actor Misfires r good valid is e = refused-keeps T' r Unbuilt e
+kept-by_command T T' m Client (Acquire no_later window max) r good valid is e = refused-keeps T' r (Fenced None) e
+kept-by_command T T' m (Node me) (Acquire no_later window max) r good valid is e = kept-acquire T T' m me no_later window max r valid is e
+kept-by_command T T' m Client (Release entry) r good valid is e = refused-keeps T' r (Fenced None) e
+kept-by_command T T' m (Node me) (Release entry) r good valid is e = kept-release T T' m me entry r valid is e
+kept-by_command T T' m Client (Fire entry) r good valid is e = refused-keeps T' r (Fenced None) e
+kept-by_command T T' m (Node me) (Fire entry) r good valid is e = kept-fire T T' m me entry r valid is e
+kept-by_command T T' m Client (Complete entry code) r good valid is e = refused-keeps T' r (Fenced None) e
+kept-by_command T T' m (Node me) (Complete entry code) r good valid is e = kept-complete T T' m me entry code r valid is e
+kept-by_command T T' m Client Misfires r good valid is e = refused-keeps T' r (Fenced None) e
+kept-by_command T T' m (Node me) Misfires r good valid is e = kept-misfires T T' m me r valid is e
 kept-by_command T T' m actor (Recover node) r good valid is e = refused-keeps T' r Unbuilt e
 
 command_of : (e : EntryData) → IsTrue (is_entry e) → IsTrue (is_command e.command)

@@ -7,7 +7,7 @@ use Rattle.std.specs.declared.cmp.Ordering.{Ordering}
 use Rattle.std.specs.declared.cmp.Ordering.TheVariants.{Less, Equal, Greater}
 use Rattle.std.proofs.lemmas.Cmp.{tied_itself}
 use Rattle.qz_types.specs.Sorted.{row_of, put, IsBefore, IsAscending}
-use Rattle.qz_model.proofs.RowPoints.{length-filter_le, All-weaker, All-both, All-filter, count_by-cons, none_from_count}
+use Rattle.qz_model.proofs.RowPoints.{All-weaker, All-both, All-filter, count_by-cons, count_by-none, none_from_count, length-filter_le}
 
 pub equal_from : (o : Ordering) → is_eq o ≡ true → o ≡ Equal
 equal_from Less e = absurd (cc)
@@ -130,6 +130,19 @@ module _ {R K : Type 0} (cmp : K → K → Ordering) (id : R → K) (order : IsT
         (λ y less found. rw (not_back (id x) (id y) less) found)
         (below (id x) xs ascending.0) (each_found xs ascending.1),
   )
+
+  -- in ascending rows no more than one has an id
+  pub count_of_id : (p : R → Bool) (k : K) (xs : List R) → ((x : R) → p x ≡ is_eq (cmp k (id x))) → IsAscending cmp id xs → count_by p xs ≤ 1
+  count_of_id p k [] is ascending = omega arith
+  count_of_id p k (x ∷ xs) is ascending =
+      rw (count_by-cons p x xs) (elim (p x) as (λ b. p x ≡ b → cond b 1 0 + count_by p xs ≤ 1) [
+        | true ↦ λ e.
+            let same : cmp k (id x) ≡ Equal = equal_from (cmp k (id x)) (sym (is x) ∙ e) in
+            let none : count_by p xs ≡ 0 =
+            count_by-none p xs (All-weaker (λ y. cmp (id x) (id y) ≡ Less) (λ y. p y ≡ false) xs (λ y less. is y ∙ ap is_eq (order.congr k (id x) (id y) same ∙ less)) (below (id x) xs ascending.0)) in
+            omega arith
+        | false ↦ λ e. omega (arith, count_of_id p k xs is ascending.1)
+      ] refl)
 
   -- ids that are the same find the same row
   pub row_of-alike : (j k : K) (xs : List R) → cmp j k ≡ Equal → row_of cmp id j xs ≡ row_of cmp id k xs

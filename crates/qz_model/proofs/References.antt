@@ -2,8 +2,8 @@
 use Rattle.std.proofs.Common.{ℕ, ◌≤◌, ℤ, List, length, IsTrue}
 use Rattle.std.specs.Ordering.{nat_cmp}
 use Rattle.qz_types.specs.Sorted.{IsAscending}
-use Rattle.qz_types.specs.Rows.{JobData, TriggerData, CalendarData, ZoneData, MemberData, FiredData, is_interval}
-use Rattle.qz_types.specs.declared.limits.TheConstants.{JOB_LIMIT, TRIGGER_LIMIT, CALENDAR_LIMIT, ZONE_LIMIT, GROUP_LIMIT, MEMBER_LIMIT, FIRED_LIMIT, NUMBER_LIMIT}
+use Rattle.qz_types.specs.Rows.{JobData, TriggerData, MemberData, FiredData, is_interval, CalendarData, ZoneData}
+use Rattle.qz_types.specs.declared.limits.TheConstants.{JOB_LIMIT, TRIGGER_LIMIT, MEMBER_LIMIT, FIRED_LIMIT, NUMBER_LIMIT, CALENDAR_LIMIT, ZONE_LIMIT, GROUP_LIMIT}
 use Rattle.qz_types.specs.Tables.{SchedulerTables}
 use Rattle.qz_types.specs.Words.{key_cmp, text_cmp}
 use Rattle.qz_model.specs.Invariant.{AreStored, ReferencesAndLimits}

@@ -17,7 +17,7 @@ use Rattle.qz_types.specs.declared.keys.Key.{Key}
 use Rattle.qz_types.proofs.Ascending.{IsAscending-put}
 use Rattle.qz_types.specs.Words.{text_cmp, key_cmp, same_key, job_of, put_job, without_job, trigger_of, put_trigger, with_trigger, without_trigger, member_of, put_member, fired_of, put_fired, with_fired, without_fired}
 use Rattle.qz_model.proofs.RowPoints.{All-from, All-weaker, All-put, All-changed, All-left, changed_keeps, count_by-put, count_by-changed, count_by-left, length-put, length-filter_le}
-use Rattle.qz_model.proofs.LookUps.{All-row_of, row_of-id, row_of_none, row_of-map, row_of-put, row_of-put_new, row_of-put_own, length-filter_found, row_of-filter, row_of-filter_none, one_found, each_found, only_found, row_of-alike, equal_from, IsAscending-map, IsAscending-filter}
+use Rattle.qz_model.proofs.LookUps.{All-row_of, row_of-id, row_of_none, row_of-map, row_of-put, row_of-put_new, row_of-filter, row_of-filter_none, count_found, one_found, each_found, only_found, row_of-alike, equal_from, IsAscending-map, IsAscending-filter, row_of-put_own, length-filter_found}
 
 pub key_total : IsTotalOrder key_cmp
 key_total = then_total (on_total (λ k. k.group) nat_list_cmp_total) (on_total (λ k. k.name) nat_list_cmp_total)
@@ -246,7 +246,7 @@ unfolding put_member
 length-put_member row rows = length-put text_cmp (λ r. r.node) row rows
 
 -- fired rows
-same_number : (a b : ℕ) → is_eq (nat_cmp a b) ≡ (a == b)
+pub same_number : (a b : ℕ) → is_eq (nat_cmp a b) ≡ (a == b)
 same_number a b = grind (arith, nat_tests)
 
 pub ordered-put_fired : (row : FiredData) (rows : List FiredData) → IsAscending nat_cmp (λ r. r.entry) rows → fired_of row.entry rows ≡ None → IsAscending nat_cmp (λ r. r.entry) (put_fired row rows)
@@ -280,6 +280,11 @@ pub one_fired : (p : FiredData → Bool) (n : ℕ) (f : FiredData) (rows : List 
 unfolding fired_of
 one_fired p n f rows found passes one =
     All-weaker (λ g. p g ≡ true → is_eq (nat_cmp n g.entry) ≡ true) (λ g. p g ≡ true → (n == g.entry) ≡ true) rows (λ g is yes. sym (same_number n g.entry) ∙ is yes) (one_found nat_cmp (λ r. r.entry) p n f rows found passes one)
+
+-- a row that is found and passes is counted
+pub counted_fired : (p : FiredData → Bool) (n : ℕ) (f : FiredData) (rows : List FiredData) → fired_of n rows ≡ Some f → p f ≡ true → 1 ≤ count_by p rows
+unfolding fired_of
+counted_fired p n f rows found passes = count_found nat_cmp (λ r. r.entry) p n f rows found passes
 
 -- no row has a number that is above all
 pub fired_of-above : (n : ℕ) (rows : List FiredData) → AllByRecursion (λ f. f.entry < n) rows → fired_of n rows ≡ None

@@ -1,6 +1,6 @@
 -- The transaction of a node that begins an execution. Where executions of the job exclude each other, none of its other
 -- triggers can be acquired until the execution ends, as with Quartz's DisallowConcurrentExecution.
-use Rattle.std.specs.Prelude.{ℕ, ℤ, List, Bool, true, false, ◌&&◌, Option, Some, None, is_none, option_and_then, if◌then◌else◌}
+use Rattle.std.specs.Prelude.{ℕ, ℤ, List, Bool, true, false, Option, Some, None, option_and_then, if◌then◌else◌}
 use Rattle.qz_types.specs.Rows.{JobData, TriggerData, MemberData, FiredData}
 use Rattle.qz_types.specs.declared.keys.Key.{Key}
 use Rattle.qz_types.specs.declared.triggers.TriggerState.{TriggerState}

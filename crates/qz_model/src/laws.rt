@@ -1,13 +1,15 @@
 //! Laws of the model, each as the contract of a function that does nothing: so they are proved, and a program that rests on
 //! one can call it.
-ghost use Rattle.std.specs.Prelude.{◌≡◌, Bool, List, IsTrue, count_by};
+ghost use Rattle.std.specs.Prelude.{◌≡◌, ◌≤◌, Bool, List, IsTrue, count_by};
 ghost use Rattle.std.specs.List.{AllByRecursion};
 ghost use Rattle.qz_types.specs.Entries.{is_entry};
 ghost use Rattle.qz_types.specs.Rows.{TriggerData};
 ghost use Rattle.qz_types.specs.Steps.{is_step};
 ghost use Rattle.qz_types.specs.Tables.{new_tables};
 ghost use Rattle.qz_types.specs.Due.{in_due_order};
+ghost use Rattle.qz_types.specs.declared.keys.Key.{Key as JobKey};
 ghost use Rattle.qz_model.specs.Due.{IsInDueOrder};
+ghost use Rattle.qz_model.specs.Executions.{is_exclusive_of};
 ghost use Rattle.qz_model.specs.History.{History, IsLegal, replay};
 ghost use Rattle.qz_model.specs.Invariant.{TablesValid};
 ghost use Rattle.qz_model.specs.Script.{ScriptState, TimedStep, state_after};
@@ -21,6 +23,12 @@ pub fn due_order_is_sorted()
 /// Each legal history of valid entries that begins with a new store leaves valid tables.
 pub fn legal_histories_leave_valid_tables()
     ensures { (h : History) → h.base ≡ new_tables → AllByRecursion (λ e. IsTrue (is_entry e)) h.entries → IsLegal h → TablesValid (replay h) }
+{}
+
+/// Executions of a job exclude each other where it says so: after each legal history that begins with a new store, whatever
+/// nodes worked on it and in whatever order, a job key has at most one execution that excludes all others.
+pub fn exclusive_executions_are_alone()
+    ensures { (h : History) → h.base ≡ new_tables → AllByRecursion (λ e. IsTrue (is_entry e)) h.entries → IsLegal h → (job : JobKey) → count_by (is_exclusive_of job) (replay h).fired ≤ 1 }
 {}
 
 /// The steps of a script keep a history legal; valid steps keep its entries valid, and its tables too.

@@ -5,5 +5,6 @@
 mod laws;
 
 pub use laws::{
-    due_order_is_sorted, legal_histories_leave_valid_tables, scripts_keep_legal_histories,
+    due_order_is_sorted, exclusive_executions_are_alone, legal_histories_leave_valid_tables,
+    scripts_keep_legal_histories,
 };

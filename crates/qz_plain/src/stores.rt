@@ -20,8 +20,7 @@ pub struct Worked {
     pub reply: Reply,
 }
 
-/// The trigger store as its tables alone, each in the order of its ids. A transaction is applied to a copy of them, so it
-/// takes memory for all rows, whatever the command. The tables are always valid.
+/// The trigger store as its tables alone, each in the order of its ids. The tables are always valid.
 #[derive(Drop)]
 pub struct PlainStore {
     tables: Tables,
@@ -93,11 +92,24 @@ impl PlainStore {
         ensures cause { IfErr result (IsErrorOf (transaction self.old entry)) }
         ensures err { OnErr result (self.new ≡ self.old) }
     {
-        let worked = self.work(&entry);
+        let answer = self.apply(&entry);
         drop(entry);
-        let Worked { tables, reply } = worked?;
-        *self = tables;
-        Ok(reply)
+        answer
+    }
+
+    /// The same for an entry that the caller keeps. It works on the tables as they stand, without a copy of them.
+    pub fn apply(&mut self, entry: &Entry) -> Result<Reply, StepRefused>
+        requires { IsTrue (is_entry entry.now) }
+        ensures ok { IfOk result (λ reply. transaction self.old entry.now ≡ accepted self.new reply) }
+        ensures cause { IfErr result (IsErrorOf (transaction self.old entry.now)) }
+        ensures err { OnErr result (self.new ≡ self.old) }
+        ensures valid { ∥ TablesValid self.new ∥₁ }
+    {
+        if let Some(refusal) = refusal(&self.tables, entry) {
+            return Err(StepRefused::Refused(refusal));
+        }
+        self.tables.reserve(room(entry))?;
+        apply(&mut self.tables, entry)
     }
 
     /// What one transaction comes to here: the tables after it and its reply, or why it isn't done. The store stays as

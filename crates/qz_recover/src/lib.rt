@@ -11,7 +11,7 @@ ghost use Rattle.qz_types.specs.Tables.{SchedulerTables};
 ghost use Rattle.qz_model.specs.Invariant.{TablesValid};
 ghost use Rattle.qz_model.specs.Transaction.{transaction};
 ghost use Rattle.qz_tables.specs.Contents.{HasSpare};
-ghost use Rattle.qz_apply.specs.Room.{AddsUpTo};
+ghost use Rattle.qz_apply.specs.Room.{AddsUpTo, rows_added};
 ghost use Rattle.qz_recover.specs.Commands.{is_of_members};
 
 mod joining;
@@ -22,7 +22,7 @@ use qz_tables::Tables;
 use qz_types::{Command, Entry, Refusal, Reply, StepRefused};
 
 /// Why the command is refused, if it is.
-#[tactic(auto, using(qz_apply::proofs::Refused::of_one))]
+#[tactic(auto, using(crate::proofs::Joins::of_join))]
 pub fn refusal(tables: &Tables, entry: &Entry) -> Option<Refusal>
     requires { IsTrue (is_of_members entry.now.command) }
     ensures { MatchOption result (IsAccepted (transaction tables.now.tables entry.now)) (λ x. transaction tables.now.tables entry.now ≡ refused x) }
@@ -37,7 +37,7 @@ pub fn refusal(tables: &Tables, entry: &Entry) -> Option<Refusal>
 #[tactic(auto, using(crate::proofs::Rooms::adds_one))]
 pub fn room(entry: &Entry) -> usize
     requires { IsTrue (is_of_members entry.now.command) }
-    ensures value { result ≡ 1 }
+    ensures value { result ≡ rows_added entry.now.command }
     ensures bound { (T : SchedulerTables) → AddsUpTo result T (transaction T entry.now) }
 {
     let _ = entry;
@@ -51,7 +51,7 @@ pub fn apply(tables: &mut Tables, entry: &Entry) -> Result<Reply, StepRefused>
     requires command { IsTrue (is_of_members entry.now.command) }
     requires valid { ∥ TablesValid tables.old.tables ∥₁ }
     requires entry { IsTrue (is_entry entry.now) }
-    requires spare { HasSpare 1 tables.old.spare }
+    requires spare { HasSpare (rows_added entry.now.command) tables.old.spare }
     ensures ok { IfOk result (λ reply. transaction tables.old.tables entry.now ≡ accepted tables.new.tables reply) }
     ensures cause { IfErr result (IsErrorOf (transaction tables.old.tables entry.now)) }
     ensures err { OnErr result (tables.new ≡ tables.old) }

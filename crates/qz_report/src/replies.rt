@@ -5,7 +5,7 @@ ghost use Rattle.std.specs.List.{flat_map};
 ghost use Rattle.qz_report.specs.Replies.{next_text, taken_text, all_taken_text, triggered_text, moved_text, all_moved_text, owner_text, ok_text, joined_text, recovery_text, fired_text, refusal_field, refusal_text, step_text, reply_text};
 
 use crate::names::{push_key, push_name};
-use qz_types::{Key, MemberRow, MovedRow, NoMemory, Refusal, Reply, StepReply, Taken, Text};
+use qz_types::{Key, MovedRow, NoMemory, Owner, Refusal, Reply, StepReply, Taken, Text};
 use std::alloc::{AllocError, Global};
 use std::fmt;
 use std::fmt::Write;
@@ -221,10 +221,11 @@ fn push_field(text: &mut String, refusal: &Refusal) -> Result<(), AllocError>
 }
 
 /// The member whose row it is.
-fn push_owner(text: &mut String, owner: &MemberRow) -> Result<(), AllocError>
+fn push_owner(text: &mut String, owner: &Owner) -> Result<(), AllocError>
     ensures { OnOk result (string_bytes text.new ≡ string_bytes text.old ++ owner_text owner.now) }
 {
     text.push_str(" owner ")?;
-    push_name(text, owner.node.as_str())?;
-    write!(text, " {}", owner.epoch)
+    let epoch = owner.epoch();
+    push_name(text, owner.node())?;
+    write!(text, " {epoch}")
 }

@@ -64,7 +64,8 @@ fn puts(alloc: Global, tables: &mut Tables, given: &Put) -> Result<bool, NoMemor
     Ok(put(tables, row) == is_new)
 }
 
-fn puts_all(alloc: Global, tables: &mut Tables) -> Result<bool, NoMemory> {
+/// Puts in the rows of new tables, which are in `ALL` then.
+pub(super) fn puts_all(alloc: Global, tables: &mut Tables) -> Result<bool, NoMemory> {
     for given in PUTS {
         if !puts(alloc, tables, given)? {
             return Ok(false);
@@ -80,8 +81,8 @@ fn is_of(row: Option<&FiredRow>, entry: u64, trigger: &str) -> bool {
     }
 }
 
-// Whether these are the rows, in the order of the entry numbers.
-fn holds_rows(tables: &Tables, rows: &[(u64, &'static str)]) -> bool {
+/// Whether these are the rows, in the order of the entry numbers.
+pub(super) fn holds_rows(tables: &Tables, rows: &[(u64, &'static str)]) -> bool {
     for (place, &(entry, trigger)) in rows.iter().enumerate() {
         if !is_of(tables.nth_fired(place), entry, trigger)
             || !is_of(tables.get_fired(entry), entry, trigger)

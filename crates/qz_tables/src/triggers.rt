@@ -88,7 +88,8 @@ impl Tables {
         ensures links { KeepsLinks self.old.links self.new.links }
         ensures spare { KeepsSpare self.old.spare self.new.spare }
     {
-        self.triggers.edit(key, &TriggerEdit::State(StateChange::Set(state)));
+        self.triggers
+            .edit(key, &TriggerEdit::State(StateChange::Set(state)));
     }
 
     /// The trigger of this key fired, if it is stored: its next time becomes its last one, and it gets this next time, in

@@ -1,6 +1,6 @@
 -- Chains of stored calendars, calendar by calendar.
 use Rattle.std.proofs.Common.{◌≡◌, ◌∙◌, refl, sym, ap, ℕ, zero, suc, ◌-◌, ◌<◌, List, [], ◌∷◌, ◌++◌, Option, None, Some, arith, append_assoc}
-use Rattle.std.specs.Prelude.{map, Result, Ok, Err, OnOk}
+use Rattle.std.specs.Prelude.{map}
 use Rattle.qz_calendar.specs.Chains.{ZonedCalendar}
 use Rattle.qz_types.specs.Rows.{CalendarData}
 use Rattle.qz_times.specs.Known.{Calendars, Zones, calendar_named, chain_to, over, zoned}
@@ -25,7 +25,3 @@ push_step zs cs limit name calendar base old between new some found below one re
     let whole : chain_to limit cs (Some name) ≡ calendar ∷ chain_to (limit - 1) cs calendar.base = chain_some limit cs name some ∙ ap (over (chain_to (limit - 1) cs)) (sym found) in
     rest ∙ ap (λ b. between ++ map (zoned zs) (chain_to (limit - 1) cs b)) below ∙ ap (λ front. front ++ map (zoned zs) (chain_to (limit - 1) cs calendar.base)) one
     ∙ append_assoc old (zoned zs calendar ∷ []) (map (zoned zs) (chain_to (limit - 1) cs calendar.base)) ∙ ap (λ chain. old ++ map (zoned zs) chain) (sym whole)
-
-pub on_ok : {T E : Type 0} → (r : Result T E) (P Q : Type 0) → (P → Q) → OnOk r P → OnOk r Q
-on_ok (Ok x) P Q f p = f p
-on_ok (Err e) P Q f p = p

@@ -1,11 +1,12 @@
 //! Chains of stored calendars: a calendar, the calendar below it, and so on.
-ghost use Rattle.std.specs.Prelude.{◌≡◌, ◌+◌, ◌≤◌, ◌++◌, [], ◌∷◌, length, map, option_map, IfOk, OnOk, IfSome};
+ghost use Rattle.std.specs.Prelude.{◌≡◌, ◌+◌, ◌≤◌, ◌++◌, [], ◌∷◌, length, map, pos, option_map, IfSome};
+ghost use Rattle.qz_civil.specs.Zones.{fixed_offset};
 ghost use Rattle.qz_times.specs.Known as spec;
 
 use crate::known::{Calendars, Known, Zones};
 use crate::zones::zone_or_utc;
 use qz_calendar::Chain;
-use qz_civil::{CalendarKind, NoMemory, Text, Zone};
+use qz_civil::{Text, Zone};
 use qz_types::{CHAIN_LIMIT, CalendarRow};
 
 #[tactic(auto, using(crate::proofs::ChainSteps::chain_steps))]
@@ -60,57 +61,52 @@ pub(crate) fn place_in(calendars: &Calendars, name: &Text, top: Option<&Text>) -
     place_to(calendars, name, top, CHAIN_LIMIT)
 }
 
-/// The same kind again.
-fn copy_kind(kind: &CalendarKind) -> Result<CalendarKind, NoMemory>
-    ensures { IfOk result (λ copy. copy ≡ kind.now) }
-{
-    Ok(kind.clone()?)
-}
-
 /// Puts a calendar with its zone after those of a chain.
-fn push(zones: &Zones, calendar: &CalendarRow, chain: &mut Chain) -> Result<(), NoMemory>
-    requires { length chain.old + 1 ≤ 8 }
-    ensures { OnOk result (chain.new ≡ chain.old ++ spec.zoned zones.now.entries calendar.now ∷ []) }
+fn push<'a>(zones: &'a Zones, calendar: &'a CalendarRow, utc: &'a Zone, chain: &mut Chain<'a>)
+    requires utc { utc.now ≡ fixed_offset (pos 0) }
+    requires room { length chain.old + 1 ≤ 8 }
+    ensures { chain.new ≡ chain.old ++ spec.zoned zones.now.entries calendar.now ∷ [] }
 {
-    let zone = zone_or_utc(zones, &calendar.zone)?;
-    let kind = copy_kind(&calendar.kind)?;
-    match chain.push(kind, zone) {
-        Ok(()) => Ok(()),
+    let zone = zone_or_utc(zones, &calendar.zone, utc);
+    match chain.push(&calendar.kind, zone) {
+        Ok(()) => (),
         Err(_) => unreachable!(),
     }
 }
 
 #[tactic(auto, using(crate::proofs::ChainSteps::chain_steps))]
 /// Puts the chain that begins with a calendar, up to so many calendars, after those of another.
-fn push_to(
-    known: &Known,
+fn push_to<'a>(
+    known: &'a Known,
     name: Option<&Text>,
     limit: u64,
-    chain: &mut Chain,
-) -> Result<(), NoMemory>
-    requires { length chain.old + limit ≤ 8 }
-    ensures { OnOk result (chain.new ≡ chain.old ++ map (spec.zoned known.now.zones.entries) (spec.chain_to limit known.now.calendars.entries (option_map (λ n. n.now) name.entry))) }
+    utc: &'a Zone,
+    chain: &mut Chain<'a>,
+)
+    requires utc { utc.now ≡ fixed_offset (pos 0) }
+    requires room { length chain.old + limit ≤ 8 }
+    ensures { chain.new ≡ chain.old ++ map (spec.zoned known.now.zones.entries) (spec.chain_to limit known.now.calendars.entries (option_map (λ n. n.now) name.entry)) }
 {
     let Some(name) = name else {
-        return Ok(());
+        return;
     };
     if limit == 0 {
-        return Ok(());
+        return;
     }
-    match known.calendars.get(name) {
-        Some(calendar) => {
-            push(&known.zones, calendar, chain)?;
-            push_to(known, calendar.base.as_ref(), limit - 1, chain)
-        }
-        None => Ok(()),
-    }
+    let Some(calendar) = known.calendars.get(name) else {
+        return;
+    };
+    push(&known.zones, calendar, utc, chain);
+    push_to(known, calendar.base.as_ref(), limit - 1, utc, chain);
 }
 
-/// The chain that begins with a calendar, with the zones of its calendars.
-pub(crate) fn zoned_chain(known: &Known, name: Option<&Text>) -> Result<Chain, NoMemory>
-    ensures { IfOk result (λ chain. chain ≡ spec.zoned_chain (spec.kept known.now) (option_map (λ n. n.now) name.entry)) }
+/// The chain that begins with a calendar, with the zones of its calendars. `utc` is the zone of Coordinated Universal Time, which
+/// has no row.
+pub(crate) fn zoned_chain<'a>(known: &'a Known, name: Option<&Text>, utc: &'a Zone) -> Chain<'a>
+    requires { utc.now ≡ fixed_offset (pos 0) }
+    ensures { result ≡ spec.zoned_chain (spec.kept known.now) (option_map (λ n. n.now) name.entry) }
 {
     let mut chain = Chain::empty();
-    push_to(known, name, CHAIN_LIMIT, &mut chain)?;
-    Ok(chain)
+    push_to(known, name, CHAIN_LIMIT, utc, &mut chain);
+    chain
 }

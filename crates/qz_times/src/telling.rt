@@ -1,6 +1,7 @@
 //! What is said to what a line asks for.
-ghost use Rattle.std.specs.Prelude.{◌≡◌, negsuc, ◌≤ℤ◌, Some, None, IsTrue, IfOk, is_some, option_map, unwrap_or, codes};
+ghost use Rattle.std.specs.Prelude.{◌≡◌, pos, negsuc, ◌≤ℤ◌, Some, None, IsTrue, IfOk, is_some, option_map, unwrap_or, codes};
 ghost use Rattle.qz_civil.specs.Timings.{is_timing};
+ghost use Rattle.qz_civil.specs.Zones.{fixed_offset};
 ghost use Rattle.qz_types.specs.Rows.{is_trigger_spec};
 ghost use Rattle.qz_job_json.specs.Asked.{is_asked};
 ghost use Rattle.qz_types.specs.declared.steps.StepReply.TheVariants as reply;
@@ -15,7 +16,7 @@ use crate::known::{Known, Zones};
 use crate::queries::Query;
 use crate::zones::{add_zone, is_known_zone, zone_or_utc};
 use qz_calendar::Chain;
-use qz_civil::{Kind, LAST, NoMemory, Text, Timing, Zone, beside};
+use qz_civil::{Kind, LAST, NoMemory, Text, Timing, Zone};
 use qz_job_json::Asked;
 use qz_report::{reply_line, times_line};
 use qz_types::{Refusal, Reply, StepReply, TriggerSpec};
@@ -105,12 +106,14 @@ fn is_known_zone_of(zones: &Zones, kind: &Kind) -> bool
     }
 }
 
-fn zone_of(zones: &Zones, kind: &Kind) -> Result<Zone, NoMemory>
-    ensures { IfOk result (λ zone. zone ≡ zone_or_utc zones.now.entries (zone_name kind.now)) }
+// The zone of a kind. `utc` is the zone of Coordinated Universal Time.
+fn zone_of<'a>(zones: &'a Zones, kind: &Kind, utc: &'a Zone) -> &'a Zone
+    requires { utc.now ≡ fixed_offset (pos 0) }
+    ensures { result.now ≡ zone_or_utc zones.now.entries (zone_name kind.now) }
 {
     match zone_name(kind) {
-        Some(name) => zone_or_utc(zones, name),
-        None => Ok(Zone::utc()),
+        Some(name) => zone_or_utc(zones, name, utc),
+        None => utc,
     }
 }
 
@@ -126,9 +129,10 @@ fn tell_times(
     requires high { query.after ≤ℤ LAST }
     ensures { IfOk result (IsToldUnless None (kept known.now) query spec.now) }
 {
-    let zone = zone_of(&known.zones, &spec.timing.kind)?;
-    let (zone, chain) = beside(zone, zoned_chain(known, spec.calendar.as_ref()))?;
-    let times = first_times(alloc, &spec.timing, &zone, &chain, query)?;
+    let utc = Zone::utc();
+    let zone = zone_of(&known.zones, &spec.timing.kind, &utc);
+    let chain = zoned_chain(known, spec.calendar.as_ref(), &utc);
+    let times = first_times(alloc, &spec.timing, zone, &chain, query)?;
     times_line(alloc, &spec.key, &times)
 }
 
@@ -137,7 +141,7 @@ fn first_times(
     alloc: Global,
     timing: &Timing,
     zone: &Zone,
-    chain: &Chain,
+    chain: &Chain<'_>,
     query: Query,
 ) -> Result<Vec<i64>, NoMemory>
     requires timing { IsTrue (is_timing timing.now) }

@@ -1,11 +1,11 @@
 //! Zones by their names.
-ghost use Rattle.std.specs.Prelude.{◌≡◌, None, IfOk, OnOk, OnErr, is_some};
+ghost use Rattle.std.specs.Prelude.{◌≡◌, pos, None, IfOk, OnOk, OnErr, is_some};
+ghost use Rattle.qz_civil.specs.Zones.{fixed_offset};
 ghost use Rattle.qz_times.specs.Known as spec;
 
 use crate::known::{Known, Zones};
-use qz_civil::{List, NoMemory, Stretch, Text, Zone};
+use qz_civil::{NoMemory, Text, Zone};
 use qz_types::{Refusal, ZONE_LIMIT, ZoneRow};
-use std::alloc::{AllocError, Global};
 
 /// Whether a zone of this name is known. `UTC` always is.
 pub(crate) fn is_known_zone(zones: &Zones, name: &Text) -> bool
@@ -50,33 +50,16 @@ fn insert_zone(zones: &mut Zones, zone: ZoneRow) -> Result<(), NoMemory>
     Ok(())
 }
 
-/// The same stretches again.
-#[tactic(auto, using(qz_civil::proofs::CloneLaws::same_items))]
-fn copy_stretches(stretches: &List<Stretch>) -> Result<List<Stretch>, AllocError>
-    ensures { IfOk result (λ copy. copy ≡ stretches.now) }
-{
-    stretches.clone()
-}
-
-/// The zone of a table that is stored.
-fn zone_of(row: &ZoneRow) -> Result<Zone, NoMemory>
-    ensures { IfOk result (λ zone. zone ≡ row.now.stretches) }
-{
-    match Zone::table(copy_stretches(&row.stretches)?) {
-        Ok(zone) => Ok(zone),
-        Err(_) => unreachable!(),
-    }
-}
-
-/// A zone that is known, by its name.
-pub(crate) fn zone_or_utc(zones: &Zones, name: &Text) -> Result<Zone, NoMemory>
-    ensures { IfOk result (λ zone. zone ≡ spec.zone_or_utc zones.now.entries name.now) }
+/// A zone that is known, by its name. `utc` is the zone of Coordinated Universal Time, which has no row.
+pub(crate) fn zone_or_utc<'a>(zones: &'a Zones, name: &Text, utc: &'a Zone) -> &'a Zone
+    requires { utc.now ≡ fixed_offset (pos 0) }
+    ensures { result.now ≡ spec.zone_or_utc zones.now.entries name.now }
 {
     if name.as_str() == "UTC" {
-        return Ok(Zone::utc());
+        return utc;
     }
     match zones.get(name) {
-        Some(row) => zone_of(row),
-        None => Ok(Zone::utc()),
+        Some(row) => &row.zone,
+        None => utc,
     }
 }

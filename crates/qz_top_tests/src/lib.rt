@@ -2,4 +2,10 @@
 #![tactic(auto)]
 
 #[cfg(test)]
+mod calls;
+#[cfg(test)]
+mod scripts;
+#[cfg(test)]
+mod stores;
+#[cfg(test)]
 mod top;

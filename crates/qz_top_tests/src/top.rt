@@ -1,27 +1,12 @@
-//! Worked examples through the top call, over objects in memory.
+//! Scripts, words and fire times through the top call.
+use crate::calls::{Row, are_answered, bytes_of, clock, numbers};
 use qz_cron_text::CronError;
-use qz_disk::{Disk, FaultDisk, MemDisk};
-use qz_io::{FaultSink, FaultSource, ListClock, MemSink, MemSource, Sink, Source};
-use qz_top::{BadKind, Ended, Status, WordFault, command};
-use qz_types::{List, Store, Text};
+use qz_disk::MemDisk;
+use qz_io::{FaultSink, FaultSource, MemSink, MemSource, Sink, Source};
+use qz_top::{BadKind, Status, WordFault, command};
 use std::alloc::{AllocError, Global};
-use std::process::Abort;
 
-fn bytes_of(alloc: Global, text: &str) -> Result<List<u8>, AllocError> {
-    Ok(List::from_vec(Vec::from_slice(alloc, text.as_bytes())?))
-}
-
-fn numbers(alloc: Global, items: &[u64]) -> Result<List<u64>, AllocError> {
-    Ok(List::from_vec(Vec::from_slice(alloc, items)?))
-}
-
-/// A clock that always reads 2024-01-01T00:00:00Z.
-fn clock(alloc: Global) -> Result<ListClock, AllocError> {
-    let readings = Vec::from_slice(alloc, &[1704067200000i64])?;
-    Ok(ListClock::new(List::from_vec(readings)))
-}
-
-const SIX: &str = r#"{"do":"add_job","job":{"name":"report","class":"ok"}}
+pub const SIX: &str = r#"{"do":"add_job","job":{"name":"report","class":"ok"}}
 {"do":"add_trigger","trigger":{"name":"t1","job":"report","kind":"simple","start":1704067200000}}
 {"do":"join","node":"A"}
 {"do":"acquire","node":"A","no_later":1704067200000}
@@ -29,7 +14,7 @@ const SIX: &str = r#"{"do":"add_job","job":{"name":"report","class":"ok"}}
 {"do":"complete","node":"A","entry":1}
 "#;
 
-const SIX_REPLIES: &str =
+pub const SIX_REPLIES: &str =
     "ok\nok next 1704067200000\njoined 1 executions 0 triggers 0\nacquired 1 DEFAULT/t1 1704067200000
 fired 1 scheduled 1704067200000 at 1704067200000 next none\ncompleted 1\n";
 
@@ -44,142 +29,6 @@ const EARLY: &str = r#"{"do":"add_job","at":1704067190000,"job":{"name":"report"
 const EARLY_REPLIES: &str =
     "ok\nok next 1704067200000\njoined 1 executions 0 triggers 0\nacquired 1 DEFAULT/t1 1704067200000
 refused 19 next 1704067200000\nfired 1 scheduled 1704067200000 at 1704067200000 next none\n";
-
-/// What a call is given beside its disks.
-#[derive(Drop)]
-struct Given {
-    words: Vec<Text>,
-    input: MemSource,
-    clock: ListClock,
-}
-
-fn texts(alloc: Global, words: &[&str]) -> Result<Vec<Text>, AllocError> {
-    let mut texts = Vec::new(alloc);
-    for word in words {
-        texts.push(Text::from_str(alloc, word)?)?;
-    }
-    Ok(texts)
-}
-
-fn prepare(alloc: Global, words: &[&str], script: &str) -> Result<Given, AllocError> {
-    Ok(Given {
-        words: texts(alloc, words)?,
-        input: MemSource::new(bytes_of(alloc, script)?),
-        clock: clock(alloc)?,
-    })
-}
-
-/// What a call came to, and what it wrote.
-#[derive(Drop)]
-struct Called<D: Disk> {
-    ended: Ended<D>,
-    out: MemSink,
-    err: MemSink,
-}
-
-fn call<D: Disk>(alloc: Global, given: Given, triggers: D, states: D) -> Called<D> {
-    let mut given = given;
-    let mut out = MemSink::new(alloc);
-    let mut err = MemSink::new(alloc);
-    let ended = command(
-        alloc,
-        &given.words,
-        &mut given.input,
-        &mut out,
-        &mut err,
-        triggers,
-        states,
-        &mut given.clock,
-    );
-    drop(given);
-    Called { ended, out, err }
-}
-
-/// What a call is to write, and how it is to end.
-#[derive(Clone, Copy)]
-struct Wanted<'a> {
-    replies: &'a str,
-    error: &'a str,
-    status: Status,
-}
-
-impl<D: Disk> Called<D> {
-    fn is(&self, wanted: &Wanted) -> bool {
-        let is_handed = wanted.status != Status::Ok || self.out.handed() == self.out.bytes();
-        is_handed
-            && self.out.bytes() == wanted.replies.as_bytes()
-            && self.err.bytes() == wanted.error.as_bytes()
-            && self.ended.status == wanted.status
-    }
-
-    // The disks of a call that is as wanted.
-    fn disks(self, wanted: &Wanted) -> Option<(D, D)> {
-        let is_right = self.is(wanted);
-        let Called { ended, out, err } = self;
-        drop((out, err));
-        let Ended {
-            status: _,
-            triggers,
-            states,
-            trail: _,
-        } = ended;
-        if is_right {
-            Some((triggers, states))
-        } else {
-            None
-        }
-    }
-}
-
-// The disks behind a call on these, if it is as wanted.
-fn left<D: Disk>(
-    alloc: Global,
-    disks: Option<(D, D)>,
-    words: &[&str],
-    script: &str,
-    wanted: &Wanted,
-) -> Option<(D, D)> {
-    let given = prepare(alloc, words, script).ok()?;
-    let (triggers, states) = disks?;
-    call(alloc, given, triggers, states).disks(wanted)
-}
-
-// Whether a call on these disks is as wanted.
-fn answers<D: Disk>(
-    alloc: Global,
-    disks: Option<(D, D)>,
-    words: &[&str],
-    script: &str,
-    wanted: &Wanted,
-) -> bool {
-    let left = left(alloc, disks, words, script, wanted);
-    let is_right = left.is_some();
-    drop(left);
-    is_right
-}
-
-// Disks without a byte.
-fn new_disks(alloc: Global) -> Option<(MemDisk, MemDisk)> {
-    Some((MemDisk::new(alloc), MemDisk::new(alloc)))
-}
-
-/// A script, the replies to it, what is said of it, and how its call ends.
-type Row = (&'static str, &'static str, &'static str, Status);
-
-// Each script has its replies on new disks.
-fn are_answered(rt: &impl Abort, alloc: Global, words: &[&str], rows: &[Row]) {
-    for (script, replies, error, status) in rows {
-        let wanted = Wanted {
-            replies,
-            error,
-            status: *status,
-        };
-        assert!(rt;
-            answers(alloc, new_disks(alloc), words, script, &wanted),
-            "at {script}"
-        );
-    }
-}
 
 const SAME_JOB: &str = r#"{"do":"add_job","job":{"name":"r","class":"ok"}}
 
@@ -203,7 +52,7 @@ const SCRIPTS: [Row; 7] = [
     ("", "", "", Status::Ok),
     (SIX, SIX_REPLIES, "", Status::Ok),
     (EARLY, EARLY_REPLIES, "", Status::Ok),
-    (SAME_JOB, "ok\nrefused 0\n", "", Status::Ok),
+    (SAME_JOB, "ok\nrefused 7\n", "", Status::Ok),
     (NO_JOB, "refused 3\n", "", Status::Ok),
     (NO_ENTRY, REFUSED_ENTRY, "", Status::Ok),
     (NO_JOIN, "stopped\n", "", Status::Ok),
@@ -217,7 +66,7 @@ fn scripts_have_their_replies(rt: HostRuntime) {
 const UNENDED: &str = r#"{"do":"join","node":"A"}
 {"do":"fire","node":"A""#;
 
-const UNBUILT: &str = r#"{"do":"pause_group","group":"g"}
+const UNBUILT: &str = r#"{"do":"check_in","node":"A"}
 {"do":"join","node":"A"}
 "#;
 
@@ -324,7 +173,7 @@ fn words_are_refused(rt: HostRuntime) {
     assert!(rt; BAD_WORDS.exit_number() == 1);
 }
 
-const WEEKDAYS: &str =
+pub const WEEKDAYS: &str =
     r#"{"do":"add_trigger","trigger":{"name":"c","job":"j","start":0,"kind":"cron","cron":"0 0 12 ? * MON-FRI"}}"#;
 
 const WEEKDAYS_OF_2023: &str =
@@ -353,172 +202,4 @@ fn fire_times_are_told(rt: HostRuntime) {
         &["times", "1704456000000", "1"],
         &FIRE_TIMES,
     );
-}
-
-const DONE: Wanted<'static> = Wanted {
-    replies: "",
-    error: "",
-    status: Status::Ok,
-};
-
-const THREE: &str = r#"{"do":"add_job","job":{"name":"report","class":"ok"}}
-{"do":"add_trigger","trigger":{"name":"t1","job":"report","kind":"simple","start":1704067200000}}
-{"do":"join","node":"A"}
-"#;
-
-const THREE_REPLIES: &str = "ok\nok next 1704067200000\njoined 1 executions 0 triggers 0\n";
-
-const THREE_DONE: Wanted<'static> = Wanted {
-    replies: THREE_REPLIES,
-    error: "",
-    status: Status::Ok,
-};
-
-// The disks of new stores.
-fn made(alloc: Global) -> Option<(MemDisk, MemDisk)> {
-    let wanted = Wanted {
-        replies: "created\n",
-        ..DONE
-    };
-    left(alloc, new_disks(alloc), &["init"], "", &wanted)
-}
-
-#[test]
-fn stores_are_made_once(rt: HostRuntime) {
-    let alloc = rt.alloc();
-    let wanted = Wanted {
-        replies: "",
-        error: "qz: store exists\n",
-        status: Status::Exists,
-    };
-    assert!(rt; answers(alloc, made(alloc), &["init"], "", &wanted));
-}
-
-// The disks of stores that took three entries.
-fn filled(alloc: Global) -> Option<(MemDisk, MemDisk)> {
-    left(alloc, made(alloc), &["script"], THREE, &THREE_DONE)
-}
-
-/// The words of a call, its input, what it writes, and the number of the flush among the calls on its output.
-type FlushRow = (&'static [&'static str], &'static str, &'static str, u64);
-
-const FLUSHES: [FlushRow; 4] = [
-    (&[], SIX, SIX_REPLIES, 7),
-    (&["script"], THREE, THREE_REPLIES, 4),
-    (&["init"], "", "created\n", 2),
-    (
-        &["times", "1704456000000", "1"],
-        WEEKDAYS,
-        "times DEFAULT/c 1704715200000\n",
-        2,
-    ),
-];
-
-// Whether a call whose flush alone fails has written all, and says that its output failed.
-fn fails_at_the_flush(alloc: Global, row: &FlushRow) -> Option<bool> {
-    let &(words, script, replies, at) = row;
-    let mut out = FaultSink::new(alloc, numbers(alloc, &[at]).ok()?);
-    let mut given = prepare(alloc, words, script).ok()?;
-    let mut err = MemSink::new(alloc);
-    let (triggers, states) = match words {
-        ["script"] => made(alloc)?,
-        _ => new_disks(alloc)?,
-    };
-    let ended = command(
-        alloc,
-        &given.words,
-        &mut given.input,
-        &mut out,
-        &mut err,
-        triggers,
-        states,
-        &mut given.clock,
-    );
-    let is_right = ended.status == Status::WriteFault && out.bytes() == replies.as_bytes();
-    drop((ended, given, out, err));
-    Some(is_right)
-}
-
-#[test]
-fn a_flush_that_fails_is_a_write_fault(rt: HostRuntime) {
-    for row in FLUSHES {
-        assert!(rt;
-            fails_at_the_flush(rt.alloc(), &row) == Some(true),
-            "at {}",
-            row.3
-        );
-    }
-}
-
-const FIRE_AND_ADD: &str = r#"{"do":"fire","node":"A","entry":1}
-{"do":"add_job","job":{"name":"report","class":"ok"}}
-"#;
-
-#[test]
-fn a_history_goes_on(rt: HostRuntime) {
-    let alloc = rt.alloc();
-    let wanted = Wanted {
-        replies: "stopped\nrefused 0\n",
-        ..DONE
-    };
-    assert!(rt; answers(alloc, filled(alloc), &["script"], FIRE_AND_ADD, &wanted));
-}
-
-#[test]
-fn an_empty_script_does_nothing(rt: HostRuntime) {
-    assert!(rt; answers(rt.alloc(), made(rt.alloc()), &["script"], "", &DONE));
-}
-
-const NOT_A_STORE: Status = Status::NotAStore {
-    store: Store::Triggers,
-};
-
-#[test]
-fn what_is_no_store_is_not_opened(rt: HostRuntime) {
-    let rows = [(THREE, "", "qz: triggers not a store\n", NOT_A_STORE)];
-    are_answered(&rt, rt.alloc(), &["script"], &rows);
-}
-
-// Disks of which the first holds a journal whose payload is cut.
-fn damaged(alloc: Global) -> Option<(MemDisk, MemDisk)> {
-    let bytes = b"QZ23\x01T\0\0\0\0\0\0\0\0\0\0\xa5\0\0\0\x10\x01\x02\x03";
-    let broken = Vec::from_slice(alloc, bytes).ok()?;
-    let disk = MemDisk::with_bytes(alloc, List::from_vec(broken));
-    Some((disk, MemDisk::new(alloc)))
-}
-
-#[test]
-fn a_damaged_store_is_not_opened(rt: HostRuntime) {
-    let alloc = rt.alloc();
-    let wanted = Wanted {
-        replies: "",
-        error: "qz: triggers damaged at 16\n",
-        status: Status::Damaged {
-            store: Store::Triggers,
-            at: 16,
-        },
-    };
-    assert!(rt; answers(alloc, damaged(alloc), &["script"], THREE, &wanted));
-}
-
-// New stores on disks of which the first fails at this call.
-fn failing(alloc: Global, at: u64) -> Option<(FaultDisk<MemDisk>, FaultDisk<MemDisk>)> {
-    let calls = numbers(alloc, &[at]).ok()?;
-    let (triggers, states) = made(alloc)?;
-    Some((
-        FaultDisk::new(triggers, calls),
-        FaultDisk::new(states, List::new(alloc)),
-    ))
-}
-
-#[test]
-fn a_disk_that_fails_closes_the_store(rt: HostRuntime) {
-    let alloc = rt.alloc();
-    let wanted = Wanted {
-        replies: "ok\nfault\nclosed\n",
-        error: "qz: disk fault\n",
-        status: Status::DiskFault,
-    };
-    // the first call of the second commit, after four of the opening and four of the first commit
-    assert!(rt; answers(alloc, failing(alloc, 9), &["script"], THREE, &wanted));
 }

@@ -16,7 +16,7 @@ use crate::entry_log::EntryLog;
 use qz_civil::List;
 use qz_codec::{ReadError, get_command};
 use qz_journal::MountError;
-use qz_plain::{PlainStore, Worked};
+use qz_plain::PlainStore;
 use qz_types::{Entry, StepRefused};
 use std::alloc::Global;
 
@@ -49,14 +49,9 @@ fn take(alloc: Global, tables: &mut PlainStore, payload: &[u8]) -> Result<Entry,
         Err(ReadError::BadRecord { at: _ }) => return Err(TakeError::Unfit),
         Err(ReadError::NoMemory) => return Err(TakeError::NoMemory),
     };
-    match tables.work(&entry) {
-        Ok(worked) => {
-            let Worked {
-                tables: next,
-                reply,
-            } = worked;
+    match tables.apply(&entry) {
+        Ok(reply) => {
             drop(reply);
-            *tables = next;
             Ok(entry)
         }
         Err(StepRefused::Refused(refusal)) => {

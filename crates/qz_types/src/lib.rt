@@ -9,6 +9,7 @@ mod jobs;
 mod keys;
 mod limits;
 mod members;
+mod owners;
 mod replies;
 mod sorted;
 mod states;
@@ -29,6 +30,7 @@ pub use limits::{
     PAYLOAD_LIMIT, STATE_LIMIT, TIMES_LIMIT, TRIGGER_LIMIT, ZONE_LIMIT, limits_are,
 };
 pub use members::MemberRow;
+pub use owners::Owner;
 pub use qz_civil::{
     CalendarKind, Failed, Kind, LAST, LONGEST, List, NAME_LIMIT, NoMemory, Stretch, Text, Timing,
     Unit,

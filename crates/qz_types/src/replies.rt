@@ -2,7 +2,7 @@
 ghost use Rattle.std.specs.Prelude.{◌≡◌};
 ghost use Rattle.qz_types.specs.Refusals.{number_of};
 
-use crate::{JobRow, Key, MemberRow};
+use crate::{JobRow, Key, Owner};
 use qz_civil::List;
 
 /// A trigger that was acquired.
@@ -109,7 +109,7 @@ pub enum Refusal {
     /// No fired row has that entry number.
     UnknownEntry,
     /// The fired row is another member's.
-    NotYours { owner: MemberRow },
+    NotYours { owner: Owner },
     /// The execution of the fired row has begun.
     NotAcquired,
     /// The execution of the fired row hasn't begun.

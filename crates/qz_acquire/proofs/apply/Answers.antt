@@ -13,6 +13,11 @@ acquire-requires-clause-moment c =
     let read : to_z w64 (of_z w64 c.recorded_moment-moment.result) ≡ c.recorded_moment-moment.result = grind (arith, common_steps, to_z-of_z) in
     subst (IsMoment c.args.tables.now.tables.horizon) (sym (read ∙ c.recorded_moment-moment.ensures)) (moment_of c.args.tables.now.tables (to_z w64 (of_z w64 c.entry.inside.at)) c.requires.valid)
 
+pub misfires-requires-clause-moment : goal.misfires-requires-clause-moment
+misfires-requires-clause-moment c =
+    let read : to_z w64 (of_z w64 c.recorded_moment-moment.result) ≡ c.recorded_moment-moment.result = grind (arith, common_steps, to_z-of_z) in
+    subst (IsMoment c.args.tables.now.tables.horizon) (sym (read ∙ c.recorded_moment-moment.ensures)) (moment_of c.args.tables.now.tables (to_z w64 (of_z w64 c.entry.inside.at)) c.requires.valid)
+
 pub returns-in-Node-clause-valid : goal.returns-in-Node-clause-valid
 returns-in-Node-clause-valid c =
     let ok : IfOk c.acquire.result (λ reply. transaction c.args.tables.now.tables c.args.entry.now ≡ accepted c.acquire.new.tables.tables reply) = search rules in
@@ -20,5 +25,10 @@ returns-in-Node-clause-valid c =
 
 pub returns-in-Node-actor-clause-valid : goal.returns-in-Node-actor-clause-valid
 returns-in-Node-actor-clause-valid c =
-    let ok : IfOk c.fire.result (λ reply. transaction c.args.tables.now.tables c.args.entry.now ≡ accepted c.fire.new.tables.tables reply) = search rules in
-    valid_after c.args.tables.now c.fire.new.tables c.args.entry.now c.fire.result c.requires.entry c.requires.valid ok c.fire.ensures.err
+    let ok : IfOk c.misfires.result (λ reply. transaction c.args.tables.now.tables c.args.entry.now ≡ accepted c.misfires.new.tables.tables reply) = search rules in
+    valid_after c.args.tables.now c.misfires.new.tables c.args.entry.now c.misfires.result c.requires.entry c.requires.valid ok c.misfires.ensures.err
+
+pub returns-in-Node-actor-2-clause-valid : goal.returns-in-Node-actor-2-clause-valid
+returns-in-Node-actor-2-clause-valid c =
+    let ok : IfOk c.release.result (λ reply. transaction c.args.tables.now.tables c.args.entry.now ≡ accepted c.release.new.tables.tables reply) = search rules in
+    valid_after c.args.tables.now c.release.new.tables c.args.entry.now c.release.result c.requires.entry c.requires.valid ok c.release.ensures.err

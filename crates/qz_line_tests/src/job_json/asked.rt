@@ -21,7 +21,7 @@ fn calendar_text(
 
 fn text_of(alloc: Global, read: &Result<Option<Asked>, LineError>) -> Result<String, AllocError> {
     match read {
-        Ok(Some(Asked::AddZone { zone })) => format!(in alloc; "{:?}", zone.stretches),
+        Ok(Some(Asked::AddZone { zone })) => format!(in alloc; "{:?}", zone.zone),
         Ok(Some(Asked::AddCalendar { calendar, replace })) => {
             calendar_text(alloc, calendar, *replace)
         }

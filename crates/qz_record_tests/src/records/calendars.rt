@@ -107,7 +107,7 @@ fn is_annual(row: &CalendarRow) -> bool {
 }
 
 fn is_zone(row: &ZoneRow) -> bool {
-    match row.stretches.as_slice() {
+    match row.zone.as_slice() {
         [first, second] => {
             first.from == 0
                 && first.offset == 3600

@@ -72,7 +72,7 @@ const SAMPLES: &[Sample] = &[
     Sample {
         before: BY_CLIENT,
         bytes: b"\x0a\x00\x01Z\x00\x01\x00\x00\x00\x00\x00\x00\x03\xe8\xff\xff\xf1\xf0",
-        printed: "AddZone { zone: ZoneRow { name: \"Z\", stretches: [Stretch { from: 1000, offset: -3600 }] } }",
+        printed: "AddZone { zone: ZoneRow { name: \"Z\", zone: [Stretch { from: 1000, offset: -3600 }] } }",
     },
     Sample {
         before: BY_CLIENT,

@@ -3,21 +3,36 @@ use Rattle.std.proofs.lemmas.Int.{to_z-of_z}
 use Rattle.std.proofs.lemmas.Grind.{common_steps}
 use Rattle.qz_types.specs.Outcomes.{IsAccepted}
 use Rattle.qz_types.specs.Words.{fired_of}
-use Rattle.qz_model.specs.Firing.{stored_job, fired_reply, fire}
-use Rattle.qz_apply.proofs.Accepted.{same_outcome}
-use Rattle.qz_acquire.proofs.Firings.{tables_begun, fires, begun_is}
+use Rattle.qz_model.specs.Firing.{fire_one, fire}
+use Rattle.qz_model.specs.Tests.{stored_job}
+use Rattle.qz_model.proofs.RowLaws.{fired_of-entry}
+use Rattle.qz_acquire.proofs.Firings.{fires, begun_is, fired_is}
 use Rattle.qz_acquire.proofs.firing.fire.Goals as goal
+
+pub following-next-requires-clause-taken : goal.following-next-requires-clause-taken
+following-next-requires-clause-taken c =
+    let is : IsAccepted (fire c.args.tables.now.tables c.args.moment c.args.me.now c.args.entry) = search rules in
+    (fires c.args.tables.now.tables c.args.moment c.args.me.now c.args.entry c.in-Some-get_fired.row.now is (sym c.in-Some-get_fired.ensures.row)).taken
+
+pub job_of_row-job-requires-clause-taken : goal.job_of_row-job-requires-clause-taken
+job_of_row-job-requires-clause-taken c =
+    let is : IsAccepted (fire c.args.tables.now.tables c.args.moment c.args.me.now c.args.entry) = search rules in
+    (fires c.args.tables.now.tables c.args.moment c.args.me.now c.args.entry c.in-Some-get_fired.row.now is (sym c.in-Some-get_fired.ensures.row)).taken
 
 pub returns-clause-ok : goal.returns-clause-ok
 returns-clause-ok c =
     let is : IsAccepted (fire c.args.tables.now.tables c.args.moment c.args.me.now c.args.entry) = search rules in
     let stored : fired_of c.args.entry c.args.tables.now.tables.fired ≡ Some c.in-Some-get_fired.row.now = sym c.in-Some-get_fired.ensures.row in
     let begins = fires c.args.tables.now.tables c.args.moment c.args.me.now c.args.entry c.in-Some-get_fired.row.now is stored in
-    let job = c.job.view_is ∙ c.job_of_row-job.ensures in
+    let number = fired_of-entry c.args.entry c.in-Some-get_fired.row.now c.args.tables.now.tables.fired stored in
+    let trigger : c.in_ok-trigger.trigger ≡ c.in-Some-get_fired.row.now.trigger = grind (arith, common_steps) in
+    let job : c.in_ok-trigger.job ≡ stored_job c.in-Some-get_fired.row.now.job c.args.tables.now.tables.jobs = grind (arith, common_steps) in
     let moment : to_z w64 (of_z w64 c.args.moment) ≡ c.args.moment = grind (arith, common_steps, to_z-of_z) in
-    let same = begun_is c.args.tables.now.tables c.args.moment (to_z w64 (of_z w64 c.args.moment)) c.in-Some-get_fired.row.now c.in_ok-trigger.field-0.trigger c.row.inside.entry c.job.inside.no_concurrent c.job.inside.requests_recovery
-    moment c.in_ok-trigger.ensures.trigger (ap (λ v. v.entry) c.row.view_is) (ap (λ v. v.no_concurrent) job) (ap (λ v. v.requests_recovery) job) in
-    let tables : c.begin_execution.new.tables.tables ≡ tables_begun c.args.tables.now.tables c.args.moment c.in-Some-get_fired.row.now = c.begin_execution.ensures ∙ same in
-    let reply : c.in_ok-trigger.field-0.reply ≡ fired_reply c.args.moment c.in-Some-get_fired.row.now (stored_job c.in-Some-get_fired.row.now.job c.args.tables.now.tables.jobs) =
-    c.in_ok-trigger.ensures.reply ∙ ap (λ n. fired_reply n c.in-Some-get_fired.row.now c.job_of_row-job.result.now) moment ∙ ap (fired_reply c.args.moment c.in-Some-get_fired.row.now) c.job_of_row-job.ensures in
-    begins.outcome ∙ same_outcome _ _ _ _ tables reply
+    let scheduled : to_z w64 (of_z w64 c.row.inside.scheduled) ≡ c.in-Some-get_fired.row.now.scheduled = grind (arith, common_steps, to_z-of_z) in
+    let T = c.args.tables.now.tables in
+    let f = c.in-Some-get_fired.row.now in
+    let next = c.following-next.result in
+    let same = begun_is T c.args.moment (to_z w64 (of_z w64 c.args.moment)) f c.args.entry c.in_ok-trigger.trigger c.in_ok-trigger.job next moment number trigger job in
+    let outcome = fired_is T c.begin.new.tables.tables c.args.moment (to_z w64 (of_z w64 c.args.moment)) (to_z w64 (of_z w64 c.row.inside.scheduled)) f c.args.entry c.in_ok-trigger.trigger c.in_ok-trigger.job next
+    moment scheduled number trigger job (c.begin.ensures ∙ same) in
+    begins.outcome ∙ ap (fire_one T c.args.moment f (stored_job f.job T.jobs)) (sym c.following-next.ensures) ∙ sym outcome

@@ -19,15 +19,15 @@ loop-place-preserved g c = elim c.if-passes_nth.branch [
   | then-passes_nth w ↦ record {
     within = omega (arith, c.loop-place-test.true, c.len-count.ensures);
     rows = rw add-one (more-changed (changed c.args.change) (g.T.Test.test c.args.test.now) c.args.self.now.rows c.loop-place.self.rows c.if-passes_nth.self.rows c.loop-place.place (omega (arith, c.loop-place-test.true, c.len-count.ensures)) c.loop-place.invariant.rows
-      (subst (λ v. IfSome (slice_get v.rows c.loop-place.place) (λ (r : TriggerData). true ≡ g.T.Test.test c.args.test.now r)) c.self-in-loop-place.view_is w.if-passes_nth.ensures)
-      (ap (λ v. v.rows) w.self-is ∙ w.edit_nth.ensures.rows));
+        (subst (λ v. IfSome (slice_get v.rows c.loop-place.place) (λ (r : TriggerData). true ≡ g.T.Test.test c.args.test.now r)) c.self-in-loop-place.view_is w.if-passes_nth.ensures)
+        (ap (λ v. v.rows) w.self-is ∙ w.edit_nth.ensures.rows));
     links = λ job. ap (λ v. linked job v.links) w.self-is ∙ w.edit_nth.ensures.links job ∙ c.loop-place.invariant.links job;
     spare = let same = ap (λ v. v.spare) w.self-is in omega (arith, same, w.edit_nth.ensures.spare, c.loop-place.invariant.spare);
   }
   | else-passes_nth w ↦ record {
     within = omega (arith, c.loop-place-test.true, c.len-count.ensures);
     rows = rw add-one (ap (λ v. v.rows) w.self-is ∙ more-same (changed c.args.change) (g.T.Test.test c.args.test.now) c.args.self.now.rows c.loop-place.self.rows c.loop-place.place (omega (arith, c.loop-place-test.true, c.len-count.ensures)) c.loop-place.invariant.rows
-      (subst (λ v. IfSome (slice_get v.rows c.loop-place.place) (λ (r : TriggerData). false ≡ g.T.Test.test c.args.test.now r)) c.self-in-loop-place.view_is w.if-passes_nth.ensures));
+        (subst (λ v. IfSome (slice_get v.rows c.loop-place.place) (λ (r : TriggerData). false ≡ g.T.Test.test c.args.test.now r)) c.self-in-loop-place.view_is w.if-passes_nth.ensures));
     links = λ job. ap (λ v. linked job v.links) w.self-is ∙ c.loop-place.invariant.links job;
     spare = let same = ap (λ v. v.spare) w.self-is in omega (arith, same, c.loop-place.invariant.spare);
   }

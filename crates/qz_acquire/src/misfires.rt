@@ -1,0 +1,130 @@
+//! A node moves the triggers that are misfired. Times are in ms since 1970-01-01T00:00:00Z.
+ghost use Rattle.std.specs.Prelude.{◌≡◌, IfOk, IfErr, OnErr, map, fold, ℤ, ◌≤ℤ◌, MatchOption};
+ghost use Rattle.std.specs.List.{AllByRecursion};
+ghost use Rattle.qz_civil.specs.declared.limits.TheConstants.{LAST};
+ghost use Rattle.qz_types.specs.Tables.{IsMoment};
+ghost use Rattle.qz_types.specs.Outcomes.{accepted, refused, IsAccepted, IsErrorOf};
+ghost use Rattle.qz_model.specs.Invariant.{TablesValid};
+ghost use Rattle.qz_model.specs.Misfires.{misfired_triggers, moved_row, misfires};
+ghost use Rattle.qz_acquire.specs.Moves.{with_move, AreMovable, move_for, IsMovable, IsMissed};
+
+use crate::due::{earliest, is_from, is_waiting_misfired};
+use qz_apply::{move_of, node_refusal};
+use qz_civil::Moved;
+use qz_tables::Tables;
+use qz_types::{Key, List, MISFIRE_LIMIT, MemberRow, MovedRow, Refusal, Reply, StepRefused, TriggerRow};
+use std::alloc::{AllocError, Global};
+
+/// What a misfire makes of the trigger of this key.
+#[derive(Drop)]
+pub struct Move {
+    pub key: Key,
+    pub moved: Moved,
+}
+
+/// Why a Misfires of the member is refused, if it is.
+#[tactic(auto, using(crate::proofs::Refused::of_misfires))]
+pub fn misfires_refused(tables: &Tables, me: &MemberRow) -> Option<Refusal>
+    ensures { (m : ℤ) → MatchOption result (IsAccepted (misfires tables.now.tables m me.now)) (λ x. misfires tables.now.tables m me.now ≡ refused x) }
+{
+    node_refusal(tables, me)
+}
+
+/// The member moves the first misfired triggers, up to `MISFIRE_LIMIT`.
+pub fn misfires(
+    tables: &mut Tables,
+    moment: i64,
+    me: &MemberRow,
+) -> Result<Reply, StepRefused>
+    requires valid { ∥ TablesValid tables.old.tables ∥₁ }
+    requires moment { IsMoment tables.old.tables.horizon moment }
+    ensures ok { IfOk result (λ reply. misfires tables.old.tables moment me.now ≡ accepted tables.new.tables reply) }
+    ensures cause { IfErr result (IsErrorOf (misfires tables.old.tables moment me.now)) }
+    ensures err { OnErr result (tables.new ≡ tables.old) }
+{
+    if let Some(refusal) = node_refusal(tables, me) {
+        return Err(StepRefused::Refused(refusal));
+    }
+    let moves = moves(tables, moment)?;
+    let rows = rows_of(tables.allocator(), &moves)?;
+    move_each(tables, moves);
+    tables.set_last_moment(moment);
+    Ok(Reply::Misfired(rows))
+}
+
+// The moves of the first misfired triggers.
+fn moves(tables: &Tables, moment: i64) -> Result<Vec<Move>, AllocError>
+    requires valid { ∥ TablesValid tables.now.tables ∥₁ }
+    requires moment { IsMoment tables.now.tables.horizon moment }
+    ensures moves { IfOk result (λ moves. moves.items ≡ map (move_for tables.now.tables moment) (misfired_triggers tables.now.tables moment)) }
+    ensures movable { IfOk result (λ moves. AreMovable tables.now.tables.triggers moves.items) }
+{
+    let triggers = misfired_triggers(tables, moment)?;
+    moves_of(tables, moment, &triggers)
+}
+
+// The first triggers in due order that wait and are misfired. From the first time that isn't misfired on, no time is.
+fn misfired_triggers(tables: &Tables, moment: i64) -> Result<Vec<&TriggerRow>, AllocError>
+    requires valid { ∥ TablesValid tables.now.tables ∥₁ }
+    requires moment { IsMoment tables.now.tables.horizon moment }
+    ensures { IfOk result (λ rows. map (λ r. r.now) rows.items ≡ misfired_triggers tables.now.tables moment) }
+{
+    let earliest = earliest(tables, moment);
+    let mut found = Vec::new(tables.allocator());
+    let mut next = tables.due_first();
+    while let Some(trigger) = next {
+        if found.len() >= MISFIRE_LIMIT as usize || is_from(earliest, trigger.next) {
+            return Ok(found);
+        }
+        if is_waiting_misfired(tables, moment, trigger) {
+            found.push(trigger)?;
+        }
+        next = tables.due_after(&trigger.spec.key);
+    }
+    Ok(found)
+}
+
+// What a misfire makes of each of these.
+fn moves_of(
+    tables: &Tables,
+    moment: i64,
+    triggers: &[&TriggerRow],
+) -> Result<Vec<Move>, AllocError>
+    requires moment { moment ≤ℤ LAST }
+    requires missed { AllByRecursion (IsMissed moment) (map (λ r. r.now) triggers.now) }
+    ensures moves { IfOk result (λ moves. moves.items ≡ map (move_for tables.now.tables moment) (map (λ r. r.now) triggers.now)) }
+    ensures fit { IfOk result (λ _. AllByRecursion (IsMovable tables.now.tables moment) (map (λ r. r.now) triggers.now)) }
+{
+    let mut moves = Vec::new(tables.allocator());
+    for trigger in triggers {
+        let moved = move_of(tables, trigger, moment);
+        let key = trigger.spec.key.copy()?;
+        moves.push(Move { key, moved })?;
+    }
+    Ok(moves)
+}
+
+// What the reply lists.
+fn rows_of(alloc: Global, moves: &[Move]) -> Result<List<MovedRow>, AllocError>
+    ensures { IfOk result (λ rows. rows ≡ map (λ move. record { trigger = move.key; next = move.moved.next }) moves.now) }
+{
+    let mut rows = List::new(alloc);
+    for one in moves {
+        let trigger = one.key.copy()?;
+        rows.push(MovedRow {
+            trigger,
+            next: one.moved.next,
+        })?;
+    }
+    Ok(rows)
+}
+
+// Takes no memory.
+fn move_each(tables: &mut Tables, moves: Vec<Move>)
+    requires { AreMovable tables.old.tables.triggers moves.items }
+    ensures { tables.new.tables ≡ record tables.old.tables { triggers = fold with_move tables.old.tables.triggers moves.items } }
+{
+    for one in moves {
+        tables.move_trigger(&one.key, &one.moved);
+    }
+}

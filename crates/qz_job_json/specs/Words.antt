@@ -1,0 +1,69 @@
+-- The words of lines: what the member `do` may be.
+use Rattle.std.specs.Prelude.{ℕ, List, [], ◌∷◌, if◌then◌else◌, Option, Some, None, option_map, codes}
+use Rattle.qz_types.specs.declared.commands.Code.{Code}
+use Rattle.qz_types.specs.declared.commands.Code.TheVariants as code
+use Rattle.qz_job_json.specs.Members.{is_text}
+use Rattle.qz_job_json.specs.declared.words.KeyWord.TheVariants.{DeleteJob, DeleteTrigger, PauseTrigger, ResumeTrigger, TriggerNow}
+use Rattle.qz_job_json.specs.declared.words.GroupWord.TheVariants.{PauseGroup, ResumeGroup}
+use Rattle.qz_job_json.specs.declared.words.NameWord.TheVariants.{DeleteCalendar, DeleteZone}
+use Rattle.qz_job_json.specs.declared.words.ClientWord.{ClientWord}
+use Rattle.qz_job_json.specs.declared.words.ClientWord.TheVariants.{AddJob, AddTrigger, AddCalendar, AddZone, OfKey, OfGroup, OfName, Threshold}
+use Rattle.qz_job_json.specs.declared.words.NodeWord.{NodeWord}
+use Rattle.qz_job_json.specs.declared.words.NodeWord.TheVariants.{Leave, Acquire, Release, Fire, Complete, Misfires, Recover}
+use Rattle.qz_job_json.specs.declared.words.Word.{Word}
+use Rattle.qz_job_json.specs.declared.words.Word.TheVariants.{Client, Join, Node}
+
+-- what a client asks for
+unfoldable pub client_word_of : List ℕ → Option ClientWord
+client_word_of text =
+    if is_text text (codes "add_job") then Some AddJob
+    else if is_text text (codes "add_trigger") then Some AddTrigger
+    else if is_text text (codes "add_calendar") then Some AddCalendar
+    else if is_text text (codes "add_zone") then Some AddZone
+    else if is_text text (codes "delete_job") then Some (OfKey DeleteJob)
+    else if is_text text (codes "delete_trigger") then Some (OfKey DeleteTrigger)
+    else if is_text text (codes "pause_trigger") then Some (OfKey PauseTrigger)
+    else if is_text text (codes "resume_trigger") then Some (OfKey ResumeTrigger)
+    else if is_text text (codes "trigger_now") then Some (OfKey TriggerNow)
+    else if is_text text (codes "pause_group") then Some (OfGroup PauseGroup)
+    else if is_text text (codes "resume_group") then Some (OfGroup ResumeGroup)
+    else if is_text text (codes "delete_calendar") then Some (OfName DeleteCalendar)
+    else if is_text text (codes "delete_zone") then Some (OfName DeleteZone)
+    else if is_text text (codes "threshold") then Some Threshold
+    else None
+
+-- what a node does under its epoch
+unfoldable pub node_word_of : List ℕ → Option NodeWord
+node_word_of text =
+    if is_text text (codes "leave") then Some Leave
+    else if is_text text (codes "acquire") then Some Acquire
+    else if is_text text (codes "release") then Some Release
+    else if is_text text (codes "fire") then Some Fire
+    else if is_text text (codes "complete") then Some Complete
+    else if is_text text (codes "misfires") then Some Misfires
+    else if is_text text (codes "recover") then Some Recover
+    else None
+
+abbrev pub word_by : Option ClientWord → Option NodeWord → Option Word
+word_by (Some word) other = Some (Client word)
+word_by None other = option_map Node other
+
+-- the line that a text names, where it is built
+abbrev pub word_of : List ℕ → Option Word
+word_of text = if is_text text (codes "join") then Some Join else word_by (client_word_of text) (node_word_of text)
+
+-- the words of the format whose lines aren't obeyed yet, whatever members they have
+abbrev pub unbuilt_words : List (List ℕ)
+unbuilt_words = codes "check_in" ∷ codes "leave" ∷ codes "recover" ∷ codes "forget" ∷ codes "stop" ∷ codes "restart" ∷ []
+
+-- the code that a text names
+unfoldable pub code_of : List ℕ → Option Code
+code_of text =
+    if is_text text (codes "NOOP") then Some code.Noop
+    else if is_text text (codes "RE_EXECUTE_JOB") then Some code.ReExecuteJob
+    else if is_text text (codes "SET_TRIGGER_COMPLETE") then Some code.SetTriggerComplete
+    else if is_text text (codes "DELETE_TRIGGER") then Some code.DeleteTrigger
+    else if is_text text (codes "SET_ALL_JOB_TRIGGERS_COMPLETE") then Some code.SetAllJobTriggersComplete
+    else if is_text text (codes "SET_TRIGGER_ERROR") then Some code.SetTriggerError
+    else if is_text text (codes "SET_ALL_JOB_TRIGGERS_ERROR") then Some code.SetAllJobTriggersError
+    else None

@@ -1,0 +1,148 @@
+//! The words of lines.
+ghost use Rattle.std.specs.Prelude.{◌≡◌};
+ghost use Rattle.qz_job_json.specs.Members.{is_among};
+ghost use Rattle.qz_job_json.specs.Words.{client_word_of, node_word_of, word_of, unbuilt_words, code_of};
+
+use qz_types::Code;
+
+/// The lines that name a job or a trigger by its key.
+#[derive(Clone, Copy)]
+pub(crate) enum KeyWord {
+    DeleteJob,
+    DeleteTrigger,
+    PauseTrigger,
+    ResumeTrigger,
+    TriggerNow,
+}
+
+/// The lines that name a group.
+#[derive(Clone, Copy)]
+pub(crate) enum GroupWord {
+    PauseGroup,
+    ResumeGroup,
+}
+
+/// The lines that name a calendar or a zone.
+#[derive(Clone, Copy)]
+pub(crate) enum NameWord {
+    DeleteCalendar,
+    DeleteZone,
+}
+
+/// What a client asks for.
+#[derive(Clone, Copy)]
+pub(crate) enum ClientWord {
+    AddJob,
+    AddTrigger,
+    AddCalendar,
+    AddZone,
+    OfKey(KeyWord),
+    OfGroup(GroupWord),
+    OfName(NameWord),
+    Threshold,
+}
+
+impl ClientWord {
+    #[tactic(auto, unfolding(crate::specs::Words::client_word_of))]
+    fn of(text: &str) -> Option<ClientWord>
+        ensures { result ≡ client_word_of text.now }
+    {
+        match text {
+            "add_job" => Some(ClientWord::AddJob),
+            "add_trigger" => Some(ClientWord::AddTrigger),
+            "add_calendar" => Some(ClientWord::AddCalendar),
+            "add_zone" => Some(ClientWord::AddZone),
+            "delete_job" => Some(ClientWord::OfKey(KeyWord::DeleteJob)),
+            "delete_trigger" => Some(ClientWord::OfKey(KeyWord::DeleteTrigger)),
+            "pause_trigger" => Some(ClientWord::OfKey(KeyWord::PauseTrigger)),
+            "resume_trigger" => Some(ClientWord::OfKey(KeyWord::ResumeTrigger)),
+            "trigger_now" => Some(ClientWord::OfKey(KeyWord::TriggerNow)),
+            "pause_group" => Some(ClientWord::OfGroup(GroupWord::PauseGroup)),
+            "resume_group" => Some(ClientWord::OfGroup(GroupWord::ResumeGroup)),
+            "delete_calendar" => Some(ClientWord::OfName(NameWord::DeleteCalendar)),
+            "delete_zone" => Some(ClientWord::OfName(NameWord::DeleteZone)),
+            "threshold" => Some(ClientWord::Threshold),
+            _ => None,
+        }
+    }
+}
+
+/// What a node does under its epoch.
+#[derive(Clone, Copy)]
+pub(crate) enum NodeWord {
+    Leave,
+    Acquire,
+    Release,
+    Fire,
+    Complete,
+    Misfires,
+    Recover,
+}
+
+impl NodeWord {
+    #[tactic(auto, unfolding(crate::specs::Words::node_word_of))]
+    fn of(text: &str) -> Option<NodeWord>
+        ensures { result ≡ node_word_of text.now }
+    {
+        match text {
+            "leave" => Some(NodeWord::Leave),
+            "acquire" => Some(NodeWord::Acquire),
+            "release" => Some(NodeWord::Release),
+            "fire" => Some(NodeWord::Fire),
+            "complete" => Some(NodeWord::Complete),
+            "misfires" => Some(NodeWord::Misfires),
+            "recover" => Some(NodeWord::Recover),
+            _ => None,
+        }
+    }
+}
+
+/// The lines that are built, by the word of their member `do`.
+#[derive(Clone, Copy)]
+pub(crate) enum Word {
+    Client(ClientWord),
+    Join,
+    Node(NodeWord),
+}
+
+impl Word {
+    /// The line that a text names, where it is built.
+    pub(crate) fn of(text: &str) -> Option<Word>
+        ensures { result ≡ word_of text.now }
+    {
+        if text == "join" {
+            return Some(Word::Join);
+        }
+        match ClientWord::of(text) {
+            Some(word) => Some(Word::Client(word)),
+            None => NodeWord::of(text).map(Word::Node),
+        }
+    }
+}
+
+/// Whether a word of the format names a line that isn't built yet.
+pub(crate) fn is_unbuilt_word(text: &str) -> bool
+    ensures { result ≡ is_among unbuilt_words text.now }
+{
+    matches!(
+        text,
+        "check_in" | "leave" | "recover" | "forget" | "stop" | "restart"
+    )
+}
+
+/// The code that a text names.
+#[tactic(auto, unfolding(crate::specs::Words::code_of))]
+pub(crate) fn code_of(text: &str) -> Option<Code>
+    ensures { result ≡ code_of text.now }
+{
+    match text {
+        "NOOP" => Some(Code::Noop),
+        "RE_EXECUTE_JOB" => Some(Code::ReExecuteJob),
+        "SET_TRIGGER_COMPLETE" => Some(Code::SetTriggerComplete),
+        "DELETE_TRIGGER" => Some(Code::DeleteTrigger),
+        "SET_ALL_JOB_TRIGGERS_COMPLETE" => Some(Code::SetAllJobTriggersComplete),
+        "SET_TRIGGER_ERROR" => Some(Code::SetTriggerError),
+        "SET_ALL_JOB_TRIGGERS_ERROR" => Some(Code::SetAllJobTriggersError),
+        _ => None,
+    }
+}

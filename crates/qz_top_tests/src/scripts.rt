@@ -1,0 +1,129 @@
+//! Worked scripts through the top call, each on new stores.
+use crate::calls::{Row, are_answered};
+use qz_top::Status;
+
+/// A cron trigger that fires at noon, on 2024-01-01: it is misfired when the threshold of 60000 ms has passed.
+const NOON: &str = r#"{"do":"add_job","at":1704067200000,"job":{"name":"j","class":"ok"}}
+{"do":"add_trigger","at":1704067200000,"trigger":{"name":"t","job":"j","start":1704067200000,"kind":"cron","cron":"0 0 12 * * ?"}}
+{"do":"join","at":1704067200000,"node":"A"}
+{"do":"misfires","at":1704110460000,"node":"A"}
+{"do":"misfires","at":1704110460001,"node":"A"}
+"#;
+
+const NOON_REPLIES: &str = "ok\nok next 1704110400000\njoined 1 executions 0 triggers 0
+misfired none\nmisfired DEFAULT/t 1704110460001\n";
+
+/// A trigger without end goes on with its schedule.
+const ENDLESS: &str = r#"{"do":"add_job","at":1704067200000,"job":{"name":"j","class":"ok"}}
+{"do":"add_trigger","at":1704067200000,"trigger":{"name":"t","job":"j","start":1704067200000,"kind":"simple","interval":1000,"count":-1,"misfire":0}}
+{"do":"join","at":1704067200000,"node":"A"}
+{"do":"misfires","at":1704067261500,"node":"A"}
+"#;
+
+const ENDLESS_REPLIES: &str = "ok\nok next 1704067200000\njoined 1 executions 0 triggers 0
+misfired DEFAULT/t 1704067262000\n";
+
+/// A trigger of a paused group waits only once the group is resumed.
+const PAUSED: &str = r#"{"do":"pause_group","group":"g"}
+{"do":"add_job","job":{"name":"j","class":"ok"}}
+{"do":"add_trigger","trigger":{"name":"t","group":"g","job":"j","start":1704067200000,"kind":"simple"}}
+{"do":"join","node":"A"}
+{"do":"acquire","node":"A","no_later":1704067200000}
+{"do":"resume_group","group":"g"}
+{"do":"acquire","node":"A","no_later":1704067200000}
+"#;
+
+const PAUSED_REPLIES: &str = "ok\nok\nok next 1704067200000\njoined 1 executions 0 triggers 0
+acquired none\nok\nacquired 1 g/t 1704067200000\n";
+
+/// A calendar can't be below itself, and one that another names can't go.
+const CIRCLE: &str = r#"{"do":"add_calendar","calendar":{"name":"a","kind":"weekly"}}
+{"do":"add_calendar","calendar":{"name":"b","base":"a","kind":"weekly"}}
+{"do":"add_calendar","calendar":{"name":"a","base":"b","kind":"weekly"},"replace":true}
+{"do":"delete_calendar","name":"a"}
+"#;
+
+/// Triggers that fire now, at readings that fall and at ones outside the moments.
+const NOW: &str = r#"{"do":"add_job","at":0,"job":{"name":"j","class":"ok","durable":true}}
+{"do":"trigger_now","at":5000,"name":"j"}
+{"do":"trigger_now","at":3000,"name":"j"}
+{"do":"trigger_now","at":-1,"name":"j"}
+{"do":"trigger_now","at":4102444800000,"name":"j"}
+{"do":"add_trigger","trigger":{"name":"t","job":"j","start":4102444800000,"kind":"simple"}}
+"#;
+
+const NOW_REPLIES: &str = "ok\ntriggered MANUAL_TRIGGERS/now_1 5000\ntriggered MANUAL_TRIGGERS/now_2 5000
+triggered MANUAL_TRIGGERS/now_3 5000\ntriggered MANUAL_TRIGGERS/now_4 4102444799999\nrefused 14\n";
+
+/// Executions of a job exclude each other, whichever node and trigger they are of.
+const EXCLUSIVE: &str = r#"{"do":"add_job","job":{"name":"j","class":"ok","no_concurrent":true}}
+{"do":"add_trigger","trigger":{"name":"a","job":"j","start":1704067200000,"kind":"simple"}}
+{"do":"add_trigger","trigger":{"name":"b","job":"j","start":1704067200000,"kind":"simple"}}
+{"do":"join","node":"A"}
+{"do":"join","node":"B"}
+{"do":"acquire","node":"A","no_later":1704067200000}
+{"do":"acquire","node":"B","no_later":1704067200000}
+{"do":"fire","node":"A","entry":1}
+{"do":"fire","node":"B","entry":2}
+{"do":"acquire","node":"B","no_later":1704067200000}
+{"do":"add_job","job":{"name":"j","class":"ok"},"replace":true}
+{"do":"complete","node":"A","entry":1}
+{"do":"acquire","node":"B","no_later":1704067200000}
+"#;
+
+const EXCLUSIVE_REPLIES: &str = "ok\nok next 1704067200000\nok next 1704067200000
+joined 1 executions 0 triggers 0\njoined 2 executions 0 triggers 0
+acquired 1 DEFAULT/a 1704067200000\nacquired 2 DEFAULT/b 1704067200000
+fired 1 scheduled 1704067200000 at 1704067200000 next none\nrefused 15\nacquired none
+refused 13 entry 1\ncompleted 1\nacquired 3 DEFAULT/b 1704067200000\n";
+
+/// An execution that is done again goes on under its entry number.
+const AGAIN: &str = r#"{"do":"add_job","job":{"name":"j","class":"ok"}}
+{"do":"add_trigger","trigger":{"name":"t","job":"j","start":1704067200000,"kind":"simple"}}
+{"do":"join","node":"A"}
+{"do":"acquire","node":"A","no_later":1704067200000}
+{"do":"release","node":"A","entry":1}
+{"do":"acquire","node":"A","no_later":1704067200000}
+{"do":"fire","node":"A","entry":2}
+{"do":"fire","node":"A","entry":2}
+{"do":"complete","node":"A","entry":2,"code":"RE_EXECUTE_JOB"}
+{"do":"complete","node":"A","entry":2}
+"#;
+
+const AGAIN_REPLIES: &str = "ok\nok next 1704067200000\njoined 1 executions 0 triggers 0
+acquired 1 DEFAULT/t 1704067200000\nok\nacquired 2 DEFAULT/t 1704067200000
+fired 2 scheduled 1704067200000 at 1704067200000 next none\nrefused 17\nagain 2\ncompleted 2\n";
+
+/// Each command of a client once, where it is accepted.
+const CLIENT: &str = r#"{"do":"add_zone","name":"CET","stretches":[[0,3600]]}
+{"do":"add_calendar","calendar":{"name":"h","zone":"CET","kind":"holiday","dates":["2024-01-01"]}}
+{"do":"add_job","job":{"name":"j","class":"ok"}}
+{"do":"add_trigger","trigger":{"name":"t","job":"j","start":1704067200000,"kind":"interval","unit":"DAY","every":1,"zone":"CET","calendar":"h"}}
+{"do":"add_trigger","trigger":{"name":"t","job":"j","start":1704067200000,"kind":"daily","unit":"HOUR","every":2},"replace":true}
+{"do":"pause_trigger","name":"t"}
+{"do":"resume_trigger","name":"t"}
+{"do":"threshold","ms":1000}
+{"do":"delete_calendar","name":"h"}
+{"do":"delete_zone","name":"CET"}
+{"do":"delete_trigger","name":"t"}
+{"do":"delete_job","name":"j"}
+"#;
+
+const CLIENT_REPLIES: &str = "ok\nok\nok\nok next 1704153600000\nok next 1704067200000
+ok\nok\nok\nok\nok\nok\nrefused 3\n";
+
+const SCRIPTS: [Row; 8] = [
+    (NOON, NOON_REPLIES, "", Status::Ok),
+    (ENDLESS, ENDLESS_REPLIES, "", Status::Ok),
+    (PAUSED, PAUSED_REPLIES, "", Status::Ok),
+    (CIRCLE, "ok\nok\nrefused 12 at 1\nrefused 11 by 1\n", "", Status::Ok),
+    (NOW, NOW_REPLIES, "", Status::Ok),
+    (EXCLUSIVE, EXCLUSIVE_REPLIES, "", Status::Ok),
+    (AGAIN, AGAIN_REPLIES, "", Status::Ok),
+    (CLIENT, CLIENT_REPLIES, "", Status::Ok),
+];
+
+#[test]
+fn worked_scripts_have_their_replies(rt: HostRuntime) {
+    are_answered(&rt, rt.alloc(), &[], &SCRIPTS);
+}

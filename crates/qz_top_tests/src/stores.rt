@@ -1,0 +1,170 @@
+//! Stores through the top call: made, opened, and failing.
+use crate::calls::{DONE, Wanted, answers, are_answered, left, new_disks, numbers, prepare};
+use crate::top::{SIX, SIX_REPLIES, WEEKDAYS};
+use qz_disk::{FaultDisk, MemDisk};
+use qz_io::{FaultSink, MemSink, Sink};
+use qz_top::{Status, command};
+use qz_types::{List, Store};
+use std::alloc::Global;
+
+const THREE: &str = r#"{"do":"add_job","job":{"name":"report","class":"ok"}}
+{"do":"add_trigger","trigger":{"name":"t1","job":"report","kind":"simple","start":1704067200000}}
+{"do":"join","node":"A"}
+"#;
+
+const THREE_REPLIES: &str = "ok\nok next 1704067200000\njoined 1 executions 0 triggers 0\n";
+
+const THREE_DONE: Wanted<'static> = Wanted {
+    replies: THREE_REPLIES,
+    error: "",
+    status: Status::Ok,
+};
+
+// The disks of new stores.
+fn made(alloc: Global) -> Option<(MemDisk, MemDisk)> {
+    let wanted = Wanted {
+        replies: "created\n",
+        ..DONE
+    };
+    left(alloc, new_disks(alloc), &["init"], "", &wanted)
+}
+
+#[test]
+fn stores_are_made_once(rt: HostRuntime) {
+    let alloc = rt.alloc();
+    let wanted = Wanted {
+        replies: "",
+        error: "qz: store exists\n",
+        status: Status::Exists,
+    };
+    assert!(rt; answers(alloc, made(alloc), &["init"], "", &wanted));
+}
+
+// The disks of stores that took three entries.
+fn filled(alloc: Global) -> Option<(MemDisk, MemDisk)> {
+    left(alloc, made(alloc), &["script"], THREE, &THREE_DONE)
+}
+
+/// The words of a call, its input, what it writes, and the number of the flush among the calls on its output.
+type FlushRow = (&'static [&'static str], &'static str, &'static str, u64);
+
+const FLUSHES: [FlushRow; 4] = [
+    (&[], SIX, SIX_REPLIES, 7),
+    (&["script"], THREE, THREE_REPLIES, 4),
+    (&["init"], "", "created\n", 2),
+    (
+        &["times", "1704456000000", "1"],
+        WEEKDAYS,
+        "times DEFAULT/c 1704715200000\n",
+        2,
+    ),
+];
+
+// Whether a call whose flush alone fails has written all, and says that its output failed.
+fn fails_at_the_flush(alloc: Global, row: &FlushRow) -> Option<bool> {
+    let &(words, script, replies, at) = row;
+    let mut out = FaultSink::new(alloc, numbers(alloc, &[at]).ok()?);
+    let mut given = prepare(alloc, words, script).ok()?;
+    let mut err = MemSink::new(alloc);
+    let (triggers, states) = match words {
+        ["script"] => made(alloc)?,
+        _ => new_disks(alloc)?,
+    };
+    let ended = command(
+        alloc,
+        &given.words,
+        &mut given.input,
+        &mut out,
+        &mut err,
+        triggers,
+        states,
+        &mut given.clock,
+    );
+    let is_right = ended.status == Status::WriteFault && out.bytes() == replies.as_bytes();
+    drop((ended, given, out, err));
+    Some(is_right)
+}
+
+#[test]
+fn a_flush_that_fails_is_a_write_fault(rt: HostRuntime) {
+    for row in FLUSHES {
+        assert!(rt;
+            fails_at_the_flush(rt.alloc(), &row) == Some(true),
+            "at {}",
+            row.3
+        );
+    }
+}
+
+const FIRE_AND_ADD: &str = r#"{"do":"fire","node":"A","entry":1}
+{"do":"add_job","job":{"name":"report","class":"ok"}}
+"#;
+
+#[test]
+fn a_history_goes_on(rt: HostRuntime) {
+    let alloc = rt.alloc();
+    let wanted = Wanted {
+        replies: "stopped\nrefused 7\n",
+        ..DONE
+    };
+    assert!(rt; answers(alloc, filled(alloc), &["script"], FIRE_AND_ADD, &wanted));
+}
+
+#[test]
+fn an_empty_script_does_nothing(rt: HostRuntime) {
+    assert!(rt; answers(rt.alloc(), made(rt.alloc()), &["script"], "", &DONE));
+}
+
+const NOT_A_STORE: Status = Status::NotAStore {
+    store: Store::Triggers,
+};
+
+#[test]
+fn what_is_no_store_is_not_opened(rt: HostRuntime) {
+    let rows = [(THREE, "", "qz: triggers not a store\n", NOT_A_STORE)];
+    are_answered(&rt, rt.alloc(), &["script"], &rows);
+}
+
+// Disks of which the first holds a journal whose payload is cut.
+fn damaged(alloc: Global) -> Option<(MemDisk, MemDisk)> {
+    let bytes = b"QZ23\x01T\0\0\0\0\0\0\0\0\0\0\xa5\0\0\0\x10\x01\x02\x03";
+    let broken = Vec::from_slice(alloc, bytes).ok()?;
+    let disk = MemDisk::with_bytes(alloc, List::from_vec(broken));
+    Some((disk, MemDisk::new(alloc)))
+}
+
+#[test]
+fn a_damaged_store_is_not_opened(rt: HostRuntime) {
+    let alloc = rt.alloc();
+    let wanted = Wanted {
+        replies: "",
+        error: "qz: triggers damaged at 16\n",
+        status: Status::Damaged {
+            store: Store::Triggers,
+            at: 16,
+        },
+    };
+    assert!(rt; answers(alloc, damaged(alloc), &["script"], THREE, &wanted));
+}
+
+// New stores on disks of which the first fails at this call.
+fn failing(alloc: Global, at: u64) -> Option<(FaultDisk<MemDisk>, FaultDisk<MemDisk>)> {
+    let calls = numbers(alloc, &[at]).ok()?;
+    let (triggers, states) = made(alloc)?;
+    Some((
+        FaultDisk::new(triggers, calls),
+        FaultDisk::new(states, List::new(alloc)),
+    ))
+}
+
+#[test]
+fn a_disk_that_fails_closes_the_store(rt: HostRuntime) {
+    let alloc = rt.alloc();
+    let wanted = Wanted {
+        replies: "ok\nfault\nclosed\n",
+        error: "qz: disk fault\n",
+        status: Status::DiskFault,
+    };
+    // the first call of the second commit, after four of the opening and four of the first commit
+    assert!(rt; answers(alloc, failing(alloc, 9), &["script"], THREE, &wanted));
+}
