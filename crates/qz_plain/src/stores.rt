@@ -136,7 +136,6 @@ impl PlainStore {
 // Ok where the transaction is accepted.
 fn accept(tables: &Tables, entry: &Entry) -> Result<(), StepRefused>
     requires valid { ∥ TablesValid tables.now.tables ∥₁ }
-    requires entry { IsTrue (is_entry entry.now) }
     ensures ok { OnOk result (IsAccepted (transaction tables.now.tables entry.now)) }
     ensures err { IfErr result (IsErrorOf (transaction tables.now.tables entry.now)) }
 {

@@ -41,7 +41,6 @@ use zones::{add_zone, add_zone_refusal, delete_zone, delete_zone_refusal};
 pub fn refusal(tables: &Tables, entry: &Entry) -> Option<Refusal>
     requires command { IsTrue (is_scheduling entry.now.command) }
     requires valid { ∥ TablesValid tables.now.tables ∥₁ }
-    requires entry { IsTrue (is_entry entry.now) }
     ensures { MatchOption result (IsAccepted (transaction tables.now.tables entry.now)) (λ x. transaction tables.now.tables entry.now ≡ refused x) }
 {
     match &entry.command {
