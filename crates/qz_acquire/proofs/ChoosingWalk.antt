@@ -1,12 +1,11 @@
 -- The walk that chooses the triggers that are acquired.
-use Rattle.std.proofs.Common.{◌≡◌, ℕ, suc, ◌+◌, ◌-◌, ◌<◌, ◌≤◌, ℤ, ◌≤ℤ◌, int_le, int_lt, Bool, true, false, not, ◌&&◌, ◌||◌, List, [], ◌∷◌, ◌++◌, append_assoc, length, length-append, drop, take, filter, Option, Some, None, refl, sym, ap, ◌∙◌, subst, arith, if◌then◌else◌}
-use Rattle.std.specs.List.{AllByRecursion}
+use Rattle.std.proofs.Common.{◌≡◌, ℕ, suc, ◌+◌, ◌-◌, ◌<◌, ◌≤◌, ℤ, Bool, true, false, not, ◌&&◌, ◌||◌, List, [], ◌∷◌, ◌++◌, append_assoc, length, length-append, drop, take, filter, Option, Some, None, refl, sym, ap, ◌∙◌, subst, arith, if◌then◌else◌}
 use Rattle.std.proofs.lemmas.Bool.{and_parts, and_from, and_left, and_right, not-true, not-false}
 use Rattle.std.proofs.lemmas.Int.{ints}
 use Rattle.std.proofs.lemmas.List.{append-nil}
 use Rattle.qz_types.specs.Rows.{JobData, TriggerData}
 use Rattle.qz_types.specs.Tables.{SchedulerTables}
-use Rattle.qz_types.specs.Due.{is_waiting, in_due_order}
+use Rattle.qz_types.specs.Due.{is_waiting}
 use Rattle.qz_types.specs.Words.{same_key}
 use Rattle.qz_tables.specs.Due.{waiting, due_first, due_after, IsWalked}
 use Rattle.qz_tables.proofs.SortLaws.{filter-and}

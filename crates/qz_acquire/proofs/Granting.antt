@@ -1,15 +1,14 @@
 -- The rows of the triggers that are acquired, put in one after the other.
-use Rattle.std.proofs.Common.{◌≡◌, ℕ, ◌+◌, ◌<◌, ◌≤◌, ℤ, ◌+ℤ◌, List, [], ◌∷◌, map, fold, length, Option, None, IsTrue, refl, sym, ap, ◌∙◌, subst, arith}
+use Rattle.std.proofs.Common.{◌≡◌, ℕ, ◌+◌, ◌<◌, ◌≤◌, ℤ, ◌+ℤ◌, List, [], ◌∷◌, map, fold, length, None, refl, sym, ap, ◌∙◌, arith}
 use Rattle.std.proofs.Math.Logic.{∥∥₁_elim}
 use Rattle.std.proofs.Props.{props}
 use Rattle.std.specs.List.{AllByRecursion, AllByRecursion-prop}
-use Rattle.qz_types.specs.Rows.{JobData, TriggerData, MemberData, FiredData}
+use Rattle.qz_types.specs.Rows.{TriggerData, MemberData, FiredData}
 use Rattle.qz_types.specs.declared.replies.Taken.{Taken}
 use Rattle.qz_types.specs.declared.replies.Reply.TheVariants as reply
 use Rattle.qz_types.specs.declared.limits.TheConstants.{NUMBER_LIMIT}
 use Rattle.qz_types.specs.Tables.{SchedulerTables}
 use Rattle.qz_types.specs.Outcomes.{accepted, unless}
-use Rattle.qz_types.specs.Words.{fired_of}
 use Rattle.qz_model.specs.Acquiring.{acquire_refusal, acquired_row, next_time, with_acquired, taken_from, chosen, acquire_each, acquire}
 use Rattle.qz_model.specs.Invariant.{TablesValid}
 use Rattle.qz_model.specs.Membership.{node_refusal}
@@ -46,7 +45,7 @@ new_each me T U (t ∷ ts) below =
     let row = acquired_row U.next_entry me t (stored_job t.spec.job T.jobs) in (
       fired_of-above U.next_entry U.fired below,
       new_each me T (with_row U row) ts
-      (All-put_fired (λ f. f.entry < U.next_entry + 1) row U.fired (omega arith) (All-weaker (λ f. f.entry < U.next_entry) (λ f. f.entry < U.next_entry + 1) U.fired (λ f less. omega arith) below)),
+          (All-put_fired (λ f. f.entry < U.next_entry + 1) row U.fired (omega arith) (All-weaker (λ f. f.entry < U.next_entry) (λ f. f.entry < U.next_entry + 1) U.fired (λ f less. omega arith) below)),
     )
 
 below_next : (T : SchedulerTables) → ∥ TablesValid T ∥₁ → AllByRecursion (λ f. f.entry < T.next_entry) T.fired

@@ -1,5 +1,6 @@
 mod ChoosingWalk
 mod Facts
+mod Firings
 mod Granting
 mod Lists
 mod MisfireWalk

@@ -1,5 +1,5 @@
 -- Filters and searches of lists.
-use Rattle.std.proofs.Common.{◌≡◌, ℕ, zero, suc, ◌+◌, ◌-◌, ◌<◌, ◌≤◌, Bool, true, false, not, cond, ◌||◌, List, [], ◌∷◌, ◌++◌, length, drop, take, filter, Some, None, refl, sym, ap, ◌∙◌, arith}
+use Rattle.std.proofs.Common.{◌≡◌, ℕ, zero, suc, ◌+◌, ◌-◌, ◌<◌, ◌≤◌, Bool, true, false, cond, ◌||◌, List, [], ◌∷◌, ◌++◌, drop, take, filter, Some, None, refl, sym, ap, arith}
 use Rattle.std.specs.List.{AllByRecursion, list_any, slice_get}
 
 false_unless : (a b : Bool) → (a ≡ true → b ≡ true) → b ≡ false → a ≡ false

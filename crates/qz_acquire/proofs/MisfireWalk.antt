@@ -1,14 +1,12 @@
 -- The walk that collects misfired triggers.
-use Rattle.std.proofs.Common.{◌≡◌, ℕ, suc, ◌+◌, ◌-◌, ◌<◌, ◌≤◌, ℤ, ◌-ℤ◌, ◌≤ℤ◌, int_le, int_lt, Bool, true, false, not, ◌&&◌, List, [], ◌∷◌, ◌++◌, append_assoc, length, length-append, drop, take, filter, Option, Some, None, refl, sym, ap, ◌∙◌, subst, arith, if◌then◌else◌}
-use Rattle.std.specs.List.{AllByRecursion}
-use Rattle.std.specs.Ordering.{int_eq}
+use Rattle.std.proofs.Common.{◌≡◌, ℕ, suc, ◌+◌, ◌-◌, ◌<◌, ◌≤◌, ℤ, ◌-ℤ◌, Bool, true, false, List, [], ◌∷◌, ◌++◌, append_assoc, length, length-append, drop, take, filter, Option, Some, None, refl, sym, ap, ◌∙◌, subst, arith, if◌then◌else◌}
 use Rattle.std.proofs.lemmas.Bool.{and_parts, and_right}
 use Rattle.std.proofs.lemmas.Int.{ints}
 use Rattle.std.proofs.lemmas.List.{append-nil}
 use Rattle.qz_types.specs.Rows.{TriggerData}
 use Rattle.qz_types.specs.declared.limits.TheConstants.{MISFIRE_LIMIT}
 use Rattle.qz_types.specs.Tables.{SchedulerTables}
-use Rattle.qz_types.specs.Due.{is_waiting, in_due_order}
+use Rattle.qz_types.specs.Due.{is_waiting}
 use Rattle.qz_tables.specs.Due.{waiting, due_first, due_after, IsWalked}
 use Rattle.qz_model.specs.Due.{is_before, is_misfired}
 use Rattle.qz_model.specs.Misfires.{misfired_triggers}

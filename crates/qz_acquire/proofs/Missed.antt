@@ -17,7 +17,6 @@ use Rattle.qz_types.specs.Rows.{TriggerData, is_key, is_calendar, is_trigger_spe
 use Rattle.qz_types.specs.declared.keys.Key.{Key}
 use Rattle.qz_types.specs.declared.limits.TheConstants.{MISFIRE_LIMIT, TIMES_LIMIT}
 use Rattle.qz_types.specs.Tables.{SchedulerTables, IsMoment}
-use Rattle.qz_types.specs.Words.{trigger_of}
 use Rattle.qz_model.specs.Acquiring.{next_time}
 use Rattle.qz_model.specs.Due.{is_before, is_misfired}
 use Rattle.qz_model.specs.Misfires.{misfired_triggers, move_of}

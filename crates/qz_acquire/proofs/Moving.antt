@@ -1,14 +1,13 @@
 -- Each of the misfired triggers is moved in its turn.
-use Rattle.std.proofs.Common.{◌≡◌, ℤ, List, [], ◌∷◌, map, fold, Option, Some, None, IfSome, IsTrue, Result, Ok, Err, IfOk, refl, sym, ap, ◌∙◌, subst}
+use Rattle.std.proofs.Common.{◌≡◌, ℤ, List, [], ◌∷◌, map, fold, None, IfSome, IsTrue, Result, Ok, Err, IfOk, refl, sym, ap, ◌∙◌, subst}
 use Rattle.std.specs.List.{AllByRecursion}
 use Rattle.qz_types.specs.Changes.{moved_trigger}
 use Rattle.qz_types.specs.Rows.{TriggerData, MemberData, is_trigger}
 use Rattle.qz_types.specs.declared.replies.MovedRow.{MovedRow}
-use Rattle.qz_types.specs.declared.replies.Reply.{Reply}
 use Rattle.qz_types.specs.declared.replies.Reply.TheVariants as reply
 use Rattle.qz_types.specs.Tables.{SchedulerTables}
-use Rattle.qz_types.specs.Outcomes.{accepted, unless, IsAccepted}
-use Rattle.qz_types.specs.Words.{trigger_of, with_trigger}
+use Rattle.qz_types.specs.Outcomes.{accepted, unless}
+use Rattle.qz_types.specs.Words.{with_trigger}
 use Rattle.qz_model.specs.Membership.{node_refusal}
 use Rattle.qz_model.specs.Misfires.{misfired_triggers, move_of, with_moved, moved_row, move_each, misfires}
 use Rattle.qz_model.proofs.Apart.{HasOtherKey, AreApart}
@@ -34,8 +33,8 @@ movable_each T m U (t ∷ ts) each apart fit =
     let U' : SchedulerTables = record U { triggers = with_trigger t.spec.key moved U.triggers } in (
       subst (λ o. IfSome o (λ u. IsTrue (is_trigger (moved_trigger (move_of T m t) u)))) (sym each.0.stored) fit.0,
       movable_each T m U' ts
-      (All-both (IsStoredWaiting U) (HasOtherKey t.spec.key) (IsStoredWaiting U') ts (λ u one other. still_waiting U U' t.spec.key moved u (λ x. refl) refl other one) each.1 apart.0)
-      apart.1 fit.1,
+          (All-both (IsStoredWaiting U) (HasOtherKey t.spec.key) (IsStoredWaiting U') ts (λ u one other. still_waiting U U' t.spec.key moved u (λ x. refl) refl other one) each.1 apart.0)
+          apart.1 fit.1,
     )
 
 -- each move of the misfired triggers makes a valid row

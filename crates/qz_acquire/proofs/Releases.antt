@@ -1,5 +1,5 @@
 -- What an accepted Release comes to.
-use Rattle.std.proofs.Common.{◌≡◌, ℕ, ℤ, Option, Some, None, refl, sym, ap, ◌∙◌, subst}
+use Rattle.std.proofs.Common.{◌≡◌, ℕ, ℤ, Some, None, refl, ap, ◌∙◌, subst}
 use Rattle.qz_types.specs.Rows.{MemberData, FiredData}
 use Rattle.qz_types.specs.declared.replies.Reply.TheVariants as reply
 use Rattle.qz_types.specs.declared.triggers.TriggerState.TheVariants as state

@@ -1,33 +1,35 @@
 -- How many rows a command of a node that takes triggers adds.
 use Rattle.std.proofs.Common.{◌≡◌, ℕ, ◌+◌, ◌≤◌, ℤ, List, [], ◌∷◌, ◌+ℤ◌, fold, length, Option, Some, None, refl, IsTrue, ap, ◌∙◌, arith}
-use Rattle.qz_types.specs.Changes.{in_state, moved_trigger}
+use Rattle.qz_types.specs.Changes.{in_state, moved_trigger, after_fire, begun}
 use Rattle.qz_types.specs.declared.triggers.TriggerState.TheVariants as state
 use Rattle.qz_model.specs.Acquiring.{acquire_refusal, chosen, acquired_row, with_acquired, acquire, acquired_refusal, release_row}
 use Rattle.qz_model.specs.Tests.{or_refusal, stored_job}
 use Rattle.qz_model.proofs.KeptAcquiring.{few_chosen}
-use Rattle.qz_types.specs.Rows.{TriggerData, MemberData, FiredData}
+use Rattle.qz_types.specs.Rows.{TriggerData, MemberData, FiredData, JobData}
 use Rattle.qz_types.specs.Entries.{EntryData}
 use Rattle.qz_types.specs.declared.commands.Command.{Command}
 use Rattle.qz_types.specs.declared.commands.Command.TheVariants.{AddJob, DeleteJob, AddTrigger, DeleteTrigger, PauseTrigger, ResumeTrigger, PauseGroup, ResumeGroup, AddCalendar, DeleteCalendar, AddZone, DeleteZone, TriggerNow, Threshold, Join, Leave, Acquire, Release, Fire, Complete, Misfires, Recover}
 use Rattle.qz_types.specs.declared.commands.Actor.{Actor}
 use Rattle.qz_types.specs.declared.commands.Actor.TheVariants.{Client, Node}
 use Rattle.qz_types.specs.Tables.{SchedulerTables, recorded_moment}
-use Rattle.qz_types.specs.Words.{fired_of}
+use Rattle.qz_types.specs.Words.{fired_of, with_fired}
 use Rattle.qz_model.specs.Membership.{node_refusal}
 use Rattle.qz_model.specs.Misfires.{misfired_triggers, move_of, with_moved, misfires}
 use Rattle.qz_model.specs.Transaction.{by_command, transaction}
-use Rattle.qz_model.proofs.RowLaws.{length-with_trigger, length-put_fired, length-without_fired}
-use Rattle.qz_apply.specs.Room.{AddsUpTo}
+use Rattle.qz_model.proofs.RowLaws.{length-with_trigger, length-put_fired, length-without_fired, length-with_fired}
+use Rattle.qz_apply.specs.Room.{AddsUpTo, rows_added}
 use Rattle.qz_apply.proofs.Rooms.{adds-unless}
-use Rattle.qz_acquire.specs.Commands.{is_acquiring, room_of}
+use Rattle.qz_acquire.specs.Commands.{is_acquiring}
+use Rattle.qz_model.specs.Firing.{fired_state, fire_refusal, following, with_blocked, with_begun, fire_one, fire_row}
+use Rattle.qz_model.proofs.Begun.{length-with_blocked, length-without_siblings}
 
 length-moved : (T : SchedulerTables) (m : ℤ) (triggers ts : List TriggerData) → length (fold (with_moved T m) triggers ts) ≡ length triggers
 unfolding with_moved
 length-moved T m triggers [] = refl
 length-moved T m triggers (t ∷ ts) = length-moved T m (with_moved T m triggers t) ts ∙ length-with_trigger t.spec.key (moved_trigger (move_of T m t)) triggers
 
-misfires-adds : (T : SchedulerTables) (m : ℤ) (me : MemberData) → AddsUpTo 0 T (misfires T m me)
-misfires-adds T m me = adds-unless 0 T (node_refusal T me) _ (record {
+misfires-adds : (T : SchedulerTables) (m : ℤ) (me : MemberData) → AddsUpTo 1 T (misfires T m me)
+misfires-adds T m me = adds-unless 1 T (node_refusal T me) _ (record {
   jobs = omega arith;
   triggers = omega (arith, length-moved T m T.triggers (misfired_triggers T m));
   calendars = omega arith;
@@ -78,9 +80,9 @@ acquire-adds T m me no_later window max =
       fired = omega (arith, grown.fired, few);
     })
 
-release_row-adds : (T : SchedulerTables) (m : ℤ) (me : MemberData) (o : Option FiredData) → AddsUpTo 0 T (release_row T m me o)
+release_row-adds : (T : SchedulerTables) (m : ℤ) (me : MemberData) (o : Option FiredData) → AddsUpTo 1 T (release_row T m me o)
 release_row-adds T m me None = tt
-release_row-adds T m me (Some f) = adds-unless 0 T (acquired_refusal me f) _ (record {
+release_row-adds T m me (Some f) = adds-unless 1 T (acquired_refusal me f) _ (record {
   jobs = omega arith;
   triggers = omega (arith, length-with_trigger f.trigger (in_state state.Waiting) T.triggers);
   calendars = omega arith;
@@ -90,14 +92,31 @@ release_row-adds T m me (Some f) = adds-unless 0 T (acquired_refusal me f) _ (re
   fired = omega (arith, length-without_fired f.entry T.fired);
 })
 
-by_command-adds : (T : SchedulerTables) (m : ℤ) (actor : Actor) (c : Command) → IsTrue (is_acquiring c) → AddsUpTo (room_of c) T (by_command T m actor c)
+fire_one-adds : (T : SchedulerTables) (m : ℤ) (f : FiredData) (job : JobData) (next : Option ℤ) → AddsUpTo 1 T (fire_one T m f job next)
+unfolding with_begun
+fire_one-adds T m f job next = record {
+  jobs = omega arith;
+  triggers = omega (arith, length-with_trigger f.trigger (after_fire next (fired_state next job.no_concurrent)) (with_blocked job.no_concurrent f.job T.triggers), length-with_blocked job.no_concurrent f.job T.triggers);
+  calendars = omega arith;
+  zones = omega arith;
+  paused_groups = omega arith;
+  members = omega arith;
+  fired = omega (arith, length-without_siblings job.no_concurrent f.job (with_fired f.entry (begun m job.no_concurrent job.requests_recovery) T.fired), length-with_fired f.entry (begun m job.no_concurrent job.requests_recovery) T.fired);
+}
+
+fire_row-adds : (T : SchedulerTables) (m : ℤ) (me : MemberData) (o : Option FiredData) → AddsUpTo 1 T (fire_row T m me o)
+fire_row-adds T m me None = tt
+fire_row-adds T m me (Some f) = adds-unless 1 T (fire_refusal T m me f) _ (fire_one-adds T m f (stored_job f.job T.jobs) (following T f))
+
+by_command-adds : (T : SchedulerTables) (m : ℤ) (actor : Actor) (c : Command) → IsTrue (is_acquiring c) → AddsUpTo (rows_added c) T (by_command T m actor c)
 by_command-adds T m Client (Acquire no_later window max) is = tt
 by_command-adds T m (Node me) (Acquire no_later window max) is = acquire-adds T m me no_later window max
 by_command-adds T m Client (Release entry) is = tt
-by_command-adds T m (Node me) (Release entry) is = adds-unless 0 T (node_refusal T me) _ (release_row-adds T m me (fired_of entry T.fired))
+by_command-adds T m (Node me) (Release entry) is = adds-unless 1 T (node_refusal T me) _ (release_row-adds T m me (fired_of entry T.fired))
 by_command-adds T m Client Misfires is = tt
 by_command-adds T m (Node me) Misfires is = misfires-adds T m me
-by_command-adds T m actor (Fire entry) is = absurd cc
+by_command-adds T m Client (Fire entry) is = tt
+by_command-adds T m (Node me) (Fire entry) is = adds-unless 1 T (node_refusal T me) _ (fire_row-adds T m me (fired_of entry T.fired))
 by_command-adds T m actor (AddJob job replace) is = absurd cc
 by_command-adds T m actor (AddTrigger spec replace) is = absurd cc
 by_command-adds T m actor (DeleteJob key) is = absurd cc
@@ -117,5 +136,5 @@ by_command-adds T m actor Leave is = absurd cc
 by_command-adds T m actor (Complete entry code) is = absurd cc
 by_command-adds T m actor (Recover node) is = absurd cc
 
-pub adds : (T : SchedulerTables) (e : EntryData) → IsTrue (is_acquiring e.command) → AddsUpTo (room_of e.command) T (transaction T e)
+pub adds : (T : SchedulerTables) (e : EntryData) → IsTrue (is_acquiring e.command) → AddsUpTo (rows_added e.command) T (transaction T e)
 adds T e is = by_command-adds T (recorded_moment T e.at) e.actor e.command is

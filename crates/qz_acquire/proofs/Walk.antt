@@ -1,21 +1,21 @@
 -- The walk along the triggers that wait, in due order.
-use Rattle.std.proofs.Common.{◌≡◌, ℕ, zero, suc, ◌<◌, ℤ, ◌<ℤ◌, ◌≤ℤ◌, Bool, true, false, List, [], ◌∷◌, length, drop, filter, Option, Some, None, refl, sym, ap, ◌∙◌, subst, arith}
+use Rattle.std.proofs.Common.{◌≡◌, ℕ, zero, suc, ◌<◌, ℤ, ◌<ℤ◌, ◌≤ℤ◌, Bool, true, List, [], ◌∷◌, length, drop, filter, Option, Some, None, refl, sym, ap, ◌∙◌, subst, arith}
 use Rattle.std.specs.List.{AllByRecursion, slice_get}
 use Rattle.std.specs.Ordering.{int_cmp, ordering_then}
 use Rattle.std.specs.declared.cmp.Ordering.{Ordering}
-use Rattle.std.specs.declared.cmp.Ordering.TheVariants.{Less, Equal, Greater}
-use Rattle.std.proofs.lemmas.Bool.{and_parts, and_from}
+use Rattle.std.specs.declared.cmp.Ordering.TheVariants.{Less}
+use Rattle.std.proofs.lemmas.Bool.{and_from}
 use Rattle.std.proofs.lemmas.Int.{ints}
 use Rattle.std.proofs.lemmas.Cmp.{by_ranked, int_ranked}
 use Rattle.qz_types.specs.Sorted.{put, IsBefore, IsAscending}
 use Rattle.qz_types.specs.Rows.{TriggerData}
-use Rattle.qz_types.specs.Words.{key_cmp, trigger_of}
+use Rattle.qz_types.specs.Words.{key_cmp}
 use Rattle.qz_types.specs.Due.{is_waiting, next_cmp, due_cmp, in_due_order}
 use Rattle.qz_tables.specs.Due.{waits_after, waiting, due_first, due_after, IsWalked}
 use Rattle.qz_tables.proofs.SortLaws.{sorted, Apart, filter-sorted, ascending-sorted}
 use Rattle.qz_tables.proofs.SortLaws.{IsAscending-filter}
 use Rattle.qz_tables.proofs.DueWalk.{due_total, apart, waiting-after}
-use Rattle.qz_acquire.proofs.Lists.{filter-within, drop-at, drop-past}
+use Rattle.qz_acquire.proofs.Lists.{filter-within, drop-at}
 
 by_sorting : (ts : List TriggerData) → in_due_order ts ≡ sorted due_cmp ts
 by_sorting [] = refl

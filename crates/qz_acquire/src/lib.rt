@@ -1,5 +1,5 @@
-//! The commands of a node that takes triggers, applied to the tables of the trigger store: Acquire,
-//! Release and Misfires.
+//! The commands of a node that takes triggers, applied to the tables of the trigger store: Misfires, Acquire, Release and
+//! Fire.
 //!
 //! Each is applied in three phases: what refuses it, which takes no memory; the copies that the change needs, which may
 //! take memory; and the change, which can't fail.
@@ -12,17 +12,19 @@ ghost use Rattle.qz_types.specs.Tables.{SchedulerTables};
 ghost use Rattle.qz_model.specs.Invariant.{TablesValid};
 ghost use Rattle.qz_model.specs.Transaction.{transaction};
 ghost use Rattle.qz_tables.specs.Contents.{HasSpare};
-ghost use Rattle.qz_apply.specs.Room.{AddsUpTo};
-ghost use Rattle.qz_acquire.specs.Commands.{is_acquiring, room_of};
+ghost use Rattle.qz_apply.specs.Room.{AddsUpTo, rows_added};
+ghost use Rattle.qz_acquire.specs.Commands.{is_acquiring};
 
 mod acquiring;
 mod choosing;
 mod due;
+mod firing;
 mod jobs;
 mod misfires;
 mod releasing;
 
 use acquiring::{acquire, acquire_refused};
+use firing::{fire, fire_refused};
 use misfires::{misfires, misfires_refused};
 use qz_apply::recorded_moment;
 use qz_tables::Tables;
@@ -34,6 +36,7 @@ pub fn refusal(tables: &Tables, entry: &Entry) -> Option<Refusal>
     requires { IsTrue (is_acquiring entry.now.command) }
     ensures { MatchOption result (IsAccepted (transaction tables.now.tables entry.now)) (λ x. transaction tables.now.tables entry.now ≡ refused x) }
 {
+    let moment = recorded_moment(tables, entry.at);
     match &entry.command {
         Command::Acquire {
             no_later: _,
@@ -51,6 +54,10 @@ pub fn refusal(tables: &Tables, entry: &Entry) -> Option<Refusal>
             Actor::Client => Some(Refusal::Fenced { live: None }),
             Actor::Node(me) => release_refused(tables, me, *number),
         },
+        Command::Fire { entry: number } => match &entry.actor {
+            Actor::Client => Some(Refusal::Fenced { live: None }),
+            Actor::Node(me) => fire_refused(tables, moment, me, *number),
+        },
         _ => unreachable!(),
     }
 }
@@ -59,16 +66,26 @@ pub fn refusal(tables: &Tables, entry: &Entry) -> Option<Refusal>
 #[tactic(auto, using(crate::proofs::Rooms::adds))]
 pub fn room(entry: &Entry) -> usize
     requires { IsTrue (is_acquiring entry.now.command) }
-    ensures value { result ≡ room_of entry.now.command }
+    ensures value { result ≡ rows_added entry.now.command }
     ensures bound { (T : SchedulerTables) → AddsUpTo result T (transaction T entry.now) }
 {
-    match &entry.command {
+    rows_of(&entry.command)
+}
+
+fn rows_of(command: &Command) -> usize
+    requires { IsTrue (is_acquiring command.now) }
+    ensures { result ≡ rows_added command.now }
+{
+    match command {
         Command::Acquire {
             no_later: _,
             window: _,
             max,
         } => *max as usize,
-        _ => 0,
+        Command::Release { entry: _ } => 1,
+        Command::Fire { entry: _ } => 1,
+        Command::Misfires => 1,
+        _ => unreachable!(),
     }
 }
 
@@ -79,7 +96,7 @@ pub fn apply(tables: &mut Tables, entry: &Entry) -> Result<Reply, StepRefused>
     requires command { IsTrue (is_acquiring entry.now.command) }
     requires valid { ∥ TablesValid tables.old.tables ∥₁ }
     requires entry { IsTrue (is_entry entry.now) }
-    requires spare { HasSpare (room_of entry.now.command) tables.old.spare }
+    requires spare { HasSpare (rows_added entry.now.command) tables.old.spare }
     ensures ok { IfOk result (λ reply. transaction tables.old.tables entry.now ≡ accepted tables.new.tables reply) }
     ensures cause { IfErr result (IsErrorOf (transaction tables.old.tables entry.now)) }
     ensures err { OnErr result (tables.new ≡ tables.old) }
@@ -102,6 +119,10 @@ pub fn apply(tables: &mut Tables, entry: &Entry) -> Result<Reply, StepRefused>
         Command::Release { entry: number } => match &entry.actor {
             Actor::Client => Err(StepRefused::Refused(Refusal::Fenced { live: None })),
             Actor::Node(me) => release(tables, moment, me, *number),
+        },
+        Command::Fire { entry: number } => match &entry.actor {
+            Actor::Client => Err(StepRefused::Refused(Refusal::Fenced { live: None })),
+            Actor::Node(me) => fire(tables, moment, me, *number),
         },
         _ => unreachable!(),
     }

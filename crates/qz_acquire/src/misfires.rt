@@ -12,7 +12,9 @@ use crate::due::{earliest, is_from, is_waiting_misfired};
 use qz_apply::{move_of, node_refusal};
 use qz_civil::Moved;
 use qz_tables::Tables;
-use qz_types::{Key, List, MISFIRE_LIMIT, MemberRow, MovedRow, Refusal, Reply, StepRefused, TriggerRow};
+use qz_types::{
+    Key, List, MISFIRE_LIMIT, MemberRow, MovedRow, Refusal, Reply, StepRefused, TriggerRow,
+};
 use std::alloc::{AllocError, Global};
 
 /// What a misfire makes of the trigger of this key.
@@ -31,11 +33,7 @@ pub fn misfires_refused(tables: &Tables, me: &MemberRow) -> Option<Refusal>
 }
 
 /// The member moves the first misfired triggers, up to `MISFIRE_LIMIT`.
-pub fn misfires(
-    tables: &mut Tables,
-    moment: i64,
-    me: &MemberRow,
-) -> Result<Reply, StepRefused>
+pub fn misfires(tables: &mut Tables, moment: i64, me: &MemberRow) -> Result<Reply, StepRefused>
     requires valid { ∥ TablesValid tables.old.tables ∥₁ }
     requires moment { IsMoment tables.old.tables.horizon moment }
     ensures ok { IfOk result (λ reply. misfires tables.old.tables moment me.now ≡ accepted tables.new.tables reply) }
@@ -85,11 +83,7 @@ fn misfired_triggers(tables: &Tables, moment: i64) -> Result<Vec<&TriggerRow>, A
 }
 
 // What a misfire makes of each of these.
-fn moves_of(
-    tables: &Tables,
-    moment: i64,
-    triggers: &[&TriggerRow],
-) -> Result<Vec<Move>, AllocError>
+fn moves_of(tables: &Tables, moment: i64, triggers: &[&TriggerRow]) -> Result<Vec<Move>, AllocError>
     requires moment { moment ≤ℤ LAST }
     requires missed { AllByRecursion (IsMissed moment) (map (λ r. r.now) triggers.now) }
     ensures moves { IfOk result (λ moves. moves.items ≡ map (move_for tables.now.tables moment) (map (λ r. r.now) triggers.now)) }

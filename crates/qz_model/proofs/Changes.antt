@@ -13,7 +13,6 @@ use Rattle.qz_types.specs.Words.{job_of, trigger_of, calendar_of, member_of, fir
 use Rattle.qz_types.specs.States.{is_acquired, is_acquired_for}
 use Rattle.qz_model.specs.Executions.{is_exclusive_of, is_busy}
 use Rattle.qz_model.specs.Plan.{zone_named_by, is_known_zone}
-use Rattle.qz_model.specs.Tests.{refuse_if}
 use Rattle.qz_model.specs.Triggers.{is_reserved}
 use Rattle.qz_model.specs.Invariant.{IsRowOf, HasFlag, is_blocked_or_done, is_blocked, is_live_state, EndsIn, IsNumbered, HasTimes, TablesValid}
 use Rattle.qz_model.proofs.RowPoints.{All-weaker, any_from_counts}
@@ -27,14 +26,6 @@ pub record Passes (x : Option Refusal) (o : Outcome) (T : SchedulerTables) (r : 
 pub passes : (x : Option Refusal) (o : Outcome) (T : SchedulerTables) (r : Reply) → unless x o ≡ accepted T r → Passes x o T r
 passes None o T r e = record { clear = refl; outcome = e }
 passes (Some x) o T r e = absurd (cc)
-
--- where a test refuses nothing, it fails, and what comes after it refuses nothing
-pub cleared : (b : Bool) (x : Refusal) (next : Option Refusal) → refuse_if b x next ≡ None → (b ≡ false) × (next ≡ None)
-cleared true x next e = absurd (cc)
-cleared false x next e = (refl, e)
-
-pub not_refused : (b : Bool) (x : Refusal) → refuse_if b x None ≡ None → b ≡ false
-not_refused b x e = (cleared b x None e).0
 
 -- where a chain of tests refuses nothing, each test fails
 pub clear3 : (a b c : Bool) (x y z : Refusal) → (if a then Some x else if b then Some y else if c then Some z else None) ≡ None → (a ≡ false) × (b ≡ false) × (c ≡ false)

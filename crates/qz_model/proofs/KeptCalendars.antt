@@ -6,7 +6,6 @@ use Rattle.qz_types.specs.Rows.{CalendarData}
 use Rattle.qz_types.specs.Sorted.{IsAscending}
 use Rattle.qz_types.specs.declared.limits.TheConstants.{CALENDAR_LIMIT, CHAIN_LIMIT}
 use Rattle.qz_types.specs.declared.replies.Reply.{Reply}
-use Rattle.qz_types.specs.declared.replies.Refusal.{Refusal}
 use Rattle.qz_types.specs.declared.replies.Refusal.TheVariants.{UnknownCalendar, UnknownZone, CalendarExists, TooMany}
 use Rattle.qz_types.specs.Chains.{calendar_named, chain_of, ends_within}
 use Rattle.qz_types.specs.Tables.{SchedulerTables, IsMoment}
@@ -15,11 +14,11 @@ use Rattle.qz_types.specs.Words.{text_cmp, same_text, calendar_of, without_calen
 use Rattle.qz_model.specs.Calendars.{place_in, circle_refusal, with_new_calendar, is_too_long, makes_too_long, add_calendar_refusal, add_calendar, is_named, calendar_uses, delete_calendar_refusal, delete_calendar}
 use Rattle.qz_model.specs.Invariant.{AreStored, TablesValid}
 use Rattle.qz_model.specs.Plan.{is_known_zone, is_known_calendar}
-use Rattle.qz_model.specs.Tests.{or_refusal}
-use Rattle.qz_model.proofs.Changes.{HasCalendar, passes, cleared, not_refused, HasNumber, HasNumber-kept, valid-moment}
+use Rattle.qz_model.proofs.Changes.{HasCalendar, passes, HasNumber, HasNumber-kept, valid-moment}
 use Rattle.qz_model.proofs.KeptZones.{no_uses}
 use Rattle.qz_model.proofs.NamedRows.{ordered-without_calendar, length-without_calendar, All-without_calendar, All-calendar_of, calendar_of-alike, calendar_of-without_calendar, ordered-with_new_calendar, length-with_new_calendar, All-put_calendar, All-with_new_calendar, calendar_of_with_new}
 use Rattle.qz_model.proofs.References.{references-calendars}
+use Rattle.qz_model.proofs.Refusals.{not_refused, no_first}
 use Rattle.qz_model.proofs.RowPoints.{All-weaker, All-both, All-none, none_from_count}
 
 -- other calendars, which have each that is named, in chains that are short and no circles
@@ -105,7 +104,7 @@ pub kept-delete_calendar : (T T' : SchedulerTables) (m : ℤ) (name : List ℕ) 
 unfolding delete_calendar_refusal
 kept-delete_calendar T T' m name r valid is e =
     let way = passes (delete_calendar_refusal T name) _ T' r e in
-    let first = cleared (is_none (calendar_of name T.calendars)) UnknownCalendar _ way.clear in
+    let first = not_refused (is_none (calendar_of name T.calendars)) UnknownCalendar _ way.clear in
     let same : accepted (record T { calendars = without_calendar name T.calendars; last_moment = m }) _ ≡ accepted T' r = way.outcome in
     let was = valid.references_and_limits in
     subst TablesValid (cc)
@@ -172,10 +171,6 @@ stored-with_new_calendar T c was base zone fine = record {
   chains = short_then c T.calendars was.bases was.chains fine;
 }
 
-after_circle : (o : Option ℕ) (next : Option Refusal) → or_refusal (circle_refusal o) next ≡ None → next ≡ None
-after_circle None next e = e
-after_circle (Some place) next e = absurd (cc)
-
 room_of : (o : Option CalendarData) (old new : ℕ) → old ≤ CALENDAR_LIMIT → new ≤ old + cond (is_some o) 0 1 → (is_none o && nat_le CALENDAR_LIMIT old) ≡ false → new ≤ CALENDAR_LIMIT
 room_of None old new within grows fits = let below = leb-false CALENDAR_LIMIT old fits in omega arith
 room_of (Some c) old new within grows fits = omega arith
@@ -188,12 +183,12 @@ pub kept-add_calendar : (T T' : SchedulerTables) (m : ℤ) (c : CalendarData) (r
 unfolding add_calendar_refusal
 kept-add_calendar T T' m c replace r valid is e =
     let way = passes (add_calendar_refusal T c replace) _ T' r e in
-    let first = cleared (not (is_known_calendar T.calendars c.base)) UnknownCalendar _ way.clear in
-    let second = cleared (not (is_known_zone T.zones c.zone)) UnknownZone _ first.1 in
-    let third = cleared (is_some (calendar_of c.name T.calendars) && not replace) CalendarExists _ second.1 in
-    let fourth = after_circle (place_in c.name (chain_of T.calendars CHAIN_LIMIT (calendar_named T.calendars c.base))) _ third.1 in
-    let fifth = cleared (makes_too_long T.calendars c) (TooMany CHAIN_LIMIT) _ fourth in
-    let fits : (is_none (calendar_of c.name T.calendars) && nat_le CALENDAR_LIMIT (length T.calendars)) ≡ false = not_refused _ (TooMany CALENDAR_LIMIT) fifth.1 in
+    let first = not_refused (not (is_known_calendar T.calendars c.base)) UnknownCalendar _ way.clear in
+    let second = not_refused (not (is_known_zone T.zones c.zone)) UnknownZone _ first.1 in
+    let third = not_refused (is_some (calendar_of c.name T.calendars) && not replace) CalendarExists _ second.1 in
+    let fourth = no_first (circle_refusal (place_in c.name (chain_of T.calendars CHAIN_LIMIT (calendar_named T.calendars c.base)))) _ third.1 in
+    let fifth = not_refused (makes_too_long T.calendars c) (TooMany CHAIN_LIMIT) _ fourth.1 in
+    let fits : (is_none (calendar_of c.name T.calendars) && nat_le CALENDAR_LIMIT (length T.calendars)) ≡ false = (not_refused _ (TooMany CALENDAR_LIMIT) None fifth.1).0 in
     let same : accepted (record T { calendars = with_new_calendar c T.calendars; last_moment = m }) _ ≡ accepted T' r = way.outcome in
     let was = valid.references_and_limits in
     subst TablesValid (cc)

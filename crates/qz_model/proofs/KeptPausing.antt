@@ -19,10 +19,11 @@ use Rattle.qz_model.specs.Invariant.{is_blocked_or_done, is_blocked, is_live_sta
 use Rattle.qz_model.specs.Pausing.{is_in_group, is_row_of_group, pause_trigger, resume_trigger, pause_group_refusal, pause_group, resume_group}
 use Rattle.qz_model.specs.Tests.{refuse_if, is_row_of_trigger}
 use Rattle.qz_model.specs.Triggers.{unknown_trigger}
-use Rattle.qz_model.proofs.Changes.{passes, not_refused, HasNumber, HasNumber-kept, valid-moment}
+use Rattle.qz_model.proofs.Changes.{passes, HasNumber, HasNumber-kept, valid-moment}
 use Rattle.qz_model.proofs.LookUps.{IsAscending-filter}
 use Rattle.qz_model.proofs.References.{references-groups}
 use Rattle.qz_model.proofs.Replaced.{ordered-replaced, length-replaced}
+use Rattle.qz_model.proofs.Refusals.{not_refused}
 use Rattle.qz_model.proofs.RowPoints.{All-weaker, length-filter_le}
 use Rattle.qz_model.proofs.StateChanges.{KeepsAcquired, StatesFit, has_key, valid-with_states, valid-same_rows, valid-with_state, valid-same_row}
 
@@ -171,7 +172,7 @@ unfolding pause_group_refusal
 room_for_group T group clear within = elim (is_paused group T.paused_groups) as (λ b. refuse_if (not b && nat_le GROUP_LIMIT (length T.paused_groups)) (TooMany GROUP_LIMIT) None ≡ None
     → length (put_group group (without_group group T.paused_groups)) ≤ length T.paused_groups + cond b 0 1 → length (put_group group (without_group group T.paused_groups)) ≤ GROUP_LIMIT) [
       | true ↦ λ e grows. omega arith
-      | false ↦ λ e grows. let below = leb-false GROUP_LIMIT (length T.paused_groups) (not_refused _ _ e) in omega arith
+      | false ↦ λ e grows. let below = leb-false GROUP_LIMIT (length T.paused_groups) (not_refused _ _ None e).0 in omega arith
     ] clear (length-with_group group T.paused_groups)
 
 pub kept-pause_group : (T T' : SchedulerTables) (m : ℤ) (group : List ℕ) (r : Reply) → TablesValid T → IsMoment T.horizon m → pause_group T m group ≡ accepted T' r → TablesValid T'

@@ -12,9 +12,10 @@ use Rattle.qz_types.specs.Words.{text_cmp, same_text, zone_of, put_zone, without
 use Rattle.qz_model.specs.Calendars.{is_named, zone_uses, use_refusal, add_zone_refusal, add_zone, delete_zone_refusal, delete_zone}
 use Rattle.qz_model.specs.Invariant.{AreStored, TablesValid}
 use Rattle.qz_model.specs.Plan.{zone_named_by, is_utc, is_known_zone}
-use Rattle.qz_model.proofs.Changes.{HasZone, passes, cleared, not_refused, HasNumber, HasNumber-kept, valid-moment}
+use Rattle.qz_model.proofs.Changes.{HasZone, passes, HasNumber, HasNumber-kept, valid-moment}
 use Rattle.qz_model.proofs.NamedRows.{ordered-put_zone, ordered-without_zone, length-put_zone, length-without_zone, known-put_zone, known-without_zone}
 use Rattle.qz_model.proofs.References.{references-zones}
+use Rattle.qz_model.proofs.Refusals.{not_refused}
 use Rattle.qz_model.proofs.RowLaws.{no_row}
 use Rattle.qz_model.proofs.RowPoints.{All-weaker, All-both, none_from_count}
 
@@ -63,8 +64,8 @@ pub kept-add_zone : (T T' : SchedulerTables) (m : ℤ) (z : ZoneData) (r : Reply
 unfolding add_zone_refusal
 kept-add_zone T T' m z r valid is e =
     let way = passes (add_zone_refusal T z) _ T' r e in
-    let first = cleared (is_known_zone T.zones z.name) ZoneExists _ way.clear in
-    let short : length T.zones < ZONE_LIMIT = leb-false ZONE_LIMIT (length T.zones) (not_refused _ (TooMany ZONE_LIMIT) first.1) in
+    let first = not_refused (is_known_zone T.zones z.name) ZoneExists _ way.clear in
+    let short : length T.zones < ZONE_LIMIT = leb-false ZONE_LIMIT (length T.zones) (not_refused _ (TooMany ZONE_LIMIT) None first.1).0 in
     let same : accepted (record T { zones = put_zone z T.zones; last_moment = m }) _ ≡ accepted T' r = way.outcome in
     let absent : zone_of z.name T.zones ≡ None = new_zone T.zones z.name first.0 in
     let was = valid.references_and_limits in
@@ -74,7 +75,7 @@ kept-add_zone T T' m z r valid is e =
 
 -- where nothing uses it, no trigger names it and no calendar
 pub no_uses : (uses : ℕ) → use_refusal uses ≡ None → uses ≡ 0
-no_uses uses clear = let few : uses ≤ 0 = ltb-false 0 uses (not_refused (nat_lt 0 uses) (InUse uses) clear) in omega arith
+no_uses uses clear = let few : uses ≤ 0 = ltb-false 0 uses (not_refused (nat_lt 0 uses) (InUse uses) None clear).0 in omega arith
 
 named_other : (name other : List ℕ) (o : Option (List ℕ)) → o ≡ Some other → is_named name o ≡ false → same_text name other ≡ false
 named_other name other None is unnamed = absurd (cc)
@@ -102,7 +103,7 @@ pub kept-delete_zone : (T T' : SchedulerTables) (m : ℤ) (name : List ℕ) (r :
 unfolding delete_zone_refusal
 kept-delete_zone T T' m name r valid is e =
     let way = passes (delete_zone_refusal T name) _ T' r e in
-    let first = cleared (is_none (zone_of name T.zones)) UnknownZone _ way.clear in
+    let first = not_refused (is_none (zone_of name T.zones)) UnknownZone _ way.clear in
     let same : accepted (record T { zones = without_zone name T.zones; last_moment = m }) _ ≡ accepted T' r = way.outcome in
     let was = valid.references_and_limits in
     subst TablesValid (cc)

@@ -13,7 +13,6 @@ use qz_types::{Command, Entry, Refusal, Reply, StepRefused};
 /// Why the transaction is refused, if it is.
 pub fn refusal(tables: &Tables, entry: &Entry) -> Option<Refusal>
     requires valid { ∥ TablesValid tables.now.tables ∥₁ }
-    requires entry { IsTrue (is_entry entry.now) }
     ensures { MatchOption result (IsAccepted (transaction tables.now.tables entry.now)) (λ x. transaction tables.now.tables entry.now ≡ refused x) }
 {
     match &entry.command {

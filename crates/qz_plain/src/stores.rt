@@ -1,5 +1,5 @@
 //! The plain store.
-ghost use Rattle.std.specs.Prelude.{◌≡◌, ◌≤ℤ◌, pos, IsTrue, IfOk, IfErr, OnErr, MatchOption};
+ghost use Rattle.std.specs.Prelude.{◌≡◌, ◌≤ℤ◌, pos, IsTrue, IfOk, IfErr, OnOk, OnErr, MatchOption};
 ghost use Rattle.qz_types.specs.Entries.{is_entry};
 ghost use Rattle.qz_types.specs.Outcomes.{accepted, refused, IsAccepted, IsErrorOf};
 ghost use Rattle.qz_types.specs.Tables.{new_tables};
@@ -105,9 +105,7 @@ impl PlainStore {
         ensures err { OnErr result (self.new ≡ self.old) }
         ensures valid { ∥ TablesValid self.new ∥₁ }
     {
-        if let Some(refusal) = refusal(&self.tables, entry) {
-            return Err(StepRefused::Refused(refusal));
-        }
+        accept(&self.tables, entry)?;
         self.tables.reserve(room(entry))?;
         apply(&mut self.tables, entry)
     }
@@ -120,9 +118,7 @@ impl PlainStore {
         ensures cause { IfErr result (IsErrorOf (transaction self.now entry.now)) }
         ensures valid { IfOk result (λ worked. ∥ TablesValid worked.tables ∥₁) }
     {
-        if let Some(refusal) = refusal(&self.tables, entry) {
-            return Err(StepRefused::Refused(refusal));
-        }
+        accept(&self.tables, entry)?;
         let mut tables = copy_with_room(&self.tables, room(entry))?;
         match apply(&mut tables, entry) {
             Ok(reply) => Ok(Worked {
@@ -134,6 +130,18 @@ impl PlainStore {
                 Err(error)
             }
         }
+    }
+}
+
+// Ok where the transaction is accepted.
+fn accept(tables: &Tables, entry: &Entry) -> Result<(), StepRefused>
+    requires valid { ∥ TablesValid tables.now.tables ∥₁ }
+    ensures ok { OnOk result (IsAccepted (transaction tables.now.tables entry.now)) }
+    ensures err { IfErr result (IsErrorOf (transaction tables.now.tables entry.now)) }
+{
+    match refusal(tables, entry) {
+        Some(refusal) => Err(StepRefused::Refused(refusal)),
+        None => Ok(()),
     }
 }
 

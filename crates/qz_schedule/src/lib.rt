@@ -10,7 +10,7 @@ ghost use Rattle.qz_types.specs.Outcomes.{accepted, refused, IsAccepted, IsError
 ghost use Rattle.qz_model.specs.Invariant.{TablesValid};
 ghost use Rattle.qz_model.specs.Transaction.{transaction};
 ghost use Rattle.qz_tables.specs.Contents.{HasSpare};
-ghost use Rattle.qz_apply.specs.Room.{AddsUpTo, rows_added};
+ghost use Rattle.qz_apply.specs.Room.{AddsUpTo};
 ghost use Rattle.qz_schedule.specs.Commands.{is_scheduling};
 ghost use Rattle.qz_types.specs.Tables.{SchedulerTables};
 
@@ -41,7 +41,6 @@ use zones::{add_zone, add_zone_refusal, delete_zone, delete_zone_refusal};
 pub fn refusal(tables: &Tables, entry: &Entry) -> Option<Refusal>
     requires command { IsTrue (is_scheduling entry.now.command) }
     requires valid { ∥ TablesValid tables.now.tables ∥₁ }
-    requires entry { IsTrue (is_entry entry.now) }
     ensures { MatchOption result (IsAccepted (transaction tables.now.tables entry.now)) (λ x. transaction tables.now.tables entry.now ≡ refused x) }
 {
     match &entry.command {
@@ -69,7 +68,7 @@ pub fn refusal(tables: &Tables, entry: &Entry) -> Option<Refusal>
 #[tactic(auto, using(crate::proofs::Rooms::adds_one))]
 pub fn room(entry: &Entry) -> usize
     requires { IsTrue (is_scheduling entry.now.command) }
-    ensures value { result ≡ rows_added entry.now.command }
+    ensures value { result ≡ 1 }
     ensures bound { (T : SchedulerTables) → AddsUpTo result T (transaction T entry.now) }
 {
     let _ = entry;
@@ -83,7 +82,7 @@ pub fn apply(tables: &mut Tables, entry: &Entry) -> Result<Reply, StepRefused>
     requires command { IsTrue (is_scheduling entry.now.command) }
     requires valid { ∥ TablesValid tables.old.tables ∥₁ }
     requires entry { IsTrue (is_entry entry.now) }
-    requires spare { HasSpare (rows_added entry.now.command) tables.old.spare }
+    requires spare { HasSpare 1 tables.old.spare }
     ensures ok { IfOk result (λ reply. transaction tables.old.tables entry.now ≡ accepted tables.new.tables reply) }
     ensures cause { IfErr result (IsErrorOf (transaction tables.old.tables entry.now)) }
     ensures err { OnErr result (tables.new ≡ tables.old) }

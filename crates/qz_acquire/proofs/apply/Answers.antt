@@ -32,3 +32,8 @@ pub returns-in-Node-actor-2-clause-valid : goal.returns-in-Node-actor-2-clause-v
 returns-in-Node-actor-2-clause-valid c =
     let ok : IfOk c.release.result (λ reply. transaction c.args.tables.now.tables c.args.entry.now ≡ accepted c.release.new.tables.tables reply) = search rules in
     valid_after c.args.tables.now c.release.new.tables c.args.entry.now c.release.result c.requires.entry c.requires.valid ok c.release.ensures.err
+
+pub returns-in-Node-actor-3-clause-valid : goal.returns-in-Node-actor-3-clause-valid
+returns-in-Node-actor-3-clause-valid c =
+    let ok : IfOk c.fire.result (λ reply. transaction c.args.tables.now.tables c.args.entry.now ≡ accepted c.fire.new.tables.tables reply) = search rules in
+    valid_after c.args.tables.now c.fire.new.tables c.args.entry.now c.fire.result c.requires.entry c.requires.valid ok c.fire.ensures.err

@@ -9,4 +9,4 @@ invariant-loop-one l =
     × (goal.iterator-loop-one).is_finite l.one-iterator
     × AreMovable l.tables.tables.triggers (into_iter_items l.one-iterator)
     × (record l.tables.tables { triggers = fold with_move l.tables.tables.triggers (into_iter_items l.one-iterator) }
-        ≡ record l.initial.tables.tables { triggers = fold with_move l.initial.tables.tables.triggers l.fn.moves.items })
+    ≡ record l.initial.tables.tables { triggers = fold with_move l.initial.tables.tables.triggers l.fn.moves.items })
