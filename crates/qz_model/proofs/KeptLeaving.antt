@@ -16,11 +16,11 @@ use Rattle.qz_model.specs.Invariant.{TablesValid}
 use Rattle.qz_model.specs.Membership.{node_refusal}
 use Rattle.qz_model.specs.Recovery.{lost_of, rows_of_others, freed_by, leave_refusal, leave}
 use Rattle.qz_model.specs.Tests.{is_of, or_refusal}
-use Rattle.qz_model.proofs.Changes.{passes, not_refused, valid-moment}
+use Rattle.qz_model.proofs.Changes.{passes, valid-moment}
 use Rattle.qz_model.proofs.GivenBack.{valid-given_back}
 use Rattle.qz_model.proofs.KeptAcquiring.{member_of_actor}
 use Rattle.qz_model.proofs.MembersGone.{valid-without_member}
-use Rattle.qz_model.proofs.Refusals.{no_first}
+use Rattle.qz_model.proofs.Refusals.{not_refused, no_first}
 use Rattle.qz_model.proofs.RowPoints.{All-from, All-left, All-weaker, filter-alike, none-filtered}
 
 -- a row of the member is acquired where it has no executions
@@ -52,7 +52,7 @@ left_at T m me (Some member) valid is found live none =
 
 none_lost : (T : SchedulerTables) (me : MemberData) → leave_refusal T me ≡ None → length (lost_of me T.fired) ≤ 0
 unfolding leave_refusal
-none_lost T me clear = ltb-false 0 (length (lost_of me T.fired)) (not_refused (nat_lt 0 (length (lost_of me T.fired))) (InUse (length (lost_of me T.fired))) clear)
+none_lost T me clear = ltb-false 0 (length (lost_of me T.fired)) (not_refused (nat_lt 0 (length (lost_of me T.fired))) (InUse (length (lost_of me T.fired))) None clear).0
 
 pub kept-leave : (T T' : SchedulerTables) (m : ℤ) (me : MemberData) (r : Reply) → TablesValid T → IsMoment T.horizon m → leave T m me ≡ accepted T' r → TablesValid T'
 kept-leave T T' m me r valid is e =

@@ -26,7 +26,7 @@ use Rattle.qz_model.specs.Jobs.{is_orphan}
 use Rattle.qz_model.specs.Membership.{node_refusal}
 use Rattle.qz_model.specs.Recovery.{lost_of, rows_of_others, freed_by, unblocked_by, has_excluded, asks, recovery_trigger, recoveries, has_finished, triggers_added, triggers_left, has_lost, jobs_left, recovered, recovery_refusal, recover_member, recover}
 use Rattle.qz_model.specs.Tests.{is_of, is_row_of_trigger}
-use Rattle.qz_model.proofs.Changes.{passes, not_refused, valid-moment}
+use Rattle.qz_model.proofs.Changes.{passes, valid-moment}
 use Rattle.qz_model.proofs.Dropping.{IsHeldBy, valid-without_triggers, valid-without_jobs, orphan_unused}
 use Rattle.qz_model.proofs.ExecutionsGone.{after_ends, valid_then}
 use Rattle.qz_model.proofs.GivenBack.{valid-given_back}
@@ -34,6 +34,7 @@ use Rattle.qz_model.proofs.KeptLeaving.{none_of_others}
 use Rattle.qz_model.proofs.LookUps.{IsAscending-filter}
 use Rattle.qz_model.proofs.MembersGone.{valid-without_member}
 use Rattle.qz_model.proofs.RecoveryTriggers.{valid-recoveries, all_recoverable}
+use Rattle.qz_model.proofs.Refusals.{not_refused}
 use Rattle.qz_model.proofs.RowLaws.{each_member, All-member_of}
 use Rattle.qz_model.proofs.RowPoints.{All-from, All-left, filter-filter}
 use Rattle.qz_model.proofs.StateLaws.{length-with_states, without_acquired-none}
@@ -143,7 +144,7 @@ module _ (T : SchedulerTables) (member : MemberData) (valid : TablesValid T) (fo
 -- there is room where nothing refuses it
 pub recovery_room : (T : SchedulerTables) (member : MemberData) → recovery_refusal T member ≡ None → length T.triggers + length (recoveries T member) ≤ TRIGGER_LIMIT
 unfolding recovery_refusal
-recovery_room T member clear = ltb-false TRIGGER_LIMIT _ (not_refused (nat_lt TRIGGER_LIMIT (length T.triggers + length (recoveries T member))) (TooMany TRIGGER_LIMIT) clear)
+recovery_room T member clear = ltb-false TRIGGER_LIMIT _ (not_refused (nat_lt TRIGGER_LIMIT (length T.triggers + length (recoveries T member))) (TooMany TRIGGER_LIMIT) None clear).0
 
 pub found_itself : (T : SchedulerTables) (node : List ℕ) (member : MemberData) → TablesValid T → member_of node T.members ≡ Some member → member_of member.node T.members ≡ Some member
 found_itself T node member valid found =
