@@ -65,7 +65,7 @@ const CLIENT_STEPS: &[StepRow] = &[
     ),
     (
         r#"{"do":"add_zone","name":"Z","stretches":[[0,3600]]}"#,
-        r#"Given { at: None, step: Client(AddZone { zone: ZoneRow { name: "Z", stretches: [Stretch { from: 0, offset: 3600 }] } }) }"#,
+        r#"Given { at: None, step: Client(AddZone { zone: ZoneRow { name: "Z", zone: [Stretch { from: 0, offset: 3600 }] } }) }"#,
     ),
     (
         r#"{"do":"delete_job","name":"a"}"#,
@@ -219,7 +219,10 @@ const FAULTY: &[(&str, Option<LineFault>)] = &[
     (r#"{"do":"check_in","node":7}"#, Some(LineFault::NotHere)),
     (r#"{"do":"forget","at":null}"#, Some(LineFault::NotHere)),
     (r#"{"do":"leave","node":"A"}"#, Some(LineFault::NotHere)),
-    (r#"{"do":"recover","node":"A","failed":"B"}"#, Some(LineFault::NotHere)),
+    (
+        r#"{"do":"recover","node":"A","failed":"B"}"#,
+        Some(LineFault::NotHere),
+    ),
     (r#"{"do":"leap","node":"A"}"#, Some(LineFault::Shape)),
     (r#"{"do":7}"#, Some(LineFault::Shape)),
     (r#"{}"#, Some(LineFault::Shape)),

@@ -2,7 +2,7 @@
 use qz_civil::beside;
 use qz_report::{reply_line, times_line};
 use qz_types::{
-    JobRow, Key, List, MemberRow, MovedRow, NoMemory, Refusal, Reply, StepReply, Taken, Text,
+    JobRow, Key, List, MovedRow, NoMemory, Owner, Refusal, Reply, StepReply, Taken, Text,
 };
 use std::alloc::{AllocError, Global};
 
@@ -98,11 +98,8 @@ fn refusals_have_their_lines(rt: HostRuntime) {
 }
 
 // A member that a reply names.
-fn owner(alloc: Global) -> Result<MemberRow, AllocError> {
-    Ok(MemberRow {
-        node: Text::from_str(alloc, "n 1")?,
-        epoch: 7,
-    })
+fn owner(alloc: Global) -> Result<Owner, AllocError> {
+    Ok(Owner::new(&Text::from_str(alloc, "n 1")?, 7))
 }
 
 #[test]

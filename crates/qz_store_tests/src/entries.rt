@@ -1,5 +1,5 @@
 //! Entries of the worked examples, by a client and by the member A of epoch 1.
-ghost use Rattle.std.specs.Prelude.{◌<◌, ◌≤◌, IsTrue, IfOk};
+ghost use Rattle.std.specs.Prelude.{IsTrue, IfOk};
 ghost use Rattle.qz_civil.specs.Timings.{is_name};
 ghost use Rattle.qz_types.specs.Rows.{is_key};
 
@@ -32,22 +32,17 @@ pub(super) fn job(alloc: Global, name: &str) -> Result<JobRow, AllocError>
 }
 
 #[tactic(auto, unfolding(qz_types::specs::Entries::is_entry))]
-fn put_job(alloc: Global, at: i64, replace: bool) -> Result<Entry, AllocError> {
+pub(super) fn add_job(alloc: Global, at: i64) -> Result<Entry, AllocError> {
     let job = job(alloc, "report")?;
     Ok(Entry {
         at,
         actor: Actor::Client,
         seat: 0,
-        command: Command::AddJob { job, replace },
+        command: Command::AddJob {
+            job,
+            replace: false,
+        },
     })
-}
-
-pub(super) fn add_job(alloc: Global, at: i64) -> Result<Entry, AllocError> {
-    put_job(alloc, at, false)
-}
-
-pub(super) fn replace_job(alloc: Global, at: i64) -> Result<Entry, AllocError> {
-    put_job(alloc, at, true)
 }
 
 #[tactic(auto, unfolding(qz_types::specs::Entries::is_entry))]
@@ -63,7 +58,7 @@ pub(super) fn delete_job(alloc: Global, at: i64) -> Result<Entry, AllocError> {
 
 // A trigger of the job that fires once, at T0.
 #[tactic(auto, unfolding(qz_types::specs::Entries::is_entry))]
-fn put_trigger(alloc: Global, at: i64, replace: bool) -> Result<Entry, AllocError> {
+pub(super) fn add_trigger(alloc: Global, at: i64) -> Result<Entry, AllocError> {
     let spec = TriggerSpec {
         key: key(alloc, "t1")?,
         job: key(alloc, "report")?,
@@ -83,16 +78,11 @@ fn put_trigger(alloc: Global, at: i64, replace: bool) -> Result<Entry, AllocErro
         at,
         actor: Actor::Client,
         seat: 0,
-        command: Command::AddTrigger { spec, replace },
+        command: Command::AddTrigger {
+            spec,
+            replace: false,
+        },
     })
-}
-
-pub(super) fn add_trigger(alloc: Global, at: i64) -> Result<Entry, AllocError> {
-    put_trigger(alloc, at, false)
-}
-
-pub(super) fn replace_trigger(alloc: Global, at: i64) -> Result<Entry, AllocError> {
-    put_trigger(alloc, at, true)
 }
 
 #[tactic(auto, unfolding(qz_types::specs::Entries::is_entry))]
@@ -112,9 +102,7 @@ pub(super) fn node_a(alloc: Global) -> Result<MemberRow, AllocError> {
 }
 
 #[tactic(auto, unfolding(qz_types::specs::Entries::is_entry))]
-fn acquire_up_to(alloc: Global, at: i64, max: u32) -> Result<Entry, AllocError>
-    requires { (0 < max) × (max ≤ 64) }
-{
+pub(super) fn acquire(alloc: Global, at: i64) -> Result<Entry, AllocError> {
     let me = node_a(alloc)?;
     Ok(Entry {
         at,
@@ -123,17 +111,9 @@ fn acquire_up_to(alloc: Global, at: i64, max: u32) -> Result<Entry, AllocError>
         command: Command::Acquire {
             no_later: T0,
             window: 0,
-            max,
+            max: 1,
         },
     })
-}
-
-pub(super) fn acquire(alloc: Global, at: i64) -> Result<Entry, AllocError> {
-    acquire_up_to(alloc, at, 1)
-}
-
-pub(super) fn acquire_two(alloc: Global, at: i64) -> Result<Entry, AllocError> {
-    acquire_up_to(alloc, at, 2)
 }
 
 #[tactic(auto, unfolding(qz_types::specs::Entries::is_entry))]

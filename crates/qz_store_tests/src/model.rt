@@ -151,7 +151,7 @@ fn refusals_have_their_numbers(rt: HostRuntime) {
     let is_right = refusal(&mut store, fire(alloc, T0, 1)) == Some(1)
         && refusal(&mut store, add_trigger(alloc, T0)) == Some(3)
         && adds_job(alloc, &mut store, T0)
-        && refusal(&mut store, add_job(alloc, T0)) == Some(0)
+        && refusal(&mut store, add_job(alloc, T0)) == Some(7)
         && joins(alloc, &mut store, T0)
         && refusal(&mut store, fire(alloc, T0, 1)) == Some(15);
     drop(store);

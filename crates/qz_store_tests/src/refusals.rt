@@ -1,7 +1,6 @@
 //! For each command the refusals that it may have, as a store answers them where memory is ample.
 use crate::entries::{
-    T0, acquire, acquire_two, add_job, add_trigger, complete, delete_job, fire, join, leave,
-    misfires, replace_job, replace_trigger,
+    T0, acquire, add_job, add_trigger, complete, delete_job, fire, join, leave, misfires,
 };
 use crate::rows::{Row, check};
 use qz_disk::{Disk, MemDisk};
@@ -14,14 +13,11 @@ use std::alloc::{AllocError, Global};
 #[derive(Clone, Copy, Debug)]
 enum Asked {
     AddJob,
-    ReplaceJob,
     DeleteJob,
     AddTrigger,
-    ReplaceTrigger,
     Join,
     Leave,
     Acquire,
-    AcquireTwo,
     Fire,
     FireEarly,
     Complete,
@@ -31,14 +27,11 @@ enum Asked {
 fn entry(alloc: Global, asked: Asked) -> Result<Entry, AllocError> {
     match asked {
         Asked::AddJob => add_job(alloc, T0 - 1),
-        Asked::ReplaceJob => replace_job(alloc, T0),
         Asked::DeleteJob => delete_job(alloc, T0),
         Asked::AddTrigger => add_trigger(alloc, T0 - 1),
-        Asked::ReplaceTrigger => replace_trigger(alloc, T0),
         Asked::Join => join(alloc, T0 - 1),
         Asked::Leave => leave(alloc, T0),
         Asked::Acquire => acquire(alloc, T0 - 1),
-        Asked::AcquireTwo => acquire_two(alloc, T0),
         Asked::Fire => fire(alloc, T0, 1),
         Asked::FireEarly => fire(alloc, T0 - 1, 1),
         Asked::Complete => complete(alloc, T0, 1),
@@ -46,7 +39,7 @@ fn entry(alloc: Global, asked: Asked) -> Result<Entry, AllocError> {
     }
 }
 
-// The six commands that are built, one after another.
+// Six commands of a trigger that fires once, one after another.
 const WORK: [Asked; 6] = [
     Asked::AddJob,
     Asked::AddTrigger,
@@ -112,25 +105,23 @@ impl Row for Refused {
 }
 
 const REFUSALS: &[Refused] = &[
-    (0, Asked::ReplaceJob, 0),
-    (1, Asked::AddJob, 0),
+    (1, Asked::AddJob, 7),
     (0, Asked::AddTrigger, 3),
-    (1, Asked::ReplaceTrigger, 0),
-    (2, Asked::AddTrigger, 0),
+    (2, Asked::AddTrigger, 8),
     (3, Asked::Join, 0),
     (0, Asked::Acquire, 1),
-    (3, Asked::AcquireTwo, 0),
     (0, Asked::Fire, 1),
     (3, Asked::Fire, 15),
     (4, Asked::FireEarly, 19),
-    (5, Asked::Fire, 0),
+    (5, Asked::Fire, 17),
     (0, Asked::Complete, 1),
     (3, Asked::Complete, 15),
-    (4, Asked::Complete, 0),
+    (4, Asked::Complete, 18),
     (6, Asked::Complete, 15),
-    (1, Asked::DeleteJob, 0),
-    (3, Asked::Leave, 0),
-    (3, Asked::Misfires, 0),
+    (0, Asked::DeleteJob, 3),
+    (0, Asked::Leave, 1),
+    (5, Asked::Leave, 11),
+    (0, Asked::Misfires, 1),
 ];
 
 #[test]

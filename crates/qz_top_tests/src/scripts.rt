@@ -52,7 +52,8 @@ const NOW: &str = r#"{"do":"add_job","at":0,"job":{"name":"j","class":"ok","dura
 {"do":"add_trigger","trigger":{"name":"t","job":"j","start":4102444800000,"kind":"simple"}}
 "#;
 
-const NOW_REPLIES: &str = "ok\ntriggered MANUAL_TRIGGERS/now_1 5000\ntriggered MANUAL_TRIGGERS/now_2 5000
+const NOW_REPLIES: &str =
+    "ok\ntriggered MANUAL_TRIGGERS/now_1 5000\ntriggered MANUAL_TRIGGERS/now_2 5000
 triggered MANUAL_TRIGGERS/now_3 5000\ntriggered MANUAL_TRIGGERS/now_4 4102444799999\nrefused 14\n";
 
 /// Executions of a job exclude each other, whichever node and trigger they are of.
@@ -116,7 +117,12 @@ const SCRIPTS: [Row; 8] = [
     (NOON, NOON_REPLIES, "", Status::Ok),
     (ENDLESS, ENDLESS_REPLIES, "", Status::Ok),
     (PAUSED, PAUSED_REPLIES, "", Status::Ok),
-    (CIRCLE, "ok\nok\nrefused 12 at 1\nrefused 11 by 1\n", "", Status::Ok),
+    (
+        CIRCLE,
+        "ok\nok\nrefused 12 at 1\nrefused 11 by 1\n",
+        "",
+        Status::Ok,
+    ),
     (NOW, NOW_REPLIES, "", Status::Ok),
     (EXCLUSIVE, EXCLUSIVE_REPLIES, "", Status::Ok),
     (AGAIN, AGAIN_REPLIES, "", Status::Ok),
