@@ -1,11 +1,12 @@
 //! A node gives back a trigger that it acquired.
-ghost use Rattle.std.specs.Prelude.{◌≡◌, ℤ, Some, MatchOption, IfOk, IfErr, OnErr, option_copied};
+ghost use Rattle.std.specs.Prelude.{◌≡◌, ℤ, MatchOption, IfOk, IfErr, OnErr, option_copied};
 ghost use Rattle.qz_types.specs.Outcomes.{accepted, refused, IsAccepted, IsErrorOf};
-ghost use Rattle.qz_model.specs.Acquiring.{acquired_refusal, release};
+ghost use Rattle.qz_model.specs.Acquiring.{release};
 
-use qz_apply::{is_acquired, node_refusal, owner_refusal};
+use crate::firing::acquired_refusal;
+use qz_apply::node_refusal;
 use qz_tables::Tables;
-use qz_types::{FiredRow, MemberRow, Refusal, Reply, StepRefused, TriggerState};
+use qz_types::{MemberRow, Refusal, Reply, StepRefused, TriggerState};
 
 /// Why a Release of the member is refused, if it is.
 #[tactic(auto, using(crate::proofs::Refused::of_release))]
@@ -18,18 +19,6 @@ pub fn release_refused(tables: &Tables, me: &MemberRow, entry: u64) -> Option<Re
     match tables.get_fired(entry) {
         None => Some(Refusal::UnknownEntry),
         Some(row) => acquired_refusal(me, row),
-    }
-}
-
-// Why the row is refused, if it is: it has to be the member's own, and its execution mustn't have begun.
-#[tactic(auto, unfolding(qz_model::specs::Acquiring::acquired_refusal))]
-fn acquired_refusal(me: &MemberRow, row: &FiredRow) -> Option<Refusal>
-    ensures { result ≡ acquired_refusal me.now row.now }
-{
-    match owner_refusal(me, row) {
-        Some(refusal) => Some(refusal),
-        None if is_acquired(row.state) => None,
-        None => Some(Refusal::NotAcquired),
     }
 }
 

@@ -1,5 +1,4 @@
 //! What the application of every command needs, over the tables of the trigger store: the recorded moment, the fence of
-//! nodes, tests on texts and keys, the executions that exclude others, the fire times of stored triggers, and jobs that go with
 //! nodes, tests on texts and keys, the executions that exclude others, fire times of stored triggers, and jobs that go with
 //! their last trigger. Nothing here takes memory.
 #![tactic(auto)]
