@@ -4,17 +4,17 @@ use Rattle.std.specs.Prelude.{Option, Ok, Err}
 use Rattle.std.proofs.lemmas.Bool.{and_parts}
 use Rattle.qz_types.specs.Rows.{MemberData, is_node, is_interval}
 use Rattle.qz_types.specs.Entries.{EntryData, is_command, is_of_node, has_actor, is_entry}
-use Rattle.qz_types.specs.Steps.{is_join, is_step}
+use Rattle.qz_steps.specs.Steps.{is_join, is_step}
 use Rattle.qz_types.specs.Words.{member_of}
 use Rattle.qz_types.specs.declared.commands.Actor.TheVariants as actor
 use Rattle.qz_types.specs.declared.commands.Command.{Command}
 use Rattle.qz_types.specs.declared.commands.Command.TheVariants as command
 use Rattle.qz_types.specs.declared.errors.SubmitError.TheVariants as submit
-use Rattle.qz_types.specs.declared.steps.Step.{Step}
-use Rattle.qz_types.specs.declared.steps.Step.TheVariants.{Client, Join, Node}
-use Rattle.qz_types.specs.declared.steps.StepReply.{StepReply}
-use Rattle.qz_types.specs.declared.steps.StepReply.TheVariants as reply
-use Rattle.qz_model.specs.Script.{TimedStep, entry_of}
+use Rattle.qz_steps.specs.declared.steps.Step.{Step}
+use Rattle.qz_steps.specs.declared.steps.Step.TheVariants.{Client, Join, Node}
+use Rattle.qz_steps.specs.declared.steps.StepReply.{StepReply}
+use Rattle.qz_steps.specs.declared.steps.StepReply.TheVariants as reply
+use Rattle.qz_cluster.specs.Script.{TimedStep, entry_of}
 use Rattle.qz_trigger_store.specs.Opening.{IsSound}
 use Rattle.qz_trigger_store.proofs.Sound.{same_sound, submitted_sound}
 use Rattle.qz_cluster.specs.Steps.{ClusterState, entry_of_member, entry_of_step, StepCase, IsStep}

@@ -6,7 +6,7 @@ use Rattle.qz_types.specs.Entries.{EntryData}
 use Rattle.qz_types.specs.declared.errors.SubmitError.{SubmitError}
 use Rattle.qz_types.specs.declared.errors.SubmitError.TheVariants as submit
 use Rattle.qz_trigger_store.specs.Entries.{TriggerState, trigger_entry}
-use Rattle.qz_trigger_store.specs.Stores.{Starves, Submits}
+use Rattle.qz_stores.specs.Stores.{Starves, Submits}
 use Rattle.qz_cluster.specs.Submitting.{Submitted, Unsubmitted, unaccepted}
 use Rattle.qz_cluster.specs.View.{KeepsStores, KeepsUnlessDone}
 use Rattle.qz_cluster.specs.declared.clusters.Cluster.{Cluster}

@@ -6,11 +6,11 @@ use Rattle.qz_types.specs.Entries.{EntryData}
 use Rattle.qz_types.specs.Words.{without_member}
 use Rattle.qz_types.specs.declared.errors.SubmitError.{SubmitError}
 use Rattle.qz_types.specs.declared.errors.SubmitError.TheVariants as submit
-use Rattle.qz_types.specs.declared.steps.StepReply.{StepReply}
-use Rattle.qz_types.specs.declared.steps.StepReply.TheVariants as reply
-use Rattle.qz_model.specs.Script.{held_after_join}
+use Rattle.qz_steps.specs.declared.steps.StepReply.{StepReply}
+use Rattle.qz_steps.specs.declared.steps.StepReply.TheVariants as reply
+use Rattle.qz_cluster.specs.Script.{held_after_join}
 use Rattle.qz_trigger_store.specs.Entries.{TriggerState, trigger_entry}
-use Rattle.qz_trigger_store.specs.Stores.{Appends, Refuses, Overflows, Starves, Fails, Stops}
+use Rattle.qz_stores.specs.Stores.{Appends, Refuses, Overflows, Starves, Fails, Stops}
 use Rattle.qz_cluster.specs.declared.errors.StepEnd.{StepEnd}
 use Rattle.qz_cluster.specs.declared.errors.StepEnd.TheVariants as ends
 

@@ -2,7 +2,7 @@
 ghost use Rattle.std.specs.Prelude.{◌≡◌, IsTrue};
 ghost use Rattle.qz_types.specs.Entries.{is_command, is_of_node};
 ghost use Rattle.qz_types.specs.declared.commands.Actor.TheVariants as actor;
-ghost use Rattle.qz_model.specs.Script.{entry_of};
+ghost use Rattle.qz_cluster.specs.Script.{entry_of};
 
 use qz_types::{Actor, Command, Entry, MemberRow};
 

@@ -11,5 +11,5 @@ mod steps;
 
 pub use clusters::Cluster;
 pub use errors::StepEnd;
-pub use laws::steps_keep_stores_sound;
+pub use laws::{scripts_keep_legal_histories, steps_keep_stores_sound};
 pub use qz_trigger_store::MountError;

@@ -2,13 +2,13 @@
 ghost use Rattle.std.specs.Prelude.{◌≡◌, ◌<◌, true, false, IsTrue, IfOk, IfErr, OnErr, vec_len, vec_capacity};
 ghost use Rattle.qz_types.specs.Entries.{is_command, is_of_node};
 ghost use Rattle.qz_types.specs.Rows.{is_node};
-ghost use Rattle.qz_types.specs.Steps.{is_step};
+ghost use Rattle.qz_steps.specs.Steps.{is_step};
 ghost use Rattle.qz_types.specs.Words.{member_of, without_member};
 ghost use Rattle.qz_types.specs.declared.commands.Actor.TheVariants as actor;
 ghost use Rattle.qz_types.specs.declared.commands.Command.TheVariants as command_is;
-ghost use Rattle.qz_types.specs.declared.steps.Step.TheVariants as step_is;
-ghost use Rattle.qz_types.specs.declared.steps.StepReply.TheVariants as reply_is;
-ghost use Rattle.qz_model.specs.Script.{entry_of};
+ghost use Rattle.qz_steps.specs.declared.steps.Step.TheVariants as step_is;
+ghost use Rattle.qz_steps.specs.declared.steps.StepReply.TheVariants as reply_is;
+ghost use Rattle.qz_cluster.specs.Script.{entry_of};
 ghost use Rattle.qz_cluster.specs.Steps.{StepCase, EndCase, IsStep, IsCutShort};
 ghost use Rattle.qz_cluster.specs.Submitting.{Submitted, Unsubmitted, unaccepted, held_after_answer};
 ghost use Rattle.qz_cluster.specs.View.{view, KeepsStores, KeepsUnlessDone, EachLeavesEither};
@@ -17,7 +17,8 @@ use crate::entries::{client_entry, node_entry};
 use crate::held::{epoch_of, put_reserved, room_for_one};
 use crate::{Cluster, StepEnd};
 use qz_disk::Disk;
-use qz_types::{Command, Entry, MemberRow, NoMemory, Reply, Step, StepReply, SubmitError, Text};
+use qz_steps::{Step, StepReply};
+use qz_types::{Command, Entry, MemberRow, NoMemory, Reply, SubmitError, Text};
 
 impl<D: Disk> Cluster<D> {
     /// Does one step at this reading of the clock, in ms since 1970-01-01T00:00:00Z. The store and its disk stay as they
@@ -113,7 +114,7 @@ impl<D: Disk> Cluster<D> {
     }
 
     // The epochs after a join that was answered so, where these are the rows of the other nodes.
-    #[tactic(auto, unfolding(qz_model::specs::Script::hold))]
+    #[tactic(auto, unfolding(qz_cluster::specs::Script::hold))]
     fn hold(&mut self, node: Text, mut rows: Vec<MemberRow>, reply: &StepReply)
         requires node { IsTrue (is_node node) }
         requires rows { rows.items ≡ without_member node (view self.old).held }

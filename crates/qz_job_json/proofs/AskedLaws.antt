@@ -5,7 +5,7 @@ use Rattle.serde_json.specs.Data.{Data}
 use Rattle.serde_json.specs.Find.{get}
 use Rattle.qz_types.specs.declared.commands.Command.{Command}
 use Rattle.qz_types.specs.declared.commands.Command.TheVariants as command
-use Rattle.qz_types.specs.declared.steps.Step.TheVariants as step
+use Rattle.qz_steps.specs.declared.steps.Step.TheVariants as step
 use Rattle.qz_job_json.specs.declared.asked.Asked.{Asked}
 use Rattle.qz_job_json.specs.declared.faults.LineError.{LineError}
 use Rattle.qz_job_json.specs.declared.faults.LineError.TheVariants.{Bad, NoMemory}

@@ -6,8 +6,8 @@ use Rattle.std.specs.Str.{is_utf8}
 use Rattle.serde_json.specs.Data.{Data}
 use Rattle.serde_json.specs.Read.{read}
 use Rattle.qz_types.specs.declared.limits.TheConstants.{INTERVAL_LIMIT}
-use Rattle.qz_types.specs.declared.steps.Step.{Step}
-use Rattle.qz_types.specs.declared.steps.Step.TheVariants as step
+use Rattle.qz_steps.specs.declared.steps.Step.{Step}
+use Rattle.qz_steps.specs.declared.steps.Step.TheVariants as step
 use Rattle.qz_io.specs.declared.limits.TheConstants.{LINE_LIMIT}
 use Rattle.qz_job_json.specs.declared.words.Word.{Word}
 use Rattle.qz_job_json.specs.declared.words.Word.TheVariants.{Client, Join, Node}

@@ -3,7 +3,7 @@ ghost use Rattle.std.specs.Prelude.{◌≡◌, ◌⊎◌, Err, Bool, true, IsTru
 ghost use Rattle.serde_json.specs.View.{view};
 ghost use Rattle.qz_types.specs.Entries.{is_command};
 ghost use Rattle.qz_types.specs.Rows.{is_trigger_spec};
-ghost use Rattle.qz_types.specs.Steps.{is_step};
+ghost use Rattle.qz_steps.specs.Steps.{is_step};
 ghost use Rattle.qz_job_json.specs.Asked as spec;
 ghost use Rattle.qz_job_json.specs.Faults.{ReadsAs};
 ghost use Rattle.qz_job_json.specs.Lines.{ReadsLineAs};
@@ -11,7 +11,8 @@ ghost use Rattle.qz_job_json.specs.Lines.{ReadsLineAs};
 use crate::faults::{LineError, LineFault};
 use crate::lines::{Given, given_of, json_of, word_in};
 use crate::words::{ClientWord, Word};
-use qz_types::{CalendarRow, Command, Step, TriggerSpec, ZoneRow};
+use qz_steps::Step;
+use qz_types::{CalendarRow, Command, TriggerSpec, ZoneRow};
 use serde_json::Value;
 use std::alloc::Global;
 

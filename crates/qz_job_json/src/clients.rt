@@ -3,7 +3,7 @@ ghost use Rattle.std.specs.Prelude.{◌≡◌, ◌⊎◌, ◌≤ℤ◌, pos, Err
 ghost use Rattle.serde_json.specs.View.{view};
 ghost use Rattle.qz_civil.specs.Timings.{is_name};
 ghost use Rattle.qz_types.specs.Rows.{is_interval, is_key};
-ghost use Rattle.qz_types.specs.Steps.{is_step};
+ghost use Rattle.qz_steps.specs.Steps.{is_step};
 ghost use Rattle.qz_job_json.specs.Commands as spec;
 ghost use Rattle.qz_job_json.specs.Faults.{ReadsAs, or_shape};
 ghost use Rattle.qz_job_json.specs.Members.{name_at};
@@ -16,7 +16,8 @@ use crate::schedules::trigger_by_kind;
 use crate::words::{ClientWord, GroupWord, KeyWord, NameWord};
 use crate::zones::zone_of;
 use qz_civil::beside;
-use qz_types::{Command, INTERVAL_LIMIT, Key, Step, Text, ZoneRow};
+use qz_steps::Step;
+use qz_types::{Command, INTERVAL_LIMIT, Key, Text, ZoneRow};
 use serde_json::Value;
 use std::alloc::Global;
 

@@ -2,7 +2,7 @@
 ghost use Rattle.std.specs.Prelude.{◌≡◌, ◌⊎◌, Ok, Some, None, IsTrue, IfOk, IfErr, IfSome, option_map};
 ghost use Rattle.std.specs.List.{list_all};
 ghost use Rattle.serde_json.specs.View.{view};
-ghost use Rattle.qz_types.specs.Steps.{is_step};
+ghost use Rattle.qz_steps.specs.Steps.{is_step};
 ghost use Rattle.qz_job_json.specs.Faults.{ReadsAs};
 ghost use Rattle.qz_job_json.specs.Lines.{is_blank, value_of, json_of, NeedsJson, HasNoJson, ReadsLineAs, line_word, word_in, reading_of, given_of, meaning_of, meaning_of_value};
 
@@ -12,7 +12,7 @@ use crate::members::{has_only, optional_integer_at, text_at};
 use crate::steps::step_of;
 use crate::words::{Word, is_unbuilt_word};
 use qz_io::LINE_LIMIT;
-use qz_types::Step;
+use qz_steps::Step;
 use serde_json::Value;
 use std::alloc::Global;
 

@@ -2,7 +2,7 @@
 ghost use Rattle.std.specs.Prelude.{◌≡◌, ◌⊎◌, Err, IsTrue, IfOk, IfSome};
 ghost use Rattle.serde_json.specs.View.{view};
 ghost use Rattle.qz_types.specs.Rows.{is_interval};
-ghost use Rattle.qz_types.specs.Steps.{is_step};
+ghost use Rattle.qz_steps.specs.Steps.{is_step};
 ghost use Rattle.qz_job_json.specs.Faults.{ReadsAs};
 ghost use Rattle.qz_job_json.specs.Lines.{interval_at, join_step, step_of};
 
@@ -12,7 +12,8 @@ use crate::members::{integer_or, node_at};
 use crate::nodes::node_command;
 use crate::words::{ClientWord, NodeWord, Word};
 use qz_civil::beside;
-use qz_types::{INTERVAL_LIMIT, Step, Text};
+use qz_steps::Step;
+use qz_types::{INTERVAL_LIMIT, Text};
 use serde_json::Value;
 use std::alloc::Global;
 

@@ -1,8 +1,9 @@
 //! Replies with their lines.
 use qz_civil::beside;
 use qz_report::{reply_line, times_line};
+use qz_steps::StepReply;
 use qz_types::{
-    JobRow, Key, List, MovedRow, NoMemory, Owner, Refusal, Reply, StepReply, Taken, Text,
+    JobRow, Key, List, MovedRow, NoMemory, Owner, Refusal, Reply, Taken, Text,
 };
 use std::alloc::{AllocError, Global};
 

@@ -35,8 +35,6 @@ pub mod Replaced
 pub mod RowChanges
 pub mod RowLaws
 pub mod RowPoints
-pub mod Scripts
 pub mod StateChanges
 pub mod StateLaws
-pub mod ValidScripts
 pub mod Waiting

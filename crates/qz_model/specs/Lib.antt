@@ -12,7 +12,6 @@ pub mod Misfires
 pub mod Pausing
 pub mod Plan
 pub mod Recovery
-pub mod Script
 pub mod Tests
 pub mod Transaction
 pub mod Triggers

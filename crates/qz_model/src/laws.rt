@@ -4,7 +4,6 @@ ghost use Rattle.std.specs.Prelude.{◌≡◌, ◌≤◌, Bool, List, IsTrue, co
 ghost use Rattle.std.specs.List.{AllByRecursion};
 ghost use Rattle.qz_types.specs.Entries.{is_entry};
 ghost use Rattle.qz_types.specs.Rows.{TriggerData};
-ghost use Rattle.qz_types.specs.Steps.{is_step};
 ghost use Rattle.qz_types.specs.Tables.{new_tables};
 ghost use Rattle.qz_types.specs.Due.{in_due_order};
 ghost use Rattle.qz_types.specs.declared.keys.Key.{Key as JobKey};
@@ -12,7 +11,6 @@ ghost use Rattle.qz_model.specs.Due.{IsInDueOrder};
 ghost use Rattle.qz_model.specs.Executions.{is_exclusive_of};
 ghost use Rattle.qz_model.specs.History.{History, IsLegal, replay};
 ghost use Rattle.qz_model.specs.Invariant.{TablesValid};
-ghost use Rattle.qz_model.specs.Script.{ScriptState, TimedStep, state_after};
 
 /// Triggers put in due order are in it, and are the same ones: each test passes as many of them as before.
 pub fn due_order_is_sorted()
@@ -29,11 +27,4 @@ pub fn legal_histories_leave_valid_tables()
 /// nodes worked on it and in whatever order, a job key has at most one execution that excludes all others.
 pub fn exclusive_executions_are_alone()
     ensures { (h : History) → h.base ≡ new_tables → AllByRecursion (λ e. IsTrue (is_entry e)) h.entries → IsLegal h → (job : JobKey) → count_by (is_exclusive_of job) (replay h).fired ≤ 1 }
-{}
-
-/// The steps of a script keep a history legal; valid steps keep its entries valid, and its tables too.
-pub fn scripts_keep_legal_histories()
-    ensures legal { (s : ScriptState) (ts : List TimedStep) → IsLegal s.history → IsLegal (state_after s ts).history }
-    ensures entries { (s : ScriptState) (ts : List TimedStep) → AllByRecursion (λ t. IsTrue (is_step t.step)) ts → AllByRecursion (λ e. IsTrue (is_entry e)) s.history.entries → AllByRecursion (λ e. IsTrue (is_entry e)) (state_after s ts).history.entries }
-    ensures tables { (s : ScriptState) (ts : List TimedStep) → AllByRecursion (λ t. IsTrue (is_step t.step)) ts → TablesValid (replay s.history) → TablesValid (replay (state_after s ts).history) }
 {}

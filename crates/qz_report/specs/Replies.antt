@@ -11,8 +11,8 @@ use Rattle.qz_types.specs.declared.replies.Refusal.{Refusal}
 use Rattle.qz_types.specs.declared.replies.Refusal.TheVariants.{Fenced, InUse, Circle, FlagInUse, NotYours, Early, StillFresh, TooMany, Renewed}
 use Rattle.qz_types.specs.declared.replies.Reply.{Reply}
 use Rattle.qz_types.specs.declared.replies.Reply.TheVariants.{Done, Added, Deleted, Triggered, Joined, Acquired, Fired, Completed, Again, Misfired, Recovered}
-use Rattle.qz_types.specs.declared.steps.StepReply.{StepReply}
-use Rattle.qz_types.specs.declared.steps.StepReply.TheVariants.{Ok, Refused, Fault, Closed, Stopped}
+use Rattle.qz_steps.specs.declared.steps.StepReply.{StepReply}
+use Rattle.qz_steps.specs.declared.steps.StepReply.TheVariants.{Ok, Refused, Fault, Closed, Stopped}
 use Rattle.qz_report.specs.Names.{escaped, key_text}
 
 -- a next time, if there is one

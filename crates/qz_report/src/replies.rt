@@ -5,7 +5,8 @@ ghost use Rattle.std.specs.List.{flat_map};
 ghost use Rattle.qz_report.specs.Replies.{next_text, taken_text, all_taken_text, triggered_text, moved_text, all_moved_text, owner_text, ok_text, joined_text, recovery_text, fired_text, refusal_field, refusal_text, step_text, reply_text};
 
 use crate::names::{push_key, push_name};
-use qz_types::{Key, MovedRow, NoMemory, Owner, Refusal, Reply, StepReply, Taken, Text};
+use qz_steps::StepReply;
+use qz_types::{Key, MovedRow, NoMemory, Owner, Refusal, Reply, Taken, Text};
 use std::alloc::{AllocError, Global};
 use std::fmt;
 use std::fmt::Write;

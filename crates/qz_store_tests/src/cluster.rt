@@ -1,12 +1,13 @@
 //! Steps over a disk that fails.
 ghost use Rattle.std.specs.Prelude.{IsTrue, IfOk};
 ghost use Rattle.qz_types.specs.Rows.{is_node};
-ghost use Rattle.qz_types.specs.Steps.{is_step};
+ghost use Rattle.qz_steps.specs.Steps.{is_step};
 
 use qz_cluster::{Cluster, StepEnd};
 use qz_disk::{Disk, FaultDisk, MemDisk};
 use qz_journal::{TRIGGERS, create};
-use qz_types::{Command, List, Step, StepReply, Text};
+use qz_steps::{Step, StepReply};
+use qz_types::{Command, List, Text};
 use std::alloc::{AllocError, Global};
 
 /// What came of a step.

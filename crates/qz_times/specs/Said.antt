@@ -7,7 +7,7 @@ use Rattle.qz_civil.specs.Least.{IsLeast, IsNext}
 use Rattle.qz_types.specs.declared.replies.Refusal.{Refusal}
 use Rattle.qz_types.specs.declared.replies.Refusal.TheVariants.{UnknownCalendar, UnknownZone}
 use Rattle.qz_types.specs.declared.replies.Reply.TheVariants.{Done}
-use Rattle.qz_types.specs.declared.steps.StepReply.TheVariants as reply
+use Rattle.qz_steps.specs.declared.steps.StepReply.TheVariants as reply
 use Rattle.qz_types.specs.declared.triggers.TriggerSpec.{TriggerSpec}
 use Rattle.qz_job_json.specs.declared.asked.Asked.{Asked}
 use Rattle.qz_job_json.specs.declared.asked.Asked.TheVariants.{AddZone, AddCalendar, AddTrigger}

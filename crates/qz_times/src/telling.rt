@@ -4,7 +4,7 @@ ghost use Rattle.qz_civil.specs.Timings.{is_timing};
 ghost use Rattle.qz_civil.specs.Zones.{fixed_offset};
 ghost use Rattle.qz_types.specs.Rows.{is_trigger_spec};
 ghost use Rattle.qz_job_json.specs.Asked.{is_asked};
-ghost use Rattle.qz_types.specs.declared.steps.StepReply.TheVariants as reply;
+ghost use Rattle.qz_steps.specs.declared.steps.StepReply.TheVariants as reply;
 ghost use Rattle.qz_report.specs.Replies.{reply_text};
 ghost use Rattle.qz_plan.specs.FireTimes.{IsFireTime};
 ghost use Rattle.qz_times.specs.Known.{kept, known_zone, zone_or_utc};
@@ -19,7 +19,8 @@ use qz_calendar::Chain;
 use qz_civil::{Kind, LAST, NoMemory, Text, Timing, Zone};
 use qz_job_json::Asked;
 use qz_report::{reply_line, times_line};
-use qz_types::{Refusal, Reply, StepReply, TriggerSpec};
+use qz_steps::StepReply;
+use qz_types::{Refusal, Reply, TriggerSpec};
 use std::alloc::Global;
 
 /// Says what a line asks for. Where there is no memory, what is known is not to be used further.

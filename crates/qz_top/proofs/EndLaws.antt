@@ -8,7 +8,7 @@ use Rattle.std.proofs.lemmas.Bool.Decides.{nat_tests}
 use Rattle.std.proofs.lemmas.List.{append-nil, take-append-drop}
 use Rattle.qz_civil.specs.Causes.{Rose}
 use Rattle.qz_disk.specs.declared.disk.Disk.{Ghosts}
-use Rattle.qz_types.specs.declared.steps.StepReply.{StepReply}
+use Rattle.qz_steps.specs.declared.steps.StepReply.{StepReply}
 use Rattle.qz_io.specs.declared.limits.TheConstants.{LINE_COUNT_LIMIT}
 use Rattle.qz_io.specs.declared.traits.Clock as clock
 use Rattle.qz_io.specs.declared.traits.Sink as sink

@@ -3,8 +3,8 @@ use Rattle.std.proofs.Common.{◌≡◌, ◌≤◌, ℕ, ℤ, List, ◌++◌, le
 use Rattle.std.specs.List.{AllByRecursion}
 use Rattle.qz_civil.specs.Causes.{Rose}
 use Rattle.qz_io.specs.Outside.{Outside}
-use Rattle.qz_types.specs.declared.steps.StepReply.{StepReply}
-use Rattle.qz_model.specs.Script.{new_script, step_replies}
+use Rattle.qz_steps.specs.declared.steps.StepReply.{StepReply}
+use Rattle.qz_cluster.specs.Script.{new_script, step_replies}
 use Rattle.qz_cluster.specs.Steps.{ClusterState, is_closed}
 use Rattle.qz_top.specs.Lines.{steps_of}
 use Rattle.qz_trigger_store.specs.Opening.{IsOpened}

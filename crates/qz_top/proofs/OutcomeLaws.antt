@@ -8,10 +8,10 @@ use Rattle.qz_io.specs.Clocks.{Tells}
 use Rattle.qz_io.specs.Outside.{Outside}
 use Rattle.qz_io.proofs.Readings.{Tells-nil, Tells-trans}
 use Rattle.std.specs.Prelude.{Result, Ok, Err}
-use Rattle.qz_types.specs.declared.steps.Step.{Step}
+use Rattle.qz_steps.specs.declared.steps.Step.{Step}
 use Rattle.qz_job_json.specs.declared.lines.Given.{Given}
 use Rattle.qz_top.specs.Lines.{Meaning, line_meaning, kind_of, IsGoodMeaning, readings_of_at, readings_of_meaning, timed, steps_by_meaning, steps_of}
-use Rattle.qz_types.specs.declared.steps.StepReply.{StepReply}
+use Rattle.qz_steps.specs.declared.steps.StepReply.{StepReply}
 use Rattle.qz_report.specs.Replies.{reply_text}
 use Rattle.qz_top.specs.Trails.{texts, RunState, RanSteps}
 use Rattle.qz_top.specs.LineOutcomes.{Did, Ran, DidStep, IsOwn, taken_reading, step_at, GaveUp, StepPart, NotAnswered, StepDone, LineDone, RanPart, IsBad, Untouched, line_end}

@@ -12,13 +12,13 @@ use Rattle.qz_types.specs.declared.commands.Command.{Command}
 use Rattle.qz_types.specs.declared.commands.Command.TheVariants as command
 use Rattle.qz_types.specs.declared.replies.Reply.{Reply}
 use Rattle.qz_types.specs.declared.replies.Refusal.{Refusal}
-use Rattle.qz_types.specs.declared.steps.Step.{Step}
-use Rattle.qz_types.specs.declared.steps.Step.TheVariants.{Client, Join, Node}
-use Rattle.qz_types.specs.declared.steps.StepReply.{StepReply}
-use Rattle.qz_types.specs.declared.steps.StepReply.TheVariants as reply
+use Rattle.qz_steps.specs.declared.steps.Step.{Step}
+use Rattle.qz_steps.specs.declared.steps.Step.TheVariants.{Client, Join, Node}
+use Rattle.qz_steps.specs.declared.steps.StepReply.{StepReply}
+use Rattle.qz_steps.specs.declared.steps.StepReply.TheVariants as reply
 use Rattle.qz_model.specs.History.{History, with_entry, replay}
 use Rattle.qz_model.specs.Transaction.{transaction}
-use Rattle.qz_model.specs.Script.{ScriptState, TimedStep, StepEffect, held_after_join, entry_of, effect_of, submit, effect_of_node, step_effect, with_optional, effect_in, after_step, step_replies}
+use Rattle.qz_cluster.specs.Script.{ScriptState, TimedStep, StepEffect, held_after_join, entry_of, effect_of, submit, effect_of_node, step_effect, with_optional, effect_in, after_step, step_replies}
 use Rattle.qz_trigger_store.specs.Entries.{answer_of}
 use Rattle.qz_cluster.specs.Steps.{ClusterState, is_closed, is_closed_for, entry_of_member, entry_of_step, held_after, StepCase, IsStep}
 use Rattle.qz_cluster.proofs.Sound.{step_sound}

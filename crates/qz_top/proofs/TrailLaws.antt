@@ -1,10 +1,10 @@
 -- Runs of steps that go on, and what their replies tell.
 use Rattle.std.proofs.Common.{◌≡◌, ℕ, List, [], ◌∷◌, ◌++◌, length, true, false, refl, sym, ap, ◌∙◌, subst, append_assoc, arith}
 use Rattle.std.proofs.lemmas.List.{append-nil}
-use Rattle.qz_types.specs.declared.steps.StepReply.{StepReply}
+use Rattle.qz_steps.specs.declared.steps.StepReply.{StepReply}
 use Rattle.qz_types.specs.Entries.{EntryData}
 use Rattle.qz_model.specs.History.{History, new_history}
-use Rattle.qz_model.specs.Script.{TimedStep}
+use Rattle.qz_cluster.specs.Script.{TimedStep}
 use Rattle.qz_journal.specs.Layout.{end_of}
 use Rattle.qz_trigger_store.specs.Bytes.{Encode}
 use Rattle.qz_trigger_store.specs.Opening.{IsOpened}

@@ -1,7 +1,7 @@
 -- What the calls that run scripts did.
 use Rattle.std.specs.Prelude.{⊤, ◌≡◌, ◌⊎◌, ◌≤◌, ℕ, ℤ, true, false, Bool, List, [], ◌∷◌, ◌++◌, length, take, None}
 use Rattle.std.specs.List.{AllByRecursion}
-use Rattle.qz_types.specs.declared.steps.StepReply.{StepReply}
+use Rattle.qz_steps.specs.declared.steps.StepReply.{StepReply}
 use Rattle.qz_types.specs.declared.stores.Store.TheVariants as store
 use Rattle.qz_disk.specs.declared.disk.Disk.{Ghosts}
 use Rattle.qz_io.specs.Outside.{Outside}
@@ -11,7 +11,7 @@ use Rattle.qz_journal.specs.Through.{OnlyReadsUnless}
 use Rattle.qz_trigger_store.specs.Bytes.{Stands, MayBe}
 use Rattle.qz_trigger_store.specs.Opening.{IsOpened, IsSound, IsRefused}
 use Rattle.qz_cluster.specs.Steps.{ClusterState}
-use Rattle.qz_model.specs.Script.{ScriptState, new_script, step_replies}
+use Rattle.qz_cluster.specs.Script.{ScriptState, new_script, step_replies}
 use Rattle.qz_top.specs.Lines.{steps_of}
 use Rattle.qz_top.specs.Moments.{BeginsWithReads, EachIsKept}
 use Rattle.qz_top.specs.Runs.{IsRun}

@@ -4,8 +4,8 @@ use Rattle.std.specs.List.{AllByRecursion}
 use Rattle.std.specs.Io.KnownBytes.{Appends}
 use Rattle.qz_io.specs.Clocks.{Tells}
 use Rattle.qz_io.specs.Outside.{Outside}
-use Rattle.qz_types.specs.declared.steps.StepReply.{StepReply}
-use Rattle.qz_model.specs.Script.{TimedStep}
+use Rattle.qz_steps.specs.declared.steps.StepReply.{StepReply}
+use Rattle.qz_cluster.specs.Script.{TimedStep}
 use Rattle.qz_report.specs.Replies.{reply_text}
 use Rattle.qz_cluster.specs.Steps.{Stays, OverflowedStep}
 use Rattle.qz_job_json.specs.declared.lines.Given.{Given}

@@ -1,7 +1,7 @@
 -- The lines of a script: the steps that they ask for, and the first line that is bad.
 use Rattle.std.specs.Prelude.{⊤, ℕ, ◌+◌, ℤ, List, [], ◌∷◌, nat_lt, if◌then◌else◌, Option, Some, None, Result, Ok, Err}
-use Rattle.qz_types.specs.declared.steps.Step.{Step}
-use Rattle.qz_model.specs.Script.{TimedStep}
+use Rattle.qz_steps.specs.declared.steps.Step.{Step}
+use Rattle.qz_cluster.specs.Script.{TimedStep}
 use Rattle.qz_job_json.specs.declared.lines.Given.{Given}
 use Rattle.qz_job_json.specs.declared.faults.LineFault.{LineFault}
 use Rattle.qz_job_json.specs.declared.faults.LineFault.TheVariants as line_fault

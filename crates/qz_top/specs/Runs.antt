@@ -7,7 +7,7 @@ use Rattle.qz_io.specs.Clocks.{Tells}
 use Rattle.qz_io.specs.Handlers.{IfKnown, IsNextLine}
 use Rattle.qz_io.specs.Lines.{IsOneLine, lines_of, with_feeds}
 use Rattle.qz_io.specs.Outside.{Outside, IsHandedOn}
-use Rattle.qz_types.specs.declared.steps.StepReply.{StepReply}
+use Rattle.qz_steps.specs.declared.steps.StepReply.{StepReply}
 use Rattle.qz_cluster.specs.Steps.{ClusterState, OverflowedStep, is_closed}
 use Rattle.qz_job_json.specs.declared.lines.Given.{Given}
 use Rattle.qz_top.specs.Lines.{line_meaning, IsGood, readings_of, steps_of, first_bad}

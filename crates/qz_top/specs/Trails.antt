@@ -1,10 +1,10 @@
 -- Steps that were done one after another, and the states that they went through.
 use Rattle.std.specs.Prelude.{⊤, ◌≡◌, ℕ, true, false, Bool, List, [], ◌∷◌, ◌++◌, None}
 use Rattle.std.specs.List.{AllByRecursion, flat_map}
-use Rattle.qz_types.specs.declared.steps.StepReply.{StepReply}
-use Rattle.qz_types.specs.declared.steps.StepReply.TheVariants as reply
+use Rattle.qz_steps.specs.declared.steps.StepReply.{StepReply}
+use Rattle.qz_steps.specs.declared.steps.StepReply.TheVariants as reply
 use Rattle.qz_model.specs.History.{new_history}
-use Rattle.qz_model.specs.Script.{TimedStep}
+use Rattle.qz_cluster.specs.Script.{TimedStep}
 use Rattle.qz_report.specs.Replies.{reply_text}
 use Rattle.qz_cluster.specs.Steps.{ClusterState, IsStep}
 

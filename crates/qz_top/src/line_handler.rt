@@ -3,8 +3,8 @@ ghost use Rattle.std.specs.Prelude.{◌≡◌, ◌⊎◌, ◌≤◌, ◌<◌, �
 ghost use Rattle.qz_civil.specs.Causes.{Rose};
 ghost use Rattle.qz_io.specs.Around.{without_input};
 ghost use Rattle.qz_io.specs.Clocks.{Tells};
-ghost use Rattle.qz_types.specs.Steps.{is_step};
-ghost use Rattle.qz_types.specs.declared.steps.StepReply.{StepReply as Reply};
+ghost use Rattle.qz_steps.specs.Steps.{is_step};
+ghost use Rattle.qz_steps.specs.declared.steps.StepReply.{StepReply as Reply};
 ghost use Rattle.qz_job_json.specs.Lines.{ReadsLineAs};
 ghost use Rattle.qz_report.specs.Replies.{reply_text};
 ghost use Rattle.qz_cluster.specs.Steps.{IsStep, IsCutShort};
@@ -23,7 +23,8 @@ use qz_disk::Disk;
 use qz_io::{Clock, LineHandler, Sink, write_all};
 use qz_job_json::{Given, LineError, read_step};
 use qz_report::reply_line;
-use qz_types::{NoMemory, Step, StepReply, Text};
+use qz_steps::{Step, StepReply};
+use qz_types::{NoMemory, Text};
 use std::alloc::Global;
 use std::snapshot::Snapshot;
 

@@ -2,7 +2,7 @@
 ghost use Rattle.std.specs.Prelude.{◌≡◌, ℕ, ℤ, List};
 ghost use Rattle.qz_civil.specs.Causes.{Rose};
 ghost use Rattle.qz_io.specs.Around.{outside, output_alone};
-ghost use Rattle.qz_types.specs.declared.steps.StepReply.{StepReply};
+ghost use Rattle.qz_steps.specs.declared.steps.StepReply.{StepReply};
 ghost use Rattle.qz_top.specs.Moments.{Shows};
 ghost use Rattle.qz_top.specs.Runs.{IsOfScript, IsRun};
 ghost use Rattle.qz_top.specs.Seen.{view};

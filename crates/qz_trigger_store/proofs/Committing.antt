@@ -17,7 +17,7 @@ use Rattle.qz_model.specs.History.{replay, with_entry}
 use Rattle.qz_model.specs.Transaction.{transaction}
 use Rattle.qz_codec.specs.Layout.{record_of}
 use Rattle.qz_trigger_store.specs.Entries.{TriggerState, answer_of, trigger_entry}
-use Rattle.qz_trigger_store.specs.Stores.{HasRoom, Appends, Fails, Submits}
+use Rattle.qz_stores.specs.Stores.{HasRoom, Appends, Fails, Submits}
 
 answered : (T U : SchedulerTables) (s : TriggerState) (e : EntryData) (r : Reply) → T ≡ replay s.history → transaction T e ≡ accepted U r → trigger_entry.answer s.history e ≡ Ok r
 answered T U s e r tables is = ap answer_of (subst (λ (V : SchedulerTables). transaction V e ≡ accepted U r) tables is)

@@ -14,7 +14,7 @@ use Rattle.qz_model.specs.History.{replay}
 use Rattle.qz_model.specs.Transaction.{transaction}
 use Rattle.qz_codec.specs.Layout.{record_of}
 use Rattle.qz_trigger_store.specs.Entries.{TriggerState, answer_of, trigger_entry, IsUnwritten}
-use Rattle.qz_trigger_store.specs.Stores.{Same, Submits}
+use Rattle.qz_stores.specs.Stores.{Same, Submits}
 
 same_itself : (s : TriggerState) → Same s s
 same_itself s = record { history = refl; gate = refl; payloads = refl; is_open = refl; undecided = refl; later = omega arith }

@@ -18,7 +18,7 @@ use Rattle.qz_journal.proofs.Stands.{end_of-push}
 use Rattle.qz_codec.specs.Layout.{record_of}
 use Rattle.qz_codec.specs.Values.{IsEntry}
 use Rattle.qz_trigger_store.specs.Entries.{TriggerState, answer_of, trigger_entry, history_of}
-use Rattle.qz_trigger_store.specs.Stores.{Same, Appends, Submits}
+use Rattle.qz_stores.specs.Stores.{Same, Appends, Submits}
 use Rattle.qz_trigger_store.specs.Bytes.{Encode, BeginsNew}
 use Rattle.qz_trigger_store.specs.Opening.{IsSound, IsOpened, AreReplayed}
 use Rattle.qz_trigger_store.proofs.Replays.{Encode-pushed}

@@ -9,7 +9,7 @@ use Rattle.qz_journal.specs.View.{version}
 use Rattle.qz_journal.specs.declared.layout.TheConstants.{TRIGGERS}
 use Rattle.qz_codec.specs.Layout.{record_of}
 use Rattle.qz_codec.specs.Values.{IsEntry}
-use Rattle.qz_trigger_store.specs.Stores.{MayBeOf}
+use Rattle.qz_stores.specs.Stores.{MayBeOf}
 use Rattle.qz_trigger_store.specs.Entries.{trigger_entry, TriggerState}
 
 -- the payload is the record of this entry

@@ -8,7 +8,7 @@ use Rattle.qz_types.specs.Outcomes.{Outcome, accepted, refused}
 use Rattle.qz_model.specs.Transaction.{transaction}
 use Rattle.qz_model.specs.History.{History, new_history, with_entry, replay}
 use Rattle.qz_codec.specs.Layout.{record_of}
-use Rattle.qz_trigger_store.specs.Stores.{EntryKind, StoreState, LacksRoom}
+use Rattle.qz_stores.specs.Stores.{EntryKind, StoreState, LacksRoom}
 use Rattle.qz_types.specs.declared.errors.SubmitError.{SubmitError}
 use Rattle.qz_types.specs.declared.errors.SubmitError.TheVariants as submit
 

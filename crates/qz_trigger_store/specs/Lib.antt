@@ -3,5 +3,4 @@ pub mod Bytes
 pub mod Entries
 pub mod Facts
 pub mod Opening
-pub mod Stores
 pub mod View

@@ -5,7 +5,7 @@ ghost use Rattle.qz_types.specs.declared.errors.SubmitError.{SubmitError as Erro
 ghost use Rattle.qz_types.specs.declared.replies.Reply.{Reply as Answered};
 ghost use Rattle.qz_trigger_store.specs.Entries.{TriggerState, trigger_entry};
 ghost use Rattle.qz_trigger_store.specs.Opening.{IsSound};
-ghost use Rattle.qz_trigger_store.specs.Stores.{Submits};
+ghost use Rattle.qz_stores.specs.Stores.{Submits};
 
 /// Whatever submitting an entry comes to, it leaves a legal history from a new store on, valid tables, and a gate after
 /// the records of the history's entries, where it found them so. It does nothing: its contract says so.

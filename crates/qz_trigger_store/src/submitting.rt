@@ -10,7 +10,7 @@ ghost use Rattle.qz_model.specs.Transaction.{transaction};
 ghost use Rattle.qz_types.specs.Entries.{is_entry};
 ghost use Rattle.qz_trigger_store.specs.Accepted.{HasRoomForOne};
 ghost use Rattle.qz_trigger_store.specs.Entries.{trigger_entry, IsUnwritten};
-ghost use Rattle.qz_trigger_store.specs.Stores.{HasRoom, Submits};
+ghost use Rattle.qz_stores.specs.Stores.{HasRoom, Submits};
 ghost use Rattle.qz_trigger_store.specs.View.{view, found_of, added_of, moments_of, replies_of, tables_of, IsAsBefore, LeavesEither};
 
 use crate::TriggerStore;

@@ -8,6 +8,5 @@ pub mod Refusals
 pub mod Rows
 pub mod Sorted
 pub mod States
-pub mod Steps
 pub mod Tables
 pub mod Words

@@ -13,7 +13,6 @@ mod owners;
 mod replies;
 mod sorted;
 mod states;
-mod steps;
 mod stores;
 mod triggers;
 mod zones;
@@ -38,7 +37,6 @@ pub use qz_civil::{
 pub use replies::{MovedRow, Refusal, Reply, Taken};
 pub use sorted::{Keyed, find, insert, place};
 pub use states::{Evidence, StateCommand, StateEntry, StateRow};
-pub use steps::{Step, StepReply};
 pub use stores::Store;
 pub use triggers::{TriggerRow, TriggerSpec, TriggerState};
 pub use zones::ZoneRow;

@@ -3,7 +3,7 @@ use Rattle.std.proofs.lemmas.Grind.{common_steps}
 use Rattle.std.proofs.lemmas.Int.{to_z-of_z}
 use Rattle.qz_types.specs.declared.replies.Reply.{Reply}
 use Rattle.qz_trigger_store.specs.Entries.{history_of}
-use Rattle.qz_trigger_store.specs.Stores.{HasRoom}
+use Rattle.qz_stores.specs.Stores.{HasRoom}
 use Rattle.qz_trigger_store.specs.View.{view}
 use Rattle.qz_trigger_store.proofs.Appending
 use Rattle.qz_trigger_store.proofs.Committing

@@ -1,6 +1,5 @@
 //! Steps of a script.
-use crate::{Command, Refusal, Reply};
-use qz_civil::Text;
+use qz_types::{Command, Refusal, Reply, Text};
 
 /// What one script line asks for. A client's command is none that a node gives and no Join; a node's command is one
 /// that has a node as actor. A node's name has 1 to `NODE_LIMIT` bytes.

@@ -5,22 +5,22 @@ use Rattle.std.proofs.lemmas.Bool.{and_parts, and_from, not-true}
 use Rattle.qz_types.specs.Rows.{MemberData, is_node}
 use Rattle.qz_types.specs.Entries.{EntryData, is_command, is_of_node, has_actor, is_entry}
 use Rattle.qz_types.specs.Rows.{is_interval}
-use Rattle.qz_types.specs.Steps.{is_join, is_step}
+use Rattle.qz_steps.specs.Steps.{is_join, is_step}
 use Rattle.qz_types.specs.declared.commands.Command.{Command}
 use Rattle.qz_types.specs.declared.commands.Command.TheVariants as command
 use Rattle.qz_types.specs.declared.commands.Actor.TheVariants as actor
 use Rattle.qz_types.specs.declared.replies.Reply.{Reply}
-use Rattle.qz_types.specs.declared.steps.Step.{Step}
-use Rattle.qz_types.specs.declared.steps.Step.TheVariants.{Client, Join, Node}
+use Rattle.qz_steps.specs.declared.steps.Step.{Step}
+use Rattle.qz_steps.specs.declared.steps.Step.TheVariants.{Client, Join, Node}
 use Rattle.qz_types.specs.Tables.{SchedulerTables}
 use Rattle.qz_types.specs.Outcomes.{Outcome, accepted, refused}
 use Rattle.qz_model.specs.Transaction.{transaction}
 use Rattle.qz_model.specs.History.{History, replay}
 use Rattle.qz_model.specs.Invariant.{TablesValid}
 use Rattle.qz_types.specs.Words.{member_of}
-use Rattle.qz_model.specs.Script.{ScriptState, TimedStep, held_after_join, entry_of, effect_of, submit, effect_of_node, step_effect, with_optional, tables_after, effect_in, after_step, state_after}
+use Rattle.qz_cluster.specs.Script.{ScriptState, TimedStep, held_after_join, entry_of, effect_of, submit, effect_of_node, step_effect, with_optional, tables_after, effect_in, after_step, state_after}
 use Rattle.qz_model.proofs.Histories.{valid-left}
-use Rattle.qz_model.proofs.Scripts.{replay-with_optional}
+use Rattle.qz_cluster.proofs.Scripts.{replay-with_optional}
 
 effect_of_valid : (e : EntryData) (held : List MemberData) (held_after : Reply → List MemberData) (o : Outcome) → IsTrue (is_entry e) → IfSome (effect_of e held held_after o).entry (λ x. IsTrue (is_entry x))
 effect_of_valid e held held_after (accepted T r) good = good

@@ -4,8 +4,8 @@ use Rattle.qz_types.specs.Rows.{is_interval, is_node}
 use Rattle.qz_types.specs.Entries.{is_command, is_of_node}
 use Rattle.qz_types.specs.declared.commands.Command.{Command}
 use Rattle.qz_types.specs.declared.commands.Command.TheVariants as command
-use Rattle.qz_types.specs.declared.steps.Step.{Step}
-use Rattle.qz_types.specs.declared.steps.Step.TheVariants.{Client, Join, Node}
+use Rattle.qz_steps.specs.declared.steps.Step.{Step}
+use Rattle.qz_steps.specs.declared.steps.Step.TheVariants.{Client, Join, Node}
 
 -- a join of the trigger store alone, which scripts do by a step of its own
 abbrev pub is_join : Command → Bool

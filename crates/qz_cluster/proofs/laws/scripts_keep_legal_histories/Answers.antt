@@ -1,6 +1,6 @@
-use Rattle.qz_model.proofs.Scripts.{IsLegal-state_after}
-use Rattle.qz_model.proofs.ValidScripts.{valid-state_after, entries-state_after}
-use Rattle.qz_model.proofs.laws.scripts_keep_legal_histories.Goals as goal
+use Rattle.qz_cluster.proofs.Scripts.{IsLegal-state_after}
+use Rattle.qz_cluster.proofs.ValidScripts.{valid-state_after, entries-state_after}
+use Rattle.qz_cluster.proofs.laws.scripts_keep_legal_histories.Goals as goal
 
 pub returns-clause-legal : goal.returns-clause-legal
 returns-clause-legal c s ts legal = IsLegal-state_after s ts legal

@@ -7,14 +7,14 @@ use Rattle.qz_types.specs.declared.commands.Command.{Command}
 use Rattle.qz_types.specs.declared.commands.Command.TheVariants as command
 use Rattle.qz_types.specs.declared.commands.Actor.TheVariants as actor
 use Rattle.qz_types.specs.declared.replies.Reply.{Reply}
-use Rattle.qz_types.specs.declared.steps.Step.{Step}
-use Rattle.qz_types.specs.declared.steps.Step.TheVariants.{Client, Join, Node}
+use Rattle.qz_steps.specs.declared.steps.Step.{Step}
+use Rattle.qz_steps.specs.declared.steps.Step.TheVariants.{Client, Join, Node}
 use Rattle.qz_types.specs.Tables.{SchedulerTables}
 use Rattle.qz_types.specs.Outcomes.{Outcome, accepted, refused, IsAccepted}
 use Rattle.qz_model.specs.Transaction.{transaction}
 use Rattle.qz_model.specs.History.{History, IsLegal, replay}
 use Rattle.qz_types.specs.Words.{member_of}
-use Rattle.qz_model.specs.Script.{ScriptState, TimedStep, held_after_join, entry_of, effect_of, submit, effect_of_node, step_effect, with_optional, tables_after, effect_in, after_step, state_after, step_replies}
+use Rattle.qz_cluster.specs.Script.{ScriptState, TimedStep, held_after_join, entry_of, effect_of, submit, effect_of_node, step_effect, with_optional, tables_after, effect_in, after_step, state_after, step_replies}
 use Rattle.qz_model.proofs.Histories.{replay_from-append, IsLegalFrom-entry}
 
 pub state_after-append : (s : ScriptState) (ts us : List TimedStep) → state_after s (ts ++ us) ≡ state_after (state_after s ts) us
