@@ -1,0 +1,31 @@
+-- What the entries of the state store are to it.
+use Rattle.std.specs.Prelude.{⊤, ℕ, List, length, Ok, Err}
+use Rattle.std.specs.declared.result.Result.{Result}
+use Rattle.qz_types.specs.Entries.{StateEntryData}
+use Rattle.qz_types.specs.declared.replies.Refusal.{Refusal}
+use Rattle.qz_codec.specs.Layout.{recorded}
+use Rattle.qz_codec.specs.States.{state_entry}
+use Rattle.qz_stores.specs.Stores.{EntryKind, StoreState}
+use Rattle.qz_checkin.specs.Rows.{StateOutcome, accepted, refused, state_transaction}
+use Rattle.qz_checkin.specs.History.{StateHistory, with_state_entry, replay_states}
+
+-- that a transaction is accepted, or why it is refused
+abbrev pub answer_of : StateOutcome → Result ⊤ Refusal
+answer_of (accepted T) = Ok tt
+answer_of (refused refusal) = Err refusal
+
+-- the record of an entry
+abbrev pub state_record_of : StateEntryData → List ℕ
+state_record_of e = recorded state_entry e
+
+-- An entry is answered as the transaction at the rows that the history leaves.
+abbrev pub of_states : EntryKind StateHistory StateEntryData ⊤
+of_states = record {
+  answer = λ h e. answer_of (state_transaction (replay_states h) e);
+  with_entry = with_state_entry;
+  size = λ e. length (state_record_of e);
+}
+
+-- a state store at one moment
+abbrev pub StatesState : Type 0
+StatesState = StoreState StateHistory StateEntryData

@@ -1,0 +1,2 @@
+//! The state store: when each node last checked in, and which nodes are taken for failed.
+#![tactic(auto)]
