@@ -1,11 +1,10 @@
 -- When a node is taken for failed. It may miss one check-in, and 7.5 seconds more; where the node that looks has itself
 -- been slow to check in, it grants the other as much.
-use Rattle.std.specs.Prelude.{ℕ, ℤ, pos, ◌+ℤ◌, ◌-ℤ◌, List, Bool, not, int_lt, Option, Some, None}
+use Rattle.std.specs.Prelude.{ℕ, ℤ, pos, ◌+ℤ◌, ◌-ℤ◌, List, Bool, int_lt, Option, Some, None, if◌then◌else◌}
 use Rattle.std.specs.Int.{int_max}
 use Rattle.qz_types.specs.Rows.{StateData}
 use Rattle.qz_types.specs.declared.replies.Refusal.{Refusal}
 use Rattle.qz_types.specs.declared.replies.Refusal.TheVariants.{UnknownNode, StillFresh}
-use Rattle.qz_model.specs.Tests.{refuse_if}
 use Rattle.qz_checkin.specs.Rows.{StateTables, state_of}
 
 -- when the node that looks last checked in; 0 for one that has no row
@@ -23,7 +22,7 @@ is_late row own_last now = int_lt (fresh_until row own_last now) now
 -- why the node of this row isn't taken for failed
 unfoldable pub row_refusal : Option StateData → ℤ → ℤ → Option Refusal
 row_refusal None own_last now = Some UnknownNode
-row_refusal (Some row) own_last now = refuse_if (not (is_late row own_last now)) (StillFresh (fresh_until row own_last now)) None
+row_refusal (Some row) own_last now = if is_late row own_last now then None else Some (StillFresh (fresh_until row own_last now))
 
 -- the same for a node by its name, as another one sees it at this moment
 abbrev pub fresh_refusal : StateTables → ℤ → List ℕ → List ℕ → Option Refusal

@@ -1,6 +1,6 @@
 -- The rows of the state store, one for each node that checks in, and what one transaction makes of them. Times are in ms
 -- since 1970-01-01T00:00:00Z.
-use Rattle.std.specs.Prelude.{⊤, ℕ, ℤ, pos, List, [], length, filter, not, nat_le, Option, Some, None}
+use Rattle.std.specs.Prelude.{⊤, ℕ, ℤ, pos, List, [], length, filter, not, nat_le, Option, Some, None, if◌then◌else◌}
 use Rattle.std.specs.Int.{int_max, int_min}
 use Rattle.std.specs.Ordering.{int_eq}
 use Rattle.qz_civil.specs.declared.limits.TheConstants.{LAST}
@@ -13,7 +13,6 @@ use Rattle.qz_types.specs.declared.replies.Refusal.{Refusal}
 use Rattle.qz_types.specs.declared.replies.Refusal.TheVariants.{UnknownNode, RowsFull, Renewed}
 use Rattle.qz_types.specs.declared.states.StateCommand.{StateCommand}
 use Rattle.qz_types.specs.declared.states.StateCommand.TheVariants.{CheckIn, Forget}
-use Rattle.qz_model.specs.Tests.{refuse_if}
 
 -- the rows, in the order of the nodes' names, and the recorded moment of the last transaction
 pub record StateTables : Type 0 where
@@ -55,7 +54,7 @@ unless (Some refusal) outcome = refused refusal
 -- a node that has no row needs one more
 unfoldable pub check_in_refusal : StateTables → Option StateData → Option Refusal
 check_in_refusal T (Some row) = None
-check_in_refusal T None = refuse_if (nat_le STATE_LIMIT (length T.rows)) RowsFull None
+check_in_refusal T None = if nat_le STATE_LIMIT (length T.rows) then Some RowsFull else None
 
 -- the node lives, and will check in again after this interval
 abbrev pub check_in : StateTables → ℤ → List ℕ → ℤ → StateOutcome
@@ -65,7 +64,7 @@ check_in T m node interval = unless (check_in_refusal T (state_of node T.rows))
 -- the row is there, and the node hasn't checked in since
 unfoldable pub forget_refusal : Option StateData → ℤ → Option Refusal
 forget_refusal None last = Some UnknownNode
-forget_refusal (Some row) last = refuse_if (not (int_eq row.last last)) (Renewed row.last) None
+forget_refusal (Some row) last = if int_eq row.last last then None else Some (Renewed row.last)
 
 -- the row of a node that is gone is removed
 abbrev pub forget : StateTables → ℤ → List ℕ → ℤ → StateOutcome
