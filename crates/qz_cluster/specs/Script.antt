@@ -1,91 +1,162 @@
--- A script's steps, one after the other, along one history.
-use Rattle.std.specs.Prelude.{ℕ, ℤ, List, [], ◌∷◌, Option, Some, None}
+-- A script's steps, one after the other, along one history of each store: what a scheduler replies that knows no disk.
+use Rattle.std.specs.Prelude.{ℕ, ℤ, List, [], ◌∷◌, Option, Some, None, is_some, if◌then◌else◌}
 use Rattle.qz_types.specs.Rows.{MemberData}
-use Rattle.qz_types.specs.Entries.{EntryData}
+use Rattle.qz_types.specs.Entries.{EntryData, StateEntryData}
 use Rattle.qz_types.specs.declared.commands.Command.{Command}
 use Rattle.qz_types.specs.declared.commands.Command.TheVariants as command
 use Rattle.qz_types.specs.declared.commands.Actor.{Actor}
 use Rattle.qz_types.specs.declared.commands.Actor.TheVariants as actor
 use Rattle.qz_types.specs.declared.replies.Reply.{Reply}
 use Rattle.qz_types.specs.declared.replies.Reply.TheVariants as reply
-use Rattle.qz_steps.specs.declared.steps.Step.{Step}
-use Rattle.qz_steps.specs.declared.steps.Step.TheVariants.{Client, Join, Node}
-use Rattle.qz_steps.specs.declared.steps.StepReply.{StepReply}
-use Rattle.qz_steps.specs.declared.steps.StepReply.TheVariants as step_reply
+use Rattle.qz_types.specs.declared.replies.Refusal.{Refusal}
+use Rattle.qz_types.specs.declared.replies.Refusal.TheVariants.{StillMember}
+use Rattle.qz_types.specs.declared.states.StateCommand.{StateCommand}
+use Rattle.qz_types.specs.declared.states.StateCommand.TheVariants as state_command
 use Rattle.qz_types.specs.Tables.{SchedulerTables}
 use Rattle.qz_types.specs.Outcomes.{Outcome, accepted, refused}
-use Rattle.qz_model.specs.Transaction.{transaction}
-use Rattle.qz_model.specs.History.{History, new_history, with_entry, replay, tables_left}
 use Rattle.qz_types.specs.Words.{member_of, put_member, without_member}
+use Rattle.qz_steps.specs.declared.steps.Step.{Step}
+use Rattle.qz_steps.specs.declared.steps.Step.TheVariants.{Client, Join, CheckIn, Node, Forget, Stop, Restart}
+use Rattle.qz_steps.specs.declared.steps.StepReply.{StepReply}
+use Rattle.qz_steps.specs.declared.steps.StepReply.TheVariants as step_reply
+use Rattle.qz_model.specs.Transaction.{transaction}
+use Rattle.qz_model.specs.History.{History, new_history, with_entry, replay}
+use Rattle.qz_checkin.specs.Rows.{StateTables, StateOutcome, state_of, state_moment, state_transaction}
+use Rattle.qz_checkin.specs.Rows as rows
+use Rattle.qz_checkin.specs.Lateness.{last_of, fresh_refusal}
+use Rattle.qz_checkin.specs.History.{StateHistory, new_state_history, with_state_entry, replay_states}
 
--- the history so far, and under which epoch each node that joined in this script works
+-- both histories so far, and under which epoch each node that joined in this script works
 pub record ScriptState : Type 0 where
   pub history : History
+  pub states : StateHistory
   pub held : List MemberData
 
--- a script on a new store
+-- a script on new stores
 abbrev pub new_script : ScriptState
-new_script = record { history = new_history; held = [] }
+new_script = record { history = new_history; states = new_state_history; held = [] }
 
 -- a step with the reading of the clock that it is done at
 pub record TimedStep : Type 0 where
   pub step : Step
   pub at : ℤ
 
--- What a step comes to: its reply, the entry that it appends to the history, if it appends one, and the epochs that
+-- What a step comes to: its reply, the entry that it appends to each history, if it appends one, and the epochs that
 -- are held then.
 pub record StepEffect : Type 0 where
   pub reply : StepReply
   pub entry : Option EntryData
+  pub state_entry : Option StateEntryData
   pub held : List MemberData
+
+-- Which epochs are held.
 
 -- the node holds this epoch, and not the one that it may have held before
 unfoldable pub hold : List ℕ → ℕ → List MemberData → List MemberData
 hold node epoch held = put_member (record { node = node; epoch = epoch }) (without_member node held)
 
--- which epochs are held after a join was answered so
+-- after a join was answered so
 abbrev pub held_after_join : List ℕ → List MemberData → Reply → List MemberData
 held_after_join node held (reply.Joined epoch executions triggers) = hold node epoch held
 held_after_join node held r = held
+
+-- after a node's command was accepted: a node that left holds none
+abbrev pub held_after_command : List ℕ → Command → List MemberData → List MemberData
+held_after_command node command.Leave held = without_member node held
+held_after_command node c held = held
+
+-- What is submitted.
 
 -- the entry that a script makes of a command
 abbrev pub entry_of : Actor → Command → ℤ → EntryData
 entry_of who c at = record { at = at; actor = who; seat = 0; command = c }
 
+abbrev pub state_entry_of : StateCommand → ℤ → StateEntryData
+state_entry_of c at = record { at = at; seat = 0; command = c }
+
+abbrev pub check_in_entry : List ℕ → ℤ → ℤ → StateEntryData
+check_in_entry node interval at = state_entry_of (state_command.CheckIn node interval) at
+
+-- a node is forgotten with the last check-in that it has now
+abbrev pub forget_entry : StateTables → List ℕ → ℤ → StateEntryData
+forget_entry S failed at = state_entry_of (state_command.Forget failed (last_of (state_of failed S.rows))) at
+
+-- a member isn't forgotten
+unfoldable pub member_refusal : SchedulerTables → List ℕ → Option Refusal
+member_refusal T failed = if is_some (member_of failed T.members) then Some StillMember else None
+
+-- Effects.
+
+-- a step that has no transaction
+abbrev pub done : List MemberData → StepEffect
+done held = record { reply = step_reply.Ok reply.Done; entry = None; state_entry = None; held = held }
+
+-- it is refused, and nothing is done
+abbrev pub refuse : Refusal → List MemberData → StepEffect
+refuse refusal held = record { reply = step_reply.Refused refusal; entry = None; state_entry = None; held = held }
+
+abbrev pub unless : Option Refusal → List MemberData → StepEffect → StepEffect
+unless None held effect = effect
+unless (Some refusal) held effect = refuse refusal held
+
 -- an accepted entry is appended; a refused one changes nothing
 abbrev pub effect_of : EntryData → List MemberData → (Reply → List MemberData) → Outcome → StepEffect
-effect_of e held held_after (accepted T r) = record { reply = step_reply.Ok r; entry = Some e; held = held_after r }
-effect_of e held held_after (refused refusal) = record { reply = step_reply.Refused refusal; entry = None; held = held }
+effect_of e held held_after (accepted T r) = record { reply = step_reply.Ok r; entry = Some e; state_entry = None; held = held_after r }
+effect_of e held held_after (refused refusal) = refuse refusal held
 
 unfoldable pub submit : SchedulerTables → List MemberData → EntryData → (Reply → List MemberData) → StepEffect
 submit T held e held_after = effect_of e held held_after (transaction T e)
 
--- a node that holds no epoch is stopped, and nothing is done
-abbrev pub effect_of_node : SchedulerTables → List MemberData → Option MemberData → Command → ℤ → StepEffect
-effect_of_node T held None c at = record { reply = step_reply.Stopped; entry = None; held = held }
-effect_of_node T held (Some me) c at = submit T held (entry_of (actor.Node me) c at) (λ _. held)
+-- the same of the state store; where it is accepted, the step goes on
+abbrev pub effect_of_states : StateEntryData → List MemberData → StateOutcome → StepEffect → StepEffect
+effect_of_states e held (rows.accepted S) effect = record effect { state_entry = Some e }
+effect_of_states e held (rows.refused refusal) effect = refuse refusal held
 
--- a step at these tables and held epochs, with its reading of the clock
-abbrev pub step_effect : SchedulerTables → List MemberData → Step → ℤ → StepEffect
-step_effect T held (Client c) at = submit T held (entry_of actor.Client c at) (λ _. held)
-step_effect T held (Join node interval) at = submit T held (entry_of actor.Client (command.Join node) at) (held_after_join node held)
-step_effect T held (Node node c) at = effect_of_node T held (member_of node held) c at
+unfoldable pub submit_state : StateTables → List MemberData → StateEntryData → StepEffect → StepEffect
+submit_state S held e effect = effect_of_states e held (state_transaction S e) effect
+
+-- a node that holds no epoch is stopped, and nothing is done
+abbrev pub as_holder : List MemberData → Option MemberData → (MemberData → StepEffect) → StepEffect
+as_holder held None effect = record { reply = step_reply.Stopped; entry = None; state_entry = None; held = held }
+as_holder held (Some me) effect = effect me
+
+-- what a node's command comes to; the node that is to be recovered has to be late
+abbrev pub effect_of_command : SchedulerTables → StateTables → List MemberData → List ℕ → MemberData → Command → ℤ → StepEffect
+effect_of_command T S held node me (command.Recover failed) at =
+    unless (fresh_refusal S (state_moment S at) node failed) held (submit T held (entry_of (actor.Node me) (command.Recover failed) at) (λ _. held))
+effect_of_command T S held node me c at = submit T held (entry_of (actor.Node me) c at) (λ _. held_after_command node c held)
+
+-- a step at these tables, rows and held epochs, with its reading of the clock
+abbrev pub step_effect : SchedulerTables → StateTables → List MemberData → Step → ℤ → StepEffect
+step_effect T S held (Client c) at = submit T held (entry_of actor.Client c at) (λ _. held)
+step_effect T S held (Join node interval) at =
+    submit_state S held (check_in_entry node interval at) (submit T held (entry_of actor.Client (command.Join node) at) (held_after_join node held))
+step_effect T S held (CheckIn node interval) at =
+    as_holder held (member_of node held) (λ _. submit_state S held (check_in_entry node interval at) (done held))
+step_effect T S held (Node node c) at = as_holder held (member_of node held) (λ me. effect_of_command T S held node me c at)
+step_effect T S held (Forget node failed) at =
+    as_holder held (member_of node held) (λ _. unless (member_refusal T failed) held (submit_state S held (forget_entry S failed at) (done held)))
+step_effect T S held (Stop node) at = as_holder held (member_of node held) (λ _. done (without_member node held))
+step_effect T S held Restart at = record { reply = step_reply.Restarted; entry = None; state_entry = None; held = [] }
 
 abbrev pub with_optional : Option EntryData → History → History
 with_optional None h = h
 with_optional (Some e) h = with_entry e h
 
--- the tables after the entry, if there is one
-abbrev pub tables_after : SchedulerTables → Option EntryData → SchedulerTables
-tables_after T None = T
-tables_after T (Some e) = tables_left T (transaction T e)
+abbrev pub with_optional_state : Option StateEntryData → StateHistory → StateHistory
+with_optional_state None h = h
+with_optional_state (Some e) h = with_state_entry e h
 
 abbrev pub effect_in : ScriptState → TimedStep → StepEffect
-effect_in s t = step_effect (replay s.history) s.held t.step t.at
+effect_in s t = step_effect (replay s.history) (replay_states s.states) s.held t.step t.at
 
 -- the state that a step leaves
 abbrev pub after_step : ScriptState → TimedStep → ScriptState
-after_step s t = record { history = with_optional (effect_in s t).entry s.history; held = (effect_in s t).held }
+after_step s t = record {
+  history = with_optional (effect_in s t).entry s.history;
+  states = with_optional_state (effect_in s t).state_entry s.states;
+  held = (effect_in s t).held;
+}
 
 -- the state after these steps
 abbrev pub state_after : ScriptState → List TimedStep → ScriptState

@@ -7,6 +7,8 @@ use Rattle.qz_job_json.specs.declared.words.ClientWord.{ClientWord}
 use Rattle.qz_job_json.specs.declared.words.ClientWord.TheVariants.{AddJob, AddTrigger, AddCalendar, AddZone, OfKey, OfGroup, OfName, Threshold}
 use Rattle.qz_job_json.specs.declared.words.NodeWord.{NodeWord}
 use Rattle.qz_job_json.specs.declared.words.NodeWord.TheVariants.{Leave, Acquire, Release, Fire, Complete, Misfires, Recover}
+use Rattle.qz_job_json.specs.declared.words.StepWord.{StepWord}
+use Rattle.qz_job_json.specs.declared.words.StepWord.TheVariants.{Join, CheckIn, Forget, Stop, Restart}
 use Rattle.qz_job_json.specs.declared.words.Word.{Word}
 use Rattle.qz_job_json.specs.declared.words.Word.TheVariants as word
 use Rattle.qz_job_json.specs.declared.forms.KindWord.{KindWord}
@@ -41,10 +43,18 @@ node_own Complete = codes "node" ∷ codes "entry" ∷ codes "code" ∷ []
 node_own Misfires = codes "node" ∷ []
 node_own Recover = codes "node" ∷ codes "failed" ∷ []
 
+-- and of the others
+abbrev pub step_own : StepWord → List (List ℕ)
+step_own Join = codes "node" ∷ codes "interval" ∷ []
+step_own CheckIn = codes "node" ∷ codes "interval" ∷ []
+step_own Forget = codes "node" ∷ codes "failed" ∷ []
+step_own Stop = codes "node" ∷ []
+step_own Restart = []
+
 abbrev pub line_own : Word → List (List ℕ)
 line_own (word.Client what) = client_own what
-line_own word.Join = codes "node" ∷ codes "interval" ∷ []
 line_own (word.Node what) = node_own what
+line_own (word.Of what) = step_own what
 
 -- the members of a job
 abbrev pub job_members : List (List ℕ)

@@ -1,5 +1,5 @@
 -- What a line of a script says, and which fault it has. Of several faults the first in the order TooLong, NotJson,
--- NotHere, Shape, Cron is meant.
+-- Shape, Cron is meant.
 use Rattle.std.specs.Prelude.{◌≡◌, ℕ, ℤ, pos, List, length, Bool, false, ◌==◌, ◌||◌, nat_lt, if◌then◌else◌, Option, Some, None, Result, Ok, Err, codes}
 use Rattle.std.specs.List.{list_all}
 use Rattle.std.specs.Str.{is_utf8}
@@ -9,38 +9,48 @@ use Rattle.qz_types.specs.declared.limits.TheConstants.{INTERVAL_LIMIT}
 use Rattle.qz_steps.specs.declared.steps.Step.{Step}
 use Rattle.qz_steps.specs.declared.steps.Step.TheVariants as step
 use Rattle.qz_io.specs.declared.limits.TheConstants.{LINE_LIMIT}
+use Rattle.qz_job_json.specs.declared.words.StepWord.{StepWord}
+use Rattle.qz_job_json.specs.declared.words.StepWord.TheVariants.{Join, CheckIn, Forget, Stop, Restart}
 use Rattle.qz_job_json.specs.declared.words.Word.{Word}
-use Rattle.qz_job_json.specs.declared.words.Word.TheVariants.{Client, Join, Node}
+use Rattle.qz_job_json.specs.declared.words.Word.TheVariants.{Client, Node, Of}
 use Rattle.qz_job_json.specs.declared.forms.Form.TheVariants.{Line}
 use Rattle.qz_job_json.specs.declared.lines.Given.{Given}
 use Rattle.qz_job_json.specs.declared.faults.LineError.{LineError}
 use Rattle.qz_job_json.specs.declared.faults.LineError.TheVariants as error
 use Rattle.qz_job_json.specs.declared.faults.LineFault.{LineFault}
-use Rattle.qz_job_json.specs.declared.faults.LineFault.TheVariants.{TooLong, NotJson, NotHere}
+use Rattle.qz_job_json.specs.declared.faults.LineFault.TheVariants.{TooLong, NotJson}
 use Rattle.qz_job_json.specs.Commands.{client_command, node_command}
 use Rattle.qz_job_json.specs.Faults.{◌>>=◌, or_shape}
 use Rattle.qz_job_json.specs.Forms.{members_of}
-use Rattle.qz_job_json.specs.Members.{is_among, has_only, text_at, node_at, integer_or, optional_integer_at}
-use Rattle.qz_job_json.specs.Words.{unbuilt_words, word_of}
+use Rattle.qz_job_json.specs.Members.{has_only, text_at, node_at, integer_or, optional_integer_at}
+use Rattle.qz_job_json.specs.Words.{word_of}
 
--- how often a node that joins will check in, in ms
+-- how often a node will check in, in ms
 abbrev pub interval_at : Data → Option ℤ
 interval_at d = integer_or (pos 1) INTERVAL_LIMIT (pos 15000) (codes "interval") d
 
-unfoldable pub join_step : Data → Result Step LineFault
-join_step d =
+-- a node, and a second member beside it
+abbrev pub with_node : {A : Type 0} → Option A → (List ℕ → A → Step) → Data → Result Step LineFault
+with_node other make d =
     or_shape (node_at (codes "node") d) >>= λ node.
-    or_shape (interval_at d) >>= λ interval.
-    Ok (step.Join node interval)
+    or_shape other >>= λ x.
+    Ok (make node x)
+
+unfoldable pub step_by_word : StepWord → Data → Result Step LineFault
+step_by_word Join d = with_node (interval_at d) step.Join d
+step_by_word CheckIn d = with_node (interval_at d) step.CheckIn d
+step_by_word Forget d = with_node (node_at (codes "failed") d) step.Forget d
+step_by_word Stop d = or_shape (node_at (codes "node") d) >>= λ node. Ok (step.Stop node)
+step_by_word Restart d = Ok step.Restart
 
 -- the step of a line by its own members
 unfoldable pub step_of : Word → Data → Result Step LineFault
 step_of (Client what) d = client_command what d >>= λ command. Ok (step.Client command)
-step_of Join d = join_step d
 step_of (Node what) d =
     or_shape (node_at (codes "node") d) >>= λ node.
     node_command what d >>= λ command.
     Ok (step.Node node command)
+step_of (Of what) d = step_by_word what d
 
 -- the line's own reading, where each of its members is one that such a line has
 abbrev pub reading_of : Word → Data → Option (Option ℤ)
@@ -56,13 +66,9 @@ given_of word d =
     step_of word d >>= λ step.
     Ok (make_given at step)
 
--- the line that a text names
-unfoldable pub line_word : List ℕ → Result Word LineFault
-line_word text = if is_among unbuilt_words text then Err NotHere else or_shape (word_of text)
-
 -- the line that a JSON value is, by the text of its member `do`
 abbrev pub word_in : Data → Result Word LineFault
-word_in d = or_shape (text_at (codes "do") d) >>= λ text. line_word text
+word_in d = or_shape (text_at (codes "do") d) >>= λ text. or_shape (word_of text)
 
 -- what a JSON value says
 abbrev pub meaning_of_value : Data → Result Given LineFault

@@ -1,5 +1,5 @@
 -- The words of lines: what the member `do` may be.
-use Rattle.std.specs.Prelude.{ℕ, List, [], ◌∷◌, if◌then◌else◌, Option, Some, None, option_map, codes}
+use Rattle.std.specs.Prelude.{ℕ, List, if◌then◌else◌, Option, Some, None, option_map, codes}
 use Rattle.qz_types.specs.declared.commands.Code.{Code}
 use Rattle.qz_types.specs.declared.commands.Code.TheVariants as code
 use Rattle.qz_job_json.specs.Members.{is_text}
@@ -10,8 +10,10 @@ use Rattle.qz_job_json.specs.declared.words.ClientWord.{ClientWord}
 use Rattle.qz_job_json.specs.declared.words.ClientWord.TheVariants.{AddJob, AddTrigger, AddCalendar, AddZone, OfKey, OfGroup, OfName, Threshold}
 use Rattle.qz_job_json.specs.declared.words.NodeWord.{NodeWord}
 use Rattle.qz_job_json.specs.declared.words.NodeWord.TheVariants.{Leave, Acquire, Release, Fire, Complete, Misfires, Recover}
+use Rattle.qz_job_json.specs.declared.words.StepWord.{StepWord}
+use Rattle.qz_job_json.specs.declared.words.StepWord.TheVariants.{Join, CheckIn, Forget, Stop, Restart}
 use Rattle.qz_job_json.specs.declared.words.Word.{Word}
-use Rattle.qz_job_json.specs.declared.words.Word.TheVariants.{Client, Join, Node}
+use Rattle.qz_job_json.specs.declared.words.Word.TheVariants.{Client, Node, Of}
 
 -- what a client asks for
 unfoldable pub client_word_of : List ℕ → Option ClientWord
@@ -44,17 +46,25 @@ node_word_of text =
     else if is_text text (codes "recover") then Some Recover
     else None
 
-abbrev pub word_by : Option ClientWord → Option NodeWord → Option Word
-word_by (Some word) other = Some (Client word)
-word_by None other = option_map Node other
+-- what is no single transaction of the trigger store
+unfoldable pub step_word_of : List ℕ → Option StepWord
+step_word_of text =
+    if is_text text (codes "join") then Some Join
+    else if is_text text (codes "check_in") then Some CheckIn
+    else if is_text text (codes "forget") then Some Forget
+    else if is_text text (codes "stop") then Some Stop
+    else if is_text text (codes "restart") then Some Restart
+    else None
 
--- the line that a text names, where it is built
+-- the first that there is
+abbrev pub word_by : Option ClientWord → Option NodeWord → Option StepWord → Option Word
+word_by (Some word) node other = Some (Client word)
+word_by None (Some word) other = Some (Node word)
+word_by None None other = option_map Of other
+
+-- the line that a text names
 abbrev pub word_of : List ℕ → Option Word
-word_of text = if is_text text (codes "join") then Some Join else word_by (client_word_of text) (node_word_of text)
-
--- the words of the format whose lines aren't obeyed yet, whatever members they have
-abbrev pub unbuilt_words : List (List ℕ)
-unbuilt_words = codes "check_in" ∷ codes "leave" ∷ codes "recover" ∷ codes "forget" ∷ codes "stop" ∷ codes "restart" ∷ []
+word_of text = word_by (client_word_of text) (node_word_of text) (step_word_of text)
 
 -- the code that a text names
 unfoldable pub code_of : List ℕ → Option Code

@@ -5,12 +5,10 @@ ghost use Rattle.qz_types.specs.Entries.{is_command};
 ghost use Rattle.qz_types.specs.Rows.{is_trigger_spec};
 ghost use Rattle.qz_steps.specs.Steps.{is_step};
 ghost use Rattle.qz_job_json.specs.Asked as spec;
-ghost use Rattle.qz_job_json.specs.Faults.{ReadsAs};
-ghost use Rattle.qz_job_json.specs.Lines.{ReadsLineAs};
+ghost use Rattle.qz_job_json.specs.Lines.{ReadsLineAs, meaning_of_value};
 
 use crate::faults::{LineError, LineFault};
-use crate::lines::{Given, given_of, json_of, word_in};
-use crate::words::{ClientWord, Word};
+use crate::lines::{Given, json_of, read_value};
 use qz_steps::Step;
 use qz_types::{CalendarRow, Command, TriggerSpec, ZoneRow};
 use serde_json::Value;
@@ -40,40 +38,17 @@ pub fn read_asked(alloc: Global, line: &[u8]) -> Result<Option<Asked>, LineError
     ensures valid { IfOk result (λ asked. IfSome asked (λ a. IsTrue (spec.is_asked a))) }
 {
     match json_of(alloc, line)? {
-        Some(value) => read_value(alloc, &value).map(Some),
+        Some(value) => asked_by_value(alloc, &value).map(Some),
         None => Ok(None),
     }
 }
 
-/// What a line asks for whose JSON value this is.
-fn read_value(alloc: Global, value: &Value) -> Result<Asked, LineError>
-    ensures meaning { ReadsAs result (spec.asked_by_value (view value.now)) }
+/// What a line asks for whose JSON value this is. It is read as a line of a script first.
+fn asked_by_value(alloc: Global, value: &Value) -> Result<Asked, LineError>
+    ensures meaning { spec.ReadsAskedAs result (meaning_of_value (view value.now)) }
     ensures valid { IfOk result (λ asked. IsTrue (spec.is_asked asked)) }
 {
-    let word = word_in(value)?;
-    asked_by_word(alloc, word, value)
-}
-
-/// Whether the line is one of `times` too.
-fn is_of_times(word: Word) -> bool
-    ensures { result ≡ spec.is_of_times word }
-{
-    matches!(
-        word,
-        Word::Client(ClientWord::AddZone | ClientWord::AddCalendar | ClientWord::AddTrigger)
-    )
-}
-
-/// What a line of this word asks for.
-#[tactic(auto, using(crate::proofs::AskedLaws::reads_asked), unfolding(crate::specs::Asked::asked_by_word))]
-fn asked_by_word(alloc: Global, word: Word, value: &Value) -> Result<Asked, LineError>
-    ensures meaning { ReadsAs result (spec.asked_by_word word (view value.now)) }
-    ensures valid { IfOk result (λ asked. IsTrue (spec.is_asked asked)) }
-{
-    if !is_of_times(word) {
-        return Err(LineError::Bad(LineFault::NotHere));
-    }
-    let Given { at: _, step } = given_of(alloc, word, value)?;
+    let Given { at: _, step } = read_value(alloc, value)?;
     Ok(asked_of(step)?)
 }
 
@@ -85,7 +60,7 @@ fn asked_of(step: Step) -> Result<Asked, LineFault>
 {
     match step {
         Step::Client(command) => asked_of_command(command),
-        Step::Join { .. } | Step::Node { .. } => Err(LineFault::NotHere),
+        _ => Err(LineFault::NotHere),
     }
 }
 

@@ -1,9 +1,9 @@
 //! The table of the format: which members each object has.
 ghost use Rattle.std.specs.Prelude.{◌≡◌};
-ghost use Rattle.qz_job_json.specs.Forms.{members_of, client_own, node_own, line_shared, line_own, job_members, shared, own, kind_word_of, calendar_shared, calendar_own, calendar_word_of};
+ghost use Rattle.qz_job_json.specs.Forms.{members_of, client_own, node_own, step_own, line_shared, line_own, job_members, shared, own, kind_word_of, calendar_shared, calendar_own, calendar_word_of};
 ghost use Rattle.qz_job_json.specs.Members.{is_among};
 
-use crate::words::{ClientWord, NodeWord, Word};
+use crate::words::{ClientWord, NodeWord, StepWord, Word};
 
 /// The kinds of triggers, by the word of the member `kind`.
 #[derive(Clone, Copy)]
@@ -140,13 +140,25 @@ fn node_has(word: NodeWord, name: &str) -> bool
     }
 }
 
+/// The same of the lines that are neither a client's nor a command of a node.
+fn step_has(word: StepWord, name: &str) -> bool
+    ensures { result ≡ is_among (step_own word) name.now }
+{
+    match word {
+        StepWord::Join | StepWord::CheckIn => matches!(name, "node" | "interval"),
+        StepWord::Forget => matches!(name, "node" | "failed"),
+        StepWord::Stop => name == "node",
+        StepWord::Restart => false,
+    }
+}
+
 fn line_has(word: Word, name: &str) -> bool
     ensures { result ≡ is_among (line_own word) name.now }
 {
     match word {
         Word::Client(word) => client_has(word, name),
-        Word::Join => matches!(name, "node" | "interval"),
         Word::Node(word) => node_has(word, name),
+        Word::Of(word) => step_has(word, name),
     }
 }
 

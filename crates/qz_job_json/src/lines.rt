@@ -4,13 +4,13 @@ ghost use Rattle.std.specs.List.{list_all};
 ghost use Rattle.serde_json.specs.View.{view};
 ghost use Rattle.qz_steps.specs.Steps.{is_step};
 ghost use Rattle.qz_job_json.specs.Faults.{ReadsAs};
-ghost use Rattle.qz_job_json.specs.Lines.{is_blank, value_of, json_of, NeedsJson, HasNoJson, ReadsLineAs, line_word, word_in, reading_of, given_of, meaning_of, meaning_of_value};
+ghost use Rattle.qz_job_json.specs.Lines.{is_blank, value_of, json_of, NeedsJson, HasNoJson, ReadsLineAs, word_in, reading_of, given_of, meaning_of, meaning_of_value};
 
 use crate::faults::{LineError, LineFault};
 use crate::forms::Form;
 use crate::members::{has_only, optional_integer_at, text_at};
 use crate::steps::step_of;
-use crate::words::{Word, is_unbuilt_word};
+use crate::words::Word;
 use qz_io::LINE_LIMIT;
 use qz_steps::Step;
 use serde_json::Value;
@@ -74,27 +74,16 @@ pub(crate) fn json_of(alloc: Global, line: &[u8]) -> Result<Option<Value>, LineE
     value_of(alloc, line).map(Some)
 }
 
-/// The line that a text names.
-#[tactic(auto, unfolding(crate::specs::Lines::line_word))]
-fn line_word(text: &str) -> Result<Word, LineFault>
-    ensures { result ≡ line_word text.now }
-{
-    if is_unbuilt_word(text) {
-        return Err(LineFault::NotHere);
-    }
-    Word::of(text).ok_or(LineFault::Shape)
-}
-
 /// The line that the JSON value is, by the text of its member `do`.
-pub(crate) fn word_in(value: &Value) -> Result<Word, LineFault>
+fn word_in(value: &Value) -> Result<Word, LineFault>
     ensures { result ≡ word_in (view value.now) }
 {
     let text = text_at(value, "do").ok_or(LineFault::Shape)?;
-    line_word(text)
+    Word::of(text).ok_or(LineFault::Shape)
 }
 
 /// What a line says whose JSON value this is.
-fn read_value(alloc: Global, value: &Value) -> Result<Given, LineError>
+pub(crate) fn read_value(alloc: Global, value: &Value) -> Result<Given, LineError>
     ensures meaning { ReadsAs result (meaning_of_value (view value.now)) }
     ensures valid { IfOk result (λ given. IsTrue (is_step given.step)) }
 {
@@ -115,7 +104,7 @@ fn reading_of(value: &Value, word: Word) -> Option<Option<i64>>
 
 /// The step with its reading.
 #[tactic(auto, unfolding(crate::specs::Lines::given_of))]
-pub(crate) fn given_of(alloc: Global, word: Word, value: &Value) -> Result<Given, LineError>
+fn given_of(alloc: Global, word: Word, value: &Value) -> Result<Given, LineError>
     ensures value { ReadsAs result (given_of word (view value.now)) }
     ensures valid { IfOk result (λ given. IsTrue (is_step given.step)) }
 {

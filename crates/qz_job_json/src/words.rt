@@ -1,7 +1,6 @@
 //! The words of lines.
 ghost use Rattle.std.specs.Prelude.{◌≡◌};
-ghost use Rattle.qz_job_json.specs.Members.{is_among};
-ghost use Rattle.qz_job_json.specs.Words.{client_word_of, node_word_of, word_of, unbuilt_words, code_of};
+ghost use Rattle.qz_job_json.specs.Words.{step_word_of, client_word_of, node_word_of, word_of, code_of};
 
 use qz_types::Code;
 
@@ -97,37 +96,53 @@ impl NodeWord {
     }
 }
 
-/// The lines that are built, by the word of their member `do`.
+/// What is no single transaction of the trigger store.
 #[derive(Clone, Copy)]
-pub(crate) enum Word {
-    Client(ClientWord),
+pub(crate) enum StepWord {
     Join,
-    Node(NodeWord),
+    CheckIn,
+    Forget,
+    Stop,
+    Restart,
 }
 
-impl Word {
-    /// The line that a text names, where it is built.
-    pub(crate) fn of(text: &str) -> Option<Word>
-        ensures { result ≡ word_of text.now }
+impl StepWord {
+    #[tactic(auto, unfolding(crate::specs::Words::step_word_of))]
+    fn of(text: &str) -> Option<StepWord>
+        ensures { result ≡ step_word_of text.now }
     {
-        if text == "join" {
-            return Some(Word::Join);
-        }
-        match ClientWord::of(text) {
-            Some(word) => Some(Word::Client(word)),
-            None => NodeWord::of(text).map(Word::Node),
+        match text {
+            "join" => Some(StepWord::Join),
+            "check_in" => Some(StepWord::CheckIn),
+            "forget" => Some(StepWord::Forget),
+            "stop" => Some(StepWord::Stop),
+            "restart" => Some(StepWord::Restart),
+            _ => None,
         }
     }
 }
 
-/// Whether a word of the format names a line that isn't built yet.
-pub(crate) fn is_unbuilt_word(text: &str) -> bool
-    ensures { result ≡ is_among unbuilt_words text.now }
-{
-    matches!(
-        text,
-        "check_in" | "leave" | "recover" | "forget" | "stop" | "restart"
-    )
+/// The lines, by the word of their member `do`.
+#[derive(Clone, Copy)]
+pub(crate) enum Word {
+    Client(ClientWord),
+    Node(NodeWord),
+    Of(StepWord),
+}
+
+impl Word {
+    /// The line that a text names.
+    pub(crate) fn of(text: &str) -> Option<Word>
+        ensures { result ≡ word_of text.now }
+    {
+        if let Some(word) = ClientWord::of(text) {
+            return Some(Word::Client(word));
+        }
+        match NodeWord::of(text) {
+            Some(word) => Some(Word::Node(word)),
+            None => StepWord::of(text).map(Word::Of),
+        }
+    }
 }
 
 /// The code that a text names.

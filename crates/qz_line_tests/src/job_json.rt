@@ -151,6 +151,34 @@ const NODE_STEPS: &[StepRow] = &[
         r#"{"do":"misfires","node":"A"}"#,
         r#"Given { at: None, step: Node { node: "A", command: Misfires } }"#,
     ),
+    (
+        r#"{"do":"leave","node":"A"}"#,
+        r#"Given { at: None, step: Node { node: "A", command: Leave } }"#,
+    ),
+    (
+        r#"{"do":"recover","node":"A","failed":"B"}"#,
+        r#"Given { at: None, step: Node { node: "A", command: Recover { node: "B" } } }"#,
+    ),
+    (
+        r#"{"do":"check_in","node":"A"}"#,
+        r#"Given { at: None, step: CheckIn { node: "A", interval: 15000 } }"#,
+    ),
+    (
+        r#"{"do":"check_in","node":"A","interval":86400000,"at":1}"#,
+        r#"Given { at: Some(1), step: CheckIn { node: "A", interval: 86400000 } }"#,
+    ),
+    (
+        r#"{"do":"forget","node":"A","failed":"B"}"#,
+        r#"Given { at: None, step: Forget { node: "A", failed: "B" } }"#,
+    ),
+    (
+        r#"{"do":"stop","node":"A"}"#,
+        r#"Given { at: None, step: Stop { node: "A" } }"#,
+    ),
+    (
+        r#"{"do":"restart","at":7}"#,
+        r#"Given { at: Some(7), step: Restart }"#,
+    ),
 ];
 
 #[test]
@@ -215,14 +243,24 @@ fn check_faults(
 const FAULTY: &[(&str, Option<LineFault>)] = &[
     (r#"{"do":"fire","node":"A""#, Some(LineFault::NotJson)),
     (r#"{"do":"restart"} x"#, Some(LineFault::NotJson)),
-    (r#"{"do":"restart","more":1}"#, Some(LineFault::NotHere)),
-    (r#"{"do":"stop"}"#, Some(LineFault::NotHere)),
-    (r#"{"do":"check_in","node":7}"#, Some(LineFault::NotHere)),
-    (r#"{"do":"forget","at":null}"#, Some(LineFault::NotHere)),
-    (r#"{"do":"leave","node":"A"}"#, Some(LineFault::NotHere)),
+    (r#"{"do":"restart","more":1}"#, Some(LineFault::Shape)),
+    (r#"{"do":"restart","node":"A"}"#, Some(LineFault::Shape)),
+    (r#"{"do":"stop"}"#, Some(LineFault::Shape)),
+    (r#"{"do":"check_in","node":7}"#, Some(LineFault::Shape)),
     (
-        r#"{"do":"recover","node":"A","failed":"B"}"#,
-        Some(LineFault::NotHere),
+        r#"{"do":"check_in","node":"A","interval":0}"#,
+        Some(LineFault::Shape),
+    ),
+    (
+        r#"{"do":"check_in","node":"A","interval":86400001}"#,
+        Some(LineFault::Shape),
+    ),
+    (r#"{"do":"forget","at":null}"#, Some(LineFault::Shape)),
+    (r#"{"do":"forget","node":"A"}"#, Some(LineFault::Shape)),
+    (r#"{"do":"leave"}"#, Some(LineFault::Shape)),
+    (
+        r#"{"do":"recover","node":"A","failed":""}"#,
+        Some(LineFault::Shape),
     ),
     (r#"{"do":"leap","node":"A"}"#, Some(LineFault::Shape)),
     (r#"{"do":7}"#, Some(LineFault::Shape)),

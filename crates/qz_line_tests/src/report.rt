@@ -2,9 +2,7 @@
 use qz_civil::beside;
 use qz_report::{reply_line, times_line};
 use qz_steps::StepReply;
-use qz_types::{
-    JobRow, Key, List, MovedRow, NoMemory, Owner, Refusal, Reply, Taken, Text,
-};
+use qz_types::{JobRow, Key, List, MovedRow, NoMemory, Owner, Refusal, Reply, Taken, Text};
 use std::alloc::{AllocError, Global};
 
 // Whether this is the reply's line. The reply and its line are let go here and nowhere else.
@@ -63,6 +61,7 @@ fn ends_have_their_lines(rt: HostRuntime) {
     assert!(rt; has_line(alloc, StepReply::Fault, "fault\n"));
     assert!(rt; has_line(alloc, StepReply::Closed, "closed\n"));
     assert!(rt; has_line(alloc, StepReply::Stopped, "stopped\n"));
+    assert!(rt; has_line(alloc, StepReply::Restarted, "restarted\n"));
 }
 
 fn is_refused(alloc: Global, refusal: Refusal, line: &str) -> bool {

@@ -12,7 +12,7 @@ use Rattle.qz_types.specs.declared.replies.Refusal.TheVariants.{Fenced, InUse, C
 use Rattle.qz_types.specs.declared.replies.Reply.{Reply}
 use Rattle.qz_types.specs.declared.replies.Reply.TheVariants.{Done, Added, Deleted, Triggered, Joined, Acquired, Fired, Completed, Again, Misfired, Recovered}
 use Rattle.qz_steps.specs.declared.steps.StepReply.{StepReply}
-use Rattle.qz_steps.specs.declared.steps.StepReply.TheVariants.{Ok, Refused, Fault, Closed, Stopped}
+use Rattle.qz_steps.specs.declared.steps.StepReply.TheVariants.{Ok, Refused, Fault, Closed, Stopped, Restarted}
 use Rattle.qz_report.specs.Names.{escaped, key_text}
 
 -- a next time, if there is one
@@ -97,6 +97,7 @@ step_text (Refused refusal) = refusal_text refusal
 step_text Fault = codes "fault"
 step_text Closed = codes "closed"
 step_text Stopped = codes "stopped"
+step_text Restarted = codes "restarted"
 
 -- the text with its line feed
 abbrev pub reply_text : StepReply → List ℕ

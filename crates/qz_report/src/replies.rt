@@ -33,6 +33,7 @@ fn push_step(text: &mut String, reply: &StepReply) -> Result<(), AllocError>
         StepReply::Fault => text.push_str("fault"),
         StepReply::Closed => text.push_str("closed"),
         StepReply::Stopped => text.push_str("stopped"),
+        StepReply::Restarted => text.push_str("restarted"),
     }
 }
 

@@ -5,7 +5,7 @@ use Rattle.qz_types.specs.Entries.{is_command, is_of_node}
 use Rattle.qz_types.specs.declared.commands.Command.{Command}
 use Rattle.qz_types.specs.declared.commands.Command.TheVariants as command
 use Rattle.qz_steps.specs.declared.steps.Step.{Step}
-use Rattle.qz_steps.specs.declared.steps.Step.TheVariants.{Client, Join, Node}
+use Rattle.qz_steps.specs.declared.steps.Step.TheVariants.{Client, Join, CheckIn, Node, Forget, Stop, Restart}
 
 -- a join of the trigger store alone, which scripts do by a step of its own
 abbrev pub is_join : Command → Bool
@@ -16,4 +16,8 @@ is_join c = false
 abbrev pub is_step : Step → Bool
 is_step (Client c) = is_command c && not (is_of_node c) && not (is_join c)
 is_step (Join node interval) = is_node node && is_interval interval
+is_step (CheckIn node interval) = is_node node && is_interval interval
 is_step (Node node c) = is_node node && is_command c && is_of_node c
+is_step (Forget node failed) = is_node node && is_node failed
+is_step (Stop node) = is_node node
+is_step Restart = true

@@ -2,15 +2,22 @@
 use qz_types::{Command, Refusal, Reply, Text};
 
 /// What one script line asks for. A client's command is none that a node gives and no Join; a node's command is one
-/// that has a node as actor. A node's name has 1 to `NODE_LIMIT` bytes.
+/// that has a node as actor. A node's name has 1 to `NODE_LIMIT` bytes, and an interval is 1 to `INTERVAL_LIMIT` ms.
 #[derive(Debug, Drop)]
 pub enum Step {
     Client(Command),
-    /// The node joins, and from then on holds the epoch that it got. It will check in each `interval` ms, 1 to
-    /// `INTERVAL_LIMIT`.
+    /// The node checks in and joins, and from then on holds the epoch that it got. It will check in each `interval` ms.
     Join { node: Text, interval: i64 },
+    /// The node says that it lives, and that it will check in again after `interval` ms.
+    CheckIn { node: Text, interval: i64 },
     /// What a node does under the epoch that it holds.
     Node { node: Text, command: Command },
+    /// The node removes the check-in of one that failed and was recovered.
+    Forget { node: Text, failed: Text },
+    /// The node stops in the middle of what it does: it holds its epoch no longer.
+    Stop { node: Text },
+    /// All nodes stop, and both disks restart as after a loss of power. What is on them is opened anew.
+    Restart,
 }
 
 /// What a script step answers.
@@ -18,10 +25,13 @@ pub enum Step {
 pub enum StepReply {
     Ok(Reply),
     Refused(Refusal),
-    /// The disk failed in this step. Its store is closed, and a crash may leave the step's transaction or not.
+    /// A disk failed in this step. Its store is closed, and a crash may leave the transaction that failed or not. After
+    /// a failed restart both stores are closed.
     Fault,
     /// A store that the step needs is closed since a fault.
     Closed,
-    /// The node holds no epoch: it didn't join, or it stopped.
+    /// The node holds no epoch: it didn't join, it left, or it stopped.
     Stopped,
+    /// Both stores were opened anew, and no node holds an epoch.
+    Restarted,
 }

@@ -361,7 +361,12 @@ const FAULTS: &[(&str, &str)] = &[
     ),
     (r#"{"do":"add_zone""#, "NotJson"),
     (r#"{"do":"restart"}"#, "NotHere"),
-    (r#"{"do":"join","more":1}"#, "NotHere"),
+    (r#"{"do":"join","node":"A"}"#, "NotHere"),
+    (r#"{"do":"join","more":1}"#, "Shape"),
+    (
+        r#"{"do":"add_job","job":{"name":"j","class":"c"}}"#,
+        "NotHere",
+    ),
     (r#"{"do":"leap"}"#, "Shape"),
     (r#"{"do":1}"#, "Shape"),
     (r#"{"do":"add_zone","stretches":[[0,0]]}"#, "Shape"),
