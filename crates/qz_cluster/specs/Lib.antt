@@ -1,3 +1,4 @@
+pub mod Mounting
 pub mod Script
 pub mod Steps
 pub mod Submitting
