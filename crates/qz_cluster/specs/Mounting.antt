@@ -8,7 +8,7 @@ use Rattle.qz_journal.specs.Through.{OnlyReads, OnlyReadsUnless}
 use Rattle.qz_types.specs.declared.stores.Store.{Store}
 use Rattle.qz_types.specs.declared.stores.Store.TheVariants.{Triggers, States}
 use Rattle.qz_trigger_store.specs.Opening.{IsRefused}
-use Rattle.qz_checkin.specs.Opening.{AreRefused}
+use Rattle.qz_checkin.specs.Opening.{IsRefused as AreRefused}
 
 -- The trigger store is opened first. Where it is refused, the disk of the state store isn't touched; where the state store
 -- is refused, the trigger store's disk was only read.

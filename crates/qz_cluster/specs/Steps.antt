@@ -24,7 +24,7 @@ use Rattle.qz_checkin.specs.Entries.{StatesState, of_states}
 use Rattle.qz_checkin.specs.History.{replay_states}
 use Rattle.qz_checkin.specs.Rows.{StateTables, state_moment}
 use Rattle.qz_checkin.specs.Lateness.{fresh_refusal}
-use Rattle.qz_checkin.specs.Opening.{AreOpened}
+use Rattle.qz_checkin.specs.Opening.{IsOpened as AreOpened}
 use Rattle.qz_cluster.specs.Script.{TimedStep, held_after_join, held_after_command, entry_of, check_in_entry, forget_entry, member_refusal}
 use Rattle.qz_cluster.specs.declared.errors.StepEnd.{StepEnd}
 use Rattle.qz_cluster.specs.declared.errors.StepEnd.TheVariants as ends
