@@ -13,7 +13,7 @@ use Rattle.qz_codec.specs.States.{IsStateEntry}
 use Rattle.qz_checkin.specs.Rows.{StateTables, new_state_tables, StateOutcome, accepted, IsAccepted, state_transaction}
 use Rattle.qz_checkin.specs.History.{rows_left, IsLegalFrom, replay_from}
 use Rattle.qz_checkin.specs.Entries.{state_record_of}
-use Rattle.qz_checkin.specs.Bytes.{history_of, Encode, HoldEntries, MayHold, MayBe, BeginsNew, Stands}
+use Rattle.qz_checkin.specs.Bytes.{history_of, Encode, HoldEntries, MayHold, MayBe, Stands, IsPending, MayFollow}
 use Rattle.qz_checkin.proofs.Histories.{IsLegalFrom-entry, replay_from-append}
 use Rattle.qz_checkin.proofs.Replays.{All-pushed, Encode-pushed}
 
@@ -39,6 +39,14 @@ replayed_with T old new e U is same way =
 
 pub recorded_with : (old new : List StateEntryData) (e : StateEntryData) → new ≡ old ++ e ∷ [] → ∥ AllByRecursion IsStateEntry old ∥₁ → IsStateEntry e → ∥ AllByRecursion IsStateEntry new ∥₁
 recorded_with old new e is all one = ∥∥₁_map all (λ a. subst (AllByRecursion IsStateEntry) (sym is) (All-pushed IsStateEntry old e a one))
+
+-- which entry is undecided
+
+pub none_pending : (T : StateTables) (u : Option StateEntryData) → u ≡ None → ∥ IsPending T u ∥₁
+none_pending T u none = subst (λ v. ∥ IsPending T v ∥₁) (sym none) ∣ tt ∣₁
+
+pub one_pending : (T : StateTables) (u : Option StateEntryData) (e : StateEntryData) → u ≡ Some e → MayFollow T e → ∥ IsPending T u ∥₁
+one_pending T u e is may = subst (λ v. ∥ IsPending T v ∥₁) (sym is) ∣ may ∣₁
 
 -- On the disk.
 

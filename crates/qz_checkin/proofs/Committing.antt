@@ -11,7 +11,8 @@ use Rattle.qz_types.specs.Entries.{StateEntryData}
 use Rattle.qz_types.specs.declared.errors.SubmitError.{SubmitError}
 use Rattle.qz_types.specs.declared.errors.SubmitError.TheVariants as submit
 use Rattle.qz_stores.specs.Stores.{HasRoom, Appends, Fails, Submits}
-use Rattle.qz_checkin.specs.Rows.{StateTables, accepted, state_transaction}
+use Rattle.qz_checkin.specs.Rows.{StateTables, accepted, IsAccepted, state_transaction}
+use Rattle.qz_checkin.proofs.Refused.{passes_at}
 use Rattle.qz_checkin.specs.History.{replay_states, with_state_entry}
 use Rattle.qz_checkin.specs.Entries.{StatesState, answer_of, of_states, state_record_of}
 
@@ -35,13 +36,13 @@ appends T U s t e b tables is record_is is_open room history gate payloads stays
 }
 
 -- the disk failed
-pub fails : (T U : StateTables) (s t : StatesState) (e : StateEntryData) (b : List ℕ) (y : SubmitError) → T ≡ replay_states s.history → state_transaction T e ≡ accepted U → b ≡ state_record_of e → s.is_open ≡ true
+pub fails : (T : StateTables) (s t : StatesState) (e : StateEntryData) (b : List ℕ) (y : SubmitError) → T ≡ replay_states s.history → IsAccepted (state_transaction T e) → b ≡ state_record_of e → s.is_open ≡ true
     → HasRoom (length b) s → t.history ≡ s.history → t.gate ≡ s.gate → t.payloads ≡ s.payloads → t.is_open ≡ false → t.undecided ≡ Some e → Rose s.faults t.faults → s.faults ≤ t.faults → y ≡ submit.Fault
     → Submits of_states e (Err y) s t
-fails T U s t e b y tables is record_is is_open room history gate payloads shut undecided rose later error =
+fails T s t e b y tables is record_is is_open room history gate payloads shut undecided rose later error =
     let failed : Fails of_states e s t = record {
       was_open = is_open;
-      passes = subst (λ (x : Result ⊤ _). IsOk x) (sym (answered T U s e tables is)) refl;
+      passes = passes_at T s e tables is;
       room = subst (λ (x : List ℕ). HasRoom (length x) s) record_is room;
       history = history;
       gate = gate;

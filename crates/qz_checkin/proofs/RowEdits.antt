@@ -117,7 +117,10 @@ order_kept m (Forget node last) xs ascending = IsAscending-filter text_cmp (λ r
 fewer : (T : StateTables) (row : Option StateData) (node : List ℕ) → state_of node T.rows ≡ row → check_in_refusal T row ≡ None → length T.rows ≤ STATE_LIMIT → length (without_state node T.rows) + 1 ≤ STATE_LIMIT
 unfolding without_state same_text state_of check_in_refusal
 fewer T (Some row) node is none few = omega (arith, few, without_fewer text_cmp (λ (r : StateData). r.node) node row T.rows is)
-fewer T None node is none few = let below : nat_le STATE_LIMIT (length T.rows) ≡ false = grind none in grind (arith, common_steps, below, length-filter_le (λ (r : StateData). not (same_text node r.node)) T.rows)
+fewer T None node is none few = elim (nat_le STATE_LIMIT (length T.rows)) as (λ b. nat_le STATE_LIMIT (length T.rows) ≡ b → (if b then Some RowsFull else None) ≡ None → length (filter (λ (r : StateData). not (same_text node r.node)) T.rows) + 1 ≤ STATE_LIMIT) [
+  | true ↦ λ e x. absurd (cc)
+  | false ↦ λ e x. grind (arith, common_steps, e, length-filter_le (λ (r : StateData). not (same_text node r.node)) T.rows)
+] refl none
 
 length-without : (node : List ℕ) (xs : List StateData) → length (without_state node xs) ≤ length xs
 unfolding without_state
@@ -143,27 +146,14 @@ command_is T m (CheckIn node interval) is = unless_accepted (check_in_refusal T 
 command_is T m (Forget node last) is = unless_accepted (forget_refusal (state_of node T.rows) last) _ is
 
 -- an accepted entry leaves these rows
-pub accepted_as : (T : StateTables) (e : StateEntryData) (rows : List StateData) (m : ℤ) → IsAccepted (state_transaction T e) → m ≡ state_moment T e.at → rows ≡ edited (node_of e.command) (row_by m e.command) T.rows
-    → state_transaction T e ≡ accepted (record { rows = rows; last_moment = m })
-accepted_as T e rows m is m_is rows_are =
+pub accepted_as : (T : StateTables) (e : StateEntryData) (rows : List StateData) (m : ℤ) (node : List ℕ) (row : Option StateData) → IsAccepted (state_transaction T e) → m ≡ state_moment T e.at
+    → node ≡ node_of e.command → row ≡ row_by (state_moment T e.at) e.command → rows ≡ edited node row T.rows → state_transaction T e ≡ accepted (record { rows = rows; last_moment = m })
+accepted_as T e rows m node row is m_is node_is row_is rows_are =
     command_is T (state_moment T e.at) e.command is
-    ∙ ap (λ (n : ℤ). accepted (record { rows = edited (node_of e.command) (row_by n e.command) T.rows; last_moment = n })) (sym m_is)
+    ∙ ap (λ (x : Option StateData). accepted (record { rows = edited (node_of e.command) x T.rows; last_moment = state_moment T e.at })) (sym row_is)
+    ∙ ap (λ (n : List ℕ). accepted (record { rows = edited n row T.rows; last_moment = state_moment T e.at })) (sym node_is)
+    ∙ ap (λ (n : ℤ). accepted (record { rows = edited node row T.rows; last_moment = n })) (sym m_is)
     ∙ ap (λ (xs : List StateData). accepted (record { rows = xs; last_moment = m })) (sym rows_are)
-
--- and they are valid
-pub valid_after : (T : StateTables) (e : StateEntryData) (rows : List StateData) (m : ℤ) → IsAccepted (state_transaction T e) → m ≡ state_moment T e.at → rows ≡ edited (node_of e.command) (row_by m e.command) T.rows
-    → ∥ StatesValid T ∥₁ → ∥ StatesValid (record { rows = rows; last_moment = m }) ∥₁
-valid_after T e rows m is m_is rows_are valid = ∥∥₁_map valid part where
-  part : StatesValid T → StatesValid (record { rows = rows; last_moment = m })
-  part v =
-      let c = e.command in
-      let moment : IsMoment LAST m = subst (IsMoment LAST) (sym m_is) (moment-kept T e.at v.last_moment) in
-      rw rows_are (record {
-        order = order_kept m c T.rows v.order;
-        few = few_kept T m c (subst (λ (n : ℤ). IsAccepted (by_command T n c)) (sym m_is) is) v.few;
-        rows = row_valid m c T.rows moment v.rows;
-        last_moment = moment;
-      })
 
 accepted_inj : (T U : StateTables) → accepted T ≡ accepted U → T ≡ U
 accepted_inj T U same = ap (λ o. of_outcome o) same where
@@ -179,6 +169,10 @@ kept T U e way v =
     let same = accepted_inj _ U (sym (command_is T m c is) ∙ way) in
     let moment : IsMoment LAST m = moment-kept T e.at v.last_moment in
     subst StatesValid same (record { order = order_kept m c T.rows v.order; few = few_kept T m c is v.few; rows = row_valid m c T.rows moment v.rows; last_moment = moment })
+
+-- so they are valid
+pub valid_after : (T U : StateTables) (e : StateEntryData) → state_transaction T e ≡ accepted U → ∥ StatesValid T ∥₁ → ∥ StatesValid U ∥₁
+valid_after T U e way valid = ∥∥₁_map valid (kept T U e way)
 
 pub valid_new : ∥ StatesValid new_state_tables ∥₁
 valid_new = ∣ record { order = tt; few = omega arith; rows = tt; last_moment = record { low = omega arith; high = omega arith } } ∣₁

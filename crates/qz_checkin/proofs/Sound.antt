@@ -1,6 +1,7 @@
 -- What submitting an entry leaves of a store is sound, where the store was.
-use Rattle.std.proofs.Common.{◌≡◌, ℕ, List, [], ◌∷◌, ◌++◌, length, length-append, true, refl, sym, ◌∙◌, subst, arith}
+use Rattle.std.proofs.Common.{◌≡◌, ℕ, List, [], ◌∷◌, ◌++◌, length, length-append, map, true, refl, sym, ◌∙◌, ap, subst, arith}
 use Rattle.std.proofs.Math.Logic.{∥∥₁_map}
+use Rattle.std.proofs.lemmas.List.{map-append}
 use Rattle.std.specs.Prelude.{⊤, Result, Ok, Err, None}
 use Rattle.std.specs.List.{AllByRecursion}
 use Rattle.qz_types.specs.Entries.{StateEntryData}
@@ -12,12 +13,12 @@ use Rattle.qz_journal.proofs.Stands.{end_of-push}
 use Rattle.qz_codec.specs.States.{IsStateEntry}
 use Rattle.qz_checkin.specs.Rows.{StateTables, new_state_tables, StateOutcome, accepted, refused, IsAccepted, state_transaction}
 use Rattle.qz_checkin.specs.Valid.{StatesValid}
-use Rattle.qz_checkin.specs.History.{StateHistory, with_state_entry, rows_left, IsLegal, replay_states, replay_from}
+use Rattle.qz_checkin.specs.History.{StateHistory, with_state_entry, rows_left, IsLegal, IsLegalFrom, replay_states, replay_from}
 use Rattle.qz_checkin.specs.Entries.{StatesState, answer_of, of_states, state_record_of}
-use Rattle.qz_checkin.specs.Bytes.{history_of, Encode, BeginsNew}
-use Rattle.qz_checkin.specs.Opening.{IsSound, IsOpened, AreReplayed}
+use Rattle.qz_checkin.specs.Bytes.{history_of, Encode, BeginsNew, IsPlaced}
+use Rattle.qz_checkin.specs.Opening.{IsSound, IsOpened}
+use Rattle.qz_checkin.specs.Facts.{Encode-length}
 use Rattle.qz_checkin.proofs.Histories.{IsLegalFrom-entry, replay_from-append}
-use Rattle.qz_checkin.proofs.Replays.{Encode-pushed}
 use Rattle.qz_checkin.proofs.RowEdits.{kept}
 
 accepted_from : (o : StateOutcome) → answer_of o ≡ Ok tt → IsAccepted o
@@ -32,10 +33,8 @@ sound_as s t history gate payloads was_open sound = record {
   placed = λ is_open.
     let placed = sound.placed (was_open is_open) in
     record {
-      payloads = placed.payloads;
-      encode = subst (λ (h : StateHistory). Encode placed.payloads h.entries) (sym history) placed.encode;
-      gate = gate ∙ placed.gate;
-      count = payloads ∙ placed.count;
+      gate = gate ∙ placed.gate ∙ ap (λ (h : StateHistory). end_of (map state_record_of h.entries)) (sym history);
+      count = payloads ∙ placed.count ∙ ap (λ (h : StateHistory). length h.entries) (sym history);
     };
 }
 
@@ -56,10 +55,15 @@ appended_sound e s t appends sound =
       legal = subst IsLegal (sym appends.history) (IsLegalFrom-entry h.base h.entries e sound.legal (accepted_from _ appends.accepted_as));
       rows = subst (λ (g : StateHistory). ∥ StatesValid (replay_states g) ∥₁) (sym appends.history) (∥∥₁_map sound.rows (λ valid. subst StatesValid (sym tables) (left_valid (replay_states h) e _ refl valid)));
       placed = λ is_open. record {
-        payloads = placed.payloads ++ state_record_of e ∷ [];
-        encode = subst (λ (g : StateHistory). Encode (placed.payloads ++ state_record_of e ∷ []) g.entries) (sym appends.history) (Encode-pushed placed.payloads h.entries (state_record_of e) e placed.encode refl);
-        gate = omega (arith, appends.gate, placed.gate, end_of-push placed.payloads (state_record_of e));
-        count = omega (arith, appends.payloads, placed.count, length-append placed.payloads (state_record_of e ∷ []));
+        gate = omega (
+          arith,
+          appends.gate,
+          placed.gate,
+          end_of-push (map state_record_of h.entries) (state_record_of e),
+          ap end_of (map-append state_record_of h.entries (e ∷ [])),
+          ap (λ (g : StateHistory). end_of (map state_record_of g.entries)) appends.history,
+        );
+        count = omega (arith, appends.payloads, placed.count, length-append h.entries (e ∷ []), ap (λ (g : StateHistory). length g.entries) appends.history);
       };
     }
 
@@ -69,19 +73,32 @@ submitted_sound e (Err (submit.Closed at)) s t is sound = same_sound s t is.0.sa
 submitted_sound e (Err (submit.Refused x)) s t is sound = same_sound s t is.same sound
 submitted_sound e (Err (submit.JournalFull need room)) s t is sound = same_sound s t is.same sound
 submitted_sound e (Err submit.NoMemory) s t is sound = same_sound s t is.same sound
-submitted_sound e (Err submit.Fault) s t is sound = sound_as s t is.history is.gate is.payloads (λ open. is.was_open) sound
+submitted_sound e (Err submit.Fault) s t is sound = sound_as s t is.history is.gate is.payloads (λ _. is.was_open) sound
 
--- a store that was just opened, on these payloads
-pub opened_on : (s : StatesState) (payloads : List (List ℕ)) (es : List StateEntryData) (T : StateTables) → s.history ≡ history_of es → s.gate ≡ end_of payloads → s.payloads ≡ length payloads
-    → s.is_open ≡ true → s.undecided ≡ None → AreReplayed payloads es → T ≡ replay_from new_state_tables es → ∥ StatesValid T ∥₁ → IsOpened s
-opened_on s payloads es T history gate count is_open settled replayed tables valid = record {
+-- payloads that are the records of entries
+pub encoded : (ps : List (List ℕ)) (es : List StateEntryData) → Encode ps es → ps ≡ map state_record_of es
+encoded [] [] all = refl
+encoded [] (e ∷ es) all = absurd all
+encoded (p ∷ ps) [] all = absurd all
+encoded (p ∷ ps) (e ∷ es) all = λ i. all.0 i ∷ encoded ps es all.1 i
+
+pub placed_on : (s : StatesState) (payloads : List (List ℕ)) (es : List StateEntryData) → s.history ≡ history_of es → s.gate ≡ end_of payloads → s.payloads ≡ length payloads → Encode payloads es → IsPlaced s
+placed_on s payloads es history gate count all = record {
+  gate = gate ∙ ap (λ (l : List (List ℕ)). end_of l) (encoded payloads es all) ∙ ap (λ (h : StateHistory). end_of (map state_record_of h.entries)) (sym history);
+  count = count ∙ Encode-length payloads es all ∙ ap (λ (h : StateHistory). length h.entries) (sym history);
+}
+
+-- a store that was just opened, with these entries
+pub opened_with : (s : StatesState) (es : List StateEntryData) (T : StateTables) → s.history ≡ history_of es → IsPlaced s → s.is_open ≡ true → s.undecided ≡ None → IsLegalFrom new_state_tables es
+    → ∥ AllByRecursion IsStateEntry es ∥₁ → T ≡ replay_from new_state_tables es → ∥ StatesValid T ∥₁ → IsOpened s
+opened_with s es T history placed is_open settled legal recorded tables valid = record {
   is_open = is_open;
   settled = settled;
   sound = record {
     begins = subst BeginsNew (sym history) (record { count = refl; base = refl });
-    legal = subst IsLegal (sym history) replayed.legal;
+    legal = subst IsLegal (sym history) legal;
     rows = subst (λ (h : StateHistory). ∥ StatesValid (replay_states h) ∥₁) (sym history) (subst (λ (U : StateTables). ∥ StatesValid U ∥₁) tables valid);
-    placed = λ _. record { payloads = payloads; encode = subst (λ (h : StateHistory). Encode payloads h.entries) (sym history) replayed.encode; gate = gate; count = count };
+    placed = λ _. placed;
   };
-  valid = subst (λ (h : StateHistory). AllByRecursion IsStateEntry h.entries) (sym history) replayed.valid;
+  valid = subst (λ (h : StateHistory). ∥ AllByRecursion IsStateEntry h.entries ∥₁) (sym history) recorded;
 }

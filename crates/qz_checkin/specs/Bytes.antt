@@ -1,5 +1,5 @@
 -- Which bytes are those of which history.
-use Rattle.std.specs.Prelude.{⊤, ◌≡◌, ◌⊎◌, ℕ, List, [], ◌∷◌, ◌++◌, length, Option, Some, None}
+use Rattle.std.specs.Prelude.{⊤, ◌≡◌, ◌⊎◌, ℕ, List, [], ◌∷◌, ◌++◌, length, map, Option, Some, None}
 use Rattle.std.specs.List.{AllByRecursion, AllZip}
 use Rattle.qz_types.specs.Entries.{StateEntryData}
 use Rattle.qz_journal.specs.Layout.{Holds, end_of}
@@ -68,9 +68,7 @@ abbrev pub IsPending : StateTables → Option StateEntryData → Type 0
 IsPending T None = ⊤
 IsPending T (Some e) = MayFollow T e
 
--- The closed gate comes after payloads that are the records of the history's entries.
+-- The closed gate comes after the records of the history's entries.
 pub record IsPlaced (s : StatesState) : Type 0 where
-  pub payloads : List (List ℕ)
-  pub encode : Encode payloads s.history.entries
-  pub gate : s.gate ≡ end_of payloads
-  pub count : s.payloads ≡ length payloads
+  pub gate : s.gate ≡ end_of (map state_record_of s.history.entries)
+  pub count : s.payloads ≡ length s.history.entries

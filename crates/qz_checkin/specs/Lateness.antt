@@ -30,7 +30,7 @@ abbrev pub fresh_refusal : StateTables → ℤ → List ℕ → List ℕ → Opt
 fresh_refusal T now own failed = row_refusal (state_of failed T.rows) (last_of (state_of own T.rows)) now
 
 -- the place of the first row, in the order of names, that is late for this node at this moment
-abbrev pub late_place : StateTables → ℤ → List ℕ → Option ℕ
+unfoldable pub late_place : StateTables → ℤ → List ℕ → Option ℕ
 late_place T now own = position (λ row. is_late row (last_of (state_of own T.rows)) now) T.rows
 
 -- what is told of a row that is late
@@ -38,5 +38,5 @@ abbrev pub evidence_of : StateData → ℤ → ℤ → EvidenceData
 evidence_of row own_last now = record { node = row.node; last = row.last; until = fresh_until row own_last now }
 
 -- of the first row that is late, if there is one
-abbrev pub failed_by : StateTables → ℤ → List ℕ → Option EvidenceData
+unfoldable pub failed_by : StateTables → ℤ → List ℕ → Option EvidenceData
 failed_by T now own = option_map (λ row. evidence_of row (last_of (state_of own T.rows)) now) (find (λ row. is_late row (last_of (state_of own T.rows)) now) T.rows)

@@ -27,7 +27,7 @@ pub record IsOpened (s : StatesState) : Type 0 where
   pub is_open : s.is_open ≡ true
   pub settled : s.undecided ≡ None
   pub sound : IsSound s
-  pub valid : AllByRecursion IsStateEntry s.history.entries
+  pub valid : ∥ AllByRecursion IsStateEntry s.history.entries ∥₁
 
 -- It is the record of no entry that is accepted at these rows: it is no record at all, or its command is refused.
 abbrev pub IsUnfit : StateTables → List ℕ → Type 0

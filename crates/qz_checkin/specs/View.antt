@@ -1,5 +1,5 @@
 -- What is seen of a state store, and of its disk.
-use Rattle.std.specs.Prelude.{◌≡◌, ◌⊎◌, ℕ, List, length, None}
+use Rattle.std.specs.Prelude.{◌≡◌, ◌⊎◌, ℕ, List, None}
 use Rattle.qz_disk.specs.declared.disk.Disk.{Ghosts}
 use Rattle.qz_disk.specs.Disk.{DiskState, LeavesOnly}
 use Rattle.qz_types.specs.Entries.{StateEntryData}
@@ -55,9 +55,8 @@ IsAsBefore s t =
 
 -- What was read is what the store's disk holds, and what its history had, or that with the undecided entry.
 pub record IsReread {D : Type 0} {g : Ghosts D} (s : StateStore D g) (found : Reread) : Type 0 where
-  pub open : closed_at s.journal ≡ None
-  pub count : count_of s.journal ≡ length found.entries.items
-  pub placed : ∥ IsPlaced (record (view s) { history = history_of found.entries.items }) ∥₁
+  pub ready : closed_at s.journal ≡ None
+  pub placed : IsPlaced (record (view s) { history = history_of found.entries.items })
   pub stands : g.honest → HoldEntries (disk_state s).content found.entries.items
   pub only : g.honest → (b : List ℕ) → (disk_state s).IsImage b → HoldEntries b found.entries.items
   pub decided : g.honest → IsDecided of_states (view s).history s.undecided (history_of found.entries.items)

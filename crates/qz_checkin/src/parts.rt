@@ -1,5 +1,6 @@
 //! What a store shows of itself.
 ghost use Rattle.std.specs.Prelude.{◌≡◌, length, not, IfOk, option_copied};
+ghost use Rattle.qz_types.specs.Rows.{StateData};
 ghost use Rattle.qz_types.specs.Sorted.{IsAscending};
 ghost use Rattle.qz_types.specs.Words.{text_cmp};
 ghost use Rattle.qz_checkin.specs.Rows.{state_of, state_moment};
@@ -9,13 +10,14 @@ ghost use Rattle.qz_checkin.specs.View.{view, disk_of};
 
 use crate::StateStore;
 use qz_disk::Disk;
-use qz_types::{Evidence, NoMemory, Refusal, StateRow, Text, find};
+use qz_types::{Evidence, NoMemory, Refusal, StateRow, Text};
 
 impl<D: Disk> StateStore<D> {
     /// The rows, in the order of the nodes' names.
+    #[tactic(auto, using(crate::proofs::Looking::order_of))]
     pub fn rows(&self) -> &[StateRow]
         ensures value { result.now ≡ (replay_states (view self.now).history).rows }
-        ensures order { ∥ IsAscending text_cmp (λ r. r.node) result.now ∥₁ }
+        ensures order { ∥ IsAscending text_cmp (λ (r : StateData). r.node) result.now ∥₁ }
     {
         &self.rows.rows
     }
@@ -24,7 +26,7 @@ impl<D: Disk> StateStore<D> {
     pub fn row(&self, node: &Text) -> Option<&StateRow>
         ensures { option_copied result ≡ state_of node.now (replay_states (view self.now).history).rows }
     {
-        find(&self.rows.rows, node)
+        self.rows.row(node)
     }
 
     /// The recorded moment of the last transaction, in ms since 1970-01-01T00:00:00Z; 0 before the first.

@@ -1,18 +1,20 @@
 //! A restart, in three calls.
-ghost use Rattle.std.specs.Prelude.{◌≡◌, ◌⊎◌, ◌≤◌, Err, IfOk, IfErr};
+ghost use Rattle.std.specs.Prelude.{◌≡◌, ◌⊎◌, ◌≤◌, Err, None, IfOk, IfErr};
 ghost use Rattle.qz_civil.specs.Causes.{Rose, HasCause};
 ghost use Rattle.qz_disk.specs.Disk.{LeavesOnly};
 ghost use Rattle.qz_stores.specs.Stores.{Shuts, Opens};
 ghost use Rattle.qz_checkin.specs.Entries.{of_states};
 ghost use Rattle.qz_checkin.specs.Bytes.{MayBe, history_of};
 ghost use Rattle.qz_checkin.specs.Opening.{IsOpened, IsRefused};
-ghost use Rattle.qz_checkin.specs.View.{view, disk_state, IsReread, LeavesBefore};
+ghost use Rattle.qz_checkin.specs.View.{view, disk_of, IsReread, LeavesBefore};
 
 use crate::replaying::replay;
 use crate::{Reread, StateStore};
 use qz_civil::Failed;
 use qz_disk::Disk;
 use qz_journal::MountError;
+use qz_types::StateEntry;
+use std::mem;
 
 impl<D: Disk> StateStore<D> {
     /// A crash of the disk. The store is closed until `open`, so that several disks can crash before anything on them is
@@ -47,7 +49,7 @@ impl<D: Disk> StateStore<D> {
         ensures opens { Opens of_states D.honest (view self.old) (view self.new) }
         ensures opened { IsOpened (view self.new) }
         ensures history { (view self.new).history ≡ history_of found.entries.items }
-        ensures same { disk_state self.new ≡ disk_state self.old }
+        ensures same { disk_of self.new ≡ disk_of self.old }
     {
         let Reread {
             entries,
@@ -57,7 +59,14 @@ impl<D: Disk> StateStore<D> {
         self.entries = entries;
         self.rows = rows;
         self.count = count;
-        self.undecided = None;
+        settle(&mut self.undecided);
         self.is_open = true;
     }
+}
+
+// No entry is undecided any more.
+fn settle(undecided: &mut Option<StateEntry>)
+    ensures { undecided.new ≡ None }
+{
+    drop(mem::replace(undecided, None));
 }

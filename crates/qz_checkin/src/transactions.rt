@@ -1,9 +1,10 @@
 //! What a transaction makes of the rows.
-ghost use Rattle.std.specs.Prelude.{◌≡◌, ◌<◌, IsSome, IfOk, OnErr, vec_len, vec_capacity};
+ghost use Rattle.std.specs.Prelude.{◌≡◌, ◌<◌, pos, IsSome, IfSome, IfOk, option_copied, vec_len, vec_capacity};
+ghost use Rattle.std.specs.Int.{int_max, int_min};
 ghost use Rattle.qz_civil.specs.declared.limits.TheConstants.{LAST as THE_LAST};
 ghost use Rattle.qz_types.specs.Tables.{IsMoment};
 ghost use Rattle.qz_checkin.specs.Rows.{new_state_tables, state_of, without_state, check_in_refusal, forget_refusal, state_moment, IsAccepted, accepted, state_transaction};
-ghost use Rattle.qz_checkin.specs.Valid.{node_of, row_by, edited, IsOfNode, IsRefusalOf};
+ghost use Rattle.qz_checkin.specs.Valid.{HasMoment, node_of, row_by, edited, IsOfNode, IsRefusalOf};
 ghost use Rattle.qz_checkin.specs.InMemory.{tables_in, HasRoomFor};
 
 use crate::rows::States;
@@ -13,7 +14,7 @@ use qz_types::{
 use std::alloc::Global;
 use std::cmp::Ordering;
 
-#[tactic(auto, using(crate::proofs::RowEdits::valid_new, crate::proofs::RowEdits::accepted_as, crate::proofs::RowEdits::valid_after, crate::proofs::RowEdits::check_in_refused, crate::proofs::RowEdits::forget_refused))]
+#[tactic(auto, using(crate::proofs::RowEdits::valid_new, crate::proofs::RowEdits::check_in_refused, crate::proofs::RowEdits::forget_refused))]
 impl States {
     /// No rows.
     pub(crate) fn new(alloc: Global) -> States
@@ -27,11 +28,21 @@ impl States {
 
     /// The moment at which a transaction with this reading of the clock is recorded. Both are in ms since
     /// 1970-01-01T00:00:00Z.
-    #[tactic(auto, unfolding(crate::specs::Rows::state_moment))]
+    #[tactic(auto, using(crate::proofs::RowEdits::moment_at))]
     pub(crate) fn moment(&self, at: i64) -> i64
-        ensures { result ≡ state_moment (tables_in self.now) at }
+        ensures value { result ≡ state_moment (tables_in self.now) at }
+        ensures moment { IsMoment THE_LAST result }
     {
-        at.max(0).min(LAST).max(self.last_moment)
+        recorded(self.last_moment, at)
+    }
+
+    /// The row of a node.
+    #[tactic(auto, unfolding(crate::specs::Rows::state_of), using(crate::proofs::Looking::found_if))]
+    pub(crate) fn row(&self, node: &Text) -> Option<&StateRow>
+        ensures value { option_copied result ≡ state_of node.now self.now.rows.items }
+        ensures moment { IfSome result (λ row. HasMoment row.now) }
+    {
+        find(&self.rows, node)
     }
 
     /// Why an entry is refused, or None where it is accepted.
@@ -45,22 +56,22 @@ impl States {
     }
 
     /// Why a check-in is refused: the node has no row, and there are as many as there may be.
-    #[tactic(auto, unfolding(crate::specs::Rows::check_in_refusal, crate::specs::Rows::state_of))]
+    #[tactic(auto, unfolding(crate::specs::Rows::check_in_refusal))]
     pub(crate) fn check_in_refusal(&self, node: &Text) -> Option<Refusal>
         ensures { result ≡ check_in_refusal (tables_in self.now) (state_of node.now self.now.rows.items) }
     {
-        match find(&self.rows, node) {
+        match self.row(node) {
             None if self.rows.len() as u64 >= STATE_LIMIT => Some(Refusal::RowsFull),
             _ => None,
         }
     }
 
     /// Why a row isn't removed: there is none, or its node has checked in since then.
-    #[tactic(auto, unfolding(crate::specs::Rows::forget_refusal, crate::specs::Rows::state_of))]
+    #[tactic(auto, unfolding(crate::specs::Rows::forget_refusal))]
     pub(crate) fn forget_refusal(&self, node: &Text, last: i64) -> Option<Refusal>
         ensures { result ≡ forget_refusal (state_of node.now self.now.rows.items) last }
     {
-        match find(&self.rows, node) {
+        match self.row(node) {
             None => Some(Refusal::UnknownNode),
             Some(row) if row.last == last => None,
             Some(row) => Some(Refusal::Renewed { last: row.last }),
@@ -97,6 +108,13 @@ impl States {
         edit(&mut self.rows, named(&entry.command), row);
         self.last_moment = moment;
     }
+}
+
+// A reading of the clock, not before the last moment, and from 0 to the last one that a store has.
+fn recorded(last_moment: i64, at: i64) -> i64
+    ensures { result ≡ int_max last_moment (int_min (int_max at (pos 0)) THE_LAST) }
+{
+    at.max(0).min(LAST).max(last_moment)
 }
 
 // The node that a command names.
