@@ -24,8 +24,8 @@ use Rattle.qz_checkin.proofs.Once.{entries_unique, only_memory}
 use Rattle.qz_checkin.proofs.Replays.{All-pushed}
 
 -- each image of a moment of a restart is of the history, or of it with the undecided entry
-pub leaves_before : (s t : DiskState) (es : List StateEntryData) (u : Option StateEntryData) → LeavesOnly s t s.IsImage → ((b : List ℕ) → s.IsImage b → MayHold es u b) → LeavesOnly s t (MayBe (history_of es) u)
-leaves_before s t es u leaves images = weaker s t _ _ leaves (λ b is. may_be es u b (images b is))
+pub leaves_before : (s t : DiskState) (es : List StateEntryData) (u : Option StateEntryData) → LeavesOnly s t s.IsImage → ((b : List ℕ) → s.IsImage b → MayHold es u b) → LeavesOnly s t (λ b. MayBe (history_of es) u b ⊎ MayBe (history_of es) u b)
+leaves_before s t es u leaves images = weaker s t _ _ leaves (λ b is. inl (may_be es u b (images b is)))
 
 pub was_one : (s t : DiskState) (es : List StateEntryData) (u : Option StateEntryData) → IsLawful t → LeavesOnly s t s.IsImage → ((b : List ℕ) → s.IsImage b → MayHold es u b) → (b : List ℕ) → t.IsImage b → MayHold es u b
 was_one s t es u lawful leaves images b is = images b (leaves.each b (lawful.counts_now s.clock b leaves.later is))

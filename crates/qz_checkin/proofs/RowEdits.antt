@@ -200,6 +200,9 @@ moment-prop m = hlevel props
 pub moment_at : (T : StateTables) (at : ℤ) → ∥ StatesValid T ∥₁ → IsMoment LAST (state_moment T at)
 moment_at T at valid = ∥∥₁_elim valid (moment-prop (state_moment T at)) (λ v. moment-kept T at v.last_moment)
 
+pub moment_is : (T : StateTables) (at m : ℤ) → ∥ StatesValid T ∥₁ → m ≡ state_moment T at → IsMoment LAST m
+moment_is T at m valid is = subst (IsMoment LAST) (sym is) (moment_at T at valid)
+
 pub found_moment : (T : StateTables) (node : List ℕ) (row : StateData) → ∥ StatesValid T ∥₁ → state_of node T.rows ≡ Some row → HasMoment row
 unfolding state_of
 found_moment T node row valid found = ∥∥₁_elim valid (moment-prop row.last) (λ v. All-found text_cmp (λ (r : StateData). r.node) HasMoment node row T.rows v.rows found)
