@@ -2,7 +2,8 @@
 use Rattle.std.proofs.Common.{◌≡◌, ◌⊎◌, inl, inr, ℕ, List, [], ◌∷◌, ◌++◌, length, refl, sym, ◌∙◌, ap, subst}
 use Rattle.std.proofs.Props.{props}
 use Rattle.std.proofs.Math.Logic.{∥∥₁_map, ∥∥₁_elim}
-use Rattle.std.specs.Prelude.{Option, Some, None}
+use Rattle.std.specs.Prelude.{Option, Some, None, Ok, Err, IfOk, IfErr}
+use Rattle.std.specs.declared.result.Result.{Result}
 use Rattle.std.specs.List.{AllByRecursion}
 use Rattle.qz_disk.specs.Disk.{DiskState, Only, IsLawful, LeavesOnly}
 use Rattle.qz_disk.proofs.Moments.{weaker}
@@ -69,3 +70,11 @@ only_memory_at T es (Some e) b ps (mount.Damaged at) (inr held) holds same legal
     not_stopped (es ++ e ∷ []) ps at
     (history_is (es ++ e ∷ []) (All-pushed IsStateEntry es e a p.valid) (IsLegalFrom-entry new_state_tables es e legal (subst (λ (U : StateTables). IsAccepted (state_transaction U e)) same p.passes)))
     (held.encode ps holds) stopped)))
+
+pub if_ok : {A E : Type 0} (P Q : A → Type 0) (r : Result A E) → ((a : A) → P a → Q a) → IfOk r P → IfOk r Q
+if_ok P Q (Ok a) f is = f a is
+if_ok P Q (Err e) f is = tt
+
+pub if_err : {A E : Type 0} (P Q : E → Type 0) (r : Result A E) → ((e : E) → P e → Q e) → IfErr r P → IfErr r Q
+if_err P Q (Ok a) f is = tt
+if_err P Q (Err e) f is = f e is

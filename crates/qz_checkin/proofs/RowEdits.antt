@@ -206,3 +206,6 @@ moment_is T at m valid is = subst (IsMoment LAST) (sym is) (moment_at T at valid
 pub found_moment : (T : StateTables) (node : List ℕ) (row : StateData) → ∥ StatesValid T ∥₁ → state_of node T.rows ≡ Some row → HasMoment row
 unfolding state_of
 found_moment T node row valid found = ∥∥₁_elim valid (moment-prop row.last) (λ v. All-found text_cmp (λ (r : StateData). r.node) HasMoment node row T.rows v.rows found)
+
+pub last_range : (T : StateTables) → ∥ StatesValid T ∥₁ → IsMoment LAST T.last_moment
+last_range T valid = ∥∥₁_elim valid (moment-prop T.last_moment) (λ v. v.last_moment)

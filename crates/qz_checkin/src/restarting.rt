@@ -39,6 +39,8 @@ impl<D: Disk> StateStore<D> {
     {
         self.is_open = false;
         let payloads = self.journal.remount(self.alloc)?;
+        // The payloads end at the gate, so their offsets fit.
+        let _ = self.journal.gate();
         replay(self.alloc, &payloads)
     }
 

@@ -27,7 +27,7 @@ impl States {
 
     /// The moment at which a transaction with this reading of the clock is recorded. Both are in ms since
     /// 1970-01-01T00:00:00Z.
-    #[tactic(auto, unfolding(crate::specs::Rows::state_moment), using(crate::proofs::RowEdits::moment_is))]
+    #[tactic(auto, unfolding(crate::specs::Rows::state_moment))]
     pub(crate) fn moment(&self, at: i64) -> i64
         ensures value { result ≡ state_moment (tables_in self.now) at }
         ensures moment { IsMoment THE_LAST result }
