@@ -1,11 +1,11 @@
 -- What a restart finds.
-use Rattle.std.proofs.Common.{◌≡◌, ◌⊎◌, inl, inr, ℕ, List, [], ◌∷◌, ◌++◌, length, refl, sym, ◌∙◌, ap, subst}
+use Rattle.std.proofs.Common.{◌≡◌, ◌⊎◌, inl, inr, ℕ, List, [], ◌∷◌, ◌++◌, refl, ap, subst}
 use Rattle.std.proofs.Props.{props}
 use Rattle.std.proofs.Math.Logic.{∥∥₁_map, ∥∥₁_elim}
 use Rattle.std.specs.Prelude.{Option, Some, None, Ok, Err, IfOk, IfErr}
 use Rattle.std.specs.declared.result.Result.{Result}
 use Rattle.std.specs.List.{AllByRecursion}
-use Rattle.qz_disk.specs.Disk.{DiskState, Only, IsLawful, LeavesOnly}
+use Rattle.qz_disk.specs.Disk.{DiskState, IsLawful, LeavesOnly}
 use Rattle.qz_disk.proofs.Moments.{weaker}
 use Rattle.qz_types.specs.Entries.{StateEntryData}
 use Rattle.qz_journal.specs.Layout.{Holds}
@@ -17,7 +17,7 @@ use Rattle.qz_stores.specs.Stores.{IsDecided}
 use Rattle.qz_checkin.specs.Rows.{StateTables, new_state_tables, IsAccepted, state_transaction}
 use Rattle.qz_checkin.specs.History.{replay_from, IsLegalFrom}
 use Rattle.qz_checkin.specs.Entries.{of_states}
-use Rattle.qz_checkin.specs.Bytes.{history_of, Encode, HoldEntries, MayHold, MayBe, IsPending, MayFollow, IsHistory}
+use Rattle.qz_checkin.specs.Bytes.{history_of, Encode, HoldEntries, MayHold, MayBe, IsPending, IsHistory}
 use Rattle.qz_checkin.specs.Opening.{IsStopped}
 use Rattle.qz_checkin.proofs.Appending.{may_be}
 use Rattle.qz_checkin.proofs.Histories.{IsLegalFrom-entry}

@@ -61,13 +61,7 @@ impl<D: Disk> StateStore<D> {
     /// Removes the row of a node that is gone, if it still has this last check-in, in ms since 1970-01-01T00:00:00Z. The
     /// refusals are `UnknownNode`, where the node has no row, and `Renewed`, where it has checked in since. All else is as
     /// at `check_in`.
-    pub fn forget(
-        &mut self,
-        at: i64,
-        seat: u32,
-        node: &Text,
-        last: i64,
-    ) -> Result<(), SubmitError>
+    pub fn forget(&mut self, at: i64, seat: u32, node: &Text, last: i64) -> Result<(), SubmitError>
         requires { IsTrue (is_node node.now) }
         ensures one { Submits of_states (record { at = at; seat = seat; command = Forgotten node.now last }) result (view self.old) (view self.new) }
         ensures unchanged { result ≢ Err SubmitError.Fault → OnErr result (IsAsBefore self.old self.new) }
@@ -196,11 +190,7 @@ fn copy(node: &Text) -> Result<Text, NoMemory>
 }
 
 // Closes a store at a fault, which leaves it unknown whether the disk has the entry.
-fn close(
-    is_open: &mut bool,
-    undecided: &mut Option<StateEntry>,
-    entry: StateEntry,
-) -> SubmitError
+fn close(is_open: &mut bool, undecided: &mut Option<StateEntry>, entry: StateEntry) -> SubmitError
     ensures closed { is_open.new ≡ false }
     ensures undecided { undecided.new ≡ Some entry }
     ensures fault { result ≡ SubmitError.Fault }

@@ -14,8 +14,8 @@ invariant_of-self c =
     let named_is : c.entry.inside.command ≡ c.args.entry.now.command = grind (arith, common_steps, to_z-of_z) in
     record {
       valid = valid_after (tables_in c.args.self.now) _ c.args.entry.now
-      (accepted_as (tables_in c.args.self.now) c.args.entry.now _ _ c.named.result.now c.args.row c.requires.accepted (same ∙ c.moment-moment.ensures.value ∙ ap (state_moment (tables_in c.args.self.now)) read) (c.named.ensures ∙ ap node_of named_is) c.requires.row c.edit.ensures)
-      c.args.self.now.valid;
+          (accepted_as (tables_in c.args.self.now) c.args.entry.now _ _ c.named.result.now c.args.row c.requires.accepted (same ∙ c.moment-moment.ensures.value ∙ ap (state_moment (tables_in c.args.self.now)) read) (c.named.ensures ∙ ap node_of named_is) c.requires.row c.edit.ensures)
+          c.args.self.now.valid;
     }
 
 pub returns : goal.returns

@@ -1,7 +1,6 @@
-use Rattle.std.proofs.Common.{◌≡◌, List, ℕ, refl, sym, subst, arith}
+use Rattle.std.proofs.Common.{List, ℕ, refl, sym, subst, arith}
 use Rattle.std.proofs.lemmas.Grind.{common_steps}
 use Rattle.qz_journal.specs.Layout.{Holds}
-use Rattle.qz_journal.specs.declared.layout.TheConstants.{STATES}
 use Rattle.qz_checkin.specs.Bytes.{HoldEntries}
 use Rattle.qz_checkin.specs.InMemory.{tables_in}
 use Rattle.qz_checkin.proofs.Appending.{holding}
