@@ -1,5 +1,9 @@
 pub mod Facts
 pub mod Joins
 pub mod Leaves
+pub mod Recovers
+pub mod RecoveryRooms
+pub mod RecoverySpecs
+pub mod RecoveryWalk
 pub mod Rooms
 pub mod Walk
