@@ -8,7 +8,6 @@ use Rattle.qz_types.specs.Words.{member_of, put_member, without_member}
 use Rattle.qz_model.specs.Recovery.{recovered, with_new_member, join_refusal, joined, join}
 use Rattle.qz_model.proofs.RowLaws.{member_of-alike, member_of-node, member_of-without_own}
 use Rattle.qz_apply.specs.Room.{executions_of}
-use Rattle.qz_apply.proofs.Accepted.{no_refusal}
 use Rattle.qz_apply.proofs.Refused.{of_one}
 use Rattle.qz_recover.specs.Recovering.{taken_over, triggers_for}
 
@@ -39,10 +38,10 @@ with_epoch U m node epoch same = ap (λ (n : ℕ). record U { members = put_memb
 -- a join that nothing refuses
 pub join_accepted : (T : SchedulerTables) (m : ℤ) (node : List ℕ) → join_refusal T (member_of node T.members) ≡ None
     → join T m node ≡ accepted (record (taken_over T (member_of node T.members)) {
-        members = put_member (record { node = node; epoch = T.next_epoch }) (taken_over T (member_of node T.members)).members;
-        next_epoch = T.next_epoch + 1;
-        last_moment = m;
-      }) (Joined T.next_epoch (executions_of T (member_of node T.members)) (triggers_for T (member_of node T.members)))
+      members = put_member (record { node = node; epoch = T.next_epoch }) (taken_over T (member_of node T.members)).members;
+      next_epoch = T.next_epoch + 1;
+      last_moment = m;
+    }) (Joined T.next_epoch (executions_of T (member_of node T.members)) (triggers_for T (member_of node T.members)))
 join_accepted T m node clear =
     rw clear (same_joined T m node (member_of node T.members)
     ∙ ap (λ (U : SchedulerTables). accepted U (Joined T.next_epoch (executions_of T (member_of node T.members)) (triggers_for T (member_of node T.members))))

@@ -1,9 +1,13 @@
 -- How many rows a recovery adds.
-use Rattle.std.proofs.Common.{◌≡◌, ◌+◌, ◌≤◌, not, List, [], ◌∷◌, filter, fold, length, Option, Some, None, arith}
+use Rattle.std.proofs.Common.{◌≡◌, ◌+◌, ◌≤◌, List, [], ◌∷◌, filter, fold, length, Option, Some, None, arith}
+use Rattle.std.proofs.Math.Logic.{∥∥₁_elim}
+use Rattle.std.proofs.Props.{props}
 use Rattle.std.proofs.lemmas.List.{length-map}
+use Rattle.qz_types.specs.declared.limits.TheConstants.{FIRED_LIMIT}
 use Rattle.qz_types.specs.Rows.{TriggerData, MemberData}
 use Rattle.qz_types.specs.Tables.{SchedulerTables}
 use Rattle.qz_types.specs.Words.{put_trigger}
+use Rattle.qz_model.specs.Invariant.{TablesValid}
 use Rattle.qz_model.specs.Recovery.{asks, lost_of, rows_of_others, freed_by, unblocked_by, recoveries, recovery_trigger, triggers_added, triggers_left, jobs_left, recovered}
 use Rattle.qz_model.proofs.RowLaws.{length-put_trigger, length-without_member}
 use Rattle.qz_model.proofs.RowPoints.{length-filter_le}
@@ -15,6 +19,14 @@ pub few_recoveries : (T : SchedulerTables) (member : MemberData) → length (rec
 unfolding recoveries
 few_recoveries T member =
     omega (arith, length-map (filter (asks T.jobs) (lost_of member T.fired)) (recovery_trigger T.paused_groups), length-filter_le (asks T.jobs) (lost_of member T.fired))
+
+-- a member has no more executions than there may be rows
+pub few_executions : (T : SchedulerTables) (o : Option MemberData) → ∥ TablesValid T ∥₁ → executions_of T o ≤ FIRED_LIMIT
+unfolding lost_of
+few_executions T None valid = omega arith
+few_executions T (Some member) valid = ∥∥₁_elim valid (hlevel props) (λ is.
+    let fewer : length (lost_of member T.fired) ≤ length T.fired = length-filter_le _ T.fired in
+    omega (arith, fewer, is.references_and_limits.limits.fired))
 
 length-added : (ts us : List TriggerData) → length (fold (λ xs t. put_trigger t xs) ts us) ≡ length ts + length us
 length-added ts [] = omega arith

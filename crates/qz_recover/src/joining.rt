@@ -21,6 +21,7 @@ pub fn join_refused(tables: &Tables, node: &Text) -> Option<Refusal>
 
 /// The node becomes a member under the next epoch. Where a member has its name, it takes that one's place, and what that
 /// one had is recovered. The moment is in ms since 1970-01-01T00:00:00Z.
+#[tactic(auto, using(crate::proofs::Joins::join_accepted))]
 pub fn join(tables: &mut Tables, moment: i64, node: &Text) -> Result<Reply, StepRefused>
     requires valid { ∥ TablesValid tables.old.tables ∥₁ }
     requires node { IsTrue (is_node node.now) }

@@ -47,7 +47,7 @@ pub fn refusal(tables: &Tables, entry: &Entry) -> Option<Refusal>
 }
 
 /// How many rows the command adds to any one kind at most: a recovery adds a trigger for each execution at most.
-#[tactic(auto, using(crate::proofs::Rooms::adds))]
+#[tactic(auto, using(crate::proofs::Rooms::adds, crate::proofs::RecoveryRooms::few_executions))]
 pub fn room(tables: &Tables, entry: &Entry) -> usize
     requires command { IsTrue (is_of_members entry.now.command) }
     requires valid { ∥ TablesValid tables.now.tables ∥₁ }

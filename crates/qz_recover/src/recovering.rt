@@ -98,6 +98,7 @@ pub fn take_over(tables: &mut Tables, node: &Text) -> Result<RecoveryCounts, All
 }
 
 // Recovers what the member had, and it goes. An error changes nothing.
+#[tactic(auto, using(crate::proofs::RecoveryRooms::few_recoveries))]
 fn recover_member(tables: &mut Tables, member: &MemberRow) -> Result<RecoveryCounts, AllocError>
     requires valid { ∥ TablesValid tables.old.tables ∥₁ }
     requires spare { executions_of tables.old.tables (Some member.now) ≤ tables.old.spare.triggers }

@@ -1,8 +1,7 @@
-use Rattle.std.proofs.Common.{◌≡◌, ◌++◌, ◌∷◌, List, [], true, false, map, Some, ap, sym, ◌∙◌, arith}
+use Rattle.std.proofs.Common.{◌≡◌, ◌++◌, ◌∷◌, List, [], true, false, Some, ap, sym, ◌∙◌, arith}
 use Rattle.std.proofs.lemmas.Grind.{common_steps}
 use Rattle.std.specs.List.{slice_get}
 use Rattle.qz_types.specs.Rows.{TriggerData}
-use Rattle.qz_types.specs.States.{is_acquired}
 use Rattle.qz_model.specs.Recovery.{recovery_trigger}
 use Rattle.qz_recover.specs.Recovering.{is_recovered_by}
 use Rattle.qz_recover.proofs.RecoveryWalk.{taken_one, passed_one, taken_all, recoveries_passed, execution_span, row_number, recovered_begun}

@@ -3,7 +3,6 @@ use Rattle.std.proofs.lemmas.Grind.{common_steps}
 use Rattle.std.specs.List.{slice_get}
 use Rattle.qz_types.specs.Rows.{FiredData}
 use Rattle.qz_types.specs.declared.keys.Key.{Key}
-use Rattle.qz_model.specs.Recovery.{lost_of}
 use Rattle.qz_recover.specs.Recovering.{is_execution_of}
 use Rattle.qz_recover.proofs.RecoveryWalk.{taken_one, passed_one, taken_all, executions_passed}
 use Rattle.qz_recover.proofs.recovery_triggers.triggers_of_executions.Goals as goal
