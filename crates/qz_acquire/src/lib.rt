@@ -63,7 +63,6 @@ pub fn refusal(tables: &Tables, entry: &Entry) -> Option<Refusal>
 }
 
 /// How many rows the command adds to any one kind at most.
-#[tactic(auto, using(crate::proofs::Rooms::adds))]
 pub fn room(entry: &Entry) -> usize
     requires { IsTrue (is_acquiring entry.now.command) }
     ensures value { (T : SchedulerTables) → result ≡ rows_added T entry.now.command }
