@@ -8,7 +8,9 @@ ghost use Rattle.qz_model.specs.Completing.{finished, with_trigger_ended, with_j
 ghost use Rattle.qz_complete.specs.Ended.{is_again, is_noop, ended};
 ghost use Rattle.qz_model.specs.Triggers.{without_trigger_and_orphan};
 
-use qz_apply::{is_acquired, node_refusal, owner_refusal, remove_finished, remove_trigger_and_orphan, unblock};
+use qz_apply::{
+    is_acquired, node_refusal, owner_refusal, remove_finished, remove_trigger_and_orphan, unblock,
+};
 use qz_tables::{StateChange, Tables};
 use qz_types::{Code, FiredRow, Key, MemberRow, Refusal, Reply, StepRefused, TriggerState};
 

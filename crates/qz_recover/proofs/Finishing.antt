@@ -1,6 +1,7 @@
 -- Triggers that go one by one, and the jobs that are orphans then: they come to what goes at once.
 use Rattle.std.proofs.Common.{◌≡◌, ◌||◌, ◌&&◌, Bool, true, false, not, cond, List, [], ◌∷◌, filter, Option, Some, None, is_none, refl, sym, ap, ◌∙◌, subst, if◌then◌else◌}
 use Rattle.std.specs.List.{AllByRecursion, list_any}
+use Rattle.std.proofs.Math.Bool.{and-true, and-false}
 use Rattle.std.proofs.lemmas.Bool.{and_parts, and_right, and_from, false_from_ne_true, not-true}
 use Rattle.qz_types.specs.Rows.{JobData, TriggerData}
 use Rattle.qz_types.specs.Sorted.{IsAscending}
@@ -72,20 +73,12 @@ stays_twice true true false = refl
 stays_twice true false true = refl
 stays_twice true false false = refl
 
-and_false : (a : Bool) → (a && false) ≡ false
-and_false true = refl
-and_false false = refl
-
-and_true : (a : Bool) → (a && true) ≡ a
-and_true true = refl
-and_true false = refl
-
 -- a job has the triggers that stay and those that go
 stay_or_go : {R : Type 0} (p goes : R → Bool) (xs : List R) → (list_any p (filter (λ x. not (goes x)) xs) || list_any (λ x. p x && goes x) xs) ≡ list_any p xs
 stay_or_go p goes [] = refl
 stay_or_go p goes (x ∷ xs) = elim (goes x) as (λ b. (list_any p (cond (not b) (x ∷ filter (λ y. not (goes y)) xs) (filter (λ y. not (goes y)) xs)) || ((p x && b) || list_any (λ y. p y && goes y) xs)) ≡ (p x || list_any p xs)) [
-  | true ↦ rw (and_true (p x)) (one_after (p x) _ _ _ (stay_or_go p goes xs))
-  | false ↦ rw (and_false (p x)) (one_before (p x) _ _ _ (stay_or_go p goes xs))
+  | true ↦ rw (and-true (p x)) (one_after (p x) _ _ _ (stay_or_go p goes xs))
+  | false ↦ rw (and-false (p x)) (one_before (p x) _ _ _ (stay_or_go p goes xs))
 ]
 
 -- it loses some at one step or at the other
@@ -95,7 +88,7 @@ lost_either p first next [] = refl
 lost_either p first next (x ∷ xs) = elim (first x) as (λ b. (((p x && b) || list_any (λ y. p y && first y) xs) || list_any (λ y. p y && next y) (cond (not b) (x ∷ filter (λ y. not (first y)) xs) (filter (λ y. not (first y)) xs)))
     ≡ ((p x && (b || next x)) || list_any (λ y. p y && (first y || next y)) xs)) [
       | true ↦ one_before (p x && true) _ _ _ (lost_either p first next xs)
-      | false ↦ rw (and_false (p x)) (one_after (p x && next x) _ _ _ (lost_either p first next xs))
+      | false ↦ rw (and-false (p x)) (one_after (p x && next x) _ _ _ (lost_either p first next xs))
     ]
 
 module _ (first next : TriggerData → Bool) (T : SchedulerTables) where
@@ -194,7 +187,7 @@ orphan_goes key left jobs ordered = orphan_at key left jobs ordered (job_of key 
 
 apart : (first rest over : Bool) → ((first && over) || (rest && over)) ≡ ((first || rest) && over)
 apart true rest true = refl
-apart true rest false = and_false rest
+apart true rest false = and-false rest
 apart false rest over = refl
 
 -- the fired rows stay

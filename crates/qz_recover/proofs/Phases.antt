@@ -1,6 +1,7 @@
 -- The phases of a recovery, one after the other.
-use Rattle.std.proofs.Common.{◌≡◌, ℕ, ◌+◌, ◌≤◌, ◌<◌, zero, suc, List, [], ◌∷◌, ◌||◌, ◌&&◌, map, fold, drop, get_or, length, refl, sym, ap, ◌∙◌, subst, arith}
+use Rattle.std.proofs.Common.{◌≡◌, ℕ, ◌+◌, ◌≤◌, ◌<◌, suc, List, [], ◌∷◌, ◌||◌, ◌&&◌, map, fold, drop, get_or, length, refl, sym, ap, ◌∙◌, subst, arith}
 use Rattle.std.proofs.Math.Seq.{drop-cons}
+use Rattle.std.proofs.lemmas.List.{drop_all}
 use Rattle.std.specs.List.{list_any}
 use Rattle.qz_types.specs.Rows.{TriggerData, MemberData, FiredData}
 use Rattle.qz_types.specs.Sorted.{IsAscending}
@@ -36,13 +37,6 @@ next_key keys place key less at =
     let one : suc place ≡ place + 1 = omega arith in
     drop-cons keys place key less ∙ ap (λ k. k ∷ drop (suc place) keys) (sym at) ∙ ap (λ (n : ℕ). key ∷ drop n keys) one
 
--- no key is left
-drop_all : (keys : List Key) (place : ℕ) → length keys ≤ place → drop place keys ≡ []
-drop_all [] zero past = refl
-drop_all [] (suc place) past = refl
-drop_all (k ∷ keys) zero past = absurd (omega arith)
-drop_all (k ∷ keys) (suc place) past = drop_all keys place (omega arith)
-
 -- what is left to do at a place
 abbrev pub left_at : ℕ → List Key → SchedulerTables → SchedulerTables
 left_at place keys T = without_triggers (has_ended (drop place keys) T.fired) T
@@ -63,7 +57,7 @@ module _ (T U : SchedulerTables) (keys : List Key) (place : ℕ) (key : Key)
   ordered_jobs_after = subst (λ (x : SchedulerTables). IsAscending key_cmp (λ r. r.key) x.jobs) (sym step) (ordered_jobs_step T key triggers jobs)
 
 pub left_none : (T : SchedulerTables) (keys : List Key) (place : ℕ) → length keys ≤ place → left_at place keys T ≡ T
-left_none T keys place past = ap (λ ks. without_triggers (has_ended ks T.fired) T) (drop_all keys place past) ∙ no_key T
+left_none T keys place past = ap (λ ks. without_triggers (has_ended ks T.fired) T) (drop_all place keys past) ∙ no_key T
 
 -- The recovery.
 

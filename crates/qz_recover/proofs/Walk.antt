@@ -174,26 +174,26 @@ free_still : (t : TriggerData) (b : Bool) → (if b then with_state unblocked (w
 free_still t true = ap (λ s. in_state s t) (unblocked_twice t.state)
 free_still t false = refl
 
-module _ (taken : Key → Bool) where
-  abbrev waiting_again : TriggerData → TriggerData
-  waiting_again t = if taken t.spec.key then in_state Waiting t else t
+-- the trigger, unblocked where its job passes, and waiting again where its key does
+abbrev unblocked_where : (Key → Bool) → TriggerData → TriggerData
+unblocked_where shut t = if shut t.spec.job then with_state unblocked t else t
 
-  -- a trigger that is unblocked at once may be unblocked later as well
-  free_first : (all left : Key → Bool) (now : Bool) (t : TriggerData) → (now || left t.spec.job) ≡ all t.spec.job
-      → (λ (u : TriggerData). if left u.spec.job then with_state unblocked u else u) (waiting_again (if now then with_state unblocked t else t))
-      ≡ (λ (u : TriggerData). if all u.spec.job then with_state unblocked u else u) (waiting_again t)
-  free_first all left true t are =
-      elim (taken t.spec.key) as (λ b. (λ (u : TriggerData). if left u.spec.job then with_state unblocked u else u) (if b then in_state Waiting (with_state unblocked t) else with_state unblocked t)
-      ≡ (λ (u : TriggerData). if all u.spec.job then with_state unblocked u else u) (if b then in_state Waiting t else t)) [
-        | true ↦ waits_still t (left t.spec.job) ∙ sym (waits_still t (all t.spec.job))
-        | false ↦ free_still t (left t.spec.job) ∙ ap (λ b. if b then with_state unblocked t else t) are
-      ]
-  free_first all left false t are =
-      elim (taken t.spec.key) as (λ b. (λ (u : TriggerData). if left u.spec.job then with_state unblocked u else u) (if b then in_state Waiting t else t)
-      ≡ (λ (u : TriggerData). if all u.spec.job then with_state unblocked u else u) (if b then in_state Waiting t else t)) [
-        | true ↦ ap (λ b. if b then with_state unblocked (in_state Waiting t) else in_state Waiting t) are
-        | false ↦ ap (λ b. if b then with_state unblocked t else t) are
-      ]
+abbrev waiting_where : (Key → Bool) → TriggerData → TriggerData
+waiting_where taken t = if taken t.spec.key then in_state Waiting t else t
+
+-- a trigger that is unblocked at once may be unblocked later as well
+free_first : (taken all left : Key → Bool) (now : Bool) (t : TriggerData) → (now || left t.spec.job) ≡ all t.spec.job
+    → unblocked_where left (waiting_where taken (if now then with_state unblocked t else t)) ≡ unblocked_where all (waiting_where taken t)
+free_first taken all left true t are =
+    elim (taken t.spec.key) as (λ b. unblocked_where left (if b then in_state Waiting (with_state unblocked t) else with_state unblocked t) ≡ unblocked_where all (if b then in_state Waiting t else t)) [
+      | true ↦ waits_still t (left t.spec.job) ∙ sym (waits_still t (all t.spec.job))
+      | false ↦ free_still t (left t.spec.job) ∙ ap (λ b. if b then with_state unblocked t else t) are
+    ]
+free_first taken all left false t are =
+    elim (taken t.spec.key) as (λ b. unblocked_where left (if b then in_state Waiting t else t) ≡ unblocked_where all (if b then in_state Waiting t else t)) [
+      | true ↦ ap (λ b. if b then with_state unblocked (in_state Waiting t) else in_state Waiting t) are
+      | false ↦ ap (λ b. if b then with_state unblocked t else t) are
+    ]
 
 and_true : (a b : Bool) → b ≡ true → (a && b) ≡ a
 and_true true b e = e
