@@ -71,7 +71,8 @@ pub fn executions_of(tables: &Tables, me: &MemberRow) -> usize
     count
 }
 
-fn is_execution_of(me: &MemberRow, row: &FiredRow) -> bool
+/// Whether the row is an execution of the member.
+pub fn is_execution_of(me: &MemberRow, row: &FiredRow) -> bool
     ensures { result ≡ (not (is_acquired row.now.state) && is_of me.now row.now) }
 {
     !is_acquired(row.state) && is_of(me, row)

@@ -14,6 +14,8 @@ mod journal;
 #[cfg(test)]
 mod model;
 #[cfg(test)]
+mod recovery;
+#[cfg(test)]
 mod refusals;
 #[cfg(test)]
 mod restarts;
