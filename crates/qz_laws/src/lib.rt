@@ -1,0 +1,6 @@
+//! Laws of whole histories of the trigger store: what each accepted entry adds up to over all that came before it.
+#![tactic(auto)]
+
+mod laws;
+
+pub use laws::{gone_nodes_never_act, lost_executions_are_recovered_once};
