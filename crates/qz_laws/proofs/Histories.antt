@@ -3,6 +3,7 @@ use Rattle.std.proofs.Common.{◌≡◌, ℕ, ◌+◌, ◌<◌, ◌≤◌, ◌^�
 use Rattle.std.specs.List.{AllByRecursion, list_any}
 use Rattle.std.proofs.lemmas.Bool.{eqb-true, eq-eqb, and_parts, false_from_ne_true}
 use Rattle.qz_types.specs.Entries.{EntryData, is_entry}
+use Rattle.qz_types.specs.declared.commands.Command.{Command}
 use Rattle.qz_types.specs.Tables.{SchedulerTables}
 use Rattle.qz_types.specs.Outcomes.{Outcome, accepted, refused, IsAccepted}
 use Rattle.qz_types.specs.Words.{fired_of}
@@ -12,7 +13,7 @@ use Rattle.qz_model.specs.Transaction.{transaction}
 use Rattle.qz_model.proofs.Histories.{valid-left}
 use Rattle.qz_model.proofs.RowLaws.{All-fired_of}
 use Rattle.qz_model.proofs.RowPoints.{All-weaker, All-both, All-none, count_by-cons, count_by-none, none_from_count}
-use Rattle.qz_laws.specs.Losses.{Lost, lost_in, lost_from, is_lost, recoveries_from, AreExact}
+use Rattle.qz_laws.specs.Losses.{Lost, lost_in, lost_from, is_lost, recoveries_in, recoveries_from, IsOneIfAsked, RecoversAtOnce, AreExact}
 use Rattle.qz_laws.proofs.Counts.{count_by-append, count_by-fewer, one_that_passes, All-append}
 use Rattle.qz_laws.proofs.Entries.{facts}
 use Rattle.qz_laws.proofs.Facts.{asked_for, EntryFacts, Stood, stood, once}
@@ -23,16 +24,19 @@ AreValid es = AllByRecursion (λ e. IsTrue (is_entry e)) es
 
 -- Lists of lost executions.
 
--- a lost one has this entry number only where another has it
+-- a lost one is counted where it asked, and no other has its entry number
 abbrev IsLostOnce : List Lost → Lost → Type 0
-IsLostOnce ls l = count_by (asked_for l.row.entry) ls ≡ (if l.asked then 1 else 0)
+IsLostOnce ls = IsOneIfAsked (λ number. count_by (asked_for number) ls)
+
+-- those that asked are no more than all
+no_more_asked : (number : ℕ) (ls : List Lost) → count_by (asked_for number) ls ≤ count_by (is_lost number) ls
+no_more_asked number ls = count_by-fewer (asked_for number) (is_lost number) ls (λ l both. (and_parts l.asked (number == l.row.entry) both).1)
 
 head_once : (l : Lost) (ls : List Lost) → count_by (is_lost l.row.entry) ls ≡ 0 → IsLostOnce (l ∷ ls) l
 head_once l ls none =
-    rw (count_by-cons (asked_for l.row.entry) l ls, eq-eqb l.row.entry l.row.entry refl) (elim (l.asked) as (λ b. cond (b && true) 1 0 + count_by (asked_for l.row.entry) ls ≡ (if b then 1 else 0)) [
-      | true ↦ omega (arith, none, count_by-fewer (asked_for l.row.entry) (is_lost l.row.entry) ls (λ k both. (and_parts k.asked (l.row.entry == k.row.entry) both).1))
-      | false ↦ omega (arith, none, count_by-fewer (asked_for l.row.entry) (is_lost l.row.entry) ls (λ k both. (and_parts k.asked (l.row.entry == k.row.entry) both).1))
-    ])
+    let fewer = no_more_asked l.row.entry ls in
+    rw (count_by-cons (asked_for l.row.entry) l ls, eq-eqb l.row.entry l.row.entry refl)
+    (elim (l.asked) as (λ b. cond (b && true) 1 0 + count_by (asked_for l.row.entry) ls ≡ (if b then 1 else 0)) [ true ↦ omega (arith, none, fewer) | false ↦ omega (arith, none, fewer) ])
 
 tail_once : (k l : Lost) (ls : List Lost) → (k.row.entry == l.row.entry) ≡ false → IsLostOnce ls l → IsLostOnce (k ∷ ls) l
 tail_once k l ls other is =
@@ -114,28 +118,39 @@ recoveries_exact T (e ∷ es) number valid good legal small =
 abbrev IsSmall : Lost → Type 0
 IsSmall l = l.row.entry < 2 ^ 64
 
+stood_small : (T : SchedulerTables) (c : Command) → TablesValid T → AllByRecursion IsSmall (lost_in T c)
+stood_small T c valid =
+    All-weaker (Stood T) IsSmall (lost_in T c)
+    (λ l found. let below : l.row.entry < T.next_entry = All-fired_of (λ g. g.entry < T.next_entry) l.row.entry l.row T.fired valid.fresh.fired found in omega (arith, valid.references_and_limits.limits.next_entry))
+    (stood T c valid)
+
 lost_small : (T : SchedulerTables) (es : List EntryData) → TablesValid T → AreValid es → IsLegalFrom T es → AllByRecursion IsSmall (lost_from T es)
 lost_small T [] valid good legal = tt
 lost_small T (e ∷ es) valid good legal =
-    All-append IsSmall (lost_in T e.command) (lost_from (tables_left T (transaction T e)) es)
-    (All-weaker (Stood T) IsSmall (lost_in T e.command)
-    (λ l found. let below : l.row.entry < T.next_entry = All-fired_of (λ g. g.entry < T.next_entry) l.row.entry l.row T.fired valid.fresh.fired found in omega (arith, valid.references_and_limits.limits.next_entry))
-    (stood T e.command valid))
+    All-append IsSmall (lost_in T e.command) (lost_from (tables_left T (transaction T e)) es) (stood_small T e.command valid)
     (lost_small (tables_left T (transaction T e)) es (valid-left T e good.0 valid) good.1 legal.1)
 
--- a lost execution yields one recovery if it asked, else none
-abbrev IsRecovered : SchedulerTables → List EntryData → Lost → Type 0
-IsRecovered T es l = recoveries_from T es l.row.entry ≡ (if l.asked then 1 else 0)
+-- each entry recovers by itself what it loses
+at_once : (T : SchedulerTables) (es : List EntryData) → TablesValid T → AreValid es → IsLegalFrom T es → RecoversAtOnce T es
+at_once T [] valid good legal = tt
+at_once T (e ∷ es) valid good legal =
+    let f = facts_left T e valid legal.0 in (
+      All-both IsSmall (IsLostOnce (lost_in T e.command)) (IsOneIfAsked (recoveries_in T e)) (lost_in T e.command) (λ l small is. f.recovers l.row.entry small ∙ is)
+          (stood_small T e.command valid)
+          (each_once (lost_in T e.command) (λ number. once T e.command number valid)),
+      at_once (tables_left T (transaction T e)) es (valid-left T e good.0 valid) good.1 legal.1,
+    )
 
 pub exact : (T : SchedulerTables) (es : List EntryData) → TablesValid T → AreValid es → IsLegalFrom T es → AreExact T es
 exact T es valid good legal = record {
   once = λ number. lost_once T es number valid good legal;
-  yields = All-both IsSmall (IsLostOnce (lost_from T es)) (IsRecovered T es) (lost_from T es) (λ l small is. recoveries_exact T es l.row.entry valid good legal small ∙ is)
+  yields = All-both IsSmall (IsLostOnce (lost_from T es)) (IsOneIfAsked (recoveries_from T es)) (lost_from T es) (λ l small is. recoveries_exact T es l.row.entry valid good legal small ∙ is)
       (lost_small T es valid good legal)
       (each_once (lost_from T es) (λ number. lost_once T es number valid good legal));
+  at_once = at_once T es valid good legal;
   no_others = λ number small none. omega (
     arith,
     recoveries_exact T es number valid good legal small,
-    count_by-fewer (asked_for number) (is_lost number) (lost_from T es) (λ l both. (and_parts l.asked (number == l.row.entry) both).1),
+    no_more_asked number (lost_from T es),
   );
 }

@@ -1,6 +1,6 @@
 -- Executions that are lost with a failed member, and the triggers that are added to recover them. None of these
 -- definitions uses a word by which the model defines recovery, so that the law stays as it is if the model goes wrong.
-use Rattle.std.specs.Prelude.{◌≡◌, ℕ, nat_eq, ◌+◌, ◌==◌, ◌<◌, ◌≤◌, ◌^◌, List, [], ◌∷◌, ◌++◌, map, filter, Bool, true, false, not, ◌&&◌, codes, Option, Some, None, is_some, if◌then◌else◌}
+use Rattle.std.specs.Prelude.{◌≡◌, ⊤, ℕ, nat_eq, ◌+◌, ◌==◌, ◌<◌, ◌≤◌, ◌^◌, List, [], ◌∷◌, ◌++◌, map, filter, Bool, true, false, not, ◌&&◌, codes, Option, Some, None, is_some, if◌then◌else◌}
 use Rattle.std.specs.List.{AllByRecursion, count_by, ends_with}
 use Rattle.std.specs.Fmt.{decimal}
 use Rattle.qz_types.specs.Rows.{TriggerData, MemberData, FiredData}
@@ -69,17 +69,30 @@ is_recovery number t = same_text t.spec.key.group (codes "RECOVERING_JOBS") && e
 abbrev pub added : SchedulerTables → SchedulerTables → List TriggerData
 added T next = filter (λ t. not (is_some (trigger_of t.spec.key T.triggers))) next.triggers
 
--- how many recoveries of this entry number all entries of a history add
+-- how many recoveries of this entry number one entry adds
+abbrev pub recoveries_in : SchedulerTables → EntryData → ℕ → ℕ
+recoveries_in T e number = count_by (is_recovery number) (added T (tables_left T (transaction T e)))
+
+-- how many all entries of a history add, whether they stand at its end or not
 abbrev pub recoveries_from : SchedulerTables → List EntryData → ℕ → ℕ
 recoveries_from T [] number = 0
-recoveries_from T (e ∷ es) number =
-    count_by (is_recovery number) (added T (tables_left T (transaction T e)))
-    + recoveries_from (tables_left T (transaction T e)) es number
+recoveries_from T (e ∷ es) number = recoveries_in T e number + recoveries_from (tables_left T (transaction T e)) es number
 
 -- The law.
 
--- No execution is lost twice. Each lost one yields one recovery if it asked, else none, and nothing else yields any.
+-- a lost execution that asked has one recovery, and any other none
+abbrev pub IsOneIfAsked : (ℕ → ℕ) → Lost → Type 0
+IsOneIfAsked recoveries l = recoveries l.row.entry ≡ (if l.asked then 1 else 0)
+
+-- each entry recovers by itself what it loses
+abbrev pub RecoversAtOnce : SchedulerTables → List EntryData → Type 0
+RecoversAtOnce T [] = ⊤
+RecoversAtOnce T (e ∷ es) = AllByRecursion (IsOneIfAsked (recoveries_in T e)) (lost_in T e.command) × RecoversAtOnce (tables_left T (transaction T e)) es
+
+-- No execution is lost twice. Each lost one yields one recovery if it asked, else none, and does so at once. Nothing else
+-- yields any.
 pub record AreExact (T : SchedulerTables) (es : List EntryData) : Type 0 where
   pub once : (number : ℕ) → count_by (is_lost number) (lost_from T es) ≤ 1
-  pub yields : AllByRecursion (λ l. recoveries_from T es l.row.entry ≡ (if l.asked then 1 else 0)) (lost_from T es)
+  pub yields : AllByRecursion (IsOneIfAsked (recoveries_from T es)) (lost_from T es)
+  pub at_once : RecoversAtOnce T es
   pub no_others : (number : ℕ) → number < 2 ^ 64 → count_by (is_lost number) (lost_from T es) ≡ 0 → recoveries_from T es number ≡ 0
