@@ -75,7 +75,7 @@ acts_not T e me good is none by =
 never_acts : (T : SchedulerTables) (es : List EntryData) (me : MemberData) → TablesValid T → AreValid es → IsLegalFrom T es → me.epoch < T.next_epoch → AllByRecursion (IsNot me) T.members → NeverActs me es
 never_acts T [] me valid good legal given none = tt
 never_acts T (e ∷ es) me valid good legal given none =
-    let f = facts_left T e valid legal.0 in (
+    let f = (facts_left T e valid legal.0).2 in (
       acts_not T e me good.0 legal.0 none,
       never_acts (tables_left T (transaction T e)) es me (valid-left T e good.0 valid) good.1 legal.1 (omega (arith, f.next_epoch)) (f.members me given none),
     )

@@ -4,10 +4,11 @@ use Rattle.std.specs.List.{AllByRecursion, list_any}
 use Rattle.std.proofs.lemmas.Bool.{eqb-true, eq-eqb, and_parts, false_from_ne_true}
 use Rattle.qz_types.specs.Entries.{EntryData, is_entry}
 use Rattle.qz_types.specs.declared.commands.Command.{Command}
+use Rattle.qz_types.specs.declared.replies.Reply.{Reply}
 use Rattle.qz_types.specs.Tables.{SchedulerTables}
 use Rattle.qz_types.specs.Outcomes.{Outcome, accepted, refused, IsAccepted}
 use Rattle.qz_types.specs.Words.{fired_of}
-use Rattle.qz_model.specs.History.{tables_left, IsLegalFrom}
+use Rattle.qz_model.specs.History.{tables_left, onto_replies, IsLegalFrom}
 use Rattle.qz_model.specs.Invariant.{TablesValid}
 use Rattle.qz_model.specs.Transaction.{transaction}
 use Rattle.qz_model.proofs.Histories.{valid-left}
@@ -16,7 +17,7 @@ use Rattle.qz_model.proofs.RowPoints.{All-weaker, All-both, All-none, count_by-c
 use Rattle.qz_laws.specs.Losses.{Lost, lost_in, lost_from, is_lost, recoveries_in, recoveries_from, IsOneIfAsked, RecoversAtOnce, AreExact}
 use Rattle.qz_laws.proofs.Counts.{count_by-append, count_by-fewer, one_that_passes, All-append}
 use Rattle.qz_laws.proofs.Entries.{facts}
-use Rattle.qz_laws.proofs.Facts.{asked_for, EntryFacts, Stood, stood, once}
+use Rattle.qz_laws.proofs.Facts.{asked_for, EntryFacts, no_row_again, Stood, stood, once}
 
 -- each entry is valid
 abbrev pub AreValid : List EntryData → Type 0
@@ -57,12 +58,15 @@ each_once (l ∷ ls) apart =
           (each_once ls (λ number. let all : cond (number == l.row.entry) 1 0 + count_by (is_lost number) ls ≤ 1 = subst (λ n. n ≤ 1) (count_by-cons (is_lost number) l ls) (apart number) in omega arith)),
     )
 
-facts_at : (T : SchedulerTables) (e : EntryData) (o : Outcome) → TablesValid T → IsAccepted o → transaction T e ≡ o → EntryFacts T e.command (tables_left T o)
-facts_at T e (accepted T' r) valid is way = facts T T' e r valid way
+-- what an accepted entry does, with its reply
+abbrev pub FactsWithReply : SchedulerTables → EntryData → Outcome → Type 0
+FactsWithReply T e o = (r : Reply) × ((rs : List Reply) → onto_replies o rs ≡ r ∷ rs) × EntryFacts T e.command r (tables_left T o)
+
+facts_at : (T : SchedulerTables) (e : EntryData) (o : Outcome) → TablesValid T → IsAccepted o → transaction T e ≡ o → FactsWithReply T e o
+facts_at T e (accepted T' r) valid is way = (r, λ rs. refl, facts T T' e r valid way)
 facts_at T e (refused x) valid is way = absurd is
 
--- what an accepted entry does
-pub facts_left : (T : SchedulerTables) (e : EntryData) → TablesValid T → IsAccepted (transaction T e) → EntryFacts T e.command (tables_left T (transaction T e))
+pub facts_left : (T : SchedulerTables) (e : EntryData) → TablesValid T → IsAccepted (transaction T e) → FactsWithReply T e (transaction T e)
 facts_left T e valid is = facts_at T e (transaction T e) valid is refl
 
 -- an entry number that was given and has no row is lost no more
@@ -70,21 +74,21 @@ lost_no_more : (T : SchedulerTables) (es : List EntryData) (number : ℕ) → Ta
     → count_by (is_lost number) (lost_from T es) ≡ 0
 lost_no_more T [] number valid good legal below none = refl
 lost_no_more T (e ∷ es) number valid good legal below none =
-    let f = facts_left T e valid legal.0 in
+    let f = (facts_left T e valid legal.0).2 in
     let here : count_by (is_lost number) (lost_in T e.command) ≡ 0 =
     count_by-none (is_lost number) (lost_in T e.command)
     (All-weaker (Stood T) (λ l. is_lost number l ≡ false) (lost_in T e.command)
     (λ l found. false_from_ne_true (is_lost number l) (λ same. let gone : fired_of l.row.entry T.fired ≡ None = subst (λ n. fired_of n T.fired ≡ None) (eqb-true number l.row.entry same) none in absurd (cc)))
     (stood T e.command valid)) in
     let later : count_by (is_lost number) (lost_from (tables_left T (transaction T e)) es) ≡ 0 =
-    lost_no_more (tables_left T (transaction T e)) es number (valid-left T e good.0 valid) good.1 legal.1 (omega (arith, f.next_entry)) (f.rows number below none) in
+    lost_no_more (tables_left T (transaction T e)) es number (valid-left T e good.0 valid) good.1 legal.1 (omega (arith, f.next_entry)) (no_row_again T (tables_left T (transaction T e)) (facts_left T e valid legal.0).0 number f.origins below none) in
     count_by-append (is_lost number) (lost_in T e.command) (lost_from (tables_left T (transaction T e)) es) ∙ omega arith
 
 -- an execution is lost at most once
 lost_once : (T : SchedulerTables) (es : List EntryData) (number : ℕ) → TablesValid T → AreValid es → IsLegalFrom T es → count_by (is_lost number) (lost_from T es) ≤ 1
 lost_once T [] number valid good legal = omega arith
 lost_once T (e ∷ es) number valid good legal =
-    let f = facts_left T e valid legal.0 in
+    let f = (facts_left T e valid legal.0).2 in
     let all = count_by-append (is_lost number) (lost_in T e.command) (lost_from (tables_left T (transaction T e)) es) in
     elim (list_any (is_lost number) (lost_in T e.command)) as (λ b. list_any (is_lost number) (lost_in T e.command) ≡ b → count_by (is_lost number) (lost_from T (e ∷ es)) ≤ 1) [
       | true ↦ λ some.
@@ -106,7 +110,7 @@ recoveries_exact : (T : SchedulerTables) (es : List EntryData) (number : ℕ) �
     → recoveries_from T es number ≡ count_by (asked_for number) (lost_from T es)
 recoveries_exact T [] number valid good legal small = refl
 recoveries_exact T (e ∷ es) number valid good legal small =
-    let f = facts_left T e valid legal.0 in
+    let f = (facts_left T e valid legal.0).2 in
     omega (
       arith,
       count_by-append (asked_for number) (lost_in T e.command) (lost_from (tables_left T (transaction T e)) es),
@@ -134,7 +138,7 @@ lost_small T (e ∷ es) valid good legal =
 at_once : (T : SchedulerTables) (es : List EntryData) → TablesValid T → AreValid es → IsLegalFrom T es → RecoversAtOnce T es
 at_once T [] valid good legal = tt
 at_once T (e ∷ es) valid good legal =
-    let f = facts_left T e valid legal.0 in (
+    let f = (facts_left T e valid legal.0).2 in (
       All-both IsSmall (IsLostOnce (lost_in T e.command)) (IsOneIfAsked (recoveries_in T e)) (lost_in T e.command) (λ l small is. f.recovers l.row.entry small ∙ is)
           (stood_small T e.command valid)
           (each_once (lost_in T e.command) (λ number. once T e.command number valid)),

@@ -21,9 +21,9 @@ use Rattle.qz_model.proofs.RowLaws.{each_fired, only_fired, fired_of-none, All-p
 use Rattle.qz_model.proofs.RowPoints.{All-from, All-weaker, All-filter, All-left, filter-alike}
 use Rattle.qz_laws.specs.Losses.{is_executing, is_held_by, executions_of, lost_as, lost_in}
 use Rattle.qz_laws.proofs.Counts.{All-mapped}
-use Rattle.qz_laws.proofs.Facts.{asked_for, IsNot, EntryFacts}
-use Rattle.qz_laws.proofs.Quiet.{quiet_facts}
-use Rattle.qz_laws.proofs.QuietNodes.{fired_of-others, new_is_not, quiet-join}
+use Rattle.qz_laws.proofs.Facts.{asked_for, IsNot, Origin, EntryFacts}
+use Rattle.qz_laws.proofs.Quiet.{all_stood, quiet_facts}
+use Rattle.qz_laws.proofs.QuietNodes.{stood-others, new_is_not, quiet-join}
 use Rattle.qz_laws.proofs.Recoveries.{recoveries_added}
 
 begun_or_not : (s : FiredState) → is_executing s ≡ not (is_acquired s)
@@ -60,13 +60,13 @@ module _ (T : SchedulerTables) (member : MemberData) (valid : TablesValid T) whe
       (λ f found is. row_gone f found (and_parts (not (is_acquired f.state)) (is_of member f) is).1)
       (each_fired T.fired valid.references_and_limits.ordered.fired))
 
-  losing_facts : (c : Command) (U : SchedulerTables) → lost_in T c ≡ map (lost_as T) (executions_of (Some member) T.fired) → U.next_entry ≡ T.next_entry → U.fired ≡ rows_of_others member T.fired
+  losing_facts : (c : Command) (r : Reply) (U : SchedulerTables) → lost_in T c ≡ map (lost_as T) (executions_of (Some member) T.fired) → U.next_entry ≡ T.next_entry → U.fired ≡ rows_of_others member T.fired
       → U.triggers ≡ triggers_left T member → T.next_epoch ≤ U.next_epoch → ((me : MemberData) → me.epoch < T.next_epoch → AllByRecursion (IsNot me) T.members → AllByRecursion (IsNot me) U.members)
-      → EntryFacts T c U
-  losing_facts c U losses entry rows triggers epoch members =
+      → EntryFacts T c r U
+  losing_facts c r U losses entry rows triggers epoch members =
       let all : lost_in T c ≡ map (lost_as T) (lost_of member T.fired) = losses ∙ ap (map (lost_as T)) (same_executions member T.fired) in record {
         next_entry = omega (arith, entry);
-        rows = λ number below none. ap (fired_of number) rows ∙ fired_of-others member number T.fired none;
+        origins = subst (AllByRecursion (Origin T r)) (sym rows) (stood-others T r member T.fired (all_stood T r valid));
         gone = subst (AllByRecursion (λ l. fired_of l.row.entry U.fired ≡ None)) (sym all)
             (All-mapped (λ l. fired_of l.row.entry U.fired ≡ None) (lost_as T) (lost_of member T.fired)
             (subst (λ (fs : List FiredData). AllByRecursion (λ f. fired_of f.entry fs ≡ None) (lost_of member T.fired)) (sym rows) lost_gone));
@@ -77,38 +77,41 @@ module _ (T : SchedulerTables) (member : MemberData) (valid : TablesValid T) whe
 
 -- Recover.
 
-accepted_facts : (T U T' : SchedulerTables) (c : Command) (s r : Reply) → accepted U s ≡ accepted T' r → EntryFacts T c U → EntryFacts T c T'
-accepted_facts T U T' c s r is facts = let one : U ≡ T' = cc in subst (λ (V : SchedulerTables). EntryFacts T c V) one facts
+accepted_facts : (T U T' : SchedulerTables) (c : Command) (s r : Reply) → accepted U s ≡ accepted T' r → EntryFacts T c s U → EntryFacts T c r T'
+accepted_facts T U T' c s r is facts =
+    let tables : U ≡ T' = cc in
+    let reply : s ≡ r = cc in
+    subst (λ (q : Reply). EntryFacts T c q T') reply (subst (λ (V : SchedulerTables). EntryFacts T c s V) tables facts)
 
-facts-recovered : (T : SchedulerTables) (m : ℤ) (node : List ℕ) (member : MemberData) → TablesValid T → member_of node T.members ≡ Some member
-    → EntryFacts T (Recover node) (record (recovered T member) { last_moment = m })
+facts-recovered : (T : SchedulerTables) (r : Reply) (m : ℤ) (node : List ℕ) (member : MemberData) → TablesValid T → member_of node T.members ≡ Some member
+    → EntryFacts T (Recover node) r (record (recovered T member) { last_moment = m })
 unfolding recovered
-facts-recovered T m node member valid found =
-    losing_facts T member valid (Recover node) _ (ap (λ (o : Option MemberData). map (lost_as T) (executions_of o T.fired)) found) refl refl refl (omega arith)
+facts-recovered T r m node member valid found =
+    losing_facts T member valid (Recover node) r _ (ap (λ (o : Option MemberData). map (lost_as T) (executions_of o T.fired)) found) refl refl refl (omega arith)
     (λ me below none. All-without_member (IsNot me) (IsNot me) member.node T.members none (λ n differ is. is))
 
-facts-recover_member : (T T' : SchedulerTables) (m : ℤ) (node : List ℕ) (o : Option MemberData) (r : Reply) → TablesValid T → member_of node T.members ≡ o → recover_member T m o ≡ accepted T' r → EntryFacts T (Recover node) T'
+facts-recover_member : (T T' : SchedulerTables) (m : ℤ) (node : List ℕ) (o : Option MemberData) (r : Reply) → TablesValid T → member_of node T.members ≡ o → recover_member T m o ≡ accepted T' r → EntryFacts T (Recover node) r T'
 facts-recover_member T T' m node None r valid found e = absurd (cc)
-facts-recover_member T T' m node (Some member) r valid found e = accepted_facts T _ T' (Recover node) _ r (passes (recovery_refusal T member) _ T' r e).outcome (facts-recovered T m node member valid found)
+facts-recover_member T T' m node (Some member) r valid found e = accepted_facts T _ T' (Recover node) _ r (passes (recovery_refusal T member) _ T' r e).outcome (facts-recovered T _ m node member valid found)
 
-pub facts-recover : (T T' : SchedulerTables) (m : ℤ) (me : MemberData) (node : List ℕ) (r : Reply) → TablesValid T → recover T m me node ≡ accepted T' r → EntryFacts T (Recover node) T'
+pub facts-recover : (T T' : SchedulerTables) (m : ℤ) (me : MemberData) (node : List ℕ) (r : Reply) → TablesValid T → recover T m me node ≡ accepted T' r → EntryFacts T (Recover node) r T'
 facts-recover T T' m me node r valid e = facts-recover_member T T' m node (member_of node T.members) r valid refl (passes (node_refusal T me) _ T' r e).outcome
 
 -- Join.
 
-facts-rejoined : (T : SchedulerTables) (m : ℤ) (node : List ℕ) (member : MemberData) → TablesValid T → member_of node T.members ≡ Some member
-    → EntryFacts T (Join node) (record (with_new_member (recovered T member) node) { last_moment = m })
+facts-rejoined : (T : SchedulerTables) (r : Reply) (m : ℤ) (node : List ℕ) (member : MemberData) → TablesValid T → member_of node T.members ≡ Some member
+    → EntryFacts T (Join node) r (record (with_new_member (recovered T member) node) { last_moment = m })
 unfolding recovered with_new_member
-facts-rejoined T m node member valid found =
-    losing_facts T member valid (Join node) _ (ap (λ (o : Option MemberData). map (lost_as T) (executions_of o T.fired)) found) refl refl refl (omega arith)
+facts-rejoined T r m node member valid found =
+    losing_facts T member valid (Join node) r _ (ap (λ (o : Option MemberData). map (lost_as T) (executions_of o T.fired)) found) refl refl refl (omega arith)
     (λ me below none. All-put_member (IsNot me) (record { node = node; epoch = T.next_epoch }) (without_member member.node T.members) (new_is_not T node me below)
     (All-without_member (IsNot me) (IsNot me) member.node T.members none (λ n differ is. is)))
 
 facts-join_at : (T T' : SchedulerTables) (m : ℤ) (node : List ℕ) (o : Option MemberData) (r : Reply) → TablesValid T → member_of node T.members ≡ o → unless (join_refusal T o) (joined T m node o) ≡ accepted T' r
-    → EntryFacts T (Join node) T'
+    → EntryFacts T (Join node) r T'
 facts-join_at T T' m node None r valid found e =
-    quiet_facts T T' (Join node) (ap (λ (o : Option MemberData). map (lost_as T) (executions_of o T.fired)) found) (quiet-join T T' m node r valid (passes (join_refusal T None) _ T' r e).outcome)
-facts-join_at T T' m node (Some member) r valid found e = accepted_facts T _ T' (Join node) _ r (passes (join_refusal T (Some member)) _ T' r e).outcome (facts-rejoined T m node member valid found)
+    quiet_facts T r T' (Join node) (ap (λ (o : Option MemberData). map (lost_as T) (executions_of o T.fired)) found) (quiet-join T T' m node r valid (passes (join_refusal T None) _ T' r e).outcome)
+facts-join_at T T' m node (Some member) r valid found e = accepted_facts T _ T' (Join node) _ r (passes (join_refusal T (Some member)) _ T' r e).outcome (facts-rejoined T _ m node member valid found)
 
-pub facts-join : (T T' : SchedulerTables) (m : ℤ) (node : List ℕ) (r : Reply) → TablesValid T → join T m node ≡ accepted T' r → EntryFacts T (Join node) T'
+pub facts-join : (T T' : SchedulerTables) (m : ℤ) (node : List ℕ) (r : Reply) → TablesValid T → join T m node ≡ accepted T' r → EntryFacts T (Join node) r T'
 facts-join T T' m node r valid e = facts-join_at T T' m node (member_of node T.members) r valid refl e

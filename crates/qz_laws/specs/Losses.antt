@@ -1,6 +1,6 @@
 -- Executions that are lost with a failed member, and the triggers that are added to recover them. None of these
 -- definitions uses a word by which the model defines recovery, so that the law stays as it is if the model goes wrong.
-use Rattle.std.specs.Prelude.{◌≡◌, ⊤, ℕ, nat_eq, ◌+◌, ◌==◌, ◌<◌, ◌≤◌, ◌^◌, List, [], ◌∷◌, ◌++◌, map, filter, Bool, true, false, not, ◌&&◌, codes, Option, Some, None, is_some, if◌then◌else◌}
+use Rattle.std.specs.Prelude.{◌≡◌, ◌⊎◌, ⊤, ℕ, nat_eq, ◌+◌, ◌==◌, ◌<◌, ◌≤◌, ◌^◌, List, [], ◌∷◌, ◌++◌, map, filter, Bool, true, false, not, ◌&&◌, codes, Option, Some, None, is_some, if◌then◌else◌}
 use Rattle.std.specs.List.{AllByRecursion, count_by, ends_with}
 use Rattle.std.specs.Fmt.{decimal}
 use Rattle.qz_types.specs.Rows.{TriggerData, MemberData, FiredData}
@@ -9,6 +9,8 @@ use Rattle.qz_types.specs.declared.commands.Command.{Command}
 use Rattle.qz_types.specs.declared.commands.Command.TheVariants.{Join, Recover}
 use Rattle.qz_types.specs.declared.fired.FiredState.{FiredState}
 use Rattle.qz_types.specs.declared.fired.FiredState.TheVariants.{Acquired, Executing}
+use Rattle.qz_types.specs.declared.replies.Reply.{Reply}
+use Rattle.qz_types.specs.declared.replies.Reply.TheVariants.{Fired}
 use Rattle.qz_types.specs.Tables.{SchedulerTables}
 use Rattle.qz_types.specs.Words.{same_text, job_of, trigger_of, member_of}
 use Rattle.qz_model.specs.History.{tables_left}
@@ -58,6 +60,18 @@ lost_from T (e ∷ es) = lost_in T e.command ++ lost_from (tables_left T (transa
 -- the lost execution had this entry number
 abbrev pub is_lost : ℕ → Lost → Bool
 is_lost number l = number == l.row.entry
+
+-- Beginnings.
+
+-- by this reply the row's execution began: under its entry number, of its job, which had the row's flag then
+abbrev pub IsBegunBy : FiredData → Reply → Type 0
+IsBegunBy f (Fired entry scheduled at next trigger job) = (entry ≡ f.entry) × (job.key ≡ f.job) × (job.requests_recovery ≡ f.requests_recovery)
+IsBegunBy f reply = ⊥
+
+-- by one of these replies
+abbrev pub IsBegunByOne : FiredData → List Reply → Type 0
+IsBegunByOne f [] = ⊥
+IsBegunByOne f (reply ∷ replies) = IsBegunBy f reply ⊎ IsBegunByOne f replies
 
 -- Recoveries.
 
