@@ -25,17 +25,19 @@ asked_for number l = l.asked && (number == l.row.entry)
 abbrev pub IsNot : MemberData → MemberData → Type 0
 IsNot me m = m ≡ me → ⊥
 
--- A row that stands after a transaction stood before as it is, or is a new acquired one, or was there and the reply begins
--- its execution.
+-- Where the rows come from that stand after a transaction.
 
+-- it is new, and acquired
 pub record IsNew (T : SchedulerTables) (f : FiredData) : Type 0 where
   pub acquired : is_executing f.state ≡ false
   pub above : T.next_entry ≤ f.entry
 
+-- its execution begins
 pub record Begins (T : SchedulerTables) (r : Reply) (f : FiredData) : Type 0 where
   pub row : is_some (fired_of f.entry T.fired) ≡ true
   pub reply : IsBegunBy f r
 
+-- it stood, or is one of these
 abbrev pub Origin : SchedulerTables → Reply → FiredData → Type 0
 Origin T r f = (fired_of f.entry T.fired ≡ Some f) ⊎ (IsNew T f ⊎ Begins T r f)
 
@@ -79,7 +81,6 @@ stood T c valid = tt
 once_of : (T : SchedulerTables) (o : Option MemberData) (number : ℕ) → TablesValid T → count_by (is_lost number) (map (lost_as T) (executions_of o T.fired)) ≤ 1
 once_of T None number valid = omega arith
 once_of T (Some member) number valid =
-    let at : FiredData → Bool = λ f. number == f.entry in
     omega (
       arith,
       count_by-mapped (is_lost number) (lost_as T) (executions_of (Some member) T.fired),

@@ -6,6 +6,7 @@ pub mod Fenced
 pub mod Histories
 pub mod Names
 pub mod Quiet
+pub mod QuietChanges
 pub mod QuietClients
 pub mod QuietNodes
 pub mod Recovered

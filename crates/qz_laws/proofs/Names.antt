@@ -18,7 +18,6 @@ use Rattle.qz_laws.specs.Losses.{is_recovery}
 -- a test of the end of a name tells what it ends in
 ends_in : (name : List ℕ) (number : ℕ) → ends_with nat_eq name (95 ∷ decimal number) ≡ true → EndsIn name number
 ends_in name number is =
-    let front : ℕ = length name - length (95 ∷ decimal number) in
     let back : 95 ∷ decimal number ≡ drop (length name - length (95 ∷ decimal number)) name = same_list (95 ∷ decimal number) (drop (length name - length (95 ∷ decimal number)) name) (sym is) in (
       take (length name - length (95 ∷ decimal number)) name,
       sym (take-append-drop (length name - length (95 ∷ decimal number)) name) ∙ ap (λ (xs : List ℕ). take (length name - length (95 ∷ decimal number)) name ++ xs) (sym back),

@@ -24,6 +24,7 @@ is_in_recovery t = same_text t.spec.key.group (codes "RECOVERING_JOBS")
 abbrev pub WasStored : SchedulerTables → TriggerData → Type 0
 WasStored T t = is_in_recovery t ≡ true → is_some (trigger_of t.spec.key T.triggers) ≡ true
 
+-- Whatever rows and triggers of that group stand then come from those that stood; numbers, epochs and members as in the facts.
 pub record Quiet (T : SchedulerTables) (r : Reply) (U : SchedulerTables) : Type 0 where
   pub next_entry : T.next_entry ≤ U.next_entry
   pub origins : AllByRecursion (Origin T r) U.fired
@@ -31,10 +32,12 @@ pub record Quiet (T : SchedulerTables) (r : Reply) (U : SchedulerTables) : Type 
   pub next_epoch : T.next_epoch ≤ U.next_epoch
   pub members : (me : MemberData) → me.epoch < T.next_epoch → AllByRecursion (IsNot me) T.members → AllByRecursion (IsNot me) U.members
 
+-- at first each was
 pub were_stored : (T : SchedulerTables) → TablesValid T → AllByRecursion (WasStored T) T.triggers
 were_stored T valid =
     All-weaker (λ t. trigger_of t.spec.key T.triggers ≡ Some t) (WasStored T) T.triggers (λ t found is. ap is_some found) (each_trigger T.triggers valid.references_and_limits.ordered.triggers)
 
+-- and each row stood
 pub all_stood : (T : SchedulerTables) (r : Reply) → TablesValid T → AllByRecursion (Origin T r) T.fired
 all_stood T r valid = All-weaker (λ f. fired_of f.entry T.fired ≡ Some f) (Origin T r) T.fired (λ f found. inl found) (each_fired T.fired valid.references_and_limits.ordered.fired)
 
@@ -61,7 +64,7 @@ accepted_quiet T U T' s r is quiet =
     let reply : s ≡ r = cc in
     subst (λ (q : Reply). Quiet T q T') reply (subst (λ (V : SchedulerTables). Quiet T s V) tables quiet)
 
--- so it is no new recovery
+-- a trigger that was stored is no new recovery
 pub none_new : (T : SchedulerTables) (number : ℕ) (t : TriggerData) → WasStored T t → (not (is_some (trigger_of t.spec.key T.triggers)) && is_recovery number t) ≡ false
 unfolding is_recovery
 none_new T number t stored = false_from_ne_true (not (is_some (trigger_of t.spec.key T.triggers)) && is_recovery number t) (λ both.

@@ -1,16 +1,14 @@
 -- The commands of clients lose no execution and add no recovery.
-use Rattle.std.proofs.Common.{◌≡◌, ℕ, ℤ, Bool, true, false, ◌||◌, List, codes, Option, Some, None, is_some, refl, sym, subst, arith}
-use Rattle.std.specs.List.{AllByRecursion}
-use Rattle.qz_types.specs.Rows.{JobData, TriggerData, FiredData, CalendarData, ZoneData}
+use Rattle.std.proofs.Common.{◌≡◌, ℕ, ℤ, Bool, true, false, ◌||◌, List, codes, Some, None, refl, subst, arith}
+use Rattle.qz_types.specs.Rows.{JobData, TriggerData, CalendarData, ZoneData}
 use Rattle.qz_types.specs.declared.keys.Key.{Key}
 use Rattle.qz_types.specs.declared.triggers.TriggerSpec.{TriggerSpec}
-use Rattle.qz_types.specs.declared.triggers.TriggerState.{TriggerState}
 use Rattle.qz_types.specs.declared.replies.Reply.{Reply}
-use Rattle.qz_types.specs.Changes.{with_state, with_states, without_acquired}
+use Rattle.qz_types.specs.Changes.{with_state}
 use Rattle.qz_types.specs.States.{paused, resumed}
 use Rattle.qz_types.specs.Tables.{SchedulerTables}
 use Rattle.qz_types.specs.Outcomes.{accepted}
-use Rattle.qz_types.specs.Words.{same_text, job_of, trigger_of, with_trigger, without_trigger}
+use Rattle.qz_types.specs.Words.{same_text, job_of, trigger_of, without_trigger}
 use Rattle.qz_model.specs.Calendars.{add_calendar_refusal, add_calendar, delete_calendar_refusal, delete_calendar, add_zone_refusal, add_zone, delete_zone_refusal, delete_zone}
 use Rattle.qz_model.specs.Invariant.{TablesValid}
 use Rattle.qz_model.specs.Jobs.{add_job_refusal, add_job, unknown_job, delete_job}
@@ -20,28 +18,10 @@ use Rattle.qz_model.specs.Tests.{is_trigger_of, is_row_of_job, is_row_of_trigger
 use Rattle.qz_model.specs.Triggers.{is_reserved, new_trigger, naming_refusal, add_trigger_refusal, with_new_trigger, add_trigger, unknown_trigger, without_trigger_and_orphan, delete_trigger, manual_trigger, trigger_now_refusal, trigger_now, set_threshold}
 use Rattle.qz_model.proofs.Changes.{passes}
 use Rattle.qz_model.proofs.Refusals.{not_refused, no_first}
-use Rattle.qz_model.proofs.RowLaws.{All-put_trigger, All-with_trigger, All-without_trigger}
+use Rattle.qz_model.proofs.RowLaws.{All-put_trigger, All-without_trigger}
 use Rattle.qz_model.proofs.RowPoints.{All-left}
-use Rattle.qz_model.proofs.StateLaws.{All-with_states, All-without_acquired}
-use Rattle.qz_laws.proofs.Facts.{Origin}
 use Rattle.qz_laws.proofs.Quiet.{is_in_recovery, WasStored, Quiet, were_stored, all_stood, steady, same, accepted_quiet}
-
--- Changes of triggers that keep their keys.
-
-pub stored-with_trigger : (T : SchedulerTables) (key : Key) (change : TriggerData → TriggerData) (rows : List TriggerData) → ((t : TriggerData) → (change t).spec.key ≡ t.spec.key)
-    → AllByRecursion (WasStored T) rows → AllByRecursion (WasStored T) (with_trigger key change rows)
-stored-with_trigger T key change rows keeps all =
-    All-with_trigger (WasStored T) (WasStored T) key change rows all
-    (λ t at was. subst (λ (k : Key). same_text k.group (codes "RECOVERING_JOBS") ≡ true → is_some (trigger_of k T.triggers) ≡ true) (sym (keeps t)) was) (λ t differ was. was)
-
-pub stored-with_states : (T : SchedulerTables) (change : TriggerState → TriggerState) (p : TriggerData → Bool) (rows : List TriggerData)
-    → AllByRecursion (WasStored T) rows → AllByRecursion (WasStored T) (with_states change p rows)
-stored-with_states T change p rows all = All-with_states change p (WasStored T) (WasStored T) rows all (λ t changed was. was) (λ t left was. was)
-
--- Rows that are left out.
-
-pub stood-without_acquired : (T : SchedulerTables) (r : Reply) (q : FiredData → Bool) (rows : List FiredData) → AllByRecursion (Origin T r) rows → AllByRecursion (Origin T r) (without_acquired q rows)
-stood-without_acquired T r q rows all = All-without_acquired q (Origin T r) (Origin T r) rows all (λ f left is. is)
+use Rattle.qz_laws.proofs.QuietChanges.{stored-with_trigger, stored-with_states, stood-without_acquired, quiet-without_trigger, at_moment}
 
 -- Jobs.
 
@@ -77,21 +57,6 @@ unfolding new_trigger
 quiet-add_trigger T T' m s replace r valid e =
     let way = passes (add_trigger_refusal T s replace) _ T' r e in
     accepted_quiet T _ T' _ r way.outcome (quiet-new_trigger T _ m (new_trigger T s (first_time T s)) valid (client_group T s replace way.clear))
-
-pub quiet-without_trigger : (T : SchedulerTables) (r : Reply) (U : SchedulerTables) (o : Option TriggerData) → Quiet T r U → Quiet T r (without_trigger_and_orphan U o)
-unfolding without_trigger_and_orphan
-quiet-without_trigger T r U None was = was
-quiet-without_trigger T r U (Some t) was = record {
-  next_entry = was.next_entry;
-  origins = stood-without_acquired T r (is_row_of_trigger t.spec.key) U.fired was.origins;
-  triggers = All-without_trigger (WasStored T) (WasStored T) t.spec.key U.triggers was.triggers (λ u differ stored. stored);
-  next_epoch = was.next_epoch;
-  members = was.members;
-}
-
--- the moment is none of its points
-pub at_moment : (T : SchedulerTables) (r : Reply) (U : SchedulerTables) (m : ℤ) → Quiet T r U → Quiet T r (record U { last_moment = m })
-at_moment T r U m was = record { next_entry = was.next_entry; origins = was.origins; triggers = was.triggers; next_epoch = was.next_epoch; members = was.members }
 
 pub quiet-delete_trigger : (T T' : SchedulerTables) (m : ℤ) (key : Key) (r : Reply) → TablesValid T → delete_trigger T m key ≡ accepted T' r → Quiet T r T'
 quiet-delete_trigger T T' m key r valid e =

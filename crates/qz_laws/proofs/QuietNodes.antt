@@ -1,6 +1,6 @@
 -- What nodes do with triggers and executions of their own loses none and adds no recovery; nor does a node that leaves, or
 -- one that joins under a name that no member has.
-use Rattle.std.proofs.Common.{◌≡◌, ◌==◌, inl, inr, is_some, sym, ◌∙◌, subst, ℕ, ◌<◌, ℤ, ◌+ℤ◌, Bool, true, false, List, [], ◌∷◌, fold, Option, Some, None, refl, ap, arith}
+use Rattle.std.proofs.Common.{◌≡◌, ℕ, ◌==◌, ◌<◌, ℤ, ◌+ℤ◌, true, List, [], ◌∷◌, fold, Option, Some, None, is_some, inl, inr, refl, sym, ap, ◌∙◌, subst, arith}
 use Rattle.std.specs.List.{AllByRecursion}
 use Rattle.std.proofs.lemmas.Bool.{eqb-true}
 use Rattle.qz_types.specs.Rows.{JobData, TriggerData, MemberData, FiredData}
@@ -12,29 +12,24 @@ use Rattle.qz_types.specs.declared.triggers.TriggerState.TheVariants as state
 use Rattle.qz_types.specs.declared.replies.Reply.{Reply}
 use Rattle.qz_types.specs.declared.replies.Reply.TheVariants as reply
 use Rattle.qz_types.specs.Changes.{in_state, after_fire, begun, moved_trigger}
-use Rattle.qz_types.specs.States.{blocked, unblocked}
 use Rattle.qz_types.specs.Tables.{SchedulerTables}
 use Rattle.qz_types.specs.Outcomes.{accepted}
-use Rattle.qz_types.specs.Words.{job_of, trigger_of, fired_of, without_fired, with_fired}
+use Rattle.qz_types.specs.Words.{job_of, trigger_of, fired_of, with_fired}
 use Rattle.qz_model.specs.Acquiring.{acquire_refusal, acquired_row, with_acquired, chosen, acquire, acquired_refusal, release_row, release}
-use Rattle.qz_model.specs.Completing.{finished, with_trigger_ended, with_job_ended, with_code, with_unblocked, without_execution, without_finished, completed, complete_refusal, complete_one, complete_row, complete}
-use Rattle.qz_model.specs.Firing.{fire_refusal, fired_state, with_blocked, without_siblings, with_begun, following, fire_row, fire}
+use Rattle.qz_model.specs.Completing.{finished, with_trigger_ended, with_job_ended, with_code, without_execution, without_finished, completed, complete_refusal, complete_one, complete_row, complete}
+use Rattle.qz_model.specs.Firing.{fire_refusal, fired_state, with_blocked, with_begun, following, fire_row, fire}
 use Rattle.qz_model.specs.Invariant.{TablesValid}
 use Rattle.qz_model.specs.Membership.{node_refusal}
 use Rattle.qz_model.specs.Misfires.{misfired_triggers, move_of, with_moved, misfires}
-use Rattle.qz_model.specs.Recovery.{has_acquired, rows_of_others, freed_by, with_new_member, joined, leave_refusal, leave}
-use Rattle.qz_model.specs.Tests.{or_refusal, is_of, is_trigger_of, is_row_of_job, is_row_of_trigger, stored_job}
+use Rattle.qz_model.specs.Recovery.{with_new_member, joined, leave_refusal, leave}
+use Rattle.qz_model.specs.Tests.{or_refusal, is_trigger_of, is_row_of_job, is_row_of_trigger, stored_job}
 use Rattle.qz_model.proofs.Changes.{passes}
-use Rattle.qz_model.proofs.RowLaws.{same_key-exact, job_of-key, each_fired, fired_of-entry, All-put_fired, All-with_fired, All-without_fired, All-put_member, All-without_member}
-use Rattle.qz_model.proofs.RowPoints.{All-changed, All-left}
+use Rattle.qz_model.proofs.RowLaws.{same_key-exact, job_of-key, each_fired, fired_of-entry, All-put_fired, All-with_fired, All-put_member, All-without_member}
 use Rattle.qz_laws.proofs.Facts.{IsNot, Origin}
 use Rattle.qz_laws.proofs.Quiet.{WasStored, Quiet, were_stored, all_stood, steady, same, accepted_quiet}
-use Rattle.qz_laws.proofs.QuietClients.{stored-with_trigger, stored-with_states, stood-without_acquired, quiet-without_trigger, at_moment}
+use Rattle.qz_laws.proofs.QuietChanges.{stored-with_trigger, stored-with_states, stored-with_blocked, stored-with_unblocked, stored-freed_by, stood-without_acquired, stood-without_fired, stood-without_siblings, stood-others, quiet-without_trigger, at_moment}
 
 -- Acquire and Release.
-
-stood-without_fired : (T : SchedulerTables) (r : Reply) (entry : ℕ) (rows : List FiredData) → AllByRecursion (Origin T r) rows → AllByRecursion (Origin T r) (without_fired entry rows)
-stood-without_fired T r entry rows all = All-without_fired (Origin T r) (Origin T r) entry rows all (λ f differ is. is)
 
 quiet-with_acquired : (T : SchedulerTables) (r : Reply) (U : SchedulerTables) (me : MemberData) (t : TriggerData) → Quiet T r U → Quiet T r (with_acquired me U t)
 unfolding with_acquired acquired_row
@@ -67,18 +62,10 @@ quiet-release T T' m me entry r valid e = quiet-release_row T T' m me (fired_of 
 
 -- Fire.
 
-stored-with_blocked : (T : SchedulerTables) (b : Bool) (job : Key) (rows : List TriggerData) → AllByRecursion (WasStored T) rows → AllByRecursion (WasStored T) (with_blocked b job rows)
-stored-with_blocked T true job rows all = stored-with_states T blocked (is_trigger_of job) rows all
-stored-with_blocked T false job rows all = all
-
-stood-without_siblings : (T : SchedulerTables) (r : Reply) (b : Bool) (job : Key) (rows : List FiredData) → AllByRecursion (Origin T r) rows → AllByRecursion (Origin T r) (without_siblings b job rows)
-stood-without_siblings T r true job rows all = stood-without_acquired T r (is_row_of_job job) rows all
-stood-without_siblings T r false job rows all = all
-
 -- the row of the execution that begins has the flags of the job that the reply hands out
-begins_here : (T : SchedulerTables) (m m' : ℤ) (f g : FiredData) (job : JobData) (next : Option ℤ) → job.key ≡ f.job → fired_of f.entry T.fired ≡ Some f → (f.entry == g.entry) ≡ true → fired_of g.entry T.fired ≡ Some g
-    → Origin T (reply.Fired f.entry f.scheduled m' next f.trigger job) (begun m job.no_concurrent job.requests_recovery g)
-begins_here T m m' f g job next key row is found =
+begins_here : (T : SchedulerTables) (m : ℤ) (f g : FiredData) (job : JobData) (next : Option ℤ) → job.key ≡ f.job → fired_of f.entry T.fired ≡ Some f → (f.entry == g.entry) ≡ true → fired_of g.entry T.fired ≡ Some g
+    → Origin T (reply.Fired f.entry f.scheduled m next f.trigger job) (begun m job.no_concurrent job.requests_recovery g)
+begins_here T m f g job next key row is found =
     let same : f.entry ≡ g.entry = eqb-true f.entry g.entry is in
     let again : fired_of g.entry T.fired ≡ Some f = subst (λ n. fired_of n T.fired ≡ Some f) same row in
     let one : f ≡ g = cc in
@@ -97,7 +84,7 @@ quiet-with_begun T m f job next valid key row =
     steady T r _ refl refl refl
     (stood-without_siblings T r job.no_concurrent f.job (with_fired f.entry (begun m job.no_concurrent job.requests_recovery) T.fired)
     (All-with_fired (λ g. fired_of g.entry T.fired ≡ Some g) (Origin T r) f.entry (begun m job.no_concurrent job.requests_recovery) T.fired (each_fired T.fired valid.references_and_limits.ordered.fired)
-    (λ g is found. begins_here T m m f g job next key row is found) (λ g differ found. inl found)))
+    (λ g is found. begins_here T m f g job next key row is found) (λ g differ found. inl found)))
     (stored-with_trigger T f.trigger (after_fire next (fired_state next job.no_concurrent)) (with_blocked job.no_concurrent f.job T.triggers) (λ t. refl)
     (stored-with_blocked T job.no_concurrent f.job T.triggers (were_stored T valid)))
 
@@ -130,10 +117,6 @@ quiet-with_code DeleteTrigger T r f valid = quiet-without_trigger T r T (trigger
 quiet-with_code SetAllJobTriggersComplete T r f valid = quiet-job_ended T r f.job state.Complete valid
 quiet-with_code SetTriggerError T r f valid = quiet-trigger_ended T r f.trigger state.Error valid
 quiet-with_code SetAllJobTriggersError T r f valid = quiet-job_ended T r f.job state.Error valid
-
-stored-with_unblocked : (T : SchedulerTables) (b : Bool) (job : Key) (rows : List TriggerData) → AllByRecursion (WasStored T) rows → AllByRecursion (WasStored T) (with_unblocked b job rows)
-stored-with_unblocked T true job rows all = stored-with_states T unblocked (is_trigger_of job) rows all
-stored-with_unblocked T false job rows all = all
 
 quiet-without_execution : (T : SchedulerTables) (r : Reply) (U : SchedulerTables) (f : FiredData) → Quiet T r U → Quiet T r (without_execution U f)
 unfolding without_execution
@@ -191,15 +174,6 @@ quiet-misfires T T' m me r valid e =
     (steady T _ _ refl refl refl (all_stood T _ valid) (stored-move_each T T m T.triggers (misfired_triggers T m) (were_stored T valid)))
 
 -- Leave, and Join under a new name.
-
-pub stood-others : (T : SchedulerTables) (r : Reply) (member : MemberData) (rows : List FiredData) → AllByRecursion (Origin T r) rows → AllByRecursion (Origin T r) (rows_of_others member rows)
-unfolding rows_of_others
-stood-others T r member rows all = All-left (Origin T r) (Origin T r) (is_of member) rows all (λ f other is. is)
-
-pub stored-freed_by : (T : SchedulerTables) (member : MemberData) (fired : List FiredData) (rows : List TriggerData) → AllByRecursion (WasStored T) rows → AllByRecursion (WasStored T) (freed_by member fired rows)
-unfolding freed_by
-stored-freed_by T member fired rows all =
-    All-changed (WasStored T) (WasStored T) (λ t. has_acquired member fired t.spec.key) (in_state state.Waiting) rows all (λ t waits was. was) (λ t left was. was)
 
 pub quiet-leave : (T T' : SchedulerTables) (m : ℤ) (me : MemberData) (r : Reply) → TablesValid T → leave T m me ≡ accepted T' r → Quiet T r T'
 quiet-leave T T' m me r valid e =

@@ -23,7 +23,8 @@ use Rattle.qz_laws.specs.Losses.{is_executing, is_held_by, executions_of, lost_a
 use Rattle.qz_laws.proofs.Counts.{All-mapped}
 use Rattle.qz_laws.proofs.Facts.{asked_for, IsNot, Origin, EntryFacts}
 use Rattle.qz_laws.proofs.Quiet.{all_stood, quiet_facts}
-use Rattle.qz_laws.proofs.QuietNodes.{stood-others, new_is_not, quiet-join}
+use Rattle.qz_laws.proofs.QuietChanges.{stood-others}
+use Rattle.qz_laws.proofs.QuietNodes.{new_is_not, quiet-join}
 use Rattle.qz_laws.proofs.Recoveries.{recoveries_added}
 
 begun_or_not : (s : FiredState) → is_executing s ≡ not (is_acquired s)

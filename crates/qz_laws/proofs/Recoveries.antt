@@ -21,7 +21,7 @@ use Rattle.qz_laws.proofs.Counts.{count_by-both, count_by-same, count_by-mapped,
 use Rattle.qz_laws.proofs.Facts.{asked_for}
 use Rattle.qz_laws.proofs.Names.{recovery_of_its_number}
 use Rattle.qz_laws.proofs.Quiet.{WasStored, were_stored, none_new}
-use Rattle.qz_laws.proofs.QuietNodes.{stored-freed_by}
+use Rattle.qz_laws.proofs.QuietChanges.{stored-freed_by}
 
 -- Triggers that are stored one after the other.
 
