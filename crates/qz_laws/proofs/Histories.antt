@@ -14,7 +14,7 @@ use Rattle.qz_model.specs.Transaction.{transaction}
 use Rattle.qz_model.proofs.Histories.{valid-left}
 use Rattle.qz_model.proofs.RowLaws.{All-fired_of}
 use Rattle.qz_model.proofs.RowPoints.{All-weaker, All-both, All-none, count_by-cons, count_by-none, none_from_count}
-use Rattle.qz_laws.specs.Losses.{Lost, lost_in, lost_from, is_lost, recoveries_in, recoveries_from, IsOneIfAsked, RecoversAtOnce, AreExact}
+use Rattle.qz_laws.specs.Losses.{Lost, lost_in, lost_from, is_lost, recoveries_in, recoveries_from, AreForIt, IsOneIfAsked, RecoversAtOnce, AreExact}
 use Rattle.qz_laws.proofs.Counts.{count_by-append, count_by-fewer, one_that_passes, All-append}
 use Rattle.qz_laws.proofs.Entries.{facts}
 use Rattle.qz_laws.proofs.Facts.{asked_for, EntryFacts, no_row_again, Stood, stood, once}
@@ -138,10 +138,12 @@ lost_small T (e ∷ es) valid good legal =
 at_once : (T : SchedulerTables) (es : List EntryData) → TablesValid T → AreValid es → IsLegalFrom T es → RecoversAtOnce T es
 at_once T [] valid good legal = tt
 at_once T (e ∷ es) valid good legal =
-    let f = (facts_left T e valid legal.0).2 in (
-      All-both IsSmall (IsLostOnce (lost_in T e.command)) (IsOneIfAsked (recoveries_in T e)) (lost_in T e.command) (λ l small is. f.recovers l.row.entry small ∙ is)
-          (stood_small T e.command valid)
-          (each_once (lost_in T e.command) (λ number. once T e.command number valid)),
+    let f = (facts_left T e valid legal.0).2 in
+    let counted : AllByRecursion (IsOneIfAsked (recoveries_in T e)) (lost_in T e.command) =
+    All-both IsSmall (IsLostOnce (lost_in T e.command)) (IsOneIfAsked (recoveries_in T e)) (lost_in T e.command) (λ l small is. f.recovers l.row.entry small ∙ is)
+    (stood_small T e.command valid)
+    (each_once (lost_in T e.command) (λ number. once T e.command number valid)) in (
+      All-both (IsOneIfAsked (recoveries_in T e)) (AreForIt T e) (λ l. IsOneIfAsked (recoveries_in T e) l × AreForIt T e l) (lost_in T e.command) (λ l one for_it. (one, for_it)) counted f.faithful,
       at_once (tables_left T (transaction T e)) es (valid-left T e good.0 valid) good.1 legal.1,
     )
 

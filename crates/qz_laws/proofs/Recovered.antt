@@ -17,15 +17,15 @@ use Rattle.qz_model.specs.Membership.{node_refusal}
 use Rattle.qz_model.specs.Recovery.{lost_of, rows_of_others, triggers_left, recovered, recovery_refusal, recover_member, recover, with_new_member, join_refusal, joined, join}
 use Rattle.qz_model.specs.Tests.{is_of}
 use Rattle.qz_model.proofs.Changes.{passes}
-use Rattle.qz_model.proofs.RowLaws.{each_fired, only_fired, fired_of-none, All-put_member, All-without_member}
+use Rattle.qz_model.proofs.RowLaws.{All-fired_of, each_fired, only_fired, fired_of-none, All-put_member, All-without_member}
 use Rattle.qz_model.proofs.RowPoints.{All-from, All-weaker, All-filter, All-left, filter-alike}
-use Rattle.qz_laws.specs.Losses.{is_executing, is_held_by, executions_of, lost_as, lost_in}
+use Rattle.qz_laws.specs.Losses.{is_recovery, added, IsFor, is_executing, is_held_by, executions_of, lost_as, lost_in}
 use Rattle.qz_laws.proofs.Counts.{All-mapped}
 use Rattle.qz_laws.proofs.Facts.{asked_for, IsNot, Origin, EntryFacts}
 use Rattle.qz_laws.proofs.Quiet.{all_stood, quiet_facts}
 use Rattle.qz_laws.proofs.QuietChanges.{stood-others}
 use Rattle.qz_laws.proofs.QuietNodes.{new_is_not, quiet-join}
-use Rattle.qz_laws.proofs.Recoveries.{recoveries_added}
+use Rattle.qz_laws.proofs.Recoveries.{recoveries_added, added_are_for}
 
 begun_or_not : (s : FiredState) → is_executing s ≡ not (is_acquired s)
 begun_or_not Acquired = refl
@@ -61,6 +61,11 @@ module _ (T : SchedulerTables) (member : MemberData) (valid : TablesValid T) whe
       (λ f found is. row_gone f found (and_parts (not (is_acquired f.state)) (is_of member f) is).1)
       (each_fired T.fired valid.references_and_limits.ordered.fired))
 
+  for_it : (U : SchedulerTables) → U.triggers ≡ triggers_left T member → (f : FiredData) → fired_of f.entry T.fired ≡ Some f → AllByRecursion (λ t. is_recovery f.entry t ≡ true → IsFor f t) (added T U)
+  for_it U triggers f found =
+      let below : f.entry < T.next_entry = All-fired_of (λ g. g.entry < T.next_entry) f.entry f T.fired valid.fresh.fired found in
+      added_are_for T member valid f.entry (omega (arith, valid.references_and_limits.limits.next_entry)) U triggers lost_found f refl found
+
   losing_facts : (c : Command) (r : Reply) (U : SchedulerTables) → lost_in T c ≡ map (lost_as T) (executions_of (Some member) T.fired) → U.next_entry ≡ T.next_entry → U.fired ≡ rows_of_others member T.fired
       → U.triggers ≡ triggers_left T member → T.next_epoch ≤ U.next_epoch → ((me : MemberData) → me.epoch < T.next_epoch → AllByRecursion (IsNot me) T.members → AllByRecursion (IsNot me) U.members)
       → EntryFacts T c r U
@@ -72,6 +77,9 @@ module _ (T : SchedulerTables) (member : MemberData) (valid : TablesValid T) whe
             (All-mapped (λ l. fired_of l.row.entry U.fired ≡ None) (lost_as T) (lost_of member T.fired)
             (subst (λ (fs : List FiredData). AllByRecursion (λ f. fired_of f.entry fs ≡ None) (lost_of member T.fired)) (sym rows) lost_gone));
         recovers = λ number small. recoveries_added T member valid number small U triggers lost_found ∙ ap (count_by (asked_for number)) (sym all);
+        faithful = subst (AllByRecursion (λ l. AllByRecursion (λ t. is_recovery l.row.entry t ≡ true → IsFor l.row t) (added T U))) (sym all)
+            (All-mapped (λ l. AllByRecursion (λ t. is_recovery l.row.entry t ≡ true → IsFor l.row t) (added T U)) (lost_as T) (lost_of member T.fired)
+            (All-weaker (λ f. fired_of f.entry T.fired ≡ Some f) (λ f. AllByRecursion (λ t. is_recovery f.entry t ≡ true → IsFor f t) (added T U)) (lost_of member T.fired) (for_it U triggers) lost_found));
         next_epoch = epoch;
         members = members;
       }

@@ -1,7 +1,7 @@
 -- The triggers that are added where a member is recovered: one for each of its executions that asked.
 use Rattle.std.proofs.Common.{◌≡◌, ℕ, ◌+◌, ◌<◌, ◌^◌, ◌==◌, Bool, true, false, cond, not, ◌&&◌, List, [], ◌∷◌, fold, map, filter, count_by, Option, Some, None, is_some, is_none, codes, refl, sym, ap, ◌∙◌, subst, arith}
 use Rattle.std.specs.List.{AllByRecursion, list_any}
-use Rattle.std.proofs.lemmas.Bool.{and_left, and_right}
+use Rattle.std.proofs.lemmas.Bool.{and_from, and_left, and_right, eqb-true}
 use Rattle.qz_types.specs.Rows.{TriggerData, MemberData, FiredData}
 use Rattle.qz_types.specs.Changes.{with_state}
 use Rattle.qz_types.specs.States.{first_state, unblocked}
@@ -15,8 +15,8 @@ use Rattle.qz_model.proofs.Changes.{HasNumber}
 use Rattle.qz_model.proofs.Numbers.{one_number}
 use Rattle.qz_model.proofs.RecoveryTriggers.{IsNotOf, no_such}
 use Rattle.qz_model.proofs.RowLaws.{All-put_trigger, trigger_of-none, All-fired_of}
-use Rattle.qz_model.proofs.RowPoints.{All-from, All-weaker, All-changed, count_by-put, count_by-cons, count_by-none, count_by-filter}
-use Rattle.qz_laws.specs.Losses.{lost_as, is_recovery, added}
+use Rattle.qz_model.proofs.RowPoints.{All-filter, All-left, All-from, All-weaker, All-changed, count_by-put, count_by-cons, count_by-none, count_by-filter}
+use Rattle.qz_laws.specs.Losses.{IsFor, lost_as, is_recovery, added}
 use Rattle.qz_laws.proofs.Counts.{count_by-both, count_by-same, count_by-mapped, All-mapped}
 use Rattle.qz_laws.proofs.Facts.{asked_for}
 use Rattle.qz_laws.proofs.Names.{recovery_of_its_number}
@@ -136,3 +136,40 @@ module _ (T : SchedulerTables) (member : MemberData) (valid : TablesValid T) (nu
       count_by-both (is_recovery number) (λ t. not (is_some (trigger_of t.spec.key T.triggers))) U.triggers
       ∙ ap (count_by counts) triggers
       ∙ count_left ∙ count_new found
+
+  -- the trigger is for an execution of this number
+  abbrev IsForIfCounted : FiredData → TriggerData → Type 0
+  IsForIfCounted f t = counts t ≡ true → IsFor f t
+
+  new_is_for : (f g : FiredData) → number ≡ f.entry → fired_of f.entry T.fired ≡ Some f → fired_of g.entry T.fired ≡ Some g → IsForIfCounted f (trigger_for g)
+  unfolding recovery_trigger
+  new_is_for f g own found other counted =
+      let same : number ≡ g.entry = eqb-true number g.entry (sym (is_counted g other) ∙ counted) in
+      let at : fired_of f.entry T.fired ≡ Some g = subst (λ n. fired_of n T.fired ≡ Some g) (sym same ∙ own) other in
+      let one : g ≡ f = cc in
+      (ap (λ (h : FiredData). h.job) one, ap (λ (h : FiredData). Some h.scheduled) one)
+
+  each_new_is_for : (f : FiredData) → number ≡ f.entry → fired_of f.entry T.fired ≡ Some f → AllByRecursion (λ g. fired_of g.entry T.fired ≡ Some g) lost → AllByRecursion (IsForIfCounted f) (recoveries T member)
+  unfolding recoveries
+  each_new_is_for f own found all =
+      All-mapped (IsForIfCounted f) trigger_for (filter (asks T.jobs) lost)
+      (All-filter (λ g. IsForIfCounted f (trigger_for g)) (asks T.jobs) lost
+      (All-weaker (λ g. fired_of g.entry T.fired ≡ Some g) (λ g. asks T.jobs g ≡ true → IsForIfCounted f (trigger_for g)) lost (λ g other wants. new_is_for f g own found other) all))
+
+  each_left_is_for : (f : FiredData) → number ≡ f.entry → fired_of f.entry T.fired ≡ Some f → AllByRecursion (λ g. fired_of g.entry T.fired ≡ Some g) lost → AllByRecursion (IsForIfCounted f) (triggers_left T member)
+  unfolding triggers_left triggers_added
+  each_left_is_for f own found all =
+      All-left (IsForIfCounted f) (IsForIfCounted f) (has_finished (lost_of member T.fired) (rows_of_others member T.fired)) (triggers_added T member)
+      (All-all_put (IsForIfCounted f) old (recoveries T member)
+      (All-weaker (λ t. counts t ≡ false) (IsForIfCounted f) old (λ t none counted. absurd (cc)) none_old)
+      (each_new_is_for f own found all))
+      (λ t stays is. is)
+
+  -- each recovery of this number that is added is for its execution
+  pub added_are_for : (U : SchedulerTables) → U.triggers ≡ triggers_left T member → AllByRecursion (λ g. fired_of g.entry T.fired ≡ Some g) (lost_of member T.fired) → (f : FiredData) → number ≡ f.entry → fired_of f.entry T.fired ≡ Some f
+      → AllByRecursion (λ t. is_recovery number t ≡ true → IsFor f t) (added T U)
+  added_are_for U triggers all f own found =
+      All-filter (λ t. is_recovery number t ≡ true → IsFor f t) (λ t. not (is_some (trigger_of t.spec.key T.triggers))) U.triggers
+      (All-weaker (IsForIfCounted f) (λ t. not (is_some (trigger_of t.spec.key T.triggers)) ≡ true → is_recovery number t ≡ true → IsFor f t) U.triggers
+      (λ t for_it new is. for_it (and_from (not (is_some (trigger_of t.spec.key T.triggers))) (is_recovery number t) new is))
+      (subst (AllByRecursion (IsForIfCounted f)) (sym triggers) (each_left_is_for f own found all)))

@@ -94,6 +94,14 @@ recoveries_from T (e ∷ es) number = recoveries_in T e number + recoveries_from
 
 -- The law.
 
+-- the trigger fires for the time of the execution, and its job
+abbrev pub IsFor : FiredData → TriggerData → Type 0
+IsFor f t = (t.spec.job ≡ f.job) × (t.next ≡ Some f.scheduled)
+
+-- what the entry adds under the number of a lost execution is for it
+abbrev pub AreForIt : SchedulerTables → EntryData → Lost → Type 0
+AreForIt T e l = AllByRecursion (λ t. is_recovery l.row.entry t ≡ true → IsFor l.row t) (added T (tables_left T (transaction T e)))
+
 -- a lost execution that asked has one recovery, and any other none
 abbrev pub IsOneIfAsked : (ℕ → ℕ) → Lost → Type 0
 IsOneIfAsked recoveries l = recoveries l.row.entry ≡ (if l.asked then 1 else 0)
@@ -101,10 +109,12 @@ IsOneIfAsked recoveries l = recoveries l.row.entry ≡ (if l.asked then 1 else 0
 -- each entry recovers by itself what it loses
 abbrev pub RecoversAtOnce : SchedulerTables → List EntryData → Type 0
 RecoversAtOnce T [] = ⊤
-RecoversAtOnce T (e ∷ es) = AllByRecursion (IsOneIfAsked (recoveries_in T e)) (lost_in T e.command) × RecoversAtOnce (tables_left T (transaction T e)) es
+RecoversAtOnce T (e ∷ es) =
+    AllByRecursion (λ l. IsOneIfAsked (recoveries_in T e) l × AreForIt T e l) (lost_in T e.command)
+    × RecoversAtOnce (tables_left T (transaction T e)) es
 
--- No execution is lost twice. Each lost one yields one recovery if it asked, else none, and does so at once. Nothing else
--- yields any.
+-- No execution is lost twice. Each lost one yields one recovery if it asked, else none, and does so at once, for the same
+-- job and time. Nothing else yields any.
 pub record AreExact (T : SchedulerTables) (es : List EntryData) : Type 0 where
   pub once : (number : ℕ) → count_by (is_lost number) (lost_from T es) ≤ 1
   pub yields : AllByRecursion (IsOneIfAsked (recoveries_from T es)) (lost_from T es)
