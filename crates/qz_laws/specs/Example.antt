@@ -1,4 +1,5 @@
--- An example: of two executions of node a the first asks for recovery. Node b recovers a, which joins again.
+-- An example: of three executions of node a the first and the last ask for recovery, but the job of the last is deleted by
+-- then. Node b recovers a, which joins again.
 use Rattle.std.specs.Prelude.{ℕ, pos, List, [], ◌∷◌, Bool, true, false, codes, Some}
 use Rattle.qz_types.specs.Rows.{JobData, FiredData}
 use Rattle.qz_types.specs.Entries.{EntryData}
@@ -35,8 +36,12 @@ abbrev pub example_tables : SchedulerTables
 example_tables = record (empty 1) {
   jobs = job_that true (codes "asks") ∷ job_that false (codes "silent") ∷ [];
   members = record { node = codes "a"; epoch = 1 } ∷ record { node = codes "b"; epoch = 2 } ∷ [];
-  fired = execution_of 3 (job_that true (codes "asks")) ∷ execution_of 4 (job_that false (codes "silent")) ∷ [];
-  next_entry = 5;
+  fired =
+      execution_of 3 (job_that true (codes "asks"))
+      ∷ execution_of 4 (job_that false (codes "silent"))
+      ∷ execution_of 5 (job_that true (codes "deleted"))
+      ∷ [];
+  next_entry = 6;
   next_epoch = 3;
   last_moment = pos 3000;
 }

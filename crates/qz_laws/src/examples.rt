@@ -7,13 +7,12 @@ ghost use Rattle.qz_model.specs.Invariant.{TablesValid};
 ghost use Rattle.qz_laws.specs.Example.{example_tables, example_entries};
 ghost use Rattle.qz_laws.specs.Losses.{lost_from, recoveries_from};
 
-/// Node a executes a job that asks for recovery, entry 3, and one that doesn't, entry 4. Node b recovers a: both are lost,
-/// and the first alone is recovered, once.
-pub fn two_lost_executions()
+/// Node a executes three jobs, entries 3 to 5. The first and the last ask for recovery, but the last job is deleted while it
+/// executes. Node b recovers a: all three are lost, and the first alone is recovered, once.
+pub fn three_lost_executions()
     ensures tables { TablesValid example_tables }
     ensures valid { AllByRecursion (λ e. IsTrue (is_entry e)) example_entries }
     ensures legal { IsLegalFrom example_tables example_entries }
-    ensures lost { map (λ l. l.row.entry) (lost_from example_tables example_entries) ≡ 3 ∷ 4 ∷ [] }
-    ensures one { recoveries_from example_tables example_entries 3 ≡ 1 }
-    ensures none { recoveries_from example_tables example_entries 4 ≡ 0 }
+    ensures lost { map (λ l. l.row.entry) (lost_from example_tables example_entries) ≡ 3 ∷ 4 ∷ 5 ∷ [] }
+    ensures asked { map (recoveries_from example_tables example_entries) (3 ∷ 4 ∷ 5 ∷ []) ≡ 1 ∷ 0 ∷ 0 ∷ [] }
 {}

@@ -4,5 +4,5 @@
 mod examples;
 mod laws;
 
-pub use examples::two_lost_executions;
+pub use examples::three_lost_executions;
 pub use laws::{gone_nodes_never_act, lost_executions_are_recovered_once};
