@@ -14,7 +14,7 @@ use Rattle.qz_model.specs.Invariant.{TablesValid}
 use Rattle.qz_model.proofs.LookUps.{count_of_id}
 use Rattle.qz_model.proofs.RowLaws.{same_number, each_fired, fired_of-none}
 use Rattle.qz_model.proofs.RowPoints.{All-filter, All-weaker}
-use Rattle.qz_laws.specs.Losses.{IsBegunBy, is_executing, is_held_by, executions_of, Lost, lost_as, lost_in, is_lost, is_recovery, added, IsFor}
+use Rattle.qz_laws.specs.Losses.{IsBegunBy, is_executing, is_held_by, executions_of, Lost, lost_as, lost_in, is_lost, is_recovery, added, AreForIt}
 use Rattle.qz_laws.proofs.Counts.{count_by-both, count_by-fewer, count_by-mapped, All-mapped}
 
 -- the lost execution asked, and had this entry number
@@ -59,7 +59,7 @@ pub record EntryFacts (T : SchedulerTables) (c : Command) (r : Reply) (U : Sched
   pub origins : AllByRecursion (Origin T r) U.fired
   pub gone : AllByRecursion (λ l. fired_of l.row.entry U.fired ≡ None) (lost_in T c)
   pub recovers : (number : ℕ) → number < 2 ^ 64 → count_by (is_recovery number) (added T U) ≡ count_by (asked_for number) (lost_in T c)
-  pub faithful : AllByRecursion (λ l. AllByRecursion (λ t. is_recovery l.row.entry t ≡ true → IsFor l.row t) (added T U)) (lost_in T c)
+  pub faithful : AllByRecursion (AreForIt T U) (lost_in T c)
   pub next_epoch : T.next_epoch ≤ U.next_epoch
   pub members : (me : MemberData) → me.epoch < T.next_epoch → AllByRecursion (IsNot me) T.members → AllByRecursion (IsNot me) U.members
 

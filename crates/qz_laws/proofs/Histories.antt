@@ -143,7 +143,7 @@ at_once T (e ∷ es) valid good legal =
     All-both IsSmall (IsLostOnce (lost_in T e.command)) (IsOneIfAsked (recoveries_in T e)) (lost_in T e.command) (λ l small is. f.recovers l.row.entry small ∙ is)
     (stood_small T e.command valid)
     (each_once (lost_in T e.command) (λ number. once T e.command number valid)) in (
-      All-both (IsOneIfAsked (recoveries_in T e)) (AreForIt T e) (λ l. IsOneIfAsked (recoveries_in T e) l × AreForIt T e l) (lost_in T e.command) (λ l one for_it. (one, for_it)) counted f.faithful,
+      All-both (IsOneIfAsked (recoveries_in T e)) (AreForIt T (tables_left T (transaction T e))) (λ l. IsOneIfAsked (recoveries_in T e) l × AreForIt T (tables_left T (transaction T e)) l) (lost_in T e.command) (λ l one for_it. (one, for_it)) counted f.faithful,
       at_once (tables_left T (transaction T e)) es (valid-left T e good.0 valid) good.1 legal.1,
     )
 

@@ -12,7 +12,7 @@ use Rattle.qz_types.specs.Words.{same_text, trigger_of, fired_of}
 use Rattle.qz_model.specs.Invariant.{TablesValid}
 use Rattle.qz_model.proofs.RowLaws.{each_trigger, each_fired}
 use Rattle.qz_model.proofs.RowPoints.{All-weaker, count_by-none}
-use Rattle.qz_laws.specs.Losses.{Lost, lost_in, is_recovery, added, IsFor}
+use Rattle.qz_laws.specs.Losses.{Lost, lost_in, is_recovery, AreForIt}
 use Rattle.qz_laws.proofs.Counts.{count_by-both}
 use Rattle.qz_laws.proofs.Facts.{asked_for, IsNot, Origin, EntryFacts}
 
@@ -84,7 +84,7 @@ quiet_facts T r U c nothing quiet = record {
       ∙ count_by-none (λ t. not (is_some (trigger_of t.spec.key T.triggers)) && is_recovery number t) U.triggers
       (All-weaker (WasStored T) (λ t. (not (is_some (trigger_of t.spec.key T.triggers)) && is_recovery number t) ≡ false) U.triggers (none_new T number) quiet.triggers)
       ∙ sym (ap (count_by (asked_for number)) nothing);
-  faithful = subst (AllByRecursion (λ (l : Lost). AllByRecursion (λ t. is_recovery l.row.entry t ≡ true → IsFor l.row t) (added T U))) (sym nothing) tt;
+  faithful = subst (AllByRecursion (AreForIt T U)) (sym nothing) tt;
   next_epoch = quiet.next_epoch;
   members = quiet.members;
 }

@@ -19,7 +19,7 @@ use Rattle.qz_model.specs.Tests.{is_of}
 use Rattle.qz_model.proofs.Changes.{passes}
 use Rattle.qz_model.proofs.RowLaws.{All-fired_of, each_fired, only_fired, fired_of-none, All-put_member, All-without_member}
 use Rattle.qz_model.proofs.RowPoints.{All-from, All-weaker, All-filter, All-left, filter-alike}
-use Rattle.qz_laws.specs.Losses.{is_recovery, added, IsFor, is_executing, is_held_by, executions_of, lost_as, lost_in}
+use Rattle.qz_laws.specs.Losses.{is_recovery, added, IsFor, AreForIt, is_executing, is_held_by, executions_of, lost_as, lost_in}
 use Rattle.qz_laws.proofs.Counts.{All-mapped}
 use Rattle.qz_laws.proofs.Facts.{asked_for, IsNot, Origin, EntryFacts}
 use Rattle.qz_laws.proofs.Quiet.{all_stood, quiet_facts}
@@ -77,8 +77,8 @@ module _ (T : SchedulerTables) (member : MemberData) (valid : TablesValid T) whe
             (All-mapped (λ l. fired_of l.row.entry U.fired ≡ None) (lost_as T) (lost_of member T.fired)
             (subst (λ (fs : List FiredData). AllByRecursion (λ f. fired_of f.entry fs ≡ None) (lost_of member T.fired)) (sym rows) lost_gone));
         recovers = λ number small. recoveries_added T member valid number small U triggers lost_found ∙ ap (count_by (asked_for number)) (sym all);
-        faithful = subst (AllByRecursion (λ l. AllByRecursion (λ t. is_recovery l.row.entry t ≡ true → IsFor l.row t) (added T U))) (sym all)
-            (All-mapped (λ l. AllByRecursion (λ t. is_recovery l.row.entry t ≡ true → IsFor l.row t) (added T U)) (lost_as T) (lost_of member T.fired)
+        faithful = subst (AllByRecursion (AreForIt T U)) (sym all)
+            (All-mapped (AreForIt T U) (lost_as T) (lost_of member T.fired)
             (All-weaker (λ f. fired_of f.entry T.fired ≡ Some f) (λ f. AllByRecursion (λ t. is_recovery f.entry t ≡ true → IsFor f t) (added T U)) (lost_of member T.fired) (for_it U triggers) lost_found));
         next_epoch = epoch;
         members = members;

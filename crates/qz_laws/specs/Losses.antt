@@ -98,9 +98,9 @@ recoveries_from T (e ∷ es) number = recoveries_in T e number + recoveries_from
 abbrev pub IsFor : FiredData → TriggerData → Type 0
 IsFor f t = (t.spec.job ≡ f.job) × (t.next ≡ Some f.scheduled)
 
--- what the entry adds under the number of a lost execution is for it
-abbrev pub AreForIt : SchedulerTables → EntryData → Lost → Type 0
-AreForIt T e l = AllByRecursion (λ t. is_recovery l.row.entry t ≡ true → IsFor l.row t) (added T (tables_left T (transaction T e)))
+-- what a transaction adds under the number of a lost execution is for it
+abbrev pub AreForIt : SchedulerTables → SchedulerTables → Lost → Type 0
+AreForIt T next l = AllByRecursion (λ t. is_recovery l.row.entry t ≡ true → IsFor l.row t) (added T next)
 
 -- a lost execution that asked has one recovery, and any other none
 abbrev pub IsOneIfAsked : (ℕ → ℕ) → Lost → Type 0
@@ -110,7 +110,7 @@ IsOneIfAsked recoveries l = recoveries l.row.entry ≡ (if l.asked then 1 else 0
 abbrev pub RecoversAtOnce : SchedulerTables → List EntryData → Type 0
 RecoversAtOnce T [] = ⊤
 RecoversAtOnce T (e ∷ es) =
-    AllByRecursion (λ l. IsOneIfAsked (recoveries_in T e) l × AreForIt T e l) (lost_in T e.command)
+    AllByRecursion (λ l. IsOneIfAsked (recoveries_in T e) l × AreForIt T (tables_left T (transaction T e)) l) (lost_in T e.command)
     × RecoversAtOnce (tables_left T (transaction T e)) es
 
 -- No execution is lost twice. Each lost one yields one recovery if it asked, else none, and does so at once, for the same
