@@ -105,3 +105,23 @@ Submits kind e (Err submit.Fault) s t = Fails kind e s t
 abbrev pub MayBeOf : {H E R : Type 0} → EntryKind H E R → (List ℕ → H → Type 0) → H → Option E → List ℕ → Type 0
 MayBeOf kind Stands h None bytes = Stands bytes h
 MayBeOf kind Stands h (Some e) bytes = Stands bytes h ⊎ Stands bytes (kind.with_entry e h)
+
+-- A restart began: the store is closed, with its history and its undecided entry. Its journal may have been read anew, so
+-- nothing is said of the gate.
+pub record Shuts {H E : Type 0} (s t : StoreState H E) : Type 0 where
+  pub history : t.history ≡ s.history
+  pub is_open : t.is_open ≡ false
+  pub undecided : t.undecided ≡ s.undecided
+  pub later : s.faults ≤ t.faults
+
+-- what a restart may find: the history, or it with the undecided entry
+abbrev pub IsDecided : {H E R : Type 0} → EntryKind H E R → H → Option E → H → Type 0
+IsDecided kind h None found = found ≡ h
+IsDecided kind h (Some e) found = (found ≡ h) ⊎ (found ≡ kind.with_entry e h)
+
+-- A restart ended: the store is open with what was found. Where the disk is honest, that is decided by what it had.
+pub record Opens {H E R : Type 0} (kind : EntryKind H E R) (honest : Type 0) (s t : StoreState H E) : Type 0 where
+  pub is_open : t.is_open ≡ true
+  pub undecided : t.undecided ≡ None
+  pub decided : honest → IsDecided kind s.history s.undecided t.history
+  pub later : s.faults ≤ t.faults
