@@ -1,4 +1,10 @@
 //! A restart of both disks.
+ghost use Rattle.std.specs.Prelude.{◌≡◌, ◌⊎◌, [], true, IfOk, IfErr, OnOk, OnErr};
+ghost use Rattle.qz_civil.specs.Causes.{Rose};
+ghost use Rattle.qz_steps.specs.declared.steps.Step.TheVariants as step_is;
+ghost use Rattle.qz_cluster.specs.Steps.{StepCase, EndCase, BothShut};
+ghost use Rattle.qz_cluster.specs.View.{view, KeepsUnlessDone, EachLeavesEither};
+
 use crate::{Cluster, StepEnd};
 use qz_disk::Disk;
 use qz_journal::MountError;
@@ -6,9 +12,13 @@ use qz_steps::StepReply;
 use qz_types::Store;
 
 impl<D: Disk> Cluster<D> {
-    // Both disks restart before anything on them is read, and both stores are read before one is opened. No node holds an
-    // epoch then.
+    /// Both disks restart before anything on them is read, and both stores are read before one is opened. No node holds
+    /// an epoch then.
     pub(crate) fn restart(&mut self) -> Result<StepReply, StepEnd>
+        ensures ok { (at : ℤ) → IfOk result (λ r. StepCase D.honest (record { step = step_is.Restart; at = at }) r (view self.old) (view self.new)) }
+        ensures err { (at : ℤ) → IfErr result (λ e. EndCase D.honest (record { step = step_is.Restart; at = at }) e (view self.old) (view self.new)) }
+        ensures keeps { IfOk result (λ r. KeepsUnlessDone r self.old self.new) }
+        ensures any_moment { D.honest → EachLeavesEither self.old self.new }
     {
         self.held = Vec::new(self.alloc);
         let triggers_restarted = self.triggers.crash();
@@ -16,6 +26,12 @@ impl<D: Disk> Cluster<D> {
         if triggers_restarted.is_err() || states_restarted.is_err() {
             return Ok(StepReply::Fault);
         }
+        self.reopen()
+    }
+
+    // What is on both disks is read, and then both stores are opened.
+    fn reopen(&mut self) -> Result<StepReply, StepEnd>
+    {
         let triggers = match self.triggers.reread() {
             Ok(triggers) => triggers,
             Err(error) => return unread(Store::Triggers, error),
