@@ -1,7 +1,7 @@
 -- What a commit makes of the store.
-use Rattle.std.proofs.Common.{◌≡◌, ◌≤◌, ℕ, ◌+◌, List, length, true, false, refl, sym, ap, subst, arith}
+use Rattle.std.proofs.Common.{◌≡◌, ◌≤◌, ℕ, ◌+◌, List, length, true, false, sym, ap, subst, arith}
 use Rattle.std.proofs.Math.Logic.{◌↔◌}
-use Rattle.std.specs.Prelude.{⊤, Option, Some, None, Ok, Err, IsOk}
+use Rattle.std.specs.Prelude.{Option, Some, None, Ok, Err}
 use Rattle.std.specs.declared.result.Result.{Result}
 use Rattle.qz_civil.specs.Causes.{Rose}
 use Rattle.qz_journal.specs.Commits.{IsFull, need_of, room_of}

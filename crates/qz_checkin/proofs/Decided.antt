@@ -1,10 +1,11 @@
 -- What a restart finds.
-use Rattle.std.proofs.Common.{◌≡◌, ◌⊎◌, inl, inr, ℕ, List, [], ◌∷◌, ◌++◌, length, refl, sym, ◌∙◌, ap, subst}
+use Rattle.std.proofs.Common.{◌≡◌, ◌⊎◌, inl, inr, ℕ, List, [], ◌∷◌, ◌++◌, refl, ap, subst}
 use Rattle.std.proofs.Props.{props}
 use Rattle.std.proofs.Math.Logic.{∥∥₁_map, ∥∥₁_elim}
-use Rattle.std.specs.Prelude.{Option, Some, None}
+use Rattle.std.specs.Prelude.{Option, Some, None, Ok, Err, IfOk, IfErr}
+use Rattle.std.specs.declared.result.Result.{Result}
 use Rattle.std.specs.List.{AllByRecursion}
-use Rattle.qz_disk.specs.Disk.{DiskState, Only, IsLawful, LeavesOnly}
+use Rattle.qz_disk.specs.Disk.{DiskState, IsLawful, LeavesOnly}
 use Rattle.qz_disk.proofs.Moments.{weaker}
 use Rattle.qz_types.specs.Entries.{StateEntryData}
 use Rattle.qz_journal.specs.Layout.{Holds}
@@ -16,7 +17,7 @@ use Rattle.qz_stores.specs.Stores.{IsDecided}
 use Rattle.qz_checkin.specs.Rows.{StateTables, new_state_tables, IsAccepted, state_transaction}
 use Rattle.qz_checkin.specs.History.{replay_from, IsLegalFrom}
 use Rattle.qz_checkin.specs.Entries.{of_states}
-use Rattle.qz_checkin.specs.Bytes.{history_of, Encode, HoldEntries, MayHold, MayBe, IsPending, MayFollow, IsHistory}
+use Rattle.qz_checkin.specs.Bytes.{history_of, Encode, HoldEntries, MayHold, MayBe, IsPending, IsHistory}
 use Rattle.qz_checkin.specs.Opening.{IsStopped}
 use Rattle.qz_checkin.proofs.Appending.{may_be}
 use Rattle.qz_checkin.proofs.Histories.{IsLegalFrom-entry}
@@ -24,8 +25,8 @@ use Rattle.qz_checkin.proofs.Once.{entries_unique, only_memory}
 use Rattle.qz_checkin.proofs.Replays.{All-pushed}
 
 -- each image of a moment of a restart is of the history, or of it with the undecided entry
-pub leaves_before : (s t : DiskState) (es : List StateEntryData) (u : Option StateEntryData) → LeavesOnly s t s.IsImage → ((b : List ℕ) → s.IsImage b → MayHold es u b) → LeavesOnly s t (MayBe (history_of es) u)
-leaves_before s t es u leaves images = weaker s t _ _ leaves (λ b is. may_be es u b (images b is))
+pub leaves_before : (s t : DiskState) (es : List StateEntryData) (u : Option StateEntryData) → LeavesOnly s t s.IsImage → ((b : List ℕ) → s.IsImage b → MayHold es u b) → LeavesOnly s t (λ b. MayBe (history_of es) u b ⊎ MayBe (history_of es) u b)
+leaves_before s t es u leaves images = weaker s t _ _ leaves (λ b is. inl (may_be es u b (images b is)))
 
 pub was_one : (s t : DiskState) (es : List StateEntryData) (u : Option StateEntryData) → IsLawful t → LeavesOnly s t s.IsImage → ((b : List ℕ) → s.IsImage b → MayHold es u b) → (b : List ℕ) → t.IsImage b → MayHold es u b
 was_one s t es u lawful leaves images b is = images b (leaves.each b (lawful.counts_now s.clock b leaves.later is))
@@ -69,3 +70,11 @@ only_memory_at T es (Some e) b ps (mount.Damaged at) (inr held) holds same legal
     not_stopped (es ++ e ∷ []) ps at
     (history_is (es ++ e ∷ []) (All-pushed IsStateEntry es e a p.valid) (IsLegalFrom-entry new_state_tables es e legal (subst (λ (U : StateTables). IsAccepted (state_transaction U e)) same p.passes)))
     (held.encode ps holds) stopped)))
+
+pub if_ok : {A E : Type 0} (P Q : A → Type 0) (r : Result A E) → ((a : A) → P a → Q a) → IfOk r P → IfOk r Q
+if_ok P Q (Ok a) f is = f a is
+if_ok P Q (Err e) f is = tt
+
+pub if_err : {A E : Type 0} (P Q : E → Type 0) (r : Result A E) → ((e : E) → P e → Q e) → IfErr r P → IfErr r Q
+if_err P Q (Ok a) f is = tt
+if_err P Q (Err e) f is = f e is

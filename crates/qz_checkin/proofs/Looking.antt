@@ -1,14 +1,12 @@
 -- What is read off valid rows.
-use Rattle.std.proofs.Common.{◌≡◌, ℕ, zero, suc, ◌<◌, ◌≤◌, Bool, List, [], ◌∷◌, length, get_or, ap, sym, ◌∙◌, subst, arith}
+use Rattle.std.proofs.Common.{◌≡◌, Bor, ℕ, zero, suc, ◌<◌, ◌≤◌, List, [], ◌∷◌, length, get_or, ap, sym, ◌∙◌, subst, arith}
 use Rattle.std.proofs.Props.{props}
 use Rattle.std.proofs.Math.Logic.{∥∥₁_map, ∥∥₁_elim}
 use Rattle.std.proofs.lemmas.Iterator.Adapters.{position_from-zero}
-use Rattle.std.specs.Prelude.{Option, Some, None, IfSome, option_copied, ℤ, Bor}
+use Rattle.std.specs.Prelude.{Option, Some, None, IfSome, option_copied, ℤ}
 use Rattle.std.specs.List.{AllByRecursion, position, position_from}
-use Rattle.qz_civil.specs.declared.limits.TheConstants.{LAST}
 use Rattle.qz_types.specs.Rows.{StateData}
 use Rattle.qz_types.specs.Sorted.{IsAscending}
-use Rattle.qz_types.specs.Tables.{IsMoment}
 use Rattle.qz_types.specs.Words.{text_cmp}
 use Rattle.qz_types.specs.declared.limits.TheConstants.{STATE_LIMIT}
 use Rattle.qz_checkin.specs.Rows.{StateTables, state_of, state_moment}

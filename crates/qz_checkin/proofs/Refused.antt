@@ -1,14 +1,16 @@
 -- What an error before any device call says of the store.
-use Rattle.std.proofs.Common.{◌≡◌, ℕ, length, true, false, refl, sym, ◌∙◌, ap, subst, arith}
-use Rattle.std.specs.Prelude.{IsOk, Ok, Err, Option, Some, None}
+use Rattle.std.proofs.Common.{◌≡◌, ℕ, ℤ, List, length, true, false, refl, sym, ◌∙◌, ap, subst, arith}
+use Rattle.std.specs.Prelude.{⊤, IsOk, Ok, Err, Option, Some, None}
 use Rattle.qz_types.specs.Entries.{StateEntryData}
 use Rattle.qz_types.specs.declared.errors.SubmitError.{SubmitError}
 use Rattle.qz_types.specs.declared.errors.SubmitError.TheVariants as submit
 use Rattle.qz_types.specs.declared.replies.Refusal.{Refusal}
+use Rattle.qz_types.specs.declared.states.StateCommand.TheVariants.{CheckIn, Forget}
 use Rattle.qz_stores.specs.Stores.{Same, Submits}
-use Rattle.qz_checkin.specs.Rows.{StateTables, StateOutcome, accepted, refused, IsAccepted, state_transaction}
+use Rattle.qz_checkin.specs.Rows.{StateTables, state_of, StateOutcome, accepted, refused, IsAccepted, check_in_refusal, forget_refusal, state_transaction}
 use Rattle.qz_checkin.specs.Valid.{IsRefusalOf}
 use Rattle.qz_checkin.specs.History.{replay_states}
+use Rattle.qz_checkin.proofs.RowEdits.{check_in_refused, forget_refused}
 use Rattle.qz_checkin.specs.Entries.{StatesState, answer_of, of_states, state_record_of, IsUnwritten, IsDecision}
 
 pub same_itself : (s : StatesState) → Same s s
@@ -50,7 +52,20 @@ decided_is T s e (Some x) submit.NoMemory tables why is = absurd is
 decided_is T s e None submit.Fault tables why is = absurd is
 decided_is T s e (Some x) submit.Fault tables why is = absurd is
 
--- nor does it answer Ok for one that is refused
-pub decided_ok : (T : StateTables) (s : StatesState) (e : StateEntryData) (refusal : Option Refusal) → T ≡ replay_states s.history → IsRefusalOf T e refusal → IsDecision s refusal (Ok tt) → (s.is_open ≡ true) × IsOk (of_states.answer s.history e)
-decided_ok T s e None tables why is = (is, passes_at T s e tables why)
-decided_ok T s e (Some x) tables why is = absurd is
+passes_by : (T : StateTables) (s : StatesState) (e : StateEntryData) (refusal : Option Refusal) (u : ⊤) → T ≡ replay_states s.history → IsRefusalOf (replay_states s.history) e refusal → IsDecision s refusal (Ok u) → (s.is_open ≡ true) × IsAccepted (state_transaction T e)
+passes_by T s e None u tables why is = (is, subst (λ (U : StateTables). IsAccepted (state_transaction U e)) (sym tables) why)
+passes_by T s e (Some x) u tables why is = absurd is
+
+-- A check-in that was let through is accepted.
+pub check_in_passes : (T : StateTables) (s : StatesState) (e : StateEntryData) (node : List ℕ) (interval : ℤ) (u : ⊤) → T ≡ replay_states s.history → e.command ≡ CheckIn node interval
+    → IsDecision s (check_in_refusal (replay_states s.history) (state_of node (replay_states s.history).rows)) (Ok u) → (s.is_open ≡ true) × IsAccepted (state_transaction T e)
+check_in_passes T s e node interval u tables is = passes_by T s e (check_in_refusal (replay_states s.history) (state_of node (replay_states s.history).rows)) u tables (check_in_refused (replay_states s.history) e node interval _ is refl)
+
+-- So is a removal.
+pub forget_passes : (T : StateTables) (s : StatesState) (e : StateEntryData) (node : List ℕ) (last : ℤ) (u : ⊤) → T ≡ replay_states s.history → e.command ≡ Forget node last
+    → IsDecision s (forget_refusal (state_of node (replay_states s.history).rows) last) (Ok u) → (s.is_open ≡ true) × IsAccepted (state_transaction T e)
+forget_passes T s e node last u tables is = passes_by T s e (forget_refusal (state_of node (replay_states s.history).rows) last) u tables (forget_refused (replay_states s.history) e node last _ is refl)
+
+-- there is no memory for an entry that is accepted
+pub starves : (T : StateTables) (s : StatesState) (e : StateEntryData) → T ≡ replay_states s.history → (s.is_open ≡ true) × IsAccepted (state_transaction T e) → Submits of_states e (Err submit.NoMemory) s s
+starves T s e tables is = record { was_open = is.0; passes = passes_at T s e tables is.1; same = same_itself s }

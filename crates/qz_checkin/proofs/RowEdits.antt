@@ -1,11 +1,10 @@
 -- What a transaction makes of valid rows.
-use Rattle.std.proofs.Common.{◌≡◌, ◌≢◌, ℕ, ℤ, pos, ◌+◌, ◌≤◌, ◌≤ℤ◌, Bool, true, false, not, cond, List, [], ◌∷◌, length, filter, refl, sym, ◌∙◌, ap, subst, arith, if◌then◌else◌}
+use Rattle.std.proofs.Common.{◌≡◌, ℕ, ℤ, ◌+◌, ◌≤◌, Bool, true, false, not, cond, List, [], ◌∷◌, length, filter, refl, sym, ◌∙◌, ap, subst, arith, if◌then◌else◌}
 use Rattle.std.proofs.Props.{props}
 use Rattle.std.proofs.Math.Logic.{∥∥₁_map, ∥∥₁_elim}
 use Rattle.std.proofs.lemmas.Grind.{common_steps}
 use Rattle.std.proofs.lemmas.Cmp.{nat_list_cmp_total}
-use Rattle.std.specs.Prelude.{⊤, Option, Some, None, nat_le, MatchOption}
-use Rattle.std.specs.Int.{int_max, int_min}
+use Rattle.std.specs.Prelude.{Option, Some, None, nat_le, MatchOption}
 use Rattle.std.specs.Ordering.{is_gt, is_eq}
 use Rattle.std.specs.List.{AllByRecursion}
 use Rattle.std.specs.declared.cmp.Ordering.{Ordering}
@@ -200,6 +199,12 @@ moment-prop m = hlevel props
 pub moment_at : (T : StateTables) (at : ℤ) → ∥ StatesValid T ∥₁ → IsMoment LAST (state_moment T at)
 moment_at T at valid = ∥∥₁_elim valid (moment-prop (state_moment T at)) (λ v. moment-kept T at v.last_moment)
 
+pub moment_is : (T : StateTables) (at m : ℤ) → ∥ StatesValid T ∥₁ → m ≡ state_moment T at → IsMoment LAST m
+moment_is T at m valid is = subst (IsMoment LAST) (sym is) (moment_at T at valid)
+
 pub found_moment : (T : StateTables) (node : List ℕ) (row : StateData) → ∥ StatesValid T ∥₁ → state_of node T.rows ≡ Some row → HasMoment row
 unfolding state_of
 found_moment T node row valid found = ∥∥₁_elim valid (moment-prop row.last) (λ v. All-found text_cmp (λ (r : StateData). r.node) HasMoment node row T.rows v.rows found)
+
+pub last_range : (T : StateTables) → ∥ StatesValid T ∥₁ → IsMoment LAST T.last_moment
+last_range T valid = ∥∥₁_elim valid (moment-prop T.last_moment) (λ v. v.last_moment)

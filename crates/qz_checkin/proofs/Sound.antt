@@ -1,5 +1,5 @@
 -- What submitting an entry leaves of a store is sound, where the store was.
-use Rattle.std.proofs.Common.{◌≡◌, ℕ, List, [], ◌∷◌, ◌++◌, length, length-append, map, true, refl, sym, ◌∙◌, ap, subst, arith}
+use Rattle.std.proofs.Common.{◌≡◌, ℕ, List, [], ◌∷◌, length, length-append, map, true, refl, sym, ◌∙◌, ap, subst, arith}
 use Rattle.std.proofs.Math.Logic.{∥∥₁_map}
 use Rattle.std.proofs.lemmas.List.{map-append}
 use Rattle.std.specs.Prelude.{⊤, Result, Ok, Err, None}
@@ -31,11 +31,11 @@ sound_as s t history gate payloads was_open sound = record {
   legal = subst IsLegal (sym history) sound.legal;
   rows = subst (λ (h : StateHistory). ∥ StatesValid (replay_states h) ∥₁) (sym history) sound.rows;
   placed = λ is_open.
-    let placed = sound.placed (was_open is_open) in
-    record {
-      gate = gate ∙ placed.gate ∙ ap (λ (h : StateHistory). end_of (map state_record_of h.entries)) (sym history);
-      count = payloads ∙ placed.count ∙ ap (λ (h : StateHistory). length h.entries) (sym history);
-    };
+      let placed = sound.placed (was_open is_open) in
+      record {
+        gate = gate ∙ placed.gate ∙ ap (λ (h : StateHistory). end_of (map state_record_of h.entries)) (sym history);
+        count = payloads ∙ placed.count ∙ ap (λ (h : StateHistory). length h.entries) (sym history);
+      };
 }
 
 pub same_sound : (s t : StatesState) → Same s t → IsSound s → IsSound t

@@ -1,14 +1,12 @@
 -- Each of these facts has at most one proof, so that a store can keep it.
-use Rattle.std.proofs.Common.{◌≡◌, ◌⊎◌, inl, inr, ℕ, ◌+◌, List, [], ◌∷◌, ◌++◌, length, refl, sym, ◌∙◌, ap, subst, arith, length-append}
+use Rattle.std.proofs.Common.{◌≡◌, ◌⊎◌, inl, inr, ℕ, List, [], ◌∷◌, ◌++◌, length, refl, ap, arith, length-append}
 use Rattle.std.proofs.Props.{props}
 use Rattle.std.proofs.Math.Path.{Σ_path}
 use mathlib.Core.HLevel.{is_prop→PathP}
 use Rattle.std.specs.Prelude.{Option, Some, None}
-use Rattle.std.specs.List.{AllZip}
 use Rattle.qz_types.specs.Entries.{StateEntryData}
 use Rattle.qz_checkin.specs.Rows.{StateTables, StateOutcome, accepted, refused, IsAccepted, state_transaction}
 use Rattle.qz_checkin.specs.History.{rows_left, IsLegalFrom}
-use Rattle.qz_checkin.specs.Entries.{state_record_of}
 use Rattle.qz_checkin.specs.Bytes.{Encodes, Encode, HoldEntries, MayHold}
 use Rattle.qz_journal.specs.Layout.{Holds}
 use Rattle.qz_journal.proofs.Once.{holds_once}

@@ -11,7 +11,7 @@ use Rattle.qz_types.specs.declared.limits.TheConstants.{STATE_LIMIT}
 use Rattle.qz_types.specs.declared.replies.Refusal.{Refusal}
 use Rattle.qz_types.specs.declared.states.StateCommand.{StateCommand}
 use Rattle.qz_types.specs.declared.states.StateCommand.TheVariants.{CheckIn, Forget}
-use Rattle.qz_checkin.specs.Rows.{StateTables, without_state, with_state, IsAccepted, state_moment, state_transaction, refused}
+use Rattle.qz_checkin.specs.Rows.{StateTables, without_state, with_state, IsAccepted, state_transaction, refused}
 
 -- the last check-in is a moment that a store has
 abbrev pub HasMoment : StateData → Type 0

@@ -60,7 +60,3 @@ pub record IsReread {D : Type 0} {g : Ghosts D} (s : StateStore D g) (found : Re
   pub stands : g.honest → HoldEntries (disk_state s).content found.entries.items
   pub only : g.honest → (b : List ℕ) → (disk_state s).IsImage b → HoldEntries b found.entries.items
   pub decided : g.honest → IsDecided of_states (view s).history s.undecided (history_of found.entries.items)
-
--- A crash at any moment of a restart leaves what the state before it may leave.
-abbrev pub LeavesBefore : {D : Type 0} {g : Ghosts D} → StateStore D g → StateStore D g → Type 0
-LeavesBefore s t = LeavesOnly (disk_state s) (disk_state t) (MayBe (view s).history s.undecided)

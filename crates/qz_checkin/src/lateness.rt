@@ -68,7 +68,7 @@ impl States {
     }
 
     /// The place of the first row that is late for a node at the recorded moment of a reading of the clock.
-    #[tactic(auto, using(crate::proofs::Looking::late_place_is, crate::proofs::Looking::moments_of, crate::proofs::Looking::few_of))]
+    #[tactic(auto, using(crate::proofs::Looking::moments_of, crate::proofs::Looking::few_of))]
     pub(crate) fn late_place(&self, at: i64, own: &Text) -> Option<u32>
         ensures { result ≡ late_place (tables_in self.now) (state_moment (tables_in self.now) at) own.now }
     {

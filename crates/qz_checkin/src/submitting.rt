@@ -1,15 +1,16 @@
 //! One entry more.
-ghost use Rattle.std.specs.Prelude.{◌≡◌, ◌≢◌, ◌++◌, ◌∷◌, ℕ, ℤ, [], length, IsTrue, IsOk, IfOk, OnOk, OnErr, IfErr, Err, Some, true, false};
+ghost use Rattle.std.specs.Prelude.{◌≡◌, ◌≢◌, length, IsTrue, IfOk, OnOk, OnErr, IfErr, Err, Some, true, false};
 ghost use Rattle.qz_journal.specs.Layout.{IsPayload};
 ghost use Rattle.qz_types.specs.Rows.{is_node, is_interval};
 ghost use Rattle.qz_types.specs.declared.states.StateCommand.TheVariants.{CheckIn as CheckedIn, Forget as Forgotten};
 ghost use Rattle.qz_codec.specs.States.{IsStateEntry};
-ghost use Rattle.qz_checkin.specs.Rows.{IsAccepted, state_moment, state_transaction};
+ghost use Rattle.qz_checkin.specs.Rows.{state_of, check_in_refusal, forget_refusal, IsAccepted, state_moment, state_transaction};
+ghost use Rattle.qz_checkin.specs.History.{replay_states};
 ghost use Rattle.qz_checkin.specs.Valid.{row_by};
 ghost use Rattle.qz_checkin.specs.InMemory.{HasRoomFor};
 ghost use Rattle.qz_checkin.specs.Entries.{of_states, state_record_of, IsUnwritten, IsDecision};
 ghost use Rattle.qz_stores.specs.Stores.{HasRoom, Submits};
-ghost use Rattle.qz_checkin.specs.View.{view, entries_of, tables_of, IsAsBefore, LeavesEither};
+ghost use Rattle.qz_checkin.specs.View.{view, tables_of, IsAsBefore, LeavesEither};
 
 use crate::StateStore;
 use crate::state_log::StateLog;
@@ -47,8 +48,12 @@ impl<D: Disk> StateStore<D> {
         ensures unchanged { result ≢ Err SubmitError.Fault → OnErr result (IsAsBefore self.old self.new) }
         ensures any_moment { D.honest → LeavesEither self.old self.new }
     {
-        self.may_check_in(node)?;
-        let node = copy(node)?;
+        if let Err(error) = self.may_check_in(node) {
+            return Err(error);
+        }
+        let Ok(node) = copy(node) else {
+            return Err(SubmitError::NoMemory);
+        };
         let command = StateCommand::CheckIn { node, interval };
         self.submit(StateEntry { at, seat, command })
     }
@@ -56,20 +61,18 @@ impl<D: Disk> StateStore<D> {
     /// Removes the row of a node that is gone, if it still has this last check-in, in ms since 1970-01-01T00:00:00Z. The
     /// refusals are `UnknownNode`, where the node has no row, and `Renewed`, where it has checked in since. All else is as
     /// at `check_in`.
-    pub fn forget(
-        &mut self,
-        at: i64,
-        seat: u32,
-        node: &Text,
-        last: i64,
-    ) -> Result<(), SubmitError>
+    pub fn forget(&mut self, at: i64, seat: u32, node: &Text, last: i64) -> Result<(), SubmitError>
         requires { IsTrue (is_node node.now) }
         ensures one { Submits of_states (record { at = at; seat = seat; command = Forgotten node.now last }) result (view self.old) (view self.new) }
         ensures unchanged { result ≢ Err SubmitError.Fault → OnErr result (IsAsBefore self.old self.new) }
         ensures any_moment { D.honest → LeavesEither self.old self.new }
     {
-        self.may_forget(node, last)?;
-        let node = copy(node)?;
+        if let Err(error) = self.may_forget(node, last) {
+            return Err(error);
+        }
+        let Ok(node) = copy(node) else {
+            return Err(SubmitError::NoMemory);
+        };
         let command = StateCommand::Forget { node, last };
         self.submit(StateEntry { at, seat, command })
     }
@@ -77,11 +80,7 @@ impl<D: Disk> StateStore<D> {
     /// Whether a check-in of this node would be accepted, apart from the room on the disk: else `Closed` or `Refused`. It
     /// takes no memory.
     pub fn may_check_in(&self, node: &Text) -> Result<(), SubmitError>
-        ensures ok { (at : ℤ) (seat : ℕ) (interval : ℤ) → OnOk result (((view self.now).is_open ≡ true)
-            × IsOk (of_states.answer (view self.now).history (record { at = at; seat = seat; command = CheckedIn node.now interval }))) }
-        ensures err { (at : ℤ) (seat : ℕ) (interval : ℤ) → IfErr result (λ e.
-            Submits of_states (record { at = at; seat = seat; command = CheckedIn node.now interval }) (Err e) (view self.now) (view self.now)) }
-        ensures decided { result ≢ Err SubmitError.NoMemory }
+        ensures { IsDecision (view self.now) (check_in_refusal (replay_states (view self.now).history) (state_of node.now (replay_states (view self.now).history).rows)) result }
     {
         self.may(self.rows.check_in_refusal(node))
     }
@@ -89,11 +88,7 @@ impl<D: Disk> StateStore<D> {
     /// Whether the row of this node with this last check-in would be removed, apart from the room on the disk: else
     /// `Closed` or `Refused`. It takes no memory.
     pub fn may_forget(&self, node: &Text, last: i64) -> Result<(), SubmitError>
-        ensures ok { (at : ℤ) (seat : ℕ) → OnOk result (((view self.now).is_open ≡ true)
-            × IsOk (of_states.answer (view self.now).history (record { at = at; seat = seat; command = Forgotten node.now last }))) }
-        ensures err { (at : ℤ) (seat : ℕ) → IfErr result (λ e.
-            Submits of_states (record { at = at; seat = seat; command = Forgotten node.now last }) (Err e) (view self.now) (view self.now)) }
-        ensures decided { result ≢ Err SubmitError.NoMemory }
+        ensures { IsDecision (view self.now) (forget_refusal (state_of node.now (replay_states (view self.now).history).rows) last) result }
     {
         self.may(self.rows.forget_refusal(node, last))
     }
@@ -195,11 +190,7 @@ fn copy(node: &Text) -> Result<Text, NoMemory>
 }
 
 // Closes a store at a fault, which leaves it unknown whether the disk has the entry.
-fn close(
-    is_open: &mut bool,
-    undecided: &mut Option<StateEntry>,
-    entry: StateEntry,
-) -> SubmitError
+fn close(is_open: &mut bool, undecided: &mut Option<StateEntry>, entry: StateEntry) -> SubmitError
     ensures closed { is_open.new ≡ false }
     ensures undecided { undecided.new ≡ Some entry }
     ensures fault { result ≡ SubmitError.Fault }

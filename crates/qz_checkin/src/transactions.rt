@@ -1,6 +1,5 @@
 //! What a transaction makes of the rows.
-ghost use Rattle.std.specs.Prelude.{◌≡◌, ◌<◌, pos, IsSome, IfSome, IfOk, option_copied, vec_len, vec_capacity};
-ghost use Rattle.std.specs.Int.{int_max, int_min};
+ghost use Rattle.std.specs.Prelude.{◌≡◌, ◌<◌, IsSome, IfSome, IfOk, option_copied, vec_len, vec_capacity};
 ghost use Rattle.qz_civil.specs.declared.limits.TheConstants.{LAST as THE_LAST};
 ghost use Rattle.qz_types.specs.Tables.{IsMoment};
 ghost use Rattle.qz_checkin.specs.Rows.{new_state_tables, state_of, without_state, check_in_refusal, forget_refusal, state_moment, IsAccepted, accepted, state_transaction};
@@ -28,16 +27,16 @@ impl States {
 
     /// The moment at which a transaction with this reading of the clock is recorded. Both are in ms since
     /// 1970-01-01T00:00:00Z.
-    #[tactic(auto, using(crate::proofs::RowEdits::moment_at))]
+    #[tactic(auto, unfolding(crate::specs::Rows::state_moment))]
     pub(crate) fn moment(&self, at: i64) -> i64
         ensures value { result ≡ state_moment (tables_in self.now) at }
         ensures moment { IsMoment THE_LAST result }
     {
-        recorded(self.last_moment, at)
+        at.max(0).min(LAST).max(self.last_moment)
     }
 
     /// The row of a node.
-    #[tactic(auto, unfolding(crate::specs::Rows::state_of), using(crate::proofs::Looking::found_if))]
+    #[tactic(auto, unfolding(crate::specs::Rows::state_of))]
     pub(crate) fn row(&self, node: &Text) -> Option<&StateRow>
         ensures value { option_copied result ≡ state_of node.now self.now.rows.items }
         ensures moment { IfSome result (λ row. HasMoment row.now) }
@@ -108,13 +107,6 @@ impl States {
         edit(&mut self.rows, named(&entry.command), row);
         self.last_moment = moment;
     }
-}
-
-// A reading of the clock, not before the last moment, and from 0 to the last one that a store has.
-fn recorded(last_moment: i64, at: i64) -> i64
-    ensures { result ≡ int_max last_moment (int_min (int_max at (pos 0)) THE_LAST) }
-{
-    at.max(0).min(LAST).max(last_moment)
 }
 
 // The node that a command names.

@@ -26,7 +26,7 @@ pub mod LookUps
 pub mod MembersGone
 pub mod NamedRows
 pub mod NextTimes
-mod Numbers
+pub mod Numbers
 pub mod Putting
 pub mod RecoveryTriggers
 pub mod References

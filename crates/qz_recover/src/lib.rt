@@ -14,6 +14,7 @@ ghost use Rattle.qz_tables.specs.Contents.{HasSpare};
 ghost use Rattle.qz_apply.specs.Room.{AddsUpTo, rows_added};
 ghost use Rattle.qz_recover.specs.Commands.{is_of_members};
 
+mod ending;
 mod joining;
 mod leaving;
 

@@ -1,5 +1,5 @@
 -- What a restart finds on a disk whose images stand for a history, or for it with the undecided entry.
-use Rattle.std.proofs.Common.{◌≡◌, ◌∙◌, ◌⊎◌, inl, inr, ℕ, List, [], ◌∷◌, ◌++◌, length, true, false, refl, sym, ap, subst}
+use Rattle.std.proofs.Common.{◌≡◌, ◌⊎◌, inl, inr, ℕ, List, [], ◌∷◌, ◌++◌, refl, ap, subst}
 use Rattle.std.proofs.Math.Logic.{∥∥₁_elim, ∥∥₁_map}
 use Rattle.std.proofs.Props.{props}
 use Rattle.std.specs.Prelude.{Option, Some, None, IfOk, IfErr}
@@ -35,7 +35,7 @@ same_entries b es fs p q es_valid fs_valid =
     ∥∥₁_elim es_valid (hlevel props) (λ x. ∥∥₁_elim fs_valid (hlevel props) (λ y. entries_unique ps fs es (q.encode ps p.store.1) (p.encode ps p.store.1) y x))
 
 with_one : (es : List EntryData) (e : EntryData) (T : SchedulerTables) → ∥ AllByRecursion IsEntry es ∥₁ → ∥ MayFollow T (Some e) ∥₁ → ∥ AllByRecursion IsEntry (es ++ e ∷ []) ∥₁
-with_one es e T valid passed = ∥∥₁_elim valid squash (λ v. ∥∥₁_map passed (λ p. All-pushed IsEntry es e v p.0))
+with_one es e T valid passed = ∥∥₁_elim valid squash₁ (λ v. ∥∥₁_map passed (λ p. All-pushed IsEntry es e v p.0))
 
 pub decided : (es fs : List EntryData) (u : Option EntryData) (T : SchedulerTables) (b : List ℕ) → ∥ AllByRecursion IsEntry es ∥₁ → ∥ AllByRecursion IsEntry fs ∥₁ → ∥ MayFollow T u ∥₁
     → HoldEntries b fs → MayHold es u b → IsDecided trigger_entry (history_of es) u (history_of fs)
@@ -98,3 +98,7 @@ module _ (es : List EntryData) (u : Option EntryData) (T : SchedulerTables) (tab
 
   pub replay_starved : (result : Result Reread MountError) → MayHold es u b → IfErr result (IsStopped payloads) → IfErr result (λ e. (e ≡ mount.Fault) ⊎ (e ≡ mount.NoMemory))
   replay_starved result may = IfErr-weaker result _ _ (λ e stopped. starved es u T payloads b e tables legal valid passed holds may stopped)
+
+-- the bytes that a remount read, which are those before it
+pub held_now : (kind : ℕ) (new : List ℕ) (payloads : List (List ℕ)) (old : List ℕ) → kind ≡ TRIGGERS → new ≡ old → Holds new kind payloads → Holds old TRIGGERS payloads
+held_now kind new payloads old kind_is same holds = subst (λ (k : ℕ). Holds old k payloads) kind_is (subst (λ (b : List ℕ). Holds b kind payloads) same holds)

@@ -5,7 +5,7 @@ use Rattle.qz_types.specs.Entries.{EntryData}
 use Rattle.qz_types.specs.Outcomes.{IsAccepted}
 use Rattle.qz_types.specs.Tables.{SchedulerTables, empty}
 use Rattle.qz_model.specs.Transaction.{transaction}
-use Rattle.qz_model.specs.History.{History, new_history, IsLegal}
+use Rattle.qz_model.specs.History.{History, IsLegal}
 use Rattle.qz_journal.specs.Layout.{Holds, end_of}
 use Rattle.qz_journal.specs.View.{version}
 use Rattle.qz_journal.specs.declared.layout.TheConstants.{TRIGGERS}

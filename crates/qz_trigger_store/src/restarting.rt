@@ -1,6 +1,6 @@
 //! A restart: a crash of the disk, and what is found on it afterwards. It has three calls, so that both disks of a
-//! cluster can crash before either is read, and a store is changed only when both were read.
-ghost use Rattle.std.specs.Prelude.{◌≡◌, ◌⊎◌, ◌++◌, ◌^◌, ◌<◌, [], length, IfOk, IfErr, OnOk, Err, None, true, false};
+//! cluster can crash before either is read, and neither store is opened until both were read.
+ghost use Rattle.std.specs.Prelude.{◌≡◌, ◌⊎◌, [], IfOk, IfErr, OnOk, Err};
 ghost use Rattle.qz_civil.specs.Causes.{Rose, HasCause};
 ghost use Rattle.qz_journal.specs.Through.{OnlyReads};
 ghost use Rattle.qz_stores.specs.Stores.{Shuts, IsDecided, Opens};
@@ -30,10 +30,10 @@ impl<D: Disk> TriggerStore<D> {
         self.journal.crash()
     }
 
-    /// Reads the disk and replays what is on it, for `open`. The store is closed from then on, and goes on with its
-    /// history. `NotAStore` and `Damaged` come only where the disk isn't honest: they are as in `mount`, but that the
-    /// offset of `Damaged` may be the journal's, behind a payload whose command is refused. `Fault` is returned only
-    /// where the disk's count of faults rose.
+    /// Reads the disk and replays what is on it, for `open`. The store is closed from then on, and keeps its history.
+    /// `Fault` is returned only where the disk's count of faults rose. `NotAStore` and `Damaged` come only where the disk
+    /// isn't honest. They mean what they mean at a mount, but where a bad gate comes after a payload that is unfit, the
+    /// offset is that of the gate.
     pub fn reread(&mut self) -> Result<Reread, MountError>
         ensures shut { Shuts (view self.old) (view self.new) }
         ensures kept { (found_of self.new ≡ found_of self.old) × (added_of self.new ≡ added_of self.old) }
@@ -47,6 +47,8 @@ impl<D: Disk> TriggerStore<D> {
     {
         self.is_open = false;
         let payloads = self.journal.remount(self.alloc)?;
+        // the payloads end at an offset
+        let _gate = self.journal.gate();
         replay(self.alloc, &payloads)
     }
 

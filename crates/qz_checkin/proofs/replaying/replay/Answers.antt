@@ -1,10 +1,9 @@
 use Rattle.std.proofs.Common.{◌≡◌, ◌∙◌, ◌<◌, List, ℕ, Err, length, get_or, refl, sym, ap, subst, arith}
 use Rattle.std.proofs.lemmas.List.{length-take}
 use Rattle.qz_checkin.specs.Facts.{Encode-length}
-use Rattle.qz_checkin.specs.Rows.{StateTables, new_state_tables}
+use Rattle.qz_checkin.specs.Rows.{new_state_tables}
 use Rattle.qz_checkin.specs.History.{replay_from}
 use Rattle.qz_checkin.specs.Bytes.{IsRecord}
-use Rattle.qz_checkin.specs.InMemory.{tables_in}
 use Rattle.qz_checkin.proofs.Replays.{gate_fits, taken_none, taken_more, taken_tables, taken_gate, stops_at}
 use Rattle.qz_checkin.proofs.replaying.replay.Goals as goal
 

@@ -1,6 +1,6 @@
-use Rattle.std.proofs.Common.{◌≡◌, ◌∙◌, ℕ, List, [], ◌∷◌, ◌++◌, length, refl, sym, ap, subst}
+use Rattle.std.proofs.Common.{◌∙◌, ℕ, List, length, refl, sym, ap, subst}
 use Rattle.qz_stores.specs.Stores.{HasRoom}
-use Rattle.qz_checkin.specs.Bytes.{history_of, MayFollow}
+use Rattle.qz_checkin.specs.Bytes.{history_of}
 use Rattle.qz_checkin.specs.InMemory.{tables_in}
 use Rattle.qz_checkin.specs.View.{view}
 use Rattle.qz_checkin.proofs.Appending

@@ -3,7 +3,7 @@ use Rattle.std.proofs.lemmas.Grind.{common_steps}
 use Rattle.std.specs.List.{slice_get}
 use Rattle.qz_types.specs.Words.{same_key}
 use Rattle.qz_apply.proofs.Searches.{none_up_to}
-use Rattle.qz_complete.proofs.completing.has_row.Goals as goal
+use Rattle.qz_apply.proofs.finished.has_row.Goals as goal
 
 pub loop-place-preserved : goal.loop-place-preserved
 loop-place-preserved c =
