@@ -4,6 +4,7 @@ pub mod Counts
 pub mod Effects
 pub mod FoundRows
 pub mod Plain
+pub mod Restarts
 pub mod Scripts
 pub mod Sound
 pub mod StepCases

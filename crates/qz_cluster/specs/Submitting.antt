@@ -1,5 +1,5 @@
 -- One transaction of a step: what the step answers, and which epochs are held then.
-use Rattle.std.specs.Prelude.{⊤, ⊥, ◌≡◌, Bool, true, false, List, Ok, Err}
+use Rattle.std.specs.Prelude.{⊤, ◌≡◌, Bool, true, false, List, Ok, Err}
 use Rattle.std.specs.declared.result.Result.{Result}
 use Rattle.qz_types.specs.Rows.{MemberData}
 use Rattle.qz_types.specs.Entries.{EntryData, StateEntryData}

@@ -74,7 +74,7 @@ impl<D: Disk> Cluster<D> {
     }
 
     // The epochs after a join that was answered so, where these are the rows of the other nodes.
-    #[tactic(auto, unfolding(qz_cluster::specs::Script::hold))]
+    #[tactic(auto, unfolding(crate::specs::Script::hold))]
     fn hold(&mut self, node: Text, mut rows: Vec<MemberRow>, reply: &StepReply)
         requires node { IsTrue (is_node node) }
         requires rows { rows.items ≡ without_member node (view self.old).held }

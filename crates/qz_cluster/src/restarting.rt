@@ -1,8 +1,8 @@
 //! A restart of both disks.
-ghost use Rattle.std.specs.Prelude.{◌≡◌, ◌⊎◌, [], true, IfOk, IfErr, OnOk, OnErr};
-ghost use Rattle.qz_civil.specs.Causes.{Rose};
+ghost use Rattle.std.specs.Prelude.{◌≡◌, ℤ, [], false, IfOk, IfErr};
 ghost use Rattle.qz_steps.specs.declared.steps.Step.TheVariants as step_is;
-ghost use Rattle.qz_cluster.specs.Steps.{StepCase, EndCase, BothShut};
+ghost use Rattle.qz_cluster.specs.Restarting.{unread};
+ghost use Rattle.qz_cluster.specs.Steps.{StepCase, EndCase};
 ghost use Rattle.qz_cluster.specs.View.{view, KeepsUnlessDone, EachLeavesEither};
 
 use crate::{Cluster, StepEnd};
@@ -21,9 +21,9 @@ impl<D: Disk> Cluster<D> {
         ensures any_moment { D.honest → EachLeavesEither self.old self.new }
     {
         self.held = Vec::new(self.alloc);
-        let triggers_restarted = self.triggers.crash();
-        let states_restarted = self.states.crash();
-        if triggers_restarted.is_err() || states_restarted.is_err() {
+        let triggers_crashed = self.triggers.crash();
+        let states_crashed = self.states.crash();
+        if triggers_crashed.is_err() || states_crashed.is_err() {
             return Ok(StepReply::Fault);
         }
         self.reopen()
@@ -31,27 +31,34 @@ impl<D: Disk> Cluster<D> {
 
     // What is on both disks is read, and then both stores are opened.
     fn reopen(&mut self) -> Result<StepReply, StepEnd>
+        requires triggers { (view self.old).triggers.is_open ≡ false }
+        requires states { (view self.old).states.is_open ≡ false }
+        requires held { (view self.old).held ≡ [] }
+        ensures ok { (at : ℤ) → IfOk result (λ r. StepCase D.honest (record { step = step_is.Restart; at = at }) r (view self.old) (view self.new)) }
+        ensures err { (at : ℤ) → IfErr result (λ e. EndCase D.honest (record { step = step_is.Restart; at = at }) e (view self.old) (view self.new)) }
+        ensures keeps { IfOk result (λ r. KeepsUnlessDone r self.old self.new) }
+        ensures any_moment { D.honest → EachLeavesEither self.old self.new }
     {
-        let triggers = match self.triggers.reread() {
-            Ok(triggers) => triggers,
-            Err(error) => return unread(Store::Triggers, error),
-        };
-        match self.states.reread() {
-            Ok(states) => {
-                self.triggers.open(triggers);
-                self.states.open(states);
-                Ok(StepReply::Restarted)
-            }
-            Err(error) => {
-                drop(triggers);
-                unread(Store::States, error)
-            }
+        match self.triggers.reread() {
+            Ok(triggers) => match self.states.reread() {
+                Ok(states) => {
+                    self.triggers.open(triggers);
+                    self.states.open(states);
+                    Ok(StepReply::Restarted)
+                }
+                Err(error) => {
+                    drop(triggers);
+                    unread(Store::States, error)
+                }
+            },
+            Err(error) => unread(Store::Triggers, error),
         }
     }
 }
 
 // What comes of a restart that couldn't read a store.
 fn unread(store: Store, error: MountError) -> Result<StepReply, StepEnd>
+    ensures { result ≡ unread store error }
 {
     match error {
         MountError::Fault => Ok(StepReply::Fault),

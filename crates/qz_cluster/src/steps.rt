@@ -3,7 +3,7 @@ ghost use Rattle.std.specs.Prelude.{◌≡◌, ℤ, false, IsTrue, IfOk, IfErr, 
 ghost use Rattle.qz_steps.specs.Steps.{is_step};
 ghost use Rattle.qz_steps.specs.declared.steps.Step.TheVariants as step_is;
 ghost use Rattle.qz_cluster.specs.Steps.{StepCase, IsStep, IsCutShort, is_restart};
-ghost use Rattle.qz_cluster.specs.View.{view, KeepsTriggers, KeepsStores, KeepsUnlessDone, EachLeavesEither};
+ghost use Rattle.qz_cluster.specs.View.{view, KeepsTriggers, KeepsUnlessDone, EachLeavesEither};
 
 use crate::entries::client_entry;
 use crate::held::{epoch_of, remove};
@@ -39,7 +39,7 @@ impl<D: Disk> Cluster<D> {
     // A node stops: it holds its epoch no longer.
     fn stop(&mut self, node: &Text) -> StepReply
         ensures ok { (at : ℤ) → StepCase D.honest (record { step = step_is.Stop node.now; at = at }) result (view self.old) (view self.new) }
-        ensures keeps { KeepsStores self.old self.new }
+        ensures keeps { KeepsUnlessDone result self.old self.new }
         ensures any_moment { D.honest → EachLeavesEither self.old self.new }
     {
         if epoch_of(&self.held, node).is_none() {

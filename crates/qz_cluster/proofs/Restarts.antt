@@ -1,0 +1,133 @@
+-- The case of a restart, step by step.
+use Rattle.std.proofs.Common.{◌≡◌, ◌⊎◌, inl, inr, ⊎_elim, ℕ, ℤ, ◌≤◌, List, true, false, refl, sym, ◌∙◌, ap, subst, arith}
+use Rattle.std.specs.Prelude.{Bool, IfOk, IfErr, Option, Some, None}
+use Rattle.qz_civil.specs.Causes.{Rose}
+use Rattle.qz_disk.specs.declared.disk.Disk.{Ghosts}
+use Rattle.qz_disk.proofs.Moments.{then_leaves}
+use Rattle.qz_journal.specs.declared.errors.MountError.{MountError}
+use Rattle.qz_journal.specs.declared.errors.MountError.TheVariants as mount
+use Rattle.qz_types.specs.declared.stores.Store.{Store}
+use Rattle.qz_steps.specs.declared.steps.Step.TheVariants.{Restart}
+use Rattle.qz_steps.specs.declared.steps.StepReply.{StepReply}
+use Rattle.qz_steps.specs.declared.steps.StepReply.TheVariants as reply
+use Rattle.qz_stores.specs.Stores.{EntryKind, StoreState, Shuts, Opens, IsDecided}
+use Rattle.qz_trigger_store.specs.Entries.{trigger_entry}
+use Rattle.qz_trigger_store.specs.Bytes.{MayBe}
+use Rattle.qz_trigger_store.specs.View.{view as store_view, disk_state, IsOfEither, LeavesEither}
+use Rattle.qz_trigger_store.specs.declared.stores.TriggerStore.{TriggerStore}
+use Rattle.qz_checkin.specs.Entries.{of_states}
+use Rattle.qz_checkin.specs.Bytes.{MayBe as StatesMayBe}
+use Rattle.qz_checkin.specs.View.{view as states_view, disk_state as rows_disk_state, IsOfEither as AreOfEither, LeavesEither as LeaveEither}
+use Rattle.qz_checkin.specs.declared.stores.StateStore.{StateStore}
+use Rattle.qz_cluster.specs.Script.{TimedStep}
+use Rattle.qz_cluster.specs.Steps.{ClusterState, BothShut, StepCase, EndCase}
+use Rattle.qz_cluster.specs.Restarting.{unread}
+use Rattle.qz_cluster.specs.declared.errors.StepEnd.{StepEnd}
+use Rattle.qz_cluster.specs.declared.errors.StepEnd.TheVariants as ends
+
+-- One store.
+
+pub shut_here : {H E : Type 0} (s : StoreState H E) → s.is_open ≡ false → Shuts s s
+shut_here s closed = record { history = refl; is_open = closed; undecided = refl; later = omega arith }
+
+pub shut_again : {H E : Type 0} (s t u : StoreState H E) → Shuts s t → Shuts t u → Shuts s u
+shut_again s t u first second = record {
+  history = second.history ∙ first.history;
+  is_open = second.is_open;
+  undecided = second.undecided ∙ first.undecided;
+  later = omega (arith, first.later, second.later);
+}
+
+pub opens_after : {H E R : Type 0} (kind : EntryKind H E R) (honest : Type 0) (s t u : StoreState H E) → Shuts s t → Opens kind honest t u → Opens kind honest s u
+opens_after kind honest s t u first second = record {
+  is_open = second.is_open;
+  undecided = second.undecided;
+  decided = λ h. subst (λ x. IsDecided kind x s.undecided u.history) first.history (subst (λ x. IsDecided kind t.history x u.history) first.undecided (second.decided h));
+  later = omega (arith, first.later, second.later);
+}
+
+pub rose_after : (before mid now : ℕ) → before ≤ mid → Rose mid now → Rose before now
+rose_after before mid now later rose = omega (arith, later, rose)
+
+pub rose_before : (before mid now : ℕ) → Rose before mid → mid ≤ now → Rose before now
+rose_before before mid now rose later = omega (arith, later, rose)
+
+-- Both.
+
+pub both_again : (S mid new : ClusterState) → Shuts S.triggers mid.triggers → Shuts S.states mid.states → BothShut mid new → BothShut S new
+both_again S mid new triggers states shut = record {
+  triggers = shut_again S.triggers mid.triggers new.triggers triggers shut.triggers;
+  states = shut_again S.states mid.states new.states states shut.states;
+  held = shut.held;
+}
+
+impossible : {A : Type 0} → true ≡ false → A
+impossible is = cc
+
+-- What came of a restart after both disks crashed, it came of the whole.
+pub restarted_after : (honest : Type 0) (at : ℤ) (r : StepReply) (S mid new : ClusterState) → Shuts S.triggers mid.triggers → Shuts S.states mid.states
+    → StepCase honest (record { step = Restart; at = at }) r mid new → StepCase honest (record { step = Restart; at = at }) r S new
+restarted_after honest at (reply.Ok r) S mid new triggers states is = impossible is.submits.allowed.works
+restarted_after honest at (reply.Refused refusal) S mid new triggers states (inl is) = impossible is.allowed.works
+restarted_after honest at (reply.Refused refusal) S mid new triggers states (inr is) = impossible is.submits.allowed.works
+restarted_after honest at reply.Fault S mid new triggers states (inl is) = impossible is.submits.allowed.works
+restarted_after honest at reply.Fault S mid new triggers states (inr is) = inr (record {
+  asked = is.asked;
+  shut = both_again S mid new triggers states is.shut;
+  rose = ⊎_elim (λ rose. inl (rose_after S.triggers.faults mid.triggers.faults new.triggers.faults triggers.later rose))
+      (λ rose. inr (rose_after S.states.faults mid.states.faults new.states.faults states.later rose)) is.rose;
+})
+restarted_after honest at reply.Closed S mid new triggers states is = impossible (sym is.needs_closed)
+restarted_after honest at reply.Stopped S mid new triggers states is = impossible (sym is.unheld)
+restarted_after honest at reply.Restarted S mid new triggers states is = record {
+  asked = is.asked;
+  triggers = opens_after trigger_entry honest S.triggers mid.triggers new.triggers triggers is.triggers;
+  states = opens_after of_states honest S.states mid.states new.states states is.states;
+  are_triggers = is.are_triggers;
+  are_states = is.are_states;
+  held = is.held;
+}
+
+pub cut_after : (honest : Type 0) (at : ℤ) (end : StepEnd) (S mid new : ClusterState) → Shuts S.triggers mid.triggers → Shuts S.states mid.states
+    → EndCase honest (record { step = Restart; at = at }) end mid new → EndCase honest (record { step = Restart; at = at }) end S new
+cut_after honest at (ends.JournalFull need room) S mid new triggers states is = impossible is.submits.allowed.works
+cut_after honest at (ends.NotAStore store) S mid new triggers states is =
+    record { asked = is.asked; shut = both_again S mid new triggers states is.shut; dishonest = is.dishonest }
+cut_after honest at (ends.Damaged store place) S mid new triggers states is =
+    record { asked = is.asked; shut = both_again S mid new triggers states is.shut; dishonest = is.dishonest }
+cut_after honest at ends.NoMemory S mid new triggers states (inl is) = impossible is.submits.allowed.works
+cut_after honest at ends.NoMemory S mid new triggers states (inr is) = inr (record { asked = is.asked; shut = both_again S mid new triggers states is.shut })
+
+-- A store couldn't be read.
+
+pub unread_reply : (honest : Type 0) (at : ℤ) (store : Store) (error : MountError) (S new : ClusterState) → BothShut S new
+    → (error ≡ mount.Fault → Rose S.triggers.faults new.triggers.faults ⊎ Rose S.states.faults new.states.faults)
+    → IfOk (unread store error) (λ r. StepCase honest (record { step = Restart; at = at }) r S new)
+unread_reply honest at store mount.Fault S new shut rose = inr (record { asked = refl; shut = shut; rose = rose refl })
+unread_reply honest at store mount.NotAStore S new shut rose = tt
+unread_reply honest at store (mount.Damaged place) S new shut rose = tt
+unread_reply honest at store mount.NoMemory S new shut rose = tt
+
+pub unread_end : (honest : Type 0) (at : ℤ) (store : Store) (error : MountError) (S new : ClusterState) → BothShut S new
+    → (honest → (error ≡ mount.Fault) ⊎ (error ≡ mount.NoMemory))
+    → IfErr (unread store error) (λ e. EndCase honest (record { step = Restart; at = at }) e S new)
+unread_end honest at store mount.Fault S new shut only = tt
+unread_end honest at store mount.NotAStore S new shut only = record { asked = refl; shut = shut; dishonest = λ h. ⊎_elim (λ is. cc) (λ is. cc) (only h) }
+unread_end honest at store (mount.Damaged place) S new shut only = record { asked = refl; shut = shut; dishonest = λ h. ⊎_elim (λ is. cc) (λ is. cc) (only h) }
+unread_end honest at store mount.NoMemory S new shut only = inr (record { asked = refl; shut = shut })
+
+-- Moments.
+
+pub triggers_leave : {D : Type 0} {g : Ghosts D} (s t u : TriggerStore D g) → Shuts (store_view s) (store_view t) → LeavesEither s t → LeavesEither t u → LeavesEither s u
+triggers_leave s t u shut first second =
+    then_leaves (disk_state s) (disk_state t) (disk_state u) _ _ (IsOfEither (store_view s) (store_view u)) first second
+    (λ b is. inl (⊎_elim (λ x. x) (here b) is)) (λ b is. ⊎_elim (λ x. inl (here b x)) inr is) where
+  here : (b : List ℕ) → MayBe (store_view t).history (store_view t).undecided b → MayBe (store_view s).history (store_view s).undecided b
+  here b is = subst (λ x. MayBe x (store_view s).undecided b) shut.history (subst (λ x. MayBe (store_view t).history x b) shut.undecided is)
+
+pub states_leave : {D : Type 0} {g : Ghosts D} (s t u : StateStore D g) → Shuts (states_view s) (states_view t) → LeaveEither s t → LeaveEither t u → LeaveEither s u
+states_leave s t u shut first second =
+    then_leaves (rows_disk_state s) (rows_disk_state t) (rows_disk_state u) _ _ (AreOfEither (states_view s) (states_view u)) first second
+    (λ b is. inl (⊎_elim (λ x. x) (here b) is)) (λ b is. ⊎_elim (λ x. inl (here b x)) inr is) where
+  here : (b : List ℕ) → StatesMayBe (states_view t).history (states_view t).undecided b → StatesMayBe (states_view s).history (states_view s).undecided b
+  here b is = subst (λ x. StatesMayBe x (states_view s).undecided b) shut.history (subst (λ x. StatesMayBe (states_view t).history x b) shut.undecided is)
