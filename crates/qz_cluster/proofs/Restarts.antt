@@ -1,6 +1,7 @@
 -- The case of a restart, step by step.
 use Rattle.std.proofs.Common.{◌≡◌, ◌⊎◌, inl, inr, ⊎_elim, ℕ, ℤ, ◌≤◌, List, true, false, refl, sym, ◌∙◌, ap, subst, arith}
-use Rattle.std.specs.Prelude.{Bool, IfOk, IfErr, Option, Some, None}
+use Rattle.std.specs.Prelude.{IfOk, IfErr, Ok, Err}
+use Rattle.std.specs.declared.result.Result.{Result}
 use Rattle.qz_civil.specs.Causes.{Rose}
 use Rattle.qz_disk.specs.declared.disk.Disk.{Ghosts}
 use Rattle.qz_disk.proofs.Moments.{then_leaves}
@@ -22,6 +23,8 @@ use Rattle.qz_checkin.specs.declared.stores.StateStore.{StateStore}
 use Rattle.qz_cluster.specs.Script.{TimedStep}
 use Rattle.qz_cluster.specs.Steps.{ClusterState, BothShut, StepCase, EndCase}
 use Rattle.qz_cluster.specs.Restarting.{unread}
+use Rattle.qz_cluster.specs.View.{KeepsUnlessDone}
+use Rattle.qz_cluster.specs.declared.clusters.Cluster.{Cluster}
 use Rattle.qz_cluster.specs.declared.errors.StepEnd.{StepEnd}
 use Rattle.qz_cluster.specs.declared.errors.StepEnd.TheVariants as ends
 
@@ -131,3 +134,30 @@ states_leave s t u shut first second =
     (λ b is. inl (⊎_elim (λ x. x) (here b) is)) (λ b is. ⊎_elim (λ x. inl (here b x)) inr is) where
   here : (b : List ℕ) → StatesMayBe (states_view t).history (states_view t).undecided b → StatesMayBe (states_view s).history (states_view s).undecided b
   here b is = subst (λ x. StatesMayBe x (states_view s).undecided b) shut.history (subst (λ x. StatesMayBe (states_view t).history x b) shut.undecided is)
+
+-- Results.
+
+pub restarted : (honest : Type 0) (at : ℤ) (result : Result StepReply StepEnd) (S mid new : ClusterState) → Shuts S.triggers mid.triggers → Shuts S.states mid.states
+    → IfOk result (λ r. StepCase honest (record { step = Restart; at = at }) r mid new) → IfOk result (λ r. StepCase honest (record { step = Restart; at = at }) r S new)
+restarted honest at (Ok r) S mid new triggers states is = restarted_after honest at r S mid new triggers states is
+restarted honest at (Err end) S mid new triggers states is = tt
+
+pub cut : (honest : Type 0) (at : ℤ) (result : Result StepReply StepEnd) (S mid new : ClusterState) → Shuts S.triggers mid.triggers → Shuts S.states mid.states
+    → IfErr result (λ e. EndCase honest (record { step = Restart; at = at }) e mid new) → IfErr result (λ e. EndCase honest (record { step = Restart; at = at }) e S new)
+cut honest at (Ok r) S mid new triggers states is = tt
+cut honest at (Err end) S mid new triggers states is = cut_after honest at end S mid new triggers states is
+
+-- A restart is answered as closed, stopped or refused never.
+keeps_at : {D : Type 0} {g : Ghosts D} (honest : Type 0) (at : ℤ) (r : StepReply) (S new : ClusterState) (c d : Cluster D g) → StepCase honest (record { step = Restart; at = at }) r S new → KeepsUnlessDone r c d
+keeps_at honest at (reply.Ok r) S new c d is = tt
+keeps_at honest at (reply.Refused refusal) S new c d (inl is) = impossible is.allowed.works
+keeps_at honest at (reply.Refused refusal) S new c d (inr is) = impossible is.submits.allowed.works
+keeps_at honest at reply.Fault S new c d is = tt
+keeps_at honest at reply.Closed S new c d is = impossible (sym is.needs_closed)
+keeps_at honest at reply.Stopped S new c d is = impossible (sym is.unheld)
+keeps_at honest at reply.Restarted S new c d is = tt
+
+pub keeps : {D : Type 0} {g : Ghosts D} (honest : Type 0) (at : ℤ) (result : Result StepReply StepEnd) (S new : ClusterState) (c d : Cluster D g)
+    → IfOk result (λ r. StepCase honest (record { step = Restart; at = at }) r S new) → IfOk result (λ r. KeepsUnlessDone r c d)
+keeps honest at (Ok r) S new c d is = keeps_at honest at r S new c d is
+keeps honest at (Err end) S new c d is = tt

@@ -1,5 +1,5 @@
 //! Nodes that join, check in, and forget others.
-ghost use Rattle.std.specs.Prelude.{◌≡◌, ◌<◌, IsTrue, IfOk, IfErr, OnErr, vec_len, vec_capacity};
+ghost use Rattle.std.specs.Prelude.{◌≡◌, ◌<◌, false, IsTrue, IfOk, IfErr, OnErr, vec_len, vec_capacity};
 ghost use Rattle.qz_types.specs.Rows.{is_node, is_interval};
 ghost use Rattle.qz_types.specs.Words.{without_member};
 ghost use Rattle.qz_types.specs.declared.commands.Actor.TheVariants as actor;
@@ -7,12 +7,13 @@ ghost use Rattle.qz_types.specs.declared.commands.Command.TheVariants as command
 ghost use Rattle.qz_steps.specs.declared.steps.Step.TheVariants as step_is;
 ghost use Rattle.qz_trigger_store.specs.Entries.{trigger_entry};
 ghost use Rattle.qz_cluster.specs.Script.{entry_of, held_after_join};
-ghost use Rattle.qz_cluster.specs.Steps.{StepCase, EndCase};
+ghost use Rattle.qz_cluster.specs.Steps.{StepCase, EndCase, is_closed};
 ghost use Rattle.qz_cluster.specs.Submitting.{Submitted, Unsubmitted, held_by};
 ghost use Rattle.qz_cluster.specs.View.{view, KeepsTriggers, KeepsUnlessDone, EachLeavesEither};
 
 use crate::entries::client_entry;
 use crate::held::{epoch_of, put_reserved, room_for_one};
+use crate::submitting::unaccepted;
 use crate::{Cluster, StepEnd};
 use qz_disk::Disk;
 use qz_steps::StepReply;
@@ -38,11 +39,35 @@ impl<D: Disk> Cluster<D> {
             return Ok(StepReply::Closed);
         }
         match room_for_one(self.alloc, &self.held, &node) {
-            Ok((rows, name)) => match self.submit_check_in(&name, interval, at)? {
-                StepReply::Ok(_) => self.join_with(node, at, rows, name),
-                reply => Ok(reply),
-            },
+            Ok((rows, name)) => self.join_in_room(node, interval, at, rows, name),
             Err(NoMemory) => self.decide_check_in(&node),
+        }
+    }
+
+    // The same, with the rows of the other nodes, which have room for one more, and the node's name once more.
+    fn join_in_room(
+        &mut self,
+        node: Text,
+        interval: i64,
+        at: i64,
+        rows: Vec<MemberRow>,
+        name: Text,
+    ) -> Result<StepReply, StepEnd>
+        requires ready { is_closed (view self.old) ≡ false }
+        requires node { IsTrue (is_node node) }
+        requires interval { IsTrue (is_interval interval) }
+        requires rows { rows.items ≡ without_member node (view self.old).held }
+        requires room { vec_len rows < vec_capacity rows }
+        requires name { name ≡ node }
+        ensures ok { IfOk result (λ r. StepCase D.honest (record { step = step_is.Join node interval; at = at }) r (view self.old) (view self.new)) }
+        ensures err { IfErr result (λ e. EndCase D.honest (record { step = step_is.Join node interval; at = at }) e (view self.old) (view self.new)) }
+        ensures keeps { IfOk result (λ r. KeepsUnlessDone r self.old self.new) }
+        ensures unchanged { OnErr result (KeepsTriggers self.old self.new) }
+        ensures any_moment { D.honest → EachLeavesEither self.old self.new }
+    {
+        match self.states.check_in(at, 0, &name, interval) {
+            Ok(()) => self.join_with(node, at, rows, name),
+            Err(error) => unaccepted(error),
         }
     }
 
@@ -133,6 +158,7 @@ impl<D: Disk> Cluster<D> {
     }
 
     /// A member removes the check-in of a node that is no member any more.
+    #[tactic(auto, unfolding(crate::specs::Script::member_refusal))]
     pub(crate) fn forget(
         &mut self,
         node: &Text,

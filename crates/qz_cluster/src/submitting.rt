@@ -122,8 +122,8 @@ fn answered(answer: Result<(), SubmitError>) -> Result<StepReply, StepEnd>
     }
 }
 
-// What comes of a step whose entry wasn't accepted.
-fn unaccepted(error: SubmitError) -> Result<StepReply, StepEnd>
+/// What comes of a step whose entry wasn't accepted.
+pub(crate) fn unaccepted(error: SubmitError) -> Result<StepReply, StepEnd>
     ensures { result ≡ unaccepted error }
 {
     match error {
