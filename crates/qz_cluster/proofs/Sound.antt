@@ -59,7 +59,6 @@ valid_entry (Join node interval) held at e valid asked =
 valid_entry (Node node c) held at e valid asked =
     let parts = and_parts (is_node node && is_command c) (is_of_node c) valid in
     member_entry (member_of node held) c at e asked (and_parts (is_node node) (is_command c) parts.0).1 parts.1
-
 valid_entry (CheckIn node interval) held at e valid asked = absurd cc
 valid_entry (Forget node failed) held at e valid asked = absurd cc
 valid_entry (Stop node) held at e valid asked = absurd cc
@@ -88,9 +87,9 @@ stay_sound S S' stays sound = (same_sound S.triggers S'.triggers stays.triggers 
 shut_both_sound : (S S' : ClusterState) → BothShut S S' → AreBothSound S → AreBothSound S'
 shut_both_sound S S' shut sound = (shut_sound S.triggers S'.triggers shut.triggers sound.0, states_shut_sound S.states S'.states shut.states sound.1)
 
-states_done_sound : (o : Option StateEntryData) (s t : StatesState) → ((e : StateEntryData) → o ≡ Some e → IsTrue (is_state_command e.command)) → StatesDone o s t → AreSound s → AreSound t
-states_done_sound None s t valid is sound = states_same_sound s t is sound
-states_done_sound (Some e) s t valid is sound = states_submitted_sound e (Ok tt) s t (valid e refl) is sound
+states_done_sound : (o : Option StateEntryData) (s t : StatesState) → StatesDone o s t → AreSound s → AreSound t
+states_done_sound None s t is sound = states_same_sound s t is sound
+states_done_sound (Some e) s t is sound = states_submitted_sound e (Ok tt) s t is sound
 
 triggers_done_sound : (o : Option EntryData) (r : Reply) (s t : TriggerState) → ((e : EntryData) → o ≡ Some e → IsTrue (is_entry e)) → TriggersDone o r s t → IsSound s → IsSound t
 triggers_done_sound None r s t valid is sound = same_sound s t is.0 sound
@@ -98,26 +97,26 @@ triggers_done_sound (Some e) r s t valid is sound = submitted_sound e (Ok r) s t
 
 -- of a step that ends at one of its entries, which keep their store sound
 module _ (C : StateEntryData → StatesState → StatesState → Type 0) (E : EntryData → TriggerState → TriggerState → Type 0)
-    (at_states : (e : StateEntryData) (s t : StatesState) → IsTrue (is_state_command e.command) → C e s t → AreSound s → AreSound t)
+    (at_states : (e : StateEntryData) (s t : StatesState) → C e s t → AreSound s → AreSound t)
     (at_triggers : (e : EntryData) (s t : TriggerState) → IsTrue (is_entry e) → E e s t → IsSound s → IsSound t) where
   entry_sound : (held : List MemberData) (t : TimedStep) (S S' : ClusterState) → IsTrue (is_step t.step) → AtStates C t S S' ⊎ AtTriggers E held t S S' → AreBothSound S → AreBothSound S'
   entry_sound held t S S' valid (inl at) sound =
-      (same_sound S.triggers S'.triggers at.triggers sound.0, at_states at.entry S.states S'.states (valid_state_entry S t.step t.at at.entry valid at.asked) at.states sound.1)
+      (same_sound S.triggers S'.triggers at.triggers sound.0, at_states at.entry S.states S'.states at.states sound.1)
   entry_sound held t S S' valid (inr at) sound = (
     at_triggers at.entry S.triggers S'.triggers (valid_entry t.step S.held t.at at.entry valid at.asked) at.triggers sound.0,
-    states_done_sound _ S.states S'.states (λ e asked. valid_state_entry S t.step t.at e valid asked) at.states sound.1,
+    states_done_sound _ S.states S'.states at.states sound.1,
   )
 
 case_sound : (honest : Type 0) (t : TimedStep) (r : StepReply) (S S' : ClusterState) → IsTrue (is_step t.step) → StepCase honest t r S S' → AreBothSound S → AreBothSound S'
 case_sound honest t (reply.Ok x) S S' valid case sound = (
   triggers_done_sound _ x S.triggers S'.triggers (λ e asked. valid_entry t.step S.held t.at e valid asked) case.triggers sound.0,
-  states_done_sound _ S.states S'.states (λ e asked. valid_state_entry S t.step t.at e valid asked) case.states sound.1,
+  states_done_sound _ S.states S'.states case.states sound.1,
 )
 case_sound honest t (reply.Refused x) S S' valid (inl case) sound = stay_sound S S' case.stays.stores sound
 case_sound honest t (reply.Refused x) S S' valid (inr case) sound =
-    entry_sound _ _ (λ e s u good is. states_submitted_sound e (Err (submit.Refused x)) s u good is) (λ e s u good is. submitted_sound e (Err (submit.Refused x)) s u good is) _ t S S' valid case.which sound
+    entry_sound _ _ (λ e s u is. states_submitted_sound e (Err (submit.Refused x)) s u is) (λ e s u good is. submitted_sound e (Err (submit.Refused x)) s u good is) _ t S S' valid case.which sound
 case_sound honest t reply.Fault S S' valid (inl case) sound =
-    entry_sound _ _ (λ e s u good is. states_submitted_sound e (Err submit.Fault) s u good is) (λ e s u good is. submitted_sound e (Err submit.Fault) s u good is) _ t S S' valid case.which sound
+    entry_sound _ _ (λ e s u is. states_submitted_sound e (Err submit.Fault) s u is) (λ e s u good is. submitted_sound e (Err submit.Fault) s u good is) _ t S S' valid case.which sound
 case_sound honest t reply.Fault S S' valid (inr case) sound = shut_both_sound S S' case.shut sound
 case_sound honest t reply.Closed S S' valid case sound = stay_sound S S' case.stays.stores sound
 case_sound honest t reply.Stopped S S' valid case sound = stay_sound S S' case.stays.stores sound
@@ -128,11 +127,11 @@ step_sound honest t r S S' step sound = case_sound honest t r S S' step.valid st
 
 end_sound : (honest : Type 0) (t : TimedStep) (e : StepEnd) (S S' : ClusterState) → IsTrue (is_step t.step) → EndCase honest t e S S' → AreBothSound S → AreBothSound S'
 end_sound honest t (ends.JournalFull need room) S S' valid case sound =
-    entry_sound _ _ (λ e s u good is. states_submitted_sound e (Err (submit.JournalFull need room)) s u good is) (λ e s u good is. submitted_sound e (Err (submit.JournalFull need room)) s u good is) _ t S S' valid case.which sound
+    entry_sound _ _ (λ e s u is. states_submitted_sound e (Err (submit.JournalFull need room)) s u is) (λ e s u good is. submitted_sound e (Err (submit.JournalFull need room)) s u good is) _ t S S' valid case.which sound
 end_sound honest t (ends.NotAStore store) S S' valid case sound = shut_both_sound S S' case.shut sound
 end_sound honest t (ends.Damaged store at) S S' valid case sound = shut_both_sound S S' case.shut sound
 end_sound honest t ends.NoMemory S S' valid (inl case) sound =
-    entry_sound _ _ (λ e s u good is. states_submitted_sound e (Err submit.NoMemory) s u good is) (λ e s u good is. submitted_sound e (Err submit.NoMemory) s u good is) _ t S S' valid case.which sound
+    entry_sound _ _ (λ e s u is. states_submitted_sound e (Err submit.NoMemory) s u is) (λ e s u good is. submitted_sound e (Err submit.NoMemory) s u good is) _ t S S' valid case.which sound
 end_sound honest t ends.NoMemory S S' valid (inr case) sound = shut_both_sound S S' case.shut sound
 
 -- also one that is cut short

@@ -142,19 +142,19 @@ second_open false b is = cc
 join_submits : (node : List ℕ) (interval at : ℤ) (S : ClusterState) → is_closed S ≡ false → Submits (record { step = Join node interval; at = at }) S
 join_submits node interval at S ready = record { allowed = record { needs_open = ready; is_held = refl; works = refl }; unrefused = refl }
 
-pub join_declined : (honest : Type 0) (n node : List ℕ) (interval at : ℤ) (result : Result StepReply StepEnd) (S new : ClusterState) → n ≡ node → is_closed S ≡ false
-    → IfOk result (λ r. Declined of_states (check_in_entry n interval at) r S.states new.states) → Same S.triggers new.triggers → new.held ≡ S.held
+pub join_declined : (honest : Type 0) (node : List ℕ) (interval at : ℤ) (result : Result StepReply StepEnd) (S new : ClusterState) → is_closed S ≡ false
+    → IfOk result (λ r. Declined of_states (check_in_entry node interval at) r S.states new.states) → Same S.triggers new.triggers → new.held ≡ S.held
     → IfOk result (λ r. StepCase honest (record { step = Join node interval; at = at }) r S new)
-join_declined honest n node interval at result S new is ready way triggers held =
+join_declined honest node interval at result S new ready way triggers held =
     states_declined honest (record { step = Join node interval; at = at }) (check_in_entry node interval at) result S new (join_submits node interval at S ready) refl (second_open S.triggers.is_open S.states.is_open ready)
-    (subst (λ m. IfOk result (λ r. Declined of_states (check_in_entry m interval at) r S.states new.states)) is way) triggers held
+    way triggers held
 
-pub join_cut : (honest : Type 0) (n node : List ℕ) (interval at : ℤ) (result : Result StepReply StepEnd) (S new : ClusterState) → n ≡ node → is_closed S ≡ false
-    → IfErr result (λ end. Unsubmitted of_states (check_in_entry n interval at) end S.states new.states) → Same S.triggers new.triggers → new.held ≡ S.held
+pub join_cut : (honest : Type 0) (node : List ℕ) (interval at : ℤ) (result : Result StepReply StepEnd) (S new : ClusterState) → is_closed S ≡ false
+    → IfErr result (λ end. Unsubmitted of_states (check_in_entry node interval at) end S.states new.states) → Same S.triggers new.triggers → new.held ≡ S.held
     → IfErr result (λ end. EndCase honest (record { step = Join node interval; at = at }) end S new)
-join_cut honest n node interval at result S new is ready way triggers held =
+join_cut honest node interval at result S new ready way triggers held =
     states_ended honest (record { step = Join node interval; at = at }) (check_in_entry node interval at) result S new (join_submits node interval at S ready) refl
-    (subst (λ m. IfErr result (λ end. Unsubmitted of_states (check_in_entry m interval at) end S.states new.states)) is way) triggers held
+    way triggers held
 
 pub join_replied : (honest : Type 0) (node : List ℕ) (interval at : ℤ) (result : Result StepReply StepEnd) (S mid new : ClusterState) → is_closed S ≡ false
     → Appends of_states (check_in_entry node interval at) tt S.states mid.states → new.states ≡ mid.states → mid.triggers ≡ S.triggers → mid.held ≡ S.held
