@@ -1,13 +1,10 @@
 -- The case of a restart, step by step.
-use Rattle.std.proofs.Common.{◌≡◌, ◌⊎◌, inl, inr, ⊎_elim, ℕ, ℤ, ◌≤◌, List, true, false, refl, sym, ◌∙◌, ap, subst, arith}
+use Rattle.std.proofs.Common.{◌≡◌, inl, inr, ⊎_elim, ℕ, ℤ, ◌≤◌, List, true, false, sym, ◌∙◌, subst, arith}
 use Rattle.std.specs.Prelude.{IfOk, IfErr, Ok, Err}
 use Rattle.std.specs.declared.result.Result.{Result}
 use Rattle.qz_civil.specs.Causes.{Rose}
 use Rattle.qz_disk.specs.declared.disk.Disk.{Ghosts}
 use Rattle.qz_disk.proofs.Moments.{then_leaves}
-use Rattle.qz_journal.specs.declared.errors.MountError.{MountError}
-use Rattle.qz_journal.specs.declared.errors.MountError.TheVariants as mount
-use Rattle.qz_types.specs.declared.stores.Store.{Store}
 use Rattle.qz_steps.specs.declared.steps.Step.TheVariants.{Restart}
 use Rattle.qz_steps.specs.declared.steps.StepReply.{StepReply}
 use Rattle.qz_steps.specs.declared.steps.StepReply.TheVariants as reply
@@ -20,18 +17,13 @@ use Rattle.qz_checkin.specs.Entries.{of_states}
 use Rattle.qz_checkin.specs.Bytes.{MayBe as StatesMayBe}
 use Rattle.qz_checkin.specs.View.{view as states_view, disk_state as rows_disk_state, IsOfEither as AreOfEither, LeavesEither as LeaveEither}
 use Rattle.qz_checkin.specs.declared.stores.StateStore.{StateStore}
-use Rattle.qz_cluster.specs.Script.{TimedStep}
 use Rattle.qz_cluster.specs.Steps.{ClusterState, BothShut, StepCase, EndCase}
-use Rattle.qz_cluster.specs.Restarting.{unread}
 use Rattle.qz_cluster.specs.View.{KeepsUnlessDone}
 use Rattle.qz_cluster.specs.declared.clusters.Cluster.{Cluster}
 use Rattle.qz_cluster.specs.declared.errors.StepEnd.{StepEnd}
 use Rattle.qz_cluster.specs.declared.errors.StepEnd.TheVariants as ends
 
 -- One store.
-
-pub shut_here : {H E : Type 0} (s : StoreState H E) → s.is_open ≡ false → Shuts s s
-shut_here s closed = record { history = refl; is_open = closed; undecided = refl; later = omega arith }
 
 pub shut_again : {H E : Type 0} (s t u : StoreState H E) → Shuts s t → Shuts t u → Shuts s u
 shut_again s t u first second = record {
@@ -51,9 +43,6 @@ opens_after kind honest s t u first second = record {
 
 pub rose_after : (before mid now : ℕ) → before ≤ mid → Rose mid now → Rose before now
 rose_after before mid now later rose = omega (arith, later, rose)
-
-pub rose_before : (before mid now : ℕ) → Rose before mid → mid ≤ now → Rose before now
-rose_before before mid now rose later = omega (arith, later, rose)
 
 -- Both.
 
@@ -101,39 +90,21 @@ cut_after honest at (ends.Damaged store place) S mid new triggers states is =
 cut_after honest at ends.NoMemory S mid new triggers states (inl is) = impossible is.submits.allowed.works
 cut_after honest at ends.NoMemory S mid new triggers states (inr is) = inr (record { asked = is.asked; shut = both_again S mid new triggers states is.shut })
 
--- A store couldn't be read.
-
-pub unread_reply : (honest : Type 0) (at : ℤ) (store : Store) (error : MountError) (S new : ClusterState) → BothShut S new
-    → (error ≡ mount.Fault → Rose S.triggers.faults new.triggers.faults ⊎ Rose S.states.faults new.states.faults)
-    → IfOk (unread store error) (λ r. StepCase honest (record { step = Restart; at = at }) r S new)
-unread_reply honest at store mount.Fault S new shut rose = inr (record { asked = refl; shut = shut; rose = rose refl })
-unread_reply honest at store mount.NotAStore S new shut rose = tt
-unread_reply honest at store (mount.Damaged place) S new shut rose = tt
-unread_reply honest at store mount.NoMemory S new shut rose = tt
-
-pub unread_end : (honest : Type 0) (at : ℤ) (store : Store) (error : MountError) (S new : ClusterState) → BothShut S new
-    → (honest → (error ≡ mount.Fault) ⊎ (error ≡ mount.NoMemory))
-    → IfErr (unread store error) (λ e. EndCase honest (record { step = Restart; at = at }) e S new)
-unread_end honest at store mount.Fault S new shut only = tt
-unread_end honest at store mount.NotAStore S new shut only = record { asked = refl; shut = shut; dishonest = λ h. ⊎_elim (λ is. cc) (λ is. cc) (only h) }
-unread_end honest at store (mount.Damaged place) S new shut only = record { asked = refl; shut = shut; dishonest = λ h. ⊎_elim (λ is. cc) (λ is. cc) (only h) }
-unread_end honest at store mount.NoMemory S new shut only = inr (record { asked = refl; shut = shut })
-
 -- Moments.
 
 pub triggers_leave : {D : Type 0} {g : Ghosts D} (s t u : TriggerStore D g) → Shuts (store_view s) (store_view t) → LeavesEither s t → LeavesEither t u → LeavesEither s u
 triggers_leave s t u shut first second =
     then_leaves (disk_state s) (disk_state t) (disk_state u) _ _ (IsOfEither (store_view s) (store_view u)) first second
     (λ b is. inl (⊎_elim (λ x. x) (here b) is)) (λ b is. ⊎_elim (λ x. inl (here b x)) inr is) where
-  here : (b : List ℕ) → MayBe (store_view t).history (store_view t).undecided b → MayBe (store_view s).history (store_view s).undecided b
-  here b is = subst (λ x. MayBe x (store_view s).undecided b) shut.history (subst (λ x. MayBe (store_view t).history x b) shut.undecided is)
+      here : (b : List ℕ) → MayBe (store_view t).history (store_view t).undecided b → MayBe (store_view s).history (store_view s).undecided b
+      here b is = subst (λ x. MayBe x (store_view s).undecided b) shut.history (subst (λ x. MayBe (store_view t).history x b) shut.undecided is)
 
 pub states_leave : {D : Type 0} {g : Ghosts D} (s t u : StateStore D g) → Shuts (states_view s) (states_view t) → LeaveEither s t → LeaveEither t u → LeaveEither s u
 states_leave s t u shut first second =
     then_leaves (rows_disk_state s) (rows_disk_state t) (rows_disk_state u) _ _ (AreOfEither (states_view s) (states_view u)) first second
     (λ b is. inl (⊎_elim (λ x. x) (here b) is)) (λ b is. ⊎_elim (λ x. inl (here b x)) inr is) where
-  here : (b : List ℕ) → StatesMayBe (states_view t).history (states_view t).undecided b → StatesMayBe (states_view s).history (states_view s).undecided b
-  here b is = subst (λ x. StatesMayBe x (states_view s).undecided b) shut.history (subst (λ x. StatesMayBe (states_view t).history x b) shut.undecided is)
+      here : (b : List ℕ) → StatesMayBe (states_view t).history (states_view t).undecided b → StatesMayBe (states_view s).history (states_view s).undecided b
+      here b is = subst (λ x. StatesMayBe x (states_view s).undecided b) shut.history (subst (λ x. StatesMayBe (states_view t).history x b) shut.undecided is)
 
 -- Results.
 

@@ -9,7 +9,7 @@ use Rattle.qz_types.specs.declared.errors.SubmitError.TheVariants as submit
 use Rattle.qz_trigger_store.specs.Entries.{TriggerState, trigger_entry}
 use Rattle.qz_checkin.specs.Entries.{StatesState, of_states}
 use Rattle.qz_stores.specs.Stores.{EntryKind, StoreState, Same, Starves, Submits}
-use Rattle.qz_cluster.specs.Submitting.{Declined, Submitted, StatesSubmitted, Unsubmitted, unaccepted, answered}
+use Rattle.qz_cluster.specs.Submitting.{Submitted, StatesSubmitted, Unsubmitted, unaccepted, answered}
 use Rattle.qz_cluster.specs.View.{KeepsStores, KeepsTriggers, KeepsUnlessDone}
 use Rattle.qz_cluster.specs.declared.clusters.Cluster.{Cluster}
 
@@ -42,13 +42,6 @@ states_end e (Err (submit.Refused refusal)) s t is = tt
 states_end e (Err (submit.JournalFull need room)) s t is = is
 states_end e (Err submit.NoMemory) s t is = is
 states_end e (Err submit.Fault) s t is = tt
-
-pub declines : (e : StateEntryData) (x : SubmitError) (s t : StatesState) → Submits of_states e (Err x) s t → IfOk (unaccepted x) (λ r. Declined of_states e r s t)
-declines e (submit.Closed at) s t is = is.0
-declines e (submit.Refused refusal) s t is = is
-declines e (submit.JournalFull need room) s t is = tt
-declines e submit.NoMemory s t is = tt
-declines e submit.Fault s t is = is
 
 -- All but a fault leaves the stores as they were.
 pub keeps : {D : Type 0} {g : Ghosts D} (x : SubmitError) (c d : Cluster D g) → (x ≢ submit.Fault → KeepsStores c d) → IfOk (unaccepted x) (λ r. KeepsUnlessDone r c d)

@@ -21,12 +21,7 @@ use qz_types::{Command, MemberRow, NoMemory, Refusal, Reply, Text};
 
 impl<D: Disk> Cluster<D> {
     /// A node checks in and becomes a member. The memory for its epoch is taken first.
-    pub(crate) fn join(
-        &mut self,
-        node: Text,
-        interval: i64,
-        at: i64,
-    ) -> Result<StepReply, StepEnd>
+    pub(crate) fn join(&mut self, node: Text, interval: i64, at: i64) -> Result<StepReply, StepEnd>
         requires node { IsTrue (is_node node) }
         requires interval { IsTrue (is_interval interval) }
         ensures ok { IfOk result (λ r. StepCase D.honest (record { step = step_is.Join node interval; at = at }) r (view self.old) (view self.new)) }

@@ -94,12 +94,7 @@ impl<D: Disk> Cluster<D> {
     }
 
     // A member leaves, where these are the epochs of the others.
-    fn leave(
-        &mut self,
-        me: MemberRow,
-        at: i64,
-        rows: Vec<MemberRow>,
-    ) -> Result<StepReply, StepEnd>
+    fn leave(&mut self, me: MemberRow, at: i64, rows: Vec<MemberRow>) -> Result<StepReply, StepEnd>
         requires rows { rows.items ≡ without_member me.node (view self.old).held }
         ensures ok { IfOk result (λ r. Submitted (entry_of (actor.Node me) command_is.Leave at) r (view self.old).triggers (view self.new).triggers) }
         ensures held { IfOk result (λ r. (view self.new).held ≡ held_by r (λ x. without_member me.node (view self.old).held) (view self.old).held (view self.old).held) }
