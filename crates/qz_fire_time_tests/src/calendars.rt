@@ -5,17 +5,16 @@ ghost use Rattle.std.specs.Prelude.{IsTrue, IfOk};
 ghost use Rattle.qz_civil.specs.Calendars.{is_calendar_kind};
 ghost use Rattle.qz_civil.specs.Timings.{is_timing};
 
-pub use rows::Plain;
-
 use crate::zoned::{Begin, is_moment, zone_of};
 use qz_calendar::{Chain, are_annual_days, are_holidays, included, next_included};
 use qz_civil::{CalendarKind, Kind, LAST, List, Times, Timing, Zone, beside};
 use qz_cron_text::parse;
 use qz_plan::{FireTimes, first};
-use std::alloc::Global;
-use std::test::Fail;
+pub use rows::Plain;
 use rows::Plain::{Annual, Cron, Daily, Holiday, Inverted, Monthly, Weekly};
 use rows::{ChainRow, FARTHEST_EAST, TABLES, UTC};
+use std::alloc::Global;
+use std::test::Fail;
 
 fn annual(alloc: Global, days: &[u16]) -> Result<CalendarKind, Fail>
     ensures { IfOk result (λ kind. IsTrue (is_calendar_kind kind)) }
