@@ -108,7 +108,7 @@ fire_row-adds : (T : SchedulerTables) (m : ℤ) (me : MemberData) (o : Option Fi
 fire_row-adds T m me None = tt
 fire_row-adds T m me (Some f) = adds-unless 1 T (fire_refusal T m me f) _ (fire_one-adds T m f (stored_job f.job T.jobs) (following T f))
 
-by_command-adds : (T : SchedulerTables) (m : ℤ) (actor : Actor) (c : Command) → IsTrue (is_acquiring c) → AddsUpTo (rows_added c) T (by_command T m actor c)
+by_command-adds : (T : SchedulerTables) (m : ℤ) (actor : Actor) (c : Command) → IsTrue (is_acquiring c) → AddsUpTo (rows_added T c) T (by_command T m actor c)
 by_command-adds T m Client (Acquire no_later window max) is = tt
 by_command-adds T m (Node me) (Acquire no_later window max) is = acquire-adds T m me no_later window max
 by_command-adds T m Client (Release entry) is = tt
@@ -136,5 +136,5 @@ by_command-adds T m actor Leave is = absurd cc
 by_command-adds T m actor (Complete entry code) is = absurd cc
 by_command-adds T m actor (Recover node) is = absurd cc
 
-pub adds : (T : SchedulerTables) (e : EntryData) → IsTrue (is_acquiring e.command) → AddsUpTo (rows_added e.command) T (transaction T e)
+pub adds : (T : SchedulerTables) (e : EntryData) → IsTrue (is_acquiring e.command) → AddsUpTo (rows_added T e.command) T (transaction T e)
 adds T e is = by_command-adds T (recorded_moment T e.at) e.actor e.command is

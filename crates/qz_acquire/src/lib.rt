@@ -63,10 +63,9 @@ pub fn refusal(tables: &Tables, entry: &Entry) -> Option<Refusal>
 }
 
 /// How many rows the command adds to any one kind at most.
-#[tactic(auto, using(crate::proofs::Rooms::adds))]
 pub fn room(entry: &Entry) -> usize
     requires { IsTrue (is_acquiring entry.now.command) }
-    ensures value { result ≡ rows_added entry.now.command }
+    ensures value { (T : SchedulerTables) → result ≡ rows_added T entry.now.command }
     ensures bound { (T : SchedulerTables) → AddsUpTo result T (transaction T entry.now) }
 {
     rows_of(&entry.command)
@@ -74,7 +73,7 @@ pub fn room(entry: &Entry) -> usize
 
 fn rows_of(command: &Command) -> usize
     requires { IsTrue (is_acquiring command.now) }
-    ensures { result ≡ rows_added command.now }
+    ensures { (T : SchedulerTables) → result ≡ rows_added T command.now }
 {
     match command {
         Command::Acquire {
@@ -96,7 +95,7 @@ pub fn apply(tables: &mut Tables, entry: &Entry) -> Result<Reply, StepRefused>
     requires command { IsTrue (is_acquiring entry.now.command) }
     requires valid { ∥ TablesValid tables.old.tables ∥₁ }
     requires entry { IsTrue (is_entry entry.now) }
-    requires spare { HasSpare (rows_added entry.now.command) tables.old.spare }
+    requires spare { HasSpare (rows_added tables.old.tables entry.now.command) tables.old.spare }
     ensures ok { IfOk result (λ reply. transaction tables.old.tables entry.now ≡ accepted tables.new.tables reply) }
     ensures cause { IfErr result (IsErrorOf (transaction tables.old.tables entry.now)) }
     ensures err { OnErr result (tables.new ≡ tables.old) }

@@ -1,5 +1,5 @@
 -- What the deletion of a trigger comes to, step by step.
-use Rattle.std.proofs.Common.{◌≡◌, Option, Some, sym, ap, ◌∙◌}
+use Rattle.std.proofs.Common.{◌≡◌, Option, Some, None, refl, sym, ap, ◌∙◌}
 use Rattle.qz_types.specs.Rows.{TriggerData}
 use Rattle.qz_types.specs.declared.keys.Key.{Key}
 use Rattle.qz_types.specs.Changes.{without_acquired}
@@ -22,3 +22,8 @@ deleted_is T U V W key job t found same trigger row orphan =
     ∙ ap (λ (k : Key). record T { triggers = without_trigger k T.triggers; fired = without_acquired (is_row_of_trigger k) T.fired; jobs = without_orphan_of t.spec.job (without_trigger k T.triggers) T.jobs })
     (key_of_trigger key t T.triggers found)
     ∙ ap (without_trigger_and_orphan T) (sym found)
+
+-- where there is no trigger, none goes
+pub none_goes : (T : SchedulerTables) → without_trigger_and_orphan T None ≡ T
+unfolding without_trigger_and_orphan
+none_goes T = refl

@@ -43,7 +43,8 @@ counting-fewer (Cron fields zone) count valid less = valid
 counting-fewer (Interval unit every zone) count valid less = valid
 counting-fewer (Daily unit every from to days zone) count valid less = valid
 
-span : (t : ℤ) → IsTimestamp t → IsTrue (is_span t)
+-- a timestamp is a span
+pub span : (t : ℤ) → IsTimestamp t → IsTrue (is_span t)
 span t known = (let low = known.0 in let high = known.1 in grind (arith, ints))
 
 four : (a b c d : Bool) → IsTrue a → IsTrue b → IsTrue c → IsTrue d → IsTrue (a && b && c && d)

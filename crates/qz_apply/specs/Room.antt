@@ -1,9 +1,12 @@
 -- How many rows a transaction adds.
-use Rattle.std.specs.Prelude.{⊤, ℕ, ◌+◌, ◌≤◌, length}
+use Rattle.std.specs.Prelude.{⊤, ℕ, ◌+◌, ◌≤◌, length, Option, Some, None}
+use Rattle.qz_types.specs.Rows.{MemberData}
 use Rattle.qz_types.specs.Tables.{SchedulerTables}
 use Rattle.qz_types.specs.Outcomes.{Outcome, accepted, refused}
 use Rattle.qz_types.specs.declared.commands.Command.{Command}
-use Rattle.qz_types.specs.declared.commands.Command.TheVariants.{Acquire}
+use Rattle.qz_types.specs.declared.commands.Command.TheVariants.{Acquire, Join, Recover}
+use Rattle.qz_types.specs.Words.{member_of}
+use Rattle.qz_model.specs.Recovery.{lost_of}
 
 -- no kind has more than so many rows more
 pub record GrowsUpTo (rows : ℕ) (old new : SchedulerTables) : Type 0 where
@@ -20,7 +23,14 @@ abbrev pub AddsUpTo : ℕ → SchedulerTables → Outcome → Type 0
 AddsUpTo rows old (accepted new reply) = GrowsUpTo rows old new
 AddsUpTo rows old (refused refusal) = ⊤
 
--- how many rows the command may add to a kind
-abbrev pub rows_added : Command → ℕ
-rows_added (Acquire no_later window max) = max
-rows_added command = 1
+-- how many executions the member has, if there is one
+abbrev pub executions_of : SchedulerTables → Option MemberData → ℕ
+executions_of T None = 0
+executions_of T (Some member) = length (lost_of member T.fired)
+
+-- how many rows the command may add to a kind; a recovery adds a trigger for each execution at most
+abbrev pub rows_added : SchedulerTables → Command → ℕ
+rows_added T (Acquire no_later window max) = max
+rows_added T (Join node) = executions_of T (member_of node T.members) + 1
+rows_added T (Recover node) = executions_of T (member_of node T.members) + 1
+rows_added T command = 1

@@ -37,11 +37,6 @@ one_accepted T m f code.SetAllJobTriggersError = tt
 pub of_row : (T : SchedulerTables) (m : ℤ) (me : MemberData) (f : FiredData) (c : Code) → MatchOption (complete_refusal me f) (IsAccepted (complete_row T m me (Some f) c)) (λ r. complete_row T m me (Some f) c ≡ refused r)
 of_row T m me f c = of_one (complete_refusal me f) (complete_one T m f c) (one_accepted T m f c)
 
--- where there is no trigger, none goes
-pub none_goes : (T : SchedulerTables) → without_trigger_and_orphan T None ≡ T
-unfolding without_trigger_and_orphan
-none_goes T = refl
-
 -- an accepted Complete is that of its row
 pub completes : (T : SchedulerTables) (m : ℤ) (me : MemberData) (entry : ℕ) (c : Code) (f : FiredData) → IsAccepted (complete T m me entry c) → fired_of entry T.fired ≡ Some f → complete T m me entry c ≡ complete_one T m f c
 completes T m me entry c f is stored =

@@ -1,20 +1,18 @@
 //! A node ends an execution.
-ghost use Rattle.std.specs.Prelude.{◌≡◌, ℤ, Err, MatchOption, Some, IfOk, IfErr, OnErr, option_copied};
-ghost use Rattle.std.specs.List.{list_any};
+ghost use Rattle.std.specs.Prelude.{◌≡◌, ℤ, Err, MatchOption, Some, IfOk, IfErr, OnErr};
 ghost use Rattle.qz_types.specs.declared.commands.Code.{Code};
 ghost use Rattle.qz_types.specs.Outcomes.{accepted, refused, IsAccepted, IsErrorOf};
 ghost use Rattle.qz_types.specs.Tables.{SchedulerTables};
 ghost use Rattle.qz_types.specs.Words.{trigger_of};
-ghost use Rattle.qz_model.specs.Completing.{is_complete, is_finished, finished, with_trigger_ended, with_job_ended, with_code, with_unblocked, without_finished, complete_refusal, complete_row, complete};
-ghost use Rattle.qz_model.specs.Tests.{is_row_of_trigger};
+ghost use Rattle.qz_model.specs.Completing.{finished, with_trigger_ended, with_job_ended, with_code, without_finished, complete_refusal, complete_row, complete};
 ghost use Rattle.qz_complete.specs.Ended.{is_again, is_noop, ended};
 ghost use Rattle.qz_model.specs.Triggers.{without_trigger_and_orphan};
 
-use qz_apply::{is_acquired, node_refusal, owner_refusal, remove_trigger_and_orphan, same_key};
-use qz_tables::{StateChange, Tables};
-use qz_types::{
-    Code, FiredRow, Key, MemberRow, Refusal, Reply, StepRefused, TriggerRow, TriggerState,
+use qz_apply::{
+    is_acquired, node_refusal, owner_refusal, remove_finished, remove_trigger_and_orphan, unblock,
 };
+use qz_tables::{StateChange, Tables};
+use qz_types::{Code, FiredRow, Key, MemberRow, Refusal, Reply, StepRefused, TriggerState};
 
 /// Why a Complete of the member is refused, if it is.
 pub fn complete_refused(tables: &Tables, me: &MemberRow, entry: u64) -> Option<Refusal>
@@ -125,59 +123,8 @@ fn end_job(tables: &mut Tables, job: &Key, state: TriggerState)
     tables.remove_acquired_of_job(job);
 }
 
-// The triggers of the row's job are unblocked, if its execution excluded others.
-fn unblock(tables: &mut Tables, row: &FiredRow)
-    ensures { tables.new.tables ≡ record tables.old.tables { triggers = with_unblocked row.now.no_concurrent row.now.job tables.old.tables.triggers } }
-{
-    if row.no_concurrent {
-        tables.change_job_states(&row.job, StateChange::Unblock);
-    }
-}
-
 fn is_noop(code: Code) -> bool
     ensures { result ≡ is_noop code }
 {
     matches!(code, Code::Noop)
-}
-
-// The trigger of this key goes, if it is finished, and with it its job if that is an orphan then.
-#[tactic(auto, using(crate::proofs::Completions::none_goes))]
-fn remove_finished(tables: &mut Tables, key: &Key)
-    ensures { tables.new.tables ≡ without_trigger_and_orphan tables.old.tables (finished tables.old.tables.fired (trigger_of key.now tables.old.tables.triggers)) }
-{
-    let Some(trigger) = tables.get_trigger(key) else {
-        return;
-    };
-    if is_finished(tables, trigger) {
-        remove_trigger_and_orphan(tables, key);
-    }
-}
-
-#[tactic(auto, unfolding(qz_model::specs::Completing::is_finished))]
-fn is_finished(tables: &Tables, trigger: &TriggerRow) -> bool
-    ensures { result ≡ is_finished tables.now.tables.fired trigger.now }
-{
-    is_complete(trigger.state) && trigger.next.is_none() && !has_row(tables, &trigger.spec.key)
-}
-
-// Whether a fired row names the trigger of this key. It looks at each fired row.
-#[tactic(auto, using(qz_apply::proofs::Searches::found_at))]
-fn has_row(tables: &Tables, trigger: &Key) -> bool
-    ensures { result ≡ list_any (is_row_of_trigger trigger.now) tables.now.tables.fired }
-{
-    for place in 0..tables.len_fired() {
-        let Some(row) = tables.nth_fired(place) else {
-            unreachable!()
-        };
-        if same_key(trigger, &row.trigger) {
-            return true;
-        }
-    }
-    false
-}
-
-fn is_complete(state: TriggerState) -> bool
-    ensures { result ≡ is_complete state }
-{
-    matches!(state, TriggerState::Complete)
 }

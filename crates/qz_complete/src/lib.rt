@@ -42,7 +42,7 @@ pub fn refusal(tables: &Tables, entry: &Entry) -> Option<Refusal>
 #[tactic(auto, using(crate::proofs::Rooms::adds_one))]
 pub fn room(entry: &Entry) -> usize
     requires { IsTrue (is_completing entry.now.command) }
-    ensures value { result ≡ rows_added entry.now.command }
+    ensures value { (T : SchedulerTables) → result ≡ rows_added T entry.now.command }
     ensures bound { (T : SchedulerTables) → AddsUpTo result T (transaction T entry.now) }
 {
     let _ = entry;
@@ -55,7 +55,7 @@ pub fn apply(tables: &mut Tables, entry: &Entry) -> Result<Reply, StepRefused>
     requires command { IsTrue (is_completing entry.now.command) }
     requires valid { ∥ TablesValid tables.old.tables ∥₁ }
     requires entry { IsTrue (is_entry entry.now) }
-    requires spare { HasSpare (rows_added entry.now.command) tables.old.spare }
+    requires spare { HasSpare (rows_added tables.old.tables entry.now.command) tables.old.spare }
     ensures ok { IfOk result (λ reply. transaction tables.old.tables entry.now ≡ accepted tables.new.tables reply) }
     ensures cause { IfErr result (IsErrorOf (transaction tables.old.tables entry.now)) }
     ensures err { OnErr result (tables.new ≡ tables.old) }

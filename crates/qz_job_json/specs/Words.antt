@@ -58,8 +58,8 @@ step_word_of text =
 
 -- the first that there is
 abbrev pub word_by : Option ClientWord → Option NodeWord → Option StepWord → Option Word
-word_by (Some word) node other = Some (Client word)
-word_by None (Some word) other = Some (Node word)
+word_by (Some word) _ _ = Some (Client word)
+word_by None (Some word) _ = Some (Node word)
 word_by None None other = option_map Of other
 
 -- the line that a text names

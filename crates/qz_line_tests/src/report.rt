@@ -71,7 +71,6 @@ fn is_refused(alloc: Global, refusal: Refusal, line: &str) -> bool {
 #[test]
 fn refusals_have_their_lines(rt: HostRuntime) {
     let alloc = rt.alloc();
-    assert!(rt; is_refused(alloc, Refusal::Unbuilt, "refused 0\n"));
     assert!(rt;
         is_refused(
             alloc,

@@ -9,14 +9,12 @@ use Rattle.qz_types.specs.declared.commands.Actor.TheVariants.{Client, Node}
 use Rattle.qz_types.specs.declared.replies.Reply.{Reply}
 use Rattle.qz_types.specs.Tables.{SchedulerTables, IsMoment, empty, new_tables, recorded_moment}
 use Rattle.qz_types.specs.declared.replies.Refusal.{Refusal}
-use Rattle.qz_types.specs.declared.replies.Refusal.TheVariants.{Unbuilt, Fenced}
+use Rattle.qz_types.specs.declared.replies.Refusal.TheVariants.{Fenced}
 use Rattle.qz_types.specs.Outcomes.{accepted, refused}
-use Rattle.qz_types.specs.Words.{member_of}
-use Rattle.qz_model.specs.Recovery.{rejoin_refusal}
 use Rattle.qz_model.specs.Transaction.{by_command, transaction}
 use Rattle.qz_model.specs.Executions.{is_busy}
 use Rattle.qz_model.specs.Invariant.{TablesValid}
-use Rattle.qz_model.proofs.Changes.{moment_within, passes}
+use Rattle.qz_model.proofs.Changes.{moment_within}
 use Rattle.qz_model.proofs.KeptAcquiring.{kept-acquire}
 use Rattle.qz_model.proofs.KeptCalendars.{kept-add_calendar, kept-delete_calendar}
 use Rattle.qz_model.proofs.KeptCompletion.{kept-complete}
@@ -26,6 +24,7 @@ use Rattle.qz_model.proofs.KeptLeaving.{kept-leave}
 use Rattle.qz_model.proofs.KeptMembership.{kept-join}
 use Rattle.qz_model.proofs.KeptMisfires.{kept-misfires}
 use Rattle.qz_model.proofs.KeptPausing.{kept-pause_trigger, kept-resume_trigger, kept-pause_group, kept-resume_group}
+use Rattle.qz_model.proofs.KeptRecovery.{kept-recover}
 use Rattle.qz_model.proofs.KeptReleasing.{kept-release}
 use Rattle.qz_model.proofs.KeptTriggers.{kept-add_trigger, kept-delete_trigger, kept-trigger_now, kept-set_threshold}
 use Rattle.qz_model.proofs.KeptZones.{kept-add_zone, kept-delete_zone}
@@ -49,7 +48,7 @@ kept-by_command T T' m actor (AddZone zone) r good valid is e = kept-add_zone T 
 kept-by_command T T' m actor (DeleteZone name) r good valid is e = kept-delete_zone T T' m name r valid is e
 kept-by_command T T' m actor (TriggerNow job) r good valid is e = kept-trigger_now T T' m job r valid is e
 kept-by_command T T' m actor (Threshold ms) r good valid is e = kept-set_threshold T T' m ms r good valid is e
-kept-by_command T T' m actor (Join node) r good valid is e = kept-join T T' m node r valid is (passes (rejoin_refusal (member_of node T.members)) _ T' r e).outcome
+kept-by_command T T' m actor (Join node) r good valid is e = kept-join T T' m node r valid is e
 kept-by_command T T' m Client Leave r good valid is e = refused-keeps T' r (Fenced None) e
 kept-by_command T T' m (Node me) Leave r good valid is e = kept-leave T T' m me r valid is e
 kept-by_command T T' m Client (Acquire no_later window max) r good valid is e = refused-keeps T' r (Fenced None) e
@@ -62,7 +61,8 @@ kept-by_command T T' m Client (Complete entry code) r good valid is e = refused-
 kept-by_command T T' m (Node me) (Complete entry code) r good valid is e = kept-complete T T' m me entry code r valid is e
 kept-by_command T T' m Client Misfires r good valid is e = refused-keeps T' r (Fenced None) e
 kept-by_command T T' m (Node me) Misfires r good valid is e = kept-misfires T T' m me r valid is e
-kept-by_command T T' m actor (Recover node) r good valid is e = refused-keeps T' r Unbuilt e
+kept-by_command T T' m Client (Recover node) r good valid is e = refused-keeps T' r (Fenced None) e
+kept-by_command T T' m (Node me) (Recover node) r good valid is e = kept-recover T T' m me node r valid is e
 
 command_of : (e : EntryData) → IsTrue (is_entry e) → IsTrue (is_command e.command)
 unfolding is_entry

@@ -26,11 +26,11 @@ pub mod LookUps
 pub mod MembersGone
 pub mod NamedRows
 pub mod NextTimes
-mod Numbers
+pub mod Numbers
 pub mod Putting
 pub mod RecoveryTriggers
 pub mod References
-mod Refusals
+pub mod Refusals
 pub mod Replaced
 pub mod RowChanges
 pub mod RowLaws

@@ -9,7 +9,7 @@ use Rattle.qz_types.specs.declared.limits.TheConstants.{MEMBER_LIMIT, NUMBER_LIM
 use Rattle.qz_types.specs.declared.triggers.TriggerState.TheVariants.{Waiting}
 use Rattle.qz_types.specs.declared.replies.Reply.TheVariants.{Done, Joined, Recovered}
 use Rattle.qz_types.specs.declared.replies.Refusal.{Refusal}
-use Rattle.qz_types.specs.declared.replies.Refusal.TheVariants.{Unbuilt, InUse, NotMember, TooMany}
+use Rattle.qz_types.specs.declared.replies.Refusal.TheVariants.{InUse, NotMember, TooMany}
 use Rattle.qz_types.specs.Changes.{in_state, with_state}
 use Rattle.qz_types.specs.States.{is_acquired, is_acquired_for, unblocked, first_state}
 use Rattle.qz_types.specs.Tables.{SchedulerTables}
@@ -141,11 +141,6 @@ joined T m node (Some member) =
 
 abbrev pub join : SchedulerTables → ℤ → List ℕ → Outcome
 join T m node = unless (join_refusal T (member_of node T.members)) (joined T m node (member_of node T.members))
-
--- to join under a member's name isn't built yet
-abbrev pub rejoin_refusal : Option MemberData → Option Refusal
-rejoin_refusal None = None
-rejoin_refusal (Some member) = Some Unbuilt
 
 -- Leave.
 

@@ -6,10 +6,9 @@ use Rattle.qz_types.specs.declared.commands.Command.{Command}
 use Rattle.qz_types.specs.declared.commands.Command.TheVariants.{AddJob, DeleteJob, AddTrigger, DeleteTrigger, PauseTrigger, ResumeTrigger, PauseGroup, ResumeGroup, AddCalendar, DeleteCalendar, AddZone, DeleteZone, TriggerNow, Threshold, Join, Leave, Acquire, Release, Fire, Complete, Misfires, Recover}
 use Rattle.qz_types.specs.declared.commands.Actor.{Actor}
 use Rattle.qz_types.specs.declared.commands.Actor.TheVariants.{Client, Node}
-use Rattle.qz_types.specs.declared.replies.Refusal.TheVariants.{Unbuilt, Fenced}
+use Rattle.qz_types.specs.declared.replies.Refusal.TheVariants.{Fenced}
 use Rattle.qz_types.specs.Tables.{SchedulerTables, recorded_moment}
-use Rattle.qz_types.specs.Outcomes.{Outcome, refused, unless}
-use Rattle.qz_types.specs.Words.{member_of}
+use Rattle.qz_types.specs.Outcomes.{Outcome, refused}
 use Rattle.qz_model.specs.Acquiring.{acquire, release}
 use Rattle.qz_model.specs.Calendars.{add_calendar, delete_calendar, add_zone, delete_zone}
 use Rattle.qz_model.specs.Completing.{complete}
@@ -17,7 +16,7 @@ use Rattle.qz_model.specs.Firing.{fire}
 use Rattle.qz_model.specs.Jobs.{add_job, delete_job}
 use Rattle.qz_model.specs.Misfires.{misfires}
 use Rattle.qz_model.specs.Pausing.{pause_trigger, resume_trigger, pause_group, resume_group}
-use Rattle.qz_model.specs.Recovery.{join, rejoin_refusal, leave}
+use Rattle.qz_model.specs.Recovery.{recover, join, leave}
 use Rattle.qz_model.specs.Triggers.{add_trigger, delete_trigger, trigger_now, set_threshold}
 
 -- what a node does under its epoch; a client is no member
@@ -41,14 +40,14 @@ by_command T m actor (AddZone zone) = add_zone T m zone
 by_command T m actor (DeleteZone name) = delete_zone T m name
 by_command T m actor (TriggerNow job) = trigger_now T m job
 by_command T m actor (Threshold ms) = set_threshold T m ms
-by_command T m actor (Join node) = unless (rejoin_refusal (member_of node T.members)) (join T m node)
+by_command T m actor (Join node) = join T m node
 by_command T m actor Leave = as_node actor (λ me. leave T m me)
 by_command T m actor (Acquire no_later window max) = as_node actor (λ me. acquire T m me no_later window max)
 by_command T m actor (Release entry) = as_node actor (λ me. release T m me entry)
 by_command T m actor (Fire entry) = as_node actor (λ me. fire T m me entry)
 by_command T m actor (Complete entry code) = as_node actor (λ me. complete T m me entry code)
 by_command T m actor Misfires = as_node actor (λ me. misfires T m me)
-by_command T m actor (Recover node) = refused Unbuilt
+by_command T m actor (Recover node) = as_node actor (λ me. recover T m me node)
 
 -- what the entry comes to at these tables
 abbrev pub transaction : SchedulerTables → EntryData → Outcome

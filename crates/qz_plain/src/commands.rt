@@ -1,4 +1,4 @@
-//! Which crate applies which command. What isn't built is refused.
+//! Which crate applies which command.
 ghost use Rattle.std.specs.Prelude.{◌≡◌, IsTrue, IfOk, IfErr, OnErr, MatchOption};
 ghost use Rattle.qz_types.specs.Entries.{is_entry};
 ghost use Rattle.qz_types.specs.Outcomes.{accepted, refused, IsAccepted, IsErrorOf};
@@ -32,7 +32,7 @@ pub fn refusal(tables: &Tables, entry: &Entry) -> Option<Refusal>
         Command::Threshold { .. } => qz_schedule::refusal(tables, entry),
         Command::Join { .. } => qz_recover::refusal(tables, entry),
         Command::Leave => qz_recover::refusal(tables, entry),
-        Command::Recover { .. } => Some(Refusal::Unbuilt),
+        Command::Recover { .. } => qz_recover::refusal(tables, entry),
         Command::Acquire { .. } => qz_acquire::refusal(tables, entry),
         Command::Release { .. } => qz_acquire::refusal(tables, entry),
         Command::Fire { .. } => qz_acquire::refusal(tables, entry),
@@ -42,8 +42,9 @@ pub fn refusal(tables: &Tables, entry: &Entry) -> Option<Refusal>
 }
 
 /// How many rows more of each kind there has to be room for.
-pub fn room(entry: &Entry) -> usize
-    ensures { result ≡ rows_added entry.now.command }
+pub fn room(tables: &Tables, entry: &Entry) -> usize
+    requires valid { ∥ TablesValid tables.now.tables ∥₁ }
+    ensures { result ≡ rows_added tables.now.tables entry.now.command }
 {
     match &entry.command {
         Command::AddJob { .. } => qz_schedule::room(entry),
@@ -60,9 +61,9 @@ pub fn room(entry: &Entry) -> usize
         Command::DeleteZone { .. } => qz_schedule::room(entry),
         Command::TriggerNow { .. } => qz_schedule::room(entry),
         Command::Threshold { .. } => qz_schedule::room(entry),
-        Command::Join { .. } => qz_recover::room(entry),
-        Command::Leave => qz_recover::room(entry),
-        Command::Recover { .. } => 1,
+        Command::Join { .. } => qz_recover::room(tables, entry),
+        Command::Leave => qz_recover::room(tables, entry),
+        Command::Recover { .. } => qz_recover::room(tables, entry),
         Command::Acquire { .. } => qz_acquire::room(entry),
         Command::Release { .. } => qz_acquire::room(entry),
         Command::Fire { .. } => qz_acquire::room(entry),
@@ -75,7 +76,7 @@ pub fn room(entry: &Entry) -> usize
 pub fn apply(tables: &mut Tables, entry: &Entry) -> Result<Reply, StepRefused>
     requires valid { ∥ TablesValid tables.old.tables ∥₁ }
     requires entry { IsTrue (is_entry entry.now) }
-    requires spare { HasSpare (rows_added entry.now.command) tables.old.spare }
+    requires spare { HasSpare (rows_added tables.old.tables entry.now.command) tables.old.spare }
     ensures ok { IfOk result (λ reply. transaction tables.old.tables entry.now ≡ accepted tables.new.tables reply) }
     ensures cause { IfErr result (IsErrorOf (transaction tables.old.tables entry.now)) }
     ensures err { OnErr result (tables.new ≡ tables.old) }
@@ -98,7 +99,7 @@ pub fn apply(tables: &mut Tables, entry: &Entry) -> Result<Reply, StepRefused>
         Command::Threshold { .. } => qz_schedule::apply(tables, entry),
         Command::Join { .. } => qz_recover::apply(tables, entry),
         Command::Leave => qz_recover::apply(tables, entry),
-        Command::Recover { .. } => Err(StepRefused::Refused(Refusal::Unbuilt)),
+        Command::Recover { .. } => qz_recover::apply(tables, entry),
         Command::Acquire { .. } => qz_acquire::apply(tables, entry),
         Command::Release { .. } => qz_acquire::apply(tables, entry),
         Command::Fire { .. } => qz_acquire::apply(tables, entry),

@@ -106,7 +106,8 @@ impl PlainStore {
         ensures valid { ∥ TablesValid self.new ∥₁ }
     {
         accept(&self.tables, entry)?;
-        self.tables.reserve(room(entry))?;
+        let rows = room(&self.tables, entry);
+        self.tables.reserve(rows)?;
         apply(&mut self.tables, entry)
     }
 
@@ -119,7 +120,7 @@ impl PlainStore {
         ensures valid { IfOk result (λ worked. ∥ TablesValid worked.tables ∥₁) }
     {
         accept(&self.tables, entry)?;
-        let mut tables = copy_with_room(&self.tables, room(entry))?;
+        let mut tables = copy_with_room(&self.tables, room(&self.tables, entry))?;
         match apply(&mut tables, entry) {
             Ok(reply) => Ok(Worked {
                 tables: PlainStore { tables },

@@ -1,20 +1,15 @@
 //! A member leaves.
-ghost use Rattle.std.specs.Prelude.{◌≡◌, ◌&&◌, not, ℤ, IfErr, IfOk, OnErr, MatchOption, length, if◌then◌else◌};
-ghost use Rattle.std.specs.Ordering.{nat_cmp};
-ghost use Rattle.qz_types.specs.declared.triggers.TriggerState.TheVariants.{Waiting};
-ghost use Rattle.qz_types.specs.Changes.{in_state};
+ghost use Rattle.std.specs.Prelude.{◌≡◌, ◌&&◌, not, ℤ, IfErr, IfOk, OnErr, MatchOption, length};
 ghost use Rattle.qz_types.specs.Outcomes.{accepted, refused, IsAccepted, IsErrorOf};
-ghost use Rattle.qz_types.specs.Sorted.{IsAscending};
 ghost use Rattle.qz_types.specs.States.{is_acquired};
-ghost use Rattle.qz_types.specs.Words.{fired_of, with_trigger};
 ghost use Rattle.qz_model.specs.Invariant.{TablesValid};
-ghost use Rattle.qz_model.specs.Recovery.{freed_by, leave, leave_refusal, lost_of, rows_of_others};
+ghost use Rattle.qz_model.specs.Recovery.{leave, leave_refusal, lost_of};
 ghost use Rattle.qz_model.specs.Tests.{is_of};
-ghost use Rattle.qz_recover.specs.Rows.{with_row_back};
 
+use crate::ending::end_rows;
 use qz_apply::{is_acquired, is_of, node_refusal};
-use qz_tables::{StateChange, Tables};
-use qz_types::{FiredRow, MemberRow, Refusal, Reply, StepRefused, TriggerState};
+use qz_tables::Tables;
+use qz_types::{FiredRow, MemberRow, Refusal, Reply, StepRefused};
 
 /// Why a Leave of the member is refused, if it is.
 #[tactic(auto, using(crate::proofs::Leaves::of_leave, crate::proofs::Leaves::fenced))]
@@ -28,6 +23,7 @@ pub fn leave_refused(tables: &Tables, me: &MemberRow) -> Option<Refusal>
 }
 
 /// The member goes, and what it acquired is given back. The moment is in ms since 1970-01-01T00:00:00Z. It takes no memory.
+#[tactic(auto, using(crate::proofs::Leaves::given_back))]
 pub fn leave(tables: &mut Tables, moment: i64, me: &MemberRow) -> Result<Reply, StepRefused>
     requires valid { ∥ TablesValid tables.old.tables ∥₁ }
     ensures ok { IfOk result (λ reply. leave tables.old.tables moment me.now ≡ accepted tables.new.tables reply) }
@@ -37,7 +33,7 @@ pub fn leave(tables: &mut Tables, moment: i64, me: &MemberRow) -> Result<Reply, 
     if let Some(refusal) = leave_refused(tables, me) {
         return Err(StepRefused::Refused(refusal));
     }
-    give_back(tables, me);
+    end_rows(tables, me);
     let member = tables.remove_member(&me.node);
     drop(member);
     tables.set_last_moment(moment);
@@ -75,47 +71,9 @@ pub fn executions_of(tables: &Tables, me: &MemberRow) -> usize
     count
 }
 
-fn is_execution_of(me: &MemberRow, row: &FiredRow) -> bool
+/// Whether the row is an execution of the member.
+pub fn is_execution_of(me: &MemberRow, row: &FiredRow) -> bool
     ensures { result ≡ (not (is_acquired row.now.state) && is_of me.now row.now) }
 {
     !is_acquired(row.state) && is_of(me, row)
-}
-
-/// The rows of the member go, and the triggers that it acquired wait again. It takes no memory.
-pub fn give_back(tables: &mut Tables, me: &MemberRow)
-    requires sorted { IsAscending nat_cmp (λ r. r.entry) tables.old.tables.fired }
-    ensures tables { tables.new.tables ≡ record tables.old.tables { triggers = freed_by me.now tables.old.tables.fired tables.old.tables.triggers; fired = rows_of_others me.now tables.old.tables.fired } }
-{
-    let mut place = 0;
-    while place < tables.len_fired() {
-        let Some(row) = tables.nth_fired(place) else {
-            unreachable!()
-        };
-        if is_of(me, row) {
-            let entry = row.entry;
-            give_back_row(tables, entry);
-        } else {
-            place += 1;
-        }
-    }
-}
-
-// The row of this entry number goes, and its trigger waits again, if the row is acquired.
-fn give_back_row(tables: &mut Tables, entry: u64)
-    ensures tables { tables.new.tables ≡ with_row_back tables.old.tables entry (fired_of entry tables.old.tables.fired) }
-{
-    let Some(row) = tables.remove_fired(entry) else {
-        return;
-    };
-    wait_again(tables, &row);
-    drop(row);
-}
-
-// The trigger of the row waits again, if the row is acquired.
-fn wait_again(tables: &mut Tables, row: &FiredRow)
-    ensures tables { tables.new.tables ≡ record tables.old.tables { triggers = if is_acquired row.now.state then with_trigger row.now.trigger (in_state Waiting) tables.old.tables.triggers else tables.old.tables.triggers } }
-{
-    if is_acquired(row.state) {
-        tables.change_state(&row.trigger, StateChange::Set(TriggerState::Waiting));
-    }
 }

@@ -45,6 +45,29 @@ pub(super) fn add_job(alloc: Global, at: i64) -> Result<Entry, AllocError> {
     })
 }
 
+// A job whose lost executions are recovered.
+#[tactic(auto, unfolding(qz_types::specs::Entries::is_entry))]
+pub(super) fn add_recovered_job(alloc: Global, at: i64) -> Result<Entry, AllocError> {
+    let key = key(alloc, "report")?;
+    let job = JobRow {
+        key,
+        class: Text::from_str(alloc, "ok")?,
+        durable: false,
+        no_concurrent: false,
+        requests_recovery: true,
+        payload: Text::new(alloc),
+    };
+    Ok(Entry {
+        at,
+        actor: Actor::Client,
+        seat: 0,
+        command: Command::AddJob {
+            job,
+            replace: false,
+        },
+    })
+}
+
 #[tactic(auto, unfolding(qz_types::specs::Entries::is_entry))]
 pub(super) fn delete_job(alloc: Global, at: i64) -> Result<Entry, AllocError> {
     let key = key(alloc, "report")?;
@@ -93,6 +116,34 @@ pub(super) fn join(alloc: Global, at: i64) -> Result<Entry, AllocError> {
         actor: Actor::Client,
         seat: 0,
         command: Command::Join { node },
+    })
+}
+
+#[tactic(auto, unfolding(qz_types::specs::Entries::is_entry))]
+pub(super) fn join_b(alloc: Global, at: i64) -> Result<Entry, AllocError> {
+    let node = Text::from_str(alloc, "B")?;
+    Ok(Entry {
+        at,
+        actor: Actor::Client,
+        seat: 0,
+        command: Command::Join { node },
+    })
+}
+
+// The member B of epoch 2 recovers A.
+#[tactic(auto, unfolding(qz_types::specs::Entries::is_entry))]
+pub(super) fn recover(alloc: Global, at: i64) -> Result<Entry, AllocError> {
+    let name = Text::from_str(alloc, "B")?;
+    let me = MemberRow {
+        node: name,
+        epoch: 2,
+    };
+    let node = Text::from_str(alloc, "A")?;
+    Ok(Entry {
+        at,
+        actor: Actor::Node(me),
+        seat: 0,
+        command: Command::Recover { node },
     })
 }
 

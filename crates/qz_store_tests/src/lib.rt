@@ -1,4 +1,4 @@
-//! Tests of the crates of the store: transactions, disks, the journal, the trigger store and the cluster.
+//! Tests of the crates of the store: transactions, disks, the journal, both stores and the cluster.
 #![tactic(auto)]
 
 #[cfg(test)]
@@ -14,8 +14,14 @@ mod journal;
 #[cfg(test)]
 mod model;
 #[cfg(test)]
+mod recovery;
+#[cfg(test)]
 mod refusals;
 #[cfg(test)]
+mod restarts;
+#[cfg(test)]
 mod rows;
+#[cfg(test)]
+mod states;
 #[cfg(test)]
 mod trigger_store;

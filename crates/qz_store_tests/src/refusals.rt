@@ -108,7 +108,6 @@ const REFUSALS: &[Refused] = &[
     (1, Asked::AddJob, 7),
     (0, Asked::AddTrigger, 3),
     (2, Asked::AddTrigger, 8),
-    (3, Asked::Join, 0),
     (0, Asked::Acquire, 1),
     (0, Asked::Fire, 1),
     (3, Asked::Fire, 15),

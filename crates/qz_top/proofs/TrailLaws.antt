@@ -53,7 +53,7 @@ none_encoded (p ∷ ps) (e ∷ es) none encode = absurd cc
 
 pub new_state : (S : ClusterState) → S.triggers.history ≡ new_history → IsOpened S.triggers → S.held ≡ [] → S ≡ new_cluster S.triggers.faults
 new_state S history opened held =
-    let placed = opened.sound.placed in
+    let placed = opened.sound.placed opened.is_open in
     let none = none_encoded placed.payloads S.triggers.history.entries (ap (λ (h : History). h.entries) history) placed.encode in
     let gate : S.triggers.gate ≡ 16 = placed.gate ∙ ap end_of none in
     let payloads : S.triggers.payloads ≡ 0 = placed.count ∙ ap (λ (ps : List (List ℕ)). length ps) none in

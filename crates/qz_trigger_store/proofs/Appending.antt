@@ -110,7 +110,7 @@ images_undecided es u e s t u_is lawful leaves b is = subst (λ v. MayHold es v 
 
 -- As histories.
 
-stands_as : (es : List EntryData) (b : List ℕ) → HoldEntries b es → Stands b (history_of es)
+pub stands_as : (es : List EntryData) (b : List ℕ) → HoldEntries b es → Stands b (history_of es)
 unfolding new_tables
 stands_as es b held = record { begins = record { count = refl; base = refl }; held = held }
 

@@ -1,5 +1,6 @@
 pub mod Appending
 pub mod Committing
+pub mod Decided
 pub mod Moments
 pub mod Once
 pub mod Refused

@@ -22,7 +22,7 @@ use Rattle.qz_model.specs.Firing.{fire_refusal, with_begun, fire_one, fire_row}
 use Rattle.qz_model.specs.Jobs.{add_job_refusal, unknown_job}
 use Rattle.qz_model.specs.Membership.{node_refusal}
 use Rattle.qz_model.specs.Pausing.{pause_group_refusal}
-use Rattle.qz_model.specs.Recovery.{join_refusal, rejoin_refusal, joined, leave_refusal}
+use Rattle.qz_model.specs.Recovery.{recovery_refusal, recover_member, join_refusal, joined, leave_refusal}
 use Rattle.qz_model.specs.Tests.{or_refusal}
 use Rattle.qz_model.specs.Triggers.{add_trigger_refusal, unknown_trigger, trigger_now_refusal}
 
@@ -38,6 +38,10 @@ unless-records m (Some x) o is = tt
 joined-records : (T : SchedulerTables) (m : ℤ) (node : List ℕ) (member : Option MemberData) → Records m (joined T m node member)
 joined-records T m node None = refl
 joined-records T m node (Some member) = refl
+
+recover_member-records : (T : SchedulerTables) (m : ℤ) (member : Option MemberData) → Records m (recover_member T m member)
+recover_member-records T m None = tt
+recover_member-records T m (Some member) = unless-records m (recovery_refusal T member) _ refl
 
 release_row-records : (T : SchedulerTables) (m : ℤ) (me : MemberData) (f : Option FiredData) → Records m (release_row T m me f)
 release_row-records T m me None = tt
@@ -80,8 +84,7 @@ by_command-records T m actor (command.DeleteZone name) = unless-records m (delet
 by_command-records T m actor (command.TriggerNow job) = unless-records m (trigger_now_refusal T job) _ refl
 by_command-records T m actor (command.Threshold ms) = refl
 by_command-records T m actor (command.Join node) =
-    unless-records m (rejoin_refusal (member_of node T.members)) _
-    (unless-records m (join_refusal T (member_of node T.members)) _ (joined-records T m node (member_of node T.members)))
+    unless-records m (join_refusal T (member_of node T.members)) _ (joined-records T m node (member_of node T.members))
 by_command-records T m Client command.Leave = tt
 by_command-records T m (Node me) command.Leave = unless-records m (or_refusal (node_refusal T me) (leave_refusal T me)) _ refl
 by_command-records T m Client (command.Acquire no_later window max) = tt
@@ -94,7 +97,8 @@ by_command-records T m Client (command.Complete entry code) = tt
 by_command-records T m (Node me) (command.Complete entry code) = unless-records m (node_refusal T me) _ (complete_row-records T m me (fired_of entry T.fired) code)
 by_command-records T m Client command.Misfires = tt
 by_command-records T m (Node me) command.Misfires = unless-records m (node_refusal T me) _ refl
-by_command-records T m actor (command.Recover node) = tt
+by_command-records T m Client (command.Recover node) = tt
+by_command-records T m (Node me) (command.Recover node) = unless-records m (node_refusal T me) _ (recover_member-records T m (member_of node T.members))
 
 pub last_moment-accepted : (T T' : SchedulerTables) (e : EntryData) (r : Reply) → transaction T e ≡ accepted T' r → T'.last_moment ≡ recorded_moment T e.at
 last_moment-accepted T T' e r way = subst (Records (recorded_moment T e.at)) way (by_command-records T (recorded_moment T e.at) e.actor e.command)

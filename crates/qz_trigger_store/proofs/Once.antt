@@ -15,7 +15,7 @@ use Rattle.qz_trigger_store.specs.Bytes.{Encode, BeginsNew, IsHistory}
 use Rattle.qz_trigger_store.specs.Opening.{IsUnfit, IsStopped}
 
 -- Two lists of valid entries that have the same records are the same.
-entries_unique : (ps : List (List ℕ)) (es fs : List EntryData) → Encode ps es → Encode ps fs → AllByRecursion IsEntry es → AllByRecursion IsEntry fs → es ≡ fs
+pub entries_unique : (ps : List (List ℕ)) (es fs : List EntryData) → Encode ps es → Encode ps fs → AllByRecursion IsEntry es → AllByRecursion IsEntry fs → es ≡ fs
 entries_unique [] [] [] p q a b = refl
 entries_unique [] [] (f ∷ fs) p q a b = absurd q
 entries_unique [] (e ∷ es) fs p q a b = absurd p
@@ -27,7 +27,7 @@ entries_unique (x ∷ ps) (e ∷ es) (f ∷ fs) p q a b =
     λ i. first i ∷ others i
 
 -- No payload of a history is unfit.
-none_unfit : (T : SchedulerTables) (ps : List (List ℕ)) (es hs : List EntryData) (payload : List ℕ) (more : List (List ℕ)) → Encode ps es → Encode (ps ++ payload ∷ more) hs
+pub none_unfit : (T : SchedulerTables) (ps : List (List ℕ)) (es hs : List EntryData) (payload : List ℕ) (more : List (List ℕ)) → Encode ps es → Encode (ps ++ payload ∷ more) hs
     → AllByRecursion IsEntry es → AllByRecursion IsEntry hs → IsLegalFrom T hs → IsUnfit (replay_from T es) payload → ⊥
 none_unfit T [] [] [] payload more p q a b legal unfit = q
 none_unfit T [] [] (h ∷ hs) payload more p q a b legal unfit = unfit h (record { valid = b.0; bytes_are = q.0 }) legal.0

@@ -1,9 +1,11 @@
 -- Which bytes are those of which history.
-use Rattle.std.specs.Prelude.{◌≡◌, ◌⊎◌, ℕ, List, [], ◌∷◌, ◌++◌, length, Option, Some, None}
+use Rattle.std.specs.Prelude.{⊤, ◌≡◌, ◌⊎◌, ℕ, List, [], ◌∷◌, ◌++◌, length, Option, Some, None}
 use Rattle.std.specs.List.{AllByRecursion, AllZip}
 use Rattle.qz_types.specs.Entries.{EntryData}
-use Rattle.qz_types.specs.Tables.{empty}
-use Rattle.qz_model.specs.History.{History, new_history, IsLegal}
+use Rattle.qz_types.specs.Outcomes.{IsAccepted}
+use Rattle.qz_types.specs.Tables.{SchedulerTables, empty}
+use Rattle.qz_model.specs.Transaction.{transaction}
+use Rattle.qz_model.specs.History.{History, IsLegal}
 use Rattle.qz_journal.specs.Layout.{Holds, end_of}
 use Rattle.qz_journal.specs.View.{version}
 use Rattle.qz_journal.specs.declared.layout.TheConstants.{TRIGGERS}
@@ -41,6 +43,11 @@ pub record BeginsNew (version : ℕ) (h : History) : Type 0 where
 pub record Stands (bytes : List ℕ) (h : History) : Type 0 where
   pub begins : BeginsNew version h
   pub held : HoldEntries bytes h.entries
+
+-- An undecided entry has a record, and was accepted at the tables that the history leaves.
+abbrev pub MayFollow : SchedulerTables → Option EntryData → Type 0
+MayFollow T None = ⊤
+MayFollow T (Some e) = IsEntry e × IsAccepted (transaction T e)
 
 -- for the history, or for it with the undecided entry
 abbrev pub MayBe : History → Option EntryData → List ℕ → Type 0

@@ -1,5 +1,5 @@
 -- What the entries of the trigger store are to it.
-use Rattle.std.specs.Prelude.{⊤, ◌≡◌, ℕ, List, length, Ok, Err}
+use Rattle.std.specs.Prelude.{⊤, ℕ, List, length, Ok, Err}
 use Rattle.std.specs.declared.result.Result.{Result}
 use Rattle.qz_types.specs.Entries.{EntryData}
 use Rattle.qz_types.specs.declared.replies.Reply.{Reply}

@@ -1,10 +1,9 @@
 -- Each of these facts has at most one proof, so that a store can keep it.
-use Rattle.std.proofs.Common.{◌≡◌, ◌⊎◌, inl, inr, ℕ, ◌+◌, List, [], ◌∷◌, ◌++◌, length, refl, sym, ◌∙◌, ap, subst, arith, length-append}
+use Rattle.std.proofs.Common.{◌≡◌, ◌⊎◌, inl, inr, ℕ, List, [], ◌∷◌, ◌++◌, length, refl, ap, arith, length-append}
 use Rattle.std.proofs.Props.{props}
 use Rattle.std.proofs.Math.Path.{Σ_path}
 use mathlib.Core.HLevel.{is_prop→PathP}
 use Rattle.std.specs.Prelude.{Option, Some, None}
-use Rattle.std.specs.List.{AllZip}
 use Rattle.qz_types.specs.Entries.{EntryData}
 use Rattle.qz_types.specs.Tables.{SchedulerTables}
 use Rattle.qz_types.specs.Outcomes.{Outcome, accepted, refused, IsAccepted}
@@ -14,7 +13,6 @@ use Rattle.qz_journal.specs.Layout.{Holds}
 use Rattle.qz_journal.proofs.Once.{holds_once}
 use Rattle.qz_journal.proofs.Undecided.{Holds-prop}
 use Rattle.qz_journal.specs.declared.layout.TheConstants.{TRIGGERS}
-use Rattle.qz_codec.specs.Layout.{record_of}
 use Rattle.qz_trigger_store.specs.Bytes.{Encodes, Encode, HoldEntries, MayHold}
 
 pub IsAccepted-prop : (o : Outcome) → IsProp (IsAccepted o)

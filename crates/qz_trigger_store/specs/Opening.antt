@@ -17,13 +17,14 @@ use Rattle.qz_codec.specs.Values.{IsEntry}
 use Rattle.qz_trigger_store.specs.Entries.{TriggerState}
 use Rattle.qz_trigger_store.specs.Bytes.{IsRecord, IsPlaced, Encode, BeginsNew}
 
--- What holds of a store at each moment, whatever its disk tells: its history is legal and begins with a new store, its
--- tables are valid, and its gate comes after the records of its entries.
+-- What holds of a store at each moment, whatever its disk tells: its history is legal and begins with a new store, and
+-- its tables are valid. Its gate comes after the records of its entries while it is open: the journal of a closed one may
+-- have been read anew.
 pub record IsSound (s : TriggerState) : Type 0 where
   pub begins : BeginsNew version s.history
   pub legal : IsLegal s.history
   pub tables : ∥ TablesValid (replay s.history) ∥₁
-  pub placed : IsPlaced s
+  pub placed : s.is_open ≡ true → IsPlaced s
 
 -- a store that was just opened
 pub record IsOpened (s : TriggerState) : Type 0 where

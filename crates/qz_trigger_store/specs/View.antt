@@ -58,5 +58,5 @@ LeavesEither s t = LeavesOnly (disk_state s) (disk_state t) (IsOfEither (view s)
 -- Nothing of the store, of what it keeps and of its disk has changed.
 abbrev pub IsAsBefore : {D : Type 0} {g : Ghosts D} → TriggerStore D g → TriggerStore D g → Type 0
 IsAsBefore s t =
-    (t.journal ≡ s.journal) × (t.tables ≡ s.tables) × (found_of t ≡ found_of s) × (added_of t ≡ added_of s)
+    (t.journal ≡ s.journal) × (t.count ≡ s.count) × (t.tables ≡ s.tables) × (found_of t ≡ found_of s) × (added_of t ≡ added_of s)
     × (moments_of t ≡ moments_of s) × (replies_of t ≡ replies_of s) × (t.is_open ≡ s.is_open) × (t.undecided ≡ s.undecided)

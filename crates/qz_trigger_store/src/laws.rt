@@ -4,12 +4,21 @@ ghost use Rattle.qz_types.specs.Entries.{EntryData, is_entry};
 ghost use Rattle.qz_types.specs.declared.errors.SubmitError.{SubmitError as Error};
 ghost use Rattle.qz_types.specs.declared.replies.Reply.{Reply as Answered};
 ghost use Rattle.qz_trigger_store.specs.Entries.{TriggerState, trigger_entry};
-ghost use Rattle.qz_trigger_store.specs.Opening.{IsSound};
-ghost use Rattle.qz_stores.specs.Stores.{Submits};
+ghost use Rattle.qz_trigger_store.specs.Opening.{IsSound, IsOpened};
+ghost use Rattle.qz_stores.specs.Stores.{Submits, Shuts, Opens};
 
 /// Whatever submitting an entry comes to, it leaves a legal history from a new store on, valid tables, and a gate after
 /// the records of the history's entries, where it found them so. It does nothing: its contract says so.
 #[tactic(auto, using(crate::proofs::Sound::submitted_sound))]
 pub fn submitting_keeps_stores_sound()
     ensures { (e : EntryData) (answer : Answer Answered Error) (s t : TriggerState) → IsTrue (is_entry e) → Submits trigger_entry e answer s t → IsSound s → IsSound t }
+{}
+
+/// A restart leaves all that too, when it begins and when it ends with a store that was opened. It does nothing: its
+/// contract says so.
+#[tactic(auto, using(crate::proofs::Sound::shut_sound, crate::proofs::Sound::opened_sound))]
+pub fn restarting_keeps_stores_sound()
+    ensures shut { (s t : TriggerState) → Shuts s t → IsSound s → IsSound t }
+    // also on a disk of which nothing is known
+    ensures opened { (s t : TriggerState) → Opens trigger_entry ⊥ s t → IsOpened t → IsSound t }
 {}

@@ -7,10 +7,12 @@ mod laws;
 mod mounting;
 mod parts;
 mod replaying;
+mod restarting;
 mod stores;
 mod submitting;
 
-pub use laws::submitting_keeps_stores_sound;
+pub use laws::{restarting_keeps_stores_sound, submitting_keeps_stores_sound};
 pub use qz_journal::MountError;
 pub use qz_types::SubmitError;
+pub use replaying::Reread;
 pub use stores::TriggerStore;

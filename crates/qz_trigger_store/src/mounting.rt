@@ -8,14 +8,13 @@ ghost use Rattle.qz_journal.specs.declared.layout.TheConstants.{TRIGGERS as OF_T
 ghost use Rattle.qz_journal.specs.Through.{OnlyReads, OnlyReadsUnless};
 ghost use Rattle.qz_journal.specs.View.{disk_of as journal_disk, kind_of, count_of, closed_at};
 ghost use Rattle.qz_model.specs.History.{History};
-ghost use Rattle.qz_model.specs.Invariant.{TablesValid};
 ghost use Rattle.qz_trigger_store.specs.Bytes.{HoldEntries, Stands, IsHistory};
 ghost use Rattle.qz_trigger_store.specs.Opening.{IsOpened, IsRefused, IsFirstBad};
 ghost use Rattle.qz_trigger_store.specs.View.{view, added_of, disk_state};
 
 use crate::TriggerStore;
 use crate::accepted::Accepted;
-use crate::replaying::{Replayed, replay};
+use crate::replaying::{Reread, replay};
 use qz_civil::List;
 use qz_disk::Disk;
 use qz_journal::{Journal, MountError, TRIGGERS};
@@ -54,21 +53,22 @@ impl<D: Disk> TriggerStore<D> {
 }
 
 // An open store on a journal that holds the records of these entries.
-fn begin<D: Disk>(alloc: Global, journal: Journal<D>, replayed: Replayed) -> TriggerStore<D>
+fn begin<D: Disk>(alloc: Global, journal: Journal<D>, replayed: Reread) -> TriggerStore<D>
     requires kind { kind_of journal ≡ OF_TRIGGERS }
     requires open { closed_at journal ≡ None }
     requires counted { count_of journal ≡ length replayed.entries.items }
     requires stands { D.honest → HoldEntries (D.state (journal_disk journal)).content replayed.entries.items }
-    requires valid { ∥ TablesValid replayed.tables ∥₁ }
     requires recorded { ∥ AllByRecursion IsEntry replayed.entries.items ∥₁ }
     ensures journal { result.journal ≡ journal }
     ensures found { result.found.items ≡ replayed.entries.items }
     ensures opened { (result.is_open ≡ true) × (result.undecided ≡ None) × (added_of result ≡ []) }
 {
-    let Replayed { entries, tables } = replayed;
+    let Reread { entries, tables } = replayed;
+    let count = journal.count();
     TriggerStore {
         alloc,
         journal,
+        count,
         tables,
         found: entries,
         accepted: Accepted::new(alloc),

@@ -13,10 +13,10 @@ impl<D: Disk> TriggerStore<D> {
     pub fn history_len(&self) -> u64
         ensures { result ≡ length (view self.now).history.entries }
     {
-        self.journal.count()
+        self.count
     }
 
-    /// Whether a call of this store was answered `Fault`.
+    /// Whether a call of this store was answered `Fault`, or a restart of it began and didn't end.
     pub fn closed(&self) -> bool
         ensures { result ≡ not (view self.now).is_open }
     {
@@ -53,6 +53,7 @@ impl<D: Disk> TriggerStore<D> {
         let TriggerStore {
             alloc: _,
             journal,
+            count: _,
             tables: _,
             found: _,
             accepted: _,

@@ -1,13 +1,11 @@
 //! The payloads of a journal, read as a history.
 ghost use Rattle.std.specs.Prelude.{◌≡◌, ◌+◌, ◌^◌, ◌<◌, ◌++◌, ℕ, List as Items, [], IfOk, IfErr, OnOk, Err};
-ghost use Rattle.std.specs.List.{AllByRecursion};
 ghost use Rattle.qz_journal.specs.Layout.{end_of};
 ghost use Rattle.qz_types.specs.Tables.{new_tables};
 ghost use Rattle.qz_model.specs.Transaction.{transaction};
 ghost use Rattle.qz_model.specs.History.{IsLegalFrom, tables_left, replay_from};
 ghost use Rattle.qz_types.specs.Outcomes.{IsAccepted};
 ghost use Rattle.qz_model.specs.Invariant.{TablesValid};
-ghost use Rattle.qz_codec.specs.Values.{IsEntry};
 ghost use Rattle.qz_trigger_store.specs.Bytes.{IsRecord};
 ghost use Rattle.qz_trigger_store.specs.Facts.{IsLegalFrom-prop};
 ghost use Rattle.qz_trigger_store.specs.Opening.{IsUnfit, IsStopped, AreReplayed};
@@ -20,13 +18,14 @@ use qz_plain::PlainStore;
 use qz_types::{Entry, StepRefused};
 use std::alloc::Global;
 
-/// A history from a new store on, and the tables that it leaves.
+/// A history that was read from a disk, from a new store on, and the tables that it leaves.
 #[derive(Drop)]
-pub(crate) struct Replayed {
+pub struct Reread {
     pub(crate) entries: EntryLog,
     pub(crate) tables: PlainStore,
     ghost legal: { IsLegalFrom new_tables entries.items } by { IsLegalFrom-prop new_tables entries.items },
     ghost replayed: { tables ≡ replay_from new_tables entries.items },
+    ghost valid: { ∥ TablesValid tables ∥₁ },
 }
 
 // Why a payload wasn't taken into a history.
@@ -67,10 +66,9 @@ fn take(alloc: Global, tables: &mut PlainStore, payload: &[u8]) -> Result<Entry,
 }
 
 /// The history whose records these payloads are. `Damaged` has the offset of the gate of the first one that is unfit.
-pub(crate) fn replay(alloc: Global, payloads: &List<List<u8>>) -> Result<Replayed, MountError>
+pub(crate) fn replay(alloc: Global, payloads: &List<List<u8>>) -> Result<Reread, MountError>
     requires offsets { end_of payloads.now < 2 ^ 64 }
     ensures replayed { IfOk result (λ found. AreReplayed payloads.now found.entries.items) }
-    ensures valid { IfOk result (λ found. ∥ TablesValid found.tables ∥₁) }
     ensures stopped { IfErr result (IsStopped payloads.now) }
 {
     let mut entries = EntryLog::new();
@@ -87,5 +85,5 @@ pub(crate) fn replay(alloc: Global, payloads: &List<List<u8>>) -> Result<Replaye
         }
         gate += 5 + payload.len() as u64;
     }
-    Ok(Replayed { entries, tables })
+    Ok(Reread { entries, tables })
 }

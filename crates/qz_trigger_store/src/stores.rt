@@ -8,7 +8,7 @@ ghost use Rattle.qz_model.specs.Invariant.{TablesValid};
 ghost use Rattle.qz_journal.specs.declared.layout.TheConstants.{TRIGGERS as OF_TRIGGERS};
 ghost use Rattle.qz_journal.specs.View.{disk_of, kind_of, count_of, closed_at};
 ghost use Rattle.qz_codec.specs.Values.{IsEntry};
-ghost use Rattle.qz_trigger_store.specs.Bytes.{HoldEntries, MayHold};
+ghost use Rattle.qz_trigger_store.specs.Bytes.{HoldEntries, MayHold, MayFollow};
 ghost use Rattle.qz_trigger_store.specs.Facts.{IsLegalFrom-prop, HoldEntries-prop, MayHold-prop};
 
 use crate::accepted::Accepted;
@@ -26,6 +26,8 @@ use std::alloc::Global;
 pub struct TriggerStore<D: Disk> {
     pub(crate) alloc: Global,
     pub(crate) journal: Journal<D>,
+    // how many entries the history has
+    pub(crate) count: u64,
     pub(crate) tables: PlainStore,
     // the entries that the disk had at the mount
     pub(crate) found: EntryLog,
@@ -36,11 +38,13 @@ pub struct TriggerStore<D: Disk> {
     ghost kind: { kind_of journal ≡ OF_TRIGGERS },
     ghost ready: { is_open ≡ true → closed_at journal ≡ None },
     ghost settled: { is_open ≡ true → undecided ≡ None },
-    ghost counted: { count_of journal ≡ length (found.items ++ accepted.entries.items) },
+    ghost counted: { count ≡ length (found.items ++ accepted.entries.items) },
+    ghost placed: { is_open ≡ true → count_of journal ≡ count },
     ghost legal: { IsLegalFrom new_tables (found.items ++ accepted.entries.items) } by { IsLegalFrom-prop new_tables (found.items ++ accepted.entries.items) },
     ghost replayed: { tables ≡ replay_from new_tables (found.items ++ accepted.entries.items) },
     ghost valid: { ∥ TablesValid tables ∥₁ },
     ghost recorded: { ∥ AllByRecursion IsEntry (found.items ++ accepted.entries.items) ∥₁ },
+    ghost passed: { ∥ MayFollow tables undecided ∥₁ },
     ghost moments: { accepted.moments.items ≡ moments_from (replay_from new_tables found.items) accepted.entries.items },
     ghost replies: { accepted.replies.items ≡ replies_from (replay_from new_tables found.items) accepted.entries.items },
     ghost stands: { D.honest → is_open ≡ true → HoldEntries (D.state (disk_of journal)).content (found.items ++ accepted.entries.items) } by { Prim.hlevel (props, HoldEntries-prop) },

@@ -177,6 +177,7 @@ impl<D: Disk> TriggerStore<D> {
                 self.accepted
                     .push_reserved(entry, tables.last_moment(), kept);
                 self.tables = tables;
+                self.count = self.journal.count();
                 Ok(reply)
             }
             // A fault: the journal is open, and the record has room.

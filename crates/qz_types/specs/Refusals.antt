@@ -1,10 +1,9 @@
 -- The number under which reply lines name a refusal. It is fixed for each refusal, whichever others there are.
 use Rattle.std.specs.Prelude.{ℕ}
 use Rattle.qz_types.specs.declared.replies.Refusal.{Refusal}
-use Rattle.qz_types.specs.declared.replies.Refusal.TheVariants.{Unbuilt, Fenced, ReservedGroup, UnknownJob, UnknownTrigger, UnknownCalendar, UnknownZone, JobExists, TriggerExists, CalendarExists, ZoneExists, InUse, Circle, FlagInUse, NeverFires, UnknownEntry, NotYours, NotAcquired, NotExecuting, Early, NotMember, StillFresh, TooMany, UnknownNode, RowsFull, StillMember, Renewed}
+use Rattle.qz_types.specs.declared.replies.Refusal.TheVariants.{Fenced, ReservedGroup, UnknownJob, UnknownTrigger, UnknownCalendar, UnknownZone, JobExists, TriggerExists, CalendarExists, ZoneExists, InUse, Circle, FlagInUse, NeverFires, UnknownEntry, NotYours, NotAcquired, NotExecuting, Early, NotMember, StillFresh, TooMany, UnknownNode, RowsFull, StillMember, Renewed}
 
 abbrev pub number_of : Refusal → ℕ
-number_of Unbuilt = 0
 number_of (Fenced live) = 1
 number_of ReservedGroup = 2
 number_of UnknownJob = 3

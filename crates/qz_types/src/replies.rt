@@ -76,8 +76,6 @@ pub enum Reply {
 /// Why a transaction was refused. A refusal changes nothing.
 #[derive(Clone, Debug, Drop)]
 pub enum Refusal {
-    /// The scheduler doesn't do this yet.
-    Unbuilt,
     /// The actor isn't a member under its epoch. `live` is the epoch of the member of that name.
     Fenced { live: Option<u64> },
     /// The trigger's group is one in which the scheduler itself stores triggers: RECOVERING_JOBS or MANUAL_TRIGGERS.
@@ -139,7 +137,6 @@ impl Refusal {
         ensures { result ≡ number_of self.now }
     {
         match self {
-            Refusal::Unbuilt => 0,
             Refusal::Fenced { live: _ } => 1,
             Refusal::ReservedGroup => 2,
             Refusal::UnknownJob => 3,

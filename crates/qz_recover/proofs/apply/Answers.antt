@@ -13,3 +13,8 @@ pub returns-in-Node-clause-valid : goal.returns-in-Node-clause-valid
 returns-in-Node-clause-valid c =
     let ok : IfOk c.leave.result (λ reply. transaction c.args.tables.now.tables c.args.entry.now ≡ accepted c.leave.new.tables.tables reply) = search rules in
     valid_after c.args.tables.now c.leave.new.tables c.args.entry.now c.leave.result c.requires.entry c.requires.valid ok c.leave.ensures.err
+
+pub returns-in-Node-actor-clause-valid : goal.returns-in-Node-actor-clause-valid
+returns-in-Node-actor-clause-valid c =
+    let ok : IfOk c.recover.result (λ reply. transaction c.args.tables.now.tables c.args.entry.now ≡ accepted c.recover.new.tables.tables reply) = search rules in
+    valid_after c.args.tables.now c.recover.new.tables c.args.entry.now c.recover.result c.requires.entry c.requires.valid ok c.recover.ensures.err

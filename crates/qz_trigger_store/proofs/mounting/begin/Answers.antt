@@ -8,7 +8,7 @@ use Rattle.qz_trigger_store.proofs.mounting.begin.Goals as goal
 
 pub invariant_of-result-clause-counted : goal.invariant_of-result-clause-counted
 invariant_of-result-clause-counted g c =
-    c.requires.counted ∙ ap (λ (l : List EntryData). length l) (sym (Appending.none_more c.args.replayed.entries.items c.new.result.entries.items c.new.ensures.0))
+    c.count-count.ensures ∙ c.requires.counted ∙ ap (λ (l : List EntryData). length l) (sym (Appending.none_more c.args.replayed.entries.items c.new.result.entries.items c.new.ensures.0))
 
 pub invariant_of-result-clause-recorded : goal.invariant_of-result-clause-recorded
 invariant_of-result-clause-recorded g c =

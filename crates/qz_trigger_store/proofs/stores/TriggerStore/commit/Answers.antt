@@ -1,4 +1,4 @@
-use Rattle.std.proofs.Common.{◌≡◌, ◌∙◌, ℕ, ℤ, List, [], ◌∷◌, ◌++◌, length, refl, sym, ap, subst, w64, to_z, of_z, arith}
+use Rattle.std.proofs.Common.{◌≡◌, ◌∙◌, ◌+◌, ℕ, ℤ, List, [], ◌∷◌, ◌++◌, length, refl, sym, ap, subst, w64, to_z, of_z, arith}
 use Rattle.std.proofs.lemmas.Grind.{common_steps}
 use Rattle.std.proofs.lemmas.Int.{to_z-of_z}
 use Rattle.qz_types.specs.declared.replies.Reply.{Reply}
@@ -15,7 +15,8 @@ use Rattle.qz_trigger_store.proofs.stores.TriggerStore.commit.Goals as goal
 pub invariant_of-self-clause-counted : goal.invariant_of-self-clause-counted
 invariant_of-self-clause-counted g c =
     let s = c.args.self.now in
-    Appending.counted_with s.found.items s.accepted.entries.items _ c.args.entry s.journal.count _ c.push_reserved.ensures.entries s.counted c.in-Ok.ensures.ok.2
+    Appending.counted_with s.found.items s.accepted.entries.items _ c.args.entry s.count _ c.push_reserved.ensures.entries s.counted
+    (c.count-self.ensures ∙ c.in-Ok.ensures.ok.2 ∙ ap (λ n. n + 1) (s.placed c.requires.open))
 
 pub invariant_of-self-clause-legal : goal.invariant_of-self-clause-legal
 invariant_of-self-clause-legal g c =

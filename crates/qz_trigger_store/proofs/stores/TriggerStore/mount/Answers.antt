@@ -1,4 +1,4 @@
-use Rattle.std.proofs.Common.{◌≡◌, ◌∙◌, ◌++◌, List, ℕ, sym, ap, subst}
+use Rattle.std.proofs.Common.{◌≡◌, ◌∙◌, ◌++◌, List, ℕ, ap, subst}
 use Rattle.qz_journal.specs.Layout.{Holds}
 use Rattle.qz_journal.specs.declared.layout.TheConstants.{TRIGGERS}
 use Rattle.qz_journal.proofs.Once.{not_damaged}
@@ -23,7 +23,7 @@ returns-in-Ok-replay-clause-opened g c =
     let same : c.begin.result.found.items ++ c.begin.result.accepted.entries.items ≡ es = none_more c.begin.result.found.items _ c.begin.ensures.opened.2 ∙ c.begin.ensures.found in
     opened_on (view c.begin.result) c.in-Ok.payloads es c.in-Ok-replay.replayed.tables (ap history_of same)
     (ap (λ j. j.gate) c.begin.ensures.journal ∙ c.in-Ok.ensures.ground.2) (ap (λ j. j.count) c.begin.ensures.journal ∙ c.in-Ok.ensures.ground.3)
-    c.begin.ensures.opened.0 c.begin.ensures.opened.1 c.in-Ok-replay.ensures.replayed c.in-Ok-replay.replayed.replayed c.in-Ok-replay.ensures.valid
+    c.begin.ensures.opened.0 c.begin.ensures.opened.1 c.in-Ok-replay.ensures.replayed c.in-Ok-replay.replayed.replayed c.in-Ok-replay.replayed.valid
 
 pub returns-in-Ok-replay-clause-stands : goal.returns-in-Ok-replay-clause-stands
 returns-in-Ok-replay-clause-stands g c honest =

@@ -1,0 +1,10 @@
+pub mod Appending
+pub mod Committing
+pub mod Decided
+pub mod Histories
+pub mod Looking
+pub mod Once
+pub mod Refused
+pub mod Replays
+pub mod RowEdits
+pub mod Sound

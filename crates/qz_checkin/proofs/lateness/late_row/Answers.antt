@@ -1,0 +1,8 @@
+use Rattle.qz_checkin.proofs.Looking.{moment_of_row}
+use Rattle.qz_checkin.proofs.lateness.late_row.Goals as goal
+
+pub is_late-requires-clause-row : goal.is_late-requires-clause-row
+is_late-requires-clause-row c = moment_of_row c.args.rows.now c.loop-row.row-index c.row-item.result c.requires.rows c.loop-row-test.true c.row-item.is
+
+pub returns-then-is_late-clause-moment : goal.returns-then-is_late-clause-moment
+returns-then-is_late-clause-moment c = moment_of_row c.args.rows.now c.loop-row.row-index c.row-item.result c.requires.rows c.loop-row-test.true c.row-item.is

@@ -1,0 +1,65 @@
+-- Each of these facts has at most one proof, so that a store can keep it.
+use Rattle.std.proofs.Common.{◌≡◌, ◌⊎◌, inl, inr, ℕ, List, [], ◌∷◌, ◌++◌, length, refl, ap, arith, length-append}
+use Rattle.std.proofs.Props.{props}
+use Rattle.std.proofs.Math.Path.{Σ_path}
+use mathlib.Core.HLevel.{is_prop→PathP}
+use Rattle.std.specs.Prelude.{Option, Some, None}
+use Rattle.qz_types.specs.Entries.{StateEntryData}
+use Rattle.qz_checkin.specs.Rows.{StateTables, StateOutcome, accepted, refused, IsAccepted, state_transaction}
+use Rattle.qz_checkin.specs.History.{rows_left, IsLegalFrom}
+use Rattle.qz_checkin.specs.Bytes.{Encodes, Encode, HoldEntries, MayHold}
+use Rattle.qz_journal.specs.Layout.{Holds}
+use Rattle.qz_journal.proofs.Once.{holds_once}
+use Rattle.qz_journal.proofs.Undecided.{Holds-prop}
+use Rattle.qz_journal.specs.declared.layout.TheConstants.{STATES}
+
+pub IsAccepted-prop : (o : StateOutcome) → IsProp (IsAccepted o)
+IsAccepted-prop (accepted T) p q = refl
+IsAccepted-prop (refused x) p q = absurd p
+
+pub IsLegalFrom-prop : (T : StateTables) (es : List StateEntryData) → IsProp (IsLegalFrom T es)
+IsLegalFrom-prop T [] p q = refl
+IsLegalFrom-prop T (e ∷ es) p q = λ i. (IsAccepted-prop (state_transaction T e) p.0 q.0 i, IsLegalFrom-prop (rows_left T (state_transaction T e)) es p.1 q.1 i)
+
+Encodes-prop : (p : List ℕ) (e : StateEntryData) → IsProp (Encodes p e)
+Encodes-prop p e = hlevel props
+
+Encode-prop : (ps : List (List ℕ)) (es : List StateEntryData) → IsProp (Encode ps es)
+Encode-prop [] [] p q = refl
+Encode-prop [] (e ∷ es) p q = absurd p
+Encode-prop (x ∷ ps) [] p q = absurd p
+Encode-prop (x ∷ ps) (e ∷ es) p q = λ i. (Encodes-prop x e p.0 q.0 i, Encode-prop ps es p.1 q.1 i)
+
+-- bytes hold one list of payloads at most
+store-prop : (b : List ℕ) → IsProp ((ps : List (List ℕ)) × Holds b STATES ps)
+store-prop b p q =
+    let same : p.0 ≡ q.0 = holds_once b STATES p.0 q.0 p.1 q.1 in
+    Σ_path same (is_prop→PathP (λ i. Holds b STATES (same i)) (λ i. Holds-prop b STATES (same i)) p.1 q.1)
+
+pub HoldEntries-prop : (b : List ℕ) (es : List StateEntryData) → IsProp (HoldEntries b es)
+HoldEntries-prop b es p q = λ i. record {
+  store = store-prop b p.store q.store i;
+  encode = λ ps holds. Encode-prop ps es (p.encode ps holds) (q.encode ps holds) i;
+}
+
+pub Encode-length : (ps : List (List ℕ)) (es : List StateEntryData) → Encode ps es → length ps ≡ length es
+Encode-length [] [] all = refl
+Encode-length [] (e ∷ es) all = absurd all
+Encode-length (p ∷ ps) [] all = absurd all
+Encode-length (p ∷ ps) (e ∷ es) all = omega (arith, Encode-length ps es all.1)
+
+-- no bytes hold a list of entries and the list with one more
+one_list : (b : List ℕ) (es : List StateEntryData) (e : StateEntryData) → HoldEntries b es → HoldEntries b (es ++ e ∷ []) → ⊥
+one_list b es e p q =
+    let ps = p.store.0 in
+    absurd (omega (arith, Encode-length ps es (p.encode ps p.store.1), Encode-length ps (es ++ e ∷ []) (q.encode ps p.store.1), length-append es (e ∷ [])))
+
+either-prop : (es : List StateEntryData) (e : StateEntryData) (b : List ℕ) (p q : HoldEntries b es ⊎ HoldEntries b (es ++ e ∷ [])) → p ≡ q
+either-prop es e b (inl x) (inl y) = ap inl (HoldEntries-prop b es x y)
+either-prop es e b (inl x) (inr y) = absurd (one_list b es e x y)
+either-prop es e b (inr x) (inl y) = absurd (one_list b es e y x)
+either-prop es e b (inr x) (inr y) = ap inr (HoldEntries-prop b (es ++ e ∷ []) x y)
+
+pub MayHold-prop : (es : List StateEntryData) (u : Option StateEntryData) (b : List ℕ) → IsProp (MayHold es u b)
+MayHold-prop es None b = HoldEntries-prop b es
+MayHold-prop es (Some e) b = either-prop es e b

@@ -1,0 +1,86 @@
+//! Opening what is on a disk.
+ghost use Rattle.std.specs.Prelude.{◌≡◌, ◌⊎◌, ◌^◌, ◌<◌, ◌≤◌, length, None, true, IfOk, IfErr, MatchResult};
+ghost use Rattle.qz_civil.specs.Causes.{Rose};
+ghost use Rattle.qz_journal.specs.Layout.{end_of};
+ghost use Rattle.qz_journal.specs.declared.layout.TheConstants.{STATES as OF_STATES};
+ghost use Rattle.qz_journal.specs.Through.{OnlyReads, OnlyReadsUnless};
+ghost use Rattle.qz_journal.specs.View.{disk_of as journal_disk, kind_of, count_of, closed_at};
+ghost use Rattle.qz_checkin.specs.History.{StateHistory};
+ghost use Rattle.qz_checkin.specs.Bytes.{HoldEntries, Stands, IsHistory};
+ghost use Rattle.qz_checkin.specs.Opening.{IsOpened, IsRefused, IsFirstBad};
+ghost use Rattle.qz_checkin.specs.View.{view, entries_of, disk_state};
+
+use crate::replaying::replay;
+use crate::{Reread, StateStore};
+use qz_civil::List;
+use qz_disk::Disk;
+use qz_journal::{Journal, MountError, STATES};
+use std::alloc::Global;
+
+impl<D: Disk> StateStore<D> {
+    /// Opens the store that is on a disk, and replays its history. It syncs first, so that what it reads is what a
+    /// crash leaves, and writes nothing. An `Err` hands the disk back. `NotAStore` is returned where the header isn't a
+    /// state store's, `Damaged` also at the gate of the first payload that is no record or whose command is refused, and
+    /// `Fault` only where the disk's count of faults rose.
+    pub fn mount(alloc: Global, disk: D) -> Result<StateStore<D>, (MountError, D)>
+        ensures opened { IfOk result (λ store. IsOpened (view store)) }
+        ensures stands { D.honest → IfOk result (λ store. Stands (D.state disk).content (view store).history) }
+        ensures reads { D.honest → IfOk result (λ store. OnlyReads (D.state disk) (disk_state store)) }
+        ensures reads_err { D.honest → IfErr result (λ e. OnlyReadsUnless (e.0 ≡ MountError.Fault) (D.state disk) (D.state e.1)) }
+        ensures refused { D.honest → IfErr result (λ e. IsRefused (D.state disk).content e.0) }
+        // Where the bytes are those of a history, it comes to that history, or memory or the disk fails.
+        ensures whole { D.honest → (h : StateHistory) → IsHistory h → Stands (D.state disk).content h
+            → MatchResult result (λ store. (view store).history ≡ h) (λ e. (e.0 ≡ MountError.Fault) ⊎ (e.0 ≡ MountError.NoMemory)) }
+        ensures later { IfOk result (λ store. D.faults disk ≤ (view store).faults) }
+        ensures fault { IfErr result (λ e. (D.faults disk ≤ D.faults e.1)
+            × (e.0 ≡ MountError.Fault → Rose (D.faults disk) (D.faults e.1))) }
+    {
+        match Journal::mount_or_salvage(alloc, disk, STATES) {
+            Ok((journal, payloads)) => match replay(alloc, &payloads) {
+                Ok(found) => Ok(begin(alloc, journal, found)),
+                Err(error) => Err((error, journal.into_disk())),
+            },
+            Err((MountError::Damaged { at }, payloads, disk)) => {
+                Err((first_bad(alloc, &payloads, at), disk))
+            }
+            Err((error, _payloads, disk)) => Err((error, disk)),
+        }
+    }
+}
+
+// An open store on a journal that holds the records of these entries.
+fn begin<D: Disk>(alloc: Global, journal: Journal<D>, found: Reread) -> StateStore<D>
+    requires kind { kind_of journal ≡ OF_STATES }
+    requires open { closed_at journal ≡ None }
+    requires counted { count_of journal ≡ length found.entries.items }
+    requires stands { D.honest → HoldEntries (D.state (journal_disk journal)).content found.entries.items }
+    ensures journal { result.journal ≡ journal }
+    ensures found { entries_of result ≡ found.entries.items }
+    ensures opened { (result.is_open ≡ true) × (result.undecided ≡ None) }
+{
+    let Reread {
+        entries,
+        rows,
+        count,
+    } = found;
+    StateStore {
+        alloc,
+        journal,
+        rows,
+        entries,
+        count,
+        is_open: true,
+        undecided: None,
+    }
+}
+
+// The first bad place of a journal that is damaged after these payloads, at this offset.
+fn first_bad(alloc: Global, payloads: &List<List<u8>>, at: u64) -> MountError
+    requires offsets { end_of payloads.now < 2 ^ 64 }
+    ensures { IsFirstBad payloads.now at result }
+{
+    match replay(alloc, payloads) {
+        Ok(_) => MountError::Damaged { at },
+        Err(error) => error,
+    }
+}

@@ -1,0 +1,79 @@
+//! A restart, in three calls.
+ghost use Rattle.std.specs.Prelude.{◌≡◌, ◌⊎◌, Err, None, IfOk, IfErr, OnOk};
+ghost use Rattle.qz_civil.specs.Causes.{Rose, HasCause};
+ghost use Rattle.qz_journal.specs.Through.{OnlyReads};
+ghost use Rattle.qz_stores.specs.Stores.{Shuts, Opens};
+ghost use Rattle.qz_checkin.specs.Entries.{of_states};
+ghost use Rattle.qz_checkin.specs.Bytes.{history_of, Stands};
+ghost use Rattle.qz_checkin.specs.Opening.{IsOpened};
+ghost use Rattle.qz_checkin.specs.View.{view, disk_of, disk_state, IsReread, LeavesEither};
+
+use crate::replaying::replay;
+use crate::{Reread, StateStore};
+use qz_civil::Failed;
+use qz_disk::Disk;
+use qz_journal::MountError;
+use qz_types::StateEntry;
+use std::mem;
+
+impl<D: Disk> StateStore<D> {
+    /// A crash of the disk. The store is closed until `open`, so that several disks can crash before anything on them is
+    /// read.
+    pub fn crash(&mut self) -> Result<(), Failed>
+        ensures shut { Shuts (view self.old) (view self.new) }
+        ensures cause { HasCause (view self.old).faults (view self.new).faults result }
+        ensures any_moment { D.honest → LeavesEither self.old self.new }
+    {
+        self.is_open = false;
+        self.journal.crash()
+    }
+
+    /// Reads what is on the disk, as `mount` does. The store is closed until `open`, with its history and its undecided
+    /// entry, whatever is answered. `Fault` is returned only where the disk's count of faults rose. `NotAStore` and
+    /// `Damaged` come only where the disk isn't honest; the offset of `Damaged` may then be that of a bad gate, though a
+    /// payload before it is unfit too.
+    pub fn reread(&mut self) -> Result<Reread, MountError>
+        ensures shut { Shuts (view self.old) (view self.new) }
+        ensures found { IfOk result (IsReread self.new) }
+        // An honest disk has the history, or that with the undecided entry, so it or memory fails.
+        ensures refused { D.honest → IfErr result (λ e. (e ≡ MountError.Fault) ⊎ (e ≡ MountError.NoMemory)) }
+        ensures fault { result ≡ Err MountError.Fault → Rose (view self.old).faults (view self.new).faults }
+        ensures reads { D.honest → OnOk result (OnlyReads (disk_state self.old) (disk_state self.new)) }
+        ensures any_moment { D.honest → LeavesEither self.old self.new }
+    {
+        self.is_open = false;
+        let payloads = self.journal.remount(self.alloc)?;
+        // The payloads end at the gate, so their offsets fit.
+        let _ = self.journal.gate();
+        replay(self.alloc, &payloads)
+    }
+
+    /// Opens the store with what was read. It makes no device call, takes no memory, and can't fail.
+    pub fn open(&mut self, found: Reread)
+        requires { IsReread self.old found }
+        ensures opens { Opens of_states D.honest (view self.old) (view self.new) }
+        ensures opened { IsOpened (view self.new) }
+        ensures history { (view self.new).history ≡ history_of found.entries.items }
+        ensures stands { D.honest → Stands (disk_state self.new).content (view self.new).history }
+        ensures disk { disk_of self.new ≡ disk_of self.old }
+        ensures any_moment { D.honest → LeavesEither self.old self.new }
+    {
+        let Reread {
+            entries,
+            rows,
+            count,
+        } = found;
+        self.entries = entries;
+        self.rows = rows;
+        self.count = count;
+        settle(&mut self.undecided);
+        self.is_open = true;
+    }
+}
+
+// No entry is undecided any more.
+fn settle(undecided: &mut Option<StateEntry>)
+    ensures { undecided.new ≡ None }
+{
+    drop(mem::replace(undecided, None));
+}

@@ -1,0 +1,41 @@
+use Rattle.std.proofs.Common.{◌++◌}
+use Rattle.qz_trigger_store.proofs.Decided.{leaves_images, replay_decided, replay_stands, replay_starved, held_now}
+use Rattle.qz_trigger_store.proofs.stores.TriggerStore.reread.Goals as goal
+
+pub returns-in_err-payloads-clause-any_moment : goal.returns-in_err-payloads-clause-any_moment
+returns-in_err-payloads-clause-any_moment g c honest =
+    let s = c.args.self.now in
+    let es = s.found.items ++ s.accepted.entries.items in
+    leaves_images es es s.undecided s.undecided (g.D.Disk.state s.journal.disk) (g.D.Disk.state c.remount.new.self.disk) (c.in_err-payloads.ensures.reads_err honest).any_moment (s.images honest)
+
+pub returns-clause-decided : goal.returns-clause-decided
+returns-clause-decided g c honest =
+    let s = c.args.self.now in
+    let es = s.found.items ++ s.accepted.entries.items in
+    let disk = g.D.Disk.state s.journal.disk in
+    let holds = held_now s.journal.kind _ c.in_ok-payloads.payloads disk.content s.kind (c.in_ok-payloads.ensures.reads honest).content (c.in_ok-payloads.ensures.stands honest) in
+    replay_decided es s.undecided s.tables s.replayed s.legal s.recorded s.passed c.in_ok-payloads.payloads disk.content holds c.replay.result
+    (s.images honest disk.content (g.met.D.Disk.lawful honest s.journal.disk).content) c.replay.ensures.replayed
+
+pub returns-clause-stands : goal.returns-clause-stands
+returns-clause-stands g c honest =
+    let s = c.args.self.now in
+    let es = s.found.items ++ s.accepted.entries.items in
+    let disk = g.D.Disk.state s.journal.disk in
+    let holds = held_now s.journal.kind _ c.in_ok-payloads.payloads disk.content s.kind (c.in_ok-payloads.ensures.reads honest).content (c.in_ok-payloads.ensures.stands honest) in
+    replay_stands es s.undecided s.tables s.replayed s.legal s.recorded s.passed c.in_ok-payloads.payloads disk.content holds c.replay.result c.replay.ensures.replayed
+
+pub returns-clause-refused : goal.returns-clause-refused
+returns-clause-refused g c honest =
+    let s = c.args.self.now in
+    let es = s.found.items ++ s.accepted.entries.items in
+    let disk = g.D.Disk.state s.journal.disk in
+    let holds = held_now s.journal.kind _ c.in_ok-payloads.payloads disk.content s.kind (c.in_ok-payloads.ensures.reads honest).content (c.in_ok-payloads.ensures.stands honest) in
+    replay_starved es s.undecided s.tables s.replayed s.legal s.recorded s.passed c.in_ok-payloads.payloads disk.content holds c.replay.result
+    (s.images honest disk.content (g.met.D.Disk.lawful honest s.journal.disk).content) c.replay.ensures.stopped
+
+pub returns-clause-any_moment : goal.returns-clause-any_moment
+returns-clause-any_moment g c honest =
+    let s = c.args.self.now in
+    let es = s.found.items ++ s.accepted.entries.items in
+    leaves_images es es s.undecided s.undecided (g.D.Disk.state s.journal.disk) (g.D.Disk.state c.remount.new.self.disk) (c.in_ok-payloads.ensures.reads honest).any_moment (s.images honest)
