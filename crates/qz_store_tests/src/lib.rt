@@ -1,4 +1,4 @@
-//! Tests of the crates of the store: transactions, disks, the journal, the trigger store and the cluster.
+//! Tests of the crates of the store: transactions, disks, the journal, both stores and the cluster.
 #![tactic(auto)]
 
 #[cfg(test)]
@@ -21,5 +21,7 @@ mod refusals;
 mod restarts;
 #[cfg(test)]
 mod rows;
+#[cfg(test)]
+mod states;
 #[cfg(test)]
 mod trigger_store;
