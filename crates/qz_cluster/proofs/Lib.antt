@@ -1,4 +1,8 @@
+pub mod Closings
+pub mod Counts
+pub mod Effects
 pub mod FoundRows
+pub mod Plain
 pub mod Scripts
 pub mod Sound
 pub mod Unaccepted

@@ -1,23 +1,34 @@
--- A valid step submits a valid entry, so it leaves a sound store where it found one.
-use Rattle.std.proofs.Common.{◌≡◌, ℕ, ℤ, List, Bool, true, false, not, ◌&&◌, IsTrue, Some, None, refl, subst}
+-- A valid step submits valid entries, so it leaves sound stores where it found them.
+use Rattle.std.proofs.Common.{◌≡◌, ◌⊎◌, inl, inr, ℕ, ℤ, List, Bool, true, false, not, ◌&&◌, IsTrue, Some, None, refl, sym, ◌∙◌, subst}
 use Rattle.std.specs.Prelude.{Option, Ok, Err}
 use Rattle.std.proofs.lemmas.Bool.{and_parts}
 use Rattle.qz_types.specs.Rows.{MemberData, is_node, is_interval}
-use Rattle.qz_types.specs.Entries.{EntryData, is_command, is_of_node, has_actor, is_entry}
+use Rattle.qz_types.specs.Entries.{EntryData, StateEntryData, is_command, is_of_node, has_actor, is_entry, is_state_command}
 use Rattle.qz_steps.specs.Steps.{is_join, is_step}
 use Rattle.qz_types.specs.Words.{member_of}
 use Rattle.qz_types.specs.declared.commands.Actor.TheVariants as actor
 use Rattle.qz_types.specs.declared.commands.Command.{Command}
 use Rattle.qz_types.specs.declared.commands.Command.TheVariants as command
 use Rattle.qz_types.specs.declared.errors.SubmitError.TheVariants as submit
+use Rattle.qz_types.specs.declared.replies.Reply.{Reply}
 use Rattle.qz_steps.specs.declared.steps.Step.{Step}
-use Rattle.qz_steps.specs.declared.steps.Step.TheVariants.{Client, Join, Node}
+use Rattle.qz_steps.specs.declared.steps.Step.TheVariants.{Client, Join, CheckIn, Node, Forget, Stop, Restart}
 use Rattle.qz_steps.specs.declared.steps.StepReply.{StepReply}
 use Rattle.qz_steps.specs.declared.steps.StepReply.TheVariants as reply
-use Rattle.qz_cluster.specs.Script.{TimedStep, entry_of}
+use Rattle.qz_trigger_store.specs.Entries.{TriggerState}
 use Rattle.qz_trigger_store.specs.Opening.{IsSound}
-use Rattle.qz_trigger_store.proofs.Sound.{same_sound, submitted_sound}
-use Rattle.qz_cluster.specs.Steps.{ClusterState, entry_of_member, entry_of_step, StepCase, IsStep}
+use Rattle.qz_trigger_store.proofs.Sound.{same_sound, submitted_sound, shut_sound}
+use Rattle.qz_stores.specs.Stores.{Shuts}
+use Rattle.qz_checkin.specs.Bytes.{BeginsNew, IsPlaced}
+use Rattle.qz_checkin.specs.Entries.{StatesState}
+use Rattle.qz_checkin.specs.History.{StateHistory, IsLegal as AreLegal, replay_states}
+use Rattle.qz_checkin.specs.Valid.{StatesValid}
+use Rattle.qz_checkin.specs.Opening.{IsSound as AreSound}
+use Rattle.qz_checkin.proofs.Sound.{same_sound as states_same_sound, submitted_sound as states_submitted_sound}
+use Rattle.qz_cluster.specs.Script.{TimedStep, entry_of, check_in_entry, forget_entry}
+use Rattle.qz_cluster.specs.Steps.{ClusterState, rows_of, entry_of_member, entry_of_step, state_entry_of_step, StoresStay, StatesDone, TriggersDone, AtStates, AtTriggers, BothShut, StepCase, IsStep, EndCase, IsCutShort}
+use Rattle.qz_cluster.specs.declared.errors.StepEnd.{StepEnd}
+use Rattle.qz_cluster.specs.declared.errors.StepEnd.TheVariants as ends
 
 both : (a b : Bool) → IsTrue a → IsTrue b → IsTrue (a && b)
 both true true p q = refl
@@ -41,7 +52,7 @@ member_entry None c at e asked valid node = absurd cc
 member_entry (Some me) c at e asked valid node =
     same_entry (λ f. IsTrue (is_entry f)) (entry_of (actor.Node me) c at) e asked (both (is_command c) (has_actor (is_of_node c) (actor.Node me)) valid (of_node (is_of_node c) me node))
 
-valid_entry : (x : Step) (held : List MemberData) (at : ℤ) (e : EntryData) → IsTrue (is_step x) → entry_of_step held x at ≡ Some e → IsTrue (is_entry e)
+pub valid_entry : (x : Step) (held : List MemberData) (at : ℤ) (e : EntryData) → IsTrue (is_step x) → entry_of_step held x at ≡ Some e → IsTrue (is_entry e)
 unfolding is_entry
 valid_entry (Client c) held at e valid asked =
     let parts = and_parts (is_command c && not (is_of_node c)) (not (is_join c)) valid in
@@ -52,13 +63,93 @@ valid_entry (Join node interval) held at e valid asked =
 valid_entry (Node node c) held at e valid asked =
     let parts = and_parts (is_node node && is_command c) (is_of_node c) valid in
     member_entry (member_of node held) c at e asked (and_parts (is_node node) (is_command c) parts.0).1 parts.1
+valid_entry (CheckIn node interval) held at e valid asked = absurd cc
+valid_entry (Forget node failed) held at e valid asked = absurd cc
+valid_entry (Stop node) held at e valid asked = absurd cc
+valid_entry Restart held at e valid asked = absurd cc
 
-case_sound : (t : TimedStep) (r : StepReply) (S S' : ClusterState) → IsTrue (is_step t.step) → StepCase t r S S' → IsSound S.triggers → IsSound S'.triggers
-case_sound t (reply.Ok x) S S' valid case sound = submitted_sound case.entry (Ok x) S.triggers S'.triggers (valid_entry t.step S.held t.at case.entry valid case.asked) case.triggers sound
-case_sound t (reply.Refused x) S S' valid case sound = same_sound S.triggers S'.triggers case.triggers.same sound
-case_sound t reply.Fault S S' valid case sound = submitted_sound case.entry (Err submit.Fault) S.triggers S'.triggers (valid_entry t.step S.held t.at case.entry valid case.asked) case.triggers sound
-case_sound t reply.Closed S S' valid case sound = same_sound S.triggers S'.triggers case.stays.triggers sound
-case_sound t reply.Stopped S S' valid case sound = same_sound S.triggers S'.triggers case.stays.triggers sound
+same_state_entry : (P : StateEntryData → Type 0) (e f : StateEntryData) → ◌≡◌ {A = Option StateEntryData} (Some e) (Some f) → P e → P f
+same_state_entry P e f same is = let one : e ≡ f = cc in subst P one is
 
-pub step_sound : (t : TimedStep) (r : StepReply) (S S' : ClusterState) → IsStep t r S S' → IsSound S.triggers → IsSound S'.triggers
-step_sound t r S S' step sound = case_sound t r S S' step.valid step.case sound
+pub valid_state_entry : (S : ClusterState) (x : Step) (at : ℤ) (e : StateEntryData) → IsTrue (is_step x) → state_entry_of_step S x at ≡ Some e → IsTrue (is_state_command e.command)
+valid_state_entry S (Join node interval) at e valid asked = same_state_entry (λ f. IsTrue (is_state_command f.command)) (check_in_entry node interval at) e asked valid
+valid_state_entry S (CheckIn node interval) at e valid asked = same_state_entry (λ f. IsTrue (is_state_command f.command)) (check_in_entry node interval at) e asked valid
+valid_state_entry S (Forget node failed) at e valid asked =
+    same_state_entry (λ f. IsTrue (is_state_command f.command)) (forget_entry (rows_of S) failed at) e asked (and_parts (is_node node) (is_node failed) valid).1
+valid_state_entry S (Client c) at e valid asked = absurd cc
+valid_state_entry S (Node node c) at e valid asked = absurd cc
+valid_state_entry S (Stop node) at e valid asked = absurd cc
+valid_state_entry S Restart at e valid asked = absurd cc
+
+none_open : (s : StatesState) → s.is_open ≡ false → s.is_open ≡ true → IsPlaced s
+none_open s shut is_open = let both_ways : false ≡ true = sym shut ∙ is_open in absurd cc
+
+-- a restart that began
+states_shut_sound : (s t : StatesState) → Shuts s t → AreSound s → AreSound t
+states_shut_sound s t shut sound = record {
+  begins = subst BeginsNew (sym shut.history) sound.begins;
+  legal = subst AreLegal (sym shut.history) sound.legal;
+  rows = subst (λ (h : StateHistory). ∥ StatesValid (replay_states h) ∥₁) (sym shut.history) sound.rows;
+  placed = none_open t shut.is_open;
+}
+
+-- both stores are sound
+abbrev pub AreBothSound : ClusterState → Type 0
+AreBothSound S = IsSound S.triggers × AreSound S.states
+
+stay_sound : (S S' : ClusterState) → StoresStay S S' → AreBothSound S → AreBothSound S'
+stay_sound S S' stays sound = (same_sound S.triggers S'.triggers stays.triggers sound.0, states_same_sound S.states S'.states stays.states sound.1)
+
+shut_both_sound : (S S' : ClusterState) → BothShut S S' → AreBothSound S → AreBothSound S'
+shut_both_sound S S' shut sound = (shut_sound S.triggers S'.triggers shut.triggers sound.0, states_shut_sound S.states S'.states shut.states sound.1)
+
+states_done_sound : (o : Option StateEntryData) (s t : StatesState) → StatesDone o s t → AreSound s → AreSound t
+states_done_sound None s t is sound = states_same_sound s t is sound
+states_done_sound (Some e) s t is sound = states_submitted_sound e (Ok tt) s t is sound
+
+triggers_done_sound : (o : Option EntryData) (r : Reply) (s t : TriggerState) → ((e : EntryData) → o ≡ Some e → IsTrue (is_entry e)) → TriggersDone o r s t → IsSound s → IsSound t
+triggers_done_sound None r s t valid is sound = same_sound s t is.0 sound
+triggers_done_sound (Some e) r s t valid is sound = submitted_sound e (Ok r) s t (valid e refl) is sound
+
+-- of a step that ends at one of its entries, which keep their store sound
+module _ (C : StateEntryData → StatesState → StatesState → Type 0) (E : EntryData → TriggerState → TriggerState → Type 0)
+    (at_states : (e : StateEntryData) (s t : StatesState) → C e s t → AreSound s → AreSound t)
+    (at_triggers : (e : EntryData) (s t : TriggerState) → IsTrue (is_entry e) → E e s t → IsSound s → IsSound t) where
+  entry_sound : (held : List MemberData) (t : TimedStep) (S S' : ClusterState) → IsTrue (is_step t.step) → AtStates C t S S' ⊎ AtTriggers E held t S S' → AreBothSound S → AreBothSound S'
+  entry_sound held t S S' valid (inl at) sound =
+      (same_sound S.triggers S'.triggers at.triggers sound.0, at_states at.entry S.states S'.states at.states sound.1)
+  entry_sound held t S S' valid (inr at) sound = (
+    at_triggers at.entry S.triggers S'.triggers (valid_entry t.step S.held t.at at.entry valid at.asked) at.triggers sound.0,
+    states_done_sound _ S.states S'.states at.states sound.1,
+  )
+
+case_sound : (honest : Type 0) (t : TimedStep) (r : StepReply) (S S' : ClusterState) → IsTrue (is_step t.step) → StepCase honest t r S S' → AreBothSound S → AreBothSound S'
+case_sound honest t (reply.Ok x) S S' valid case sound = (
+  triggers_done_sound _ x S.triggers S'.triggers (λ e asked. valid_entry t.step S.held t.at e valid asked) case.triggers sound.0,
+  states_done_sound _ S.states S'.states case.states sound.1,
+)
+case_sound honest t (reply.Refused x) S S' valid (inl case) sound = stay_sound S S' case.stays.stores sound
+case_sound honest t (reply.Refused x) S S' valid (inr case) sound =
+    entry_sound _ _ (λ e s u is. states_submitted_sound e (Err (submit.Refused x)) s u is) (λ e s u good is. submitted_sound e (Err (submit.Refused x)) s u good is) _ t S S' valid case.which sound
+case_sound honest t reply.Fault S S' valid (inl case) sound =
+    entry_sound _ _ (λ e s u is. states_submitted_sound e (Err submit.Fault) s u is) (λ e s u good is. submitted_sound e (Err submit.Fault) s u good is) _ t S S' valid case.which sound
+case_sound honest t reply.Fault S S' valid (inr case) sound = shut_both_sound S S' case.shut sound
+case_sound honest t reply.Closed S S' valid case sound = stay_sound S S' case.stays.stores sound
+case_sound honest t reply.Stopped S S' valid case sound = stay_sound S S' case.stays.stores sound
+case_sound honest t reply.Restarted S S' valid case sound = (case.are_triggers.sound, case.are_states.sound)
+
+pub step_sound : (honest : Type 0) (t : TimedStep) (r : StepReply) (S S' : ClusterState) → IsStep honest t r S S' → AreBothSound S → AreBothSound S'
+step_sound honest t r S S' step sound = case_sound honest t r S S' step.valid step.case sound
+
+end_sound : (honest : Type 0) (t : TimedStep) (e : StepEnd) (S S' : ClusterState) → IsTrue (is_step t.step) → EndCase honest t e S S' → AreBothSound S → AreBothSound S'
+end_sound honest t (ends.JournalFull need room) S S' valid case sound =
+    entry_sound _ _ (λ e s u is. states_submitted_sound e (Err (submit.JournalFull need room)) s u is) (λ e s u good is. submitted_sound e (Err (submit.JournalFull need room)) s u good is) _ t S S' valid case.which sound
+end_sound honest t (ends.NotAStore store) S S' valid case sound = shut_both_sound S S' case.shut sound
+end_sound honest t (ends.Damaged store at) S S' valid case sound = shut_both_sound S S' case.shut sound
+end_sound honest t ends.NoMemory S S' valid (inl case) sound =
+    entry_sound _ _ (λ e s u is. states_submitted_sound e (Err submit.NoMemory) s u is) (λ e s u good is. submitted_sound e (Err submit.NoMemory) s u good is) _ t S S' valid case.which sound
+end_sound honest t ends.NoMemory S S' valid (inr case) sound = shut_both_sound S S' case.shut sound
+
+-- also one that is cut short
+pub cut_sound : (honest : Type 0) (t : TimedStep) (e : StepEnd) (S S' : ClusterState) → IsCutShort honest t e S S' → AreBothSound S → AreBothSound S'
+cut_sound honest t e S S' cut sound = end_sound honest t e S S' cut.valid cut.case sound

@@ -1,82 +1,113 @@
 -- Valid steps append valid entries, and leave valid tables.
-use Rattle.std.proofs.Common.{◌≡◌, ℤ, true, false, not, ◌&&◌, List, [], ◌∷◌, ◌++◌, Option, Some, None, IsTrue, IfSome, refl, sym, subst}
+use Rattle.std.proofs.Common.{◌≡◌, ℤ, Bool, true, false, List, [], ◌∷◌, ◌++◌, Option, Some, None, IsTrue, IfSome, refl, sym, subst}
 use Rattle.std.specs.List.{AllByRecursion}
-use Rattle.std.proofs.lemmas.Bool.{and_parts, and_from, not-true}
-use Rattle.qz_types.specs.Rows.{MemberData, is_node}
-use Rattle.qz_types.specs.Entries.{EntryData, is_command, is_of_node, has_actor, is_entry}
-use Rattle.qz_types.specs.Rows.{is_interval}
-use Rattle.qz_steps.specs.Steps.{is_join, is_step}
-use Rattle.qz_types.specs.declared.commands.Command.{Command}
-use Rattle.qz_types.specs.declared.commands.Command.TheVariants as command
-use Rattle.qz_types.specs.declared.commands.Actor.TheVariants as actor
+use Rattle.qz_types.specs.Rows.{MemberData}
+use Rattle.qz_types.specs.Entries.{EntryData, StateEntryData, is_entry, is_state_command}
+use Rattle.qz_steps.specs.Steps.{is_step}
 use Rattle.qz_types.specs.declared.replies.Reply.{Reply}
+use Rattle.qz_types.specs.declared.replies.Refusal.{Refusal}
 use Rattle.qz_steps.specs.declared.steps.Step.{Step}
-use Rattle.qz_steps.specs.declared.steps.Step.TheVariants.{Client, Join, Node}
+use Rattle.qz_steps.specs.declared.steps.Step.TheVariants.{Client, Join, CheckIn, Node, Forget, Stop, Restart}
 use Rattle.qz_types.specs.Tables.{SchedulerTables}
 use Rattle.qz_types.specs.Outcomes.{Outcome, accepted, refused}
 use Rattle.qz_model.specs.Transaction.{transaction}
 use Rattle.qz_model.specs.History.{History, replay}
 use Rattle.qz_model.specs.Invariant.{TablesValid}
-use Rattle.qz_types.specs.Words.{member_of}
-use Rattle.qz_cluster.specs.Script.{ScriptState, TimedStep, held_after_join, entry_of, effect_of, submit, effect_of_node, step_effect, with_optional, tables_after, effect_in, after_step, state_after}
-use Rattle.qz_model.proofs.Histories.{valid-left}
-use Rattle.qz_cluster.proofs.Scripts.{replay-with_optional}
+use Rattle.qz_model.proofs.Histories.{replay_from-append, valid-left}
+use Rattle.qz_checkin.specs.Rows.{StateTables, StateOutcome, state_transaction}
+use Rattle.qz_checkin.specs.Rows as rows
+use Rattle.qz_checkin.specs.History.{StateHistory, replay_states}
+use Rattle.qz_cluster.specs.Script.{ScriptState, TimedStep, StepEffect, effect_of, submit, effect_of_states, submit_state, with_optional, with_optional_state, effect_in, after_step, state_after}
+use Rattle.qz_cluster.specs.Steps.{ClusterState, is_restart, is_unheld, first_refusal, state_entry_of_step, entry_of_step, held_after}
+use Rattle.qz_cluster.proofs.Effects.{onto_triggers, onto_states, plain_effect, effect_at, effect_is}
+use Rattle.qz_cluster.proofs.Scripts.{as_cluster}
+use Rattle.qz_cluster.proofs.Sound.{valid_entry, valid_state_entry}
 
-effect_of_valid : (e : EntryData) (held : List MemberData) (held_after : Reply → List MemberData) (o : Outcome) → IsTrue (is_entry e) → IfSome (effect_of e held held_after o).entry (λ x. IsTrue (is_entry x))
-effect_of_valid e held held_after (accepted T r) good = good
-effect_of_valid e held held_after (refused x) good = tt
+abbrev pub Good : EntryData → Type 0
+Good e = IsTrue (is_entry e)
 
-submit_valid : (T : SchedulerTables) (held : List MemberData) (e : EntryData) (held_after : Reply → List MemberData) → IsTrue (is_entry e) → IfSome (submit T held e held_after).entry (λ x. IsTrue (is_entry x))
+abbrev pub GoodState : StateEntryData → Type 0
+GoodState e = IsTrue (is_state_command e.command)
+
+-- an effect appends only valid entries
+abbrev pub AppendsValid : StepEffect → Type 0
+AppendsValid effect = IfSome effect.entry Good × IfSome effect.state_entry GoodState
+
+effect_of_valid : (e : EntryData) (held : List MemberData) (after : Reply → List MemberData) (o : Outcome) → Good e → AppendsValid (effect_of e held after o)
+effect_of_valid e held after (accepted T r) good = (good, tt)
+effect_of_valid e held after (refused x) good = (tt, tt)
+
+onto_triggers_valid : (T : SchedulerTables) (held : List MemberData) (o : Option EntryData) (after : Reply → List MemberData) → IfSome o Good → AppendsValid (onto_triggers T held o after)
 unfolding submit
-submit_valid T held e held_after good = effect_of_valid e held held_after (transaction T e) good
+onto_triggers_valid T held None after good = (tt, tt)
+onto_triggers_valid T held (Some e) after good = effect_of_valid e held after (transaction T e) good
 
-of_client : (c : Command) (at : ℤ) → is_command c ≡ true → is_of_node c ≡ false → IsTrue (is_entry (entry_of actor.Client c at))
-unfolding is_entry
-of_client c at good client = and_from (is_command c) (has_actor (is_of_node c) actor.Client) good (rw client refl)
+effect_of_states_valid : (e : StateEntryData) (held : List MemberData) (o : StateOutcome) (effect : StepEffect) → GoodState e → AppendsValid effect → AppendsValid (effect_of_states e held o effect)
+effect_of_states_valid e held (rows.accepted S) effect good valid = (valid.0, good)
+effect_of_states_valid e held (rows.refused x) effect good valid = (tt, tt)
 
-of_node : (me : MemberData) (c : Command) (at : ℤ) → is_command c ≡ true → is_of_node c ≡ true → IsTrue (is_entry (entry_of (actor.Node me) c at))
-unfolding is_entry
-of_node me c at good node = and_from (is_command c) (has_actor (is_of_node c) (actor.Node me)) good (rw node refl)
+onto_states_valid : (R : StateTables) (held : List MemberData) (o : Option StateEntryData) (effect : StepEffect) → IfSome o GoodState → AppendsValid effect → AppendsValid (onto_states R held o effect)
+unfolding submit_state
+onto_states_valid R held None effect good valid = valid
+onto_states_valid R held (Some e) effect good valid = effect_of_states_valid e held (state_transaction R e) effect good valid
 
-node_valid : (T : SchedulerTables) (held : List MemberData) (me : Option MemberData) (c : Command) (at : ℤ) → is_command c ≡ true → is_of_node c ≡ true → IfSome (effect_of_node T held me c at).entry (λ x. IsTrue (is_entry x))
-node_valid T held None c at good node = tt
-node_valid T held (Some me) c at good node = submit_valid T held (entry_of (actor.Node me) c at) (λ _. held) (of_node me c at good node)
+plain_valid : (stops : Bool) (refusal : Option Refusal) (se : Option StateEntryData) (e : Option EntryData) (T : SchedulerTables) (R : StateTables) (held : List MemberData) (after : Reply → List MemberData)
+    → IfSome se GoodState → IfSome e Good → AppendsValid (plain_effect stops refusal se e T R held after)
+plain_valid true refusal se e T R held after good_state good = (tt, tt)
+plain_valid false (Some x) se e T R held after good_state good = (tt, tt)
+plain_valid false None se e T R held after good_state good = onto_states_valid R held se (onto_triggers T held e after) good_state (onto_triggers_valid T held e after good)
 
--- what a valid step appends is a valid entry
-pub step_valid : (T : SchedulerTables) (held : List MemberData) (step : Step) (at : ℤ) → IsTrue (is_step step) → IfSome (step_effect T held step at).entry (λ x. IsTrue (is_entry x))
-step_valid T held (Client c) at good =
-    let parts = and_parts (is_command c) (not (is_of_node c)) (and_parts (is_command c && not (is_of_node c)) (not (is_join c)) good).0 in
-    submit_valid T held (entry_of actor.Client c at) (λ _. held) (of_client c at parts.0 (not-true (is_of_node c) parts.1))
-step_valid T held (Join node interval) at good =
-    submit_valid T held (entry_of actor.Client (command.Join node) at) (held_after_join node held) (of_client (command.Join node) at (and_parts (is_node node) (is_interval interval) good).0 refl)
-step_valid T held (Node node c) at good =
-    let parts = and_parts (is_node node && is_command c) (is_of_node c) good in
-    node_valid T held (member_of node held) c at (and_parts (is_node node) (is_command c) parts.0).1 parts.1
+if_some : {A : Type 0} (P : A → Type 0) (o : Option A) → ((x : A) → o ≡ Some x → P x) → IfSome o P
+if_some P None all = tt
+if_some P (Some x) all = all x refl
 
--- the tables after an entry, if there is one, are valid
-pub valid-tables_after : (T : SchedulerTables) (e : Option EntryData) → IfSome e (λ x. IsTrue (is_entry x)) → TablesValid T → TablesValid (tables_after T e)
-valid-tables_after T None good valid = valid
-valid-tables_after T (Some e) good valid = valid-left T e good valid
+works_valid : (S : ClusterState) (x : Step) (at : ℤ) → IsTrue (is_step x) → is_restart x ≡ false → AppendsValid (effect_at S x at)
+works_valid S x at valid works =
+    subst AppendsValid (sym (effect_is S x at works))
+    (plain_valid (is_unheld x S.held) (first_refusal S x at) (state_entry_of_step S x at) (entry_of_step S.held x at) (replay S.triggers.history) (replay_states S.states.history) S.held (held_after x S.held)
+    (if_some GoodState (state_entry_of_step S x at) (λ e asked. valid_state_entry S x at e valid asked))
+    (if_some Good (entry_of_step S.held x at) (λ e asked. valid_entry x S.held at e valid asked)))
 
-all_more : (es : List EntryData) (e : EntryData) → AllByRecursion (λ x. IsTrue (is_entry x)) es → IsTrue (is_entry e) → AllByRecursion (λ x. IsTrue (is_entry x)) (es ++ e ∷ [])
-all_more [] e all good = (good, tt)
-all_more (x ∷ es) e all good = (all.0, all_more es e all.1 good)
+-- what a valid step appends is valid
+pub step_valid : (S : ClusterState) (x : Step) (at : ℤ) → IsTrue (is_step x) → AppendsValid (effect_at S x at)
+step_valid S Restart at valid = (tt, tt)
+step_valid S (Client c) at valid = works_valid S (Client c) at valid refl
+step_valid S (Join node interval) at valid = works_valid S (Join node interval) at valid refl
+step_valid S (CheckIn node interval) at valid = works_valid S (CheckIn node interval) at valid refl
+step_valid S (Node node c) at valid = works_valid S (Node node c) at valid refl
+step_valid S (Forget node failed) at valid = works_valid S (Forget node failed) at valid refl
+step_valid S (Stop node) at valid = works_valid S (Stop node) at valid refl
 
-entries_more : (e : Option EntryData) (h : History) → IfSome e (λ x. IsTrue (is_entry x)) → AllByRecursion (λ x. IsTrue (is_entry x)) h.entries → AllByRecursion (λ x. IsTrue (is_entry x)) (with_optional e h).entries
+-- an entry that is valid leaves valid tables, accepted or not
+valid-with_optional : (e : Option EntryData) (h : History) → IfSome e Good → TablesValid (replay h) → TablesValid (replay (with_optional e h))
+valid-with_optional None h good valid = valid
+valid-with_optional (Some e) h good valid = subst TablesValid (sym (replay_from-append h.base h.entries (e ∷ []))) (valid-left (replay h) e good valid)
+
+all_more : {A : Type 0} (P : A → Type 0) (es : List A) (e : A) → AllByRecursion P es → P e → AllByRecursion P (es ++ e ∷ [])
+all_more P [] e all good = (good, tt)
+all_more P (x ∷ es) e all good = (all.0, all_more P es e all.1 good)
+
+entries_more : (e : Option EntryData) (h : History) → IfSome e Good → AllByRecursion Good h.entries → AllByRecursion Good (with_optional e h).entries
 entries_more None h good all = all
-entries_more (Some e) h good all = all_more h.entries e all good
+entries_more (Some e) h good all = all_more Good h.entries e all good
+
+state_entries_more : (e : Option StateEntryData) (h : StateHistory) → IfSome e GoodState → AllByRecursion GoodState h.entries → AllByRecursion GoodState (with_optional_state e h).entries
+state_entries_more None h good all = all
+state_entries_more (Some e) h good all = all_more GoodState h.entries e all good
 
 -- valid steps leave valid tables
 pub valid-state_after : (s : ScriptState) (ts : List TimedStep) → AllByRecursion (λ t. IsTrue (is_step t.step)) ts → TablesValid (replay s.history) → TablesValid (replay (state_after s ts).history)
 valid-state_after s [] good valid = valid
 valid-state_after s (t ∷ ts) good valid =
-    valid-state_after (after_step s t) ts good.1
-    (subst TablesValid (sym (replay-with_optional (effect_in s t).entry s.history))
-    (valid-tables_after (replay s.history) (effect_in s t).entry (step_valid (replay s.history) s.held t.step t.at good.0) valid))
+    valid-state_after (after_step s t) ts good.1 (valid-with_optional (effect_in s t).entry s.history (step_valid (as_cluster s) t.step t.at good.0).0 valid)
 
 -- and valid entries
-pub entries-state_after : (s : ScriptState) (ts : List TimedStep) → AllByRecursion (λ t. IsTrue (is_step t.step)) ts
-    → AllByRecursion (λ e. IsTrue (is_entry e)) s.history.entries → AllByRecursion (λ e. IsTrue (is_entry e)) (state_after s ts).history.entries
+pub entries-state_after : (s : ScriptState) (ts : List TimedStep) → AllByRecursion (λ t. IsTrue (is_step t.step)) ts → AllByRecursion Good s.history.entries → AllByRecursion Good (state_after s ts).history.entries
 entries-state_after s [] good all = all
 entries-state_after s (t ∷ ts) good all =
-    entries-state_after (after_step s t) ts good.1 (entries_more (effect_in s t).entry s.history (step_valid (replay s.history) s.held t.step t.at good.0) all)
+    entries-state_after (after_step s t) ts good.1 (entries_more (effect_in s t).entry s.history (step_valid (as_cluster s) t.step t.at good.0).0 all)
+
+pub state_entries-state_after : (s : ScriptState) (ts : List TimedStep) → AllByRecursion (λ t. IsTrue (is_step t.step)) ts → AllByRecursion GoodState s.states.entries → AllByRecursion GoodState (state_after s ts).states.entries
+state_entries-state_after s [] good all = all
+state_entries-state_after s (t ∷ ts) good all =
+    state_entries-state_after (after_step s t) ts good.1 (state_entries_more (effect_in s t).state_entry s.states (step_valid (as_cluster s) t.step t.at good.0).1 all)

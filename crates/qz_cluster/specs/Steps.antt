@@ -1,5 +1,5 @@
 -- One step of a script at the cluster: what it answers, and what it makes of both stores and of the held epochs.
-use Rattle.std.specs.Prelude.{⊤, ⊥, ◌≡◌, ◌⊎◌, ℕ, ℤ, true, false, Bool, not, ◌&&◌, ◌||◌, IsTrue, List, [], Option, Some, None, is_none}
+use Rattle.std.specs.Prelude.{⊤, ◌≡◌, ◌⊎◌, ℕ, ℤ, true, false, Bool, not, ◌&&◌, ◌||◌, IsTrue, List, [], Option, Some, None, is_none}
 use Rattle.qz_civil.specs.Causes.{Rose}
 use Rattle.qz_types.specs.Rows.{MemberData}
 use Rattle.qz_types.specs.Entries.{EntryData, StateEntryData}
