@@ -108,7 +108,8 @@ refusal_of store (mount.Damaged at) = status.Damaged store at
 refusal_of store mount.NoMemory = status.NoMemory
 
 -- A store wasn't opened, and nothing was done: the disks were only read, so unless one failed they are as they were, and
--- a crash leaves only what it could have left before. The trigger store is opened first.
+-- a crash leaves only what it could have left before. The trigger store is opened first. Where both were opened and there
+-- was no memory for the script, this is told as of the state store.
 pub record NotOpened {D : Type 0} {g : Ghosts D} (triggers states : D) (e : Ended D g)
     (old new : Outside) : Type 0 where
   pub store : Store
