@@ -1,9 +1,12 @@
+pub mod AtRest
 pub mod Closings
 pub mod Counts
 pub mod Effects
 pub mod FoundRows
 pub mod Plain
+pub mod Restarts
 pub mod Scripts
 pub mod Sound
+pub mod StepCases
 pub mod Unaccepted
 pub mod ValidScripts

@@ -1,14 +1,16 @@
--- What comes of a step whose entry the store didn't accept, by the store's answer.
+-- What comes of a step, by a store's answer to its entry.
 use Rattle.std.proofs.Common.{◌≡◌, true, refl, arith}
-use Rattle.std.specs.Prelude.{◌≢◌, Err, IsOk, IfOk, IfErr, OnErr}
+use Rattle.std.specs.Prelude.{⊤, ◌≢◌, Ok, Err, IsOk, IfOk, IfErr, OnErr}
+use Rattle.std.specs.declared.result.Result.{Result}
 use Rattle.qz_disk.specs.declared.disk.Disk.{Ghosts}
-use Rattle.qz_types.specs.Entries.{EntryData}
+use Rattle.qz_types.specs.Entries.{EntryData, StateEntryData}
 use Rattle.qz_types.specs.declared.errors.SubmitError.{SubmitError}
 use Rattle.qz_types.specs.declared.errors.SubmitError.TheVariants as submit
 use Rattle.qz_trigger_store.specs.Entries.{TriggerState, trigger_entry}
-use Rattle.qz_stores.specs.Stores.{Starves, Submits}
-use Rattle.qz_cluster.specs.Submitting.{Submitted, Unsubmitted, unaccepted}
-use Rattle.qz_cluster.specs.View.{KeepsStores, KeepsUnlessDone}
+use Rattle.qz_checkin.specs.Entries.{StatesState, of_states}
+use Rattle.qz_stores.specs.Stores.{EntryKind, StoreState, Same, Starves, Submits}
+use Rattle.qz_cluster.specs.Submitting.{Submitted, StatesSubmitted, Unsubmitted, unaccepted, answered}
+use Rattle.qz_cluster.specs.View.{KeepsStores, KeepsTriggers, KeepsUnlessDone}
 use Rattle.qz_cluster.specs.declared.clusters.Cluster.{Cluster}
 
 pub replies : (e : EntryData) (x : SubmitError) (s t : TriggerState) → Submits trigger_entry e (Err x) s t → IfOk (unaccepted x) (λ r. Submitted e r s t)
@@ -18,37 +20,56 @@ replies e (submit.JournalFull need room) s t is = tt
 replies e submit.NoMemory s t is = tt
 replies e submit.Fault s t is = is
 
-pub ends : (e : EntryData) (x : SubmitError) (s t : TriggerState) → Submits trigger_entry e (Err x) s t → IfErr (unaccepted x) (λ end. Unsubmitted e end s t)
+pub ends : (e : EntryData) (x : SubmitError) (s t : TriggerState) → Submits trigger_entry e (Err x) s t → IfErr (unaccepted x) (λ end. Unsubmitted trigger_entry e end s t)
 ends e (submit.Closed at) s t is = tt
 ends e (submit.Refused refusal) s t is = tt
 ends e (submit.JournalFull need room) s t is = is
 ends e submit.NoMemory s t is = is
 ends e submit.Fault s t is = tt
 
--- All but a fault leaves the store as it was.
+pub states_reply : (e : StateEntryData) (r : Result ⊤ SubmitError) (s t : StatesState) → Submits of_states e r s t → IfOk (answered r) (λ r. StatesSubmitted e r s t)
+states_reply e (Ok tt) s t is = (is, refl)
+states_reply e (Err (submit.Closed at)) s t is = is.0
+states_reply e (Err (submit.Refused refusal)) s t is = is
+states_reply e (Err (submit.JournalFull need room)) s t is = tt
+states_reply e (Err submit.NoMemory) s t is = tt
+states_reply e (Err submit.Fault) s t is = is
+
+pub states_end : (e : StateEntryData) (r : Result ⊤ SubmitError) (s t : StatesState) → Submits of_states e r s t → IfErr (answered r) (λ end. Unsubmitted of_states e end s t)
+states_end e (Ok tt) s t is = tt
+states_end e (Err (submit.Closed at)) s t is = tt
+states_end e (Err (submit.Refused refusal)) s t is = tt
+states_end e (Err (submit.JournalFull need room)) s t is = is
+states_end e (Err submit.NoMemory) s t is = is
+states_end e (Err submit.Fault) s t is = tt
+
+-- All but a fault leaves the stores as they were.
 pub keeps : {D : Type 0} {g : Ghosts D} (x : SubmitError) (c d : Cluster D g) → (x ≢ submit.Fault → KeepsStores c d) → IfOk (unaccepted x) (λ r. KeepsUnlessDone r c d)
 keeps (submit.Closed at) c d same = same (λ is. cc)
-keeps (submit.Refused refusal) c d same = same (λ is. cc)
+keeps (submit.Refused refusal) c d same = (same (λ is. cc)).0
 keeps (submit.JournalFull need room) c d same = tt
 keeps submit.NoMemory c d same = tt
 keeps submit.Fault c d same = tt
 
-pub stays : {D : Type 0} {g : Ghosts D} (x : SubmitError) (c d : Cluster D g) → (x ≢ submit.Fault → KeepsStores c d) → OnErr (unaccepted x) (KeepsStores c d)
+pub stays : {D : Type 0} {g : Ghosts D} (x : SubmitError) (c d : Cluster D g) → (x ≢ submit.Fault → KeepsStores c d) → OnErr (unaccepted x) (KeepsTriggers c d)
 stays (submit.Closed at) c d same = tt
 stays (submit.Refused refusal) c d same = tt
-stays (submit.JournalFull need room) c d same = same (λ is. cc)
-stays submit.NoMemory c d same = same (λ is. cc)
+stays (submit.JournalFull need room) c d same = (same (λ is. cc)).0
+stays submit.NoMemory c d same = (same (λ is. cc)).0
 stays submit.Fault c d same = tt
 
+pub states_keep : {D : Type 0} {g : Ghosts D} (r : Result ⊤ SubmitError) (c d : Cluster D g) → (r ≢ Err submit.Fault → OnErr r (KeepsStores c d)) → IfOk (answered r) (λ r. KeepsUnlessDone r c d)
+states_keep (Ok tt) c d same = tt
+states_keep (Err x) c d same = keeps x c d (λ other. same (λ is. other cc))
+
 -- A call that changes nothing keeps the stores, whatever it answers.
-pub changes_nothing : {D : Type 0} {g : Ghosts D} (x : SubmitError) (c : Cluster D g) → IfOk (unaccepted x) (λ r. KeepsUnlessDone r c c)
-changes_nothing (submit.Closed at) c = (refl, refl, refl, refl, refl, refl, refl, refl)
-changes_nothing (submit.Refused refusal) c = (refl, refl, refl, refl, refl, refl, refl, refl)
-changes_nothing (submit.JournalFull need room) c = tt
-changes_nothing submit.NoMemory c = tt
-changes_nothing submit.Fault c = tt
+pub nothing_changes : {D : Type 0} {g : Ghosts D} (c : Cluster D g) → KeepsStores c c
+nothing_changes c = ((refl, refl, refl, refl, refl, refl, refl, refl, refl), (refl, refl, refl, refl, refl))
 
 -- an entry that would be accepted, for which there is no memory
-pub starves_here : (e : EntryData) (s : TriggerState) → s.is_open ≡ true → IsOk (trigger_entry.answer s.history e) → Starves trigger_entry e s s
-starves_here e s is_open passes =
+pub starves_here : {H E R : Type 0} (kind : EntryKind H E R) (e : E) (s : StoreState H E) → s.is_open ≡ true → IsOk (kind.answer s.history e) → Starves kind e s s
+starves_here kind e s is_open passes =
     record { was_open = is_open; passes = passes; same = record { history = refl; gate = refl; payloads = refl; is_open = refl; undecided = refl; later = omega arith } }
+
+pub same_here : {H E : Type 0} (s : StoreState H E) → Same s s
+same_here s = record { history = refl; gate = refl; payloads = refl; is_open = refl; undecided = refl; later = omega arith }

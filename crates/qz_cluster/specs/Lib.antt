@@ -1,4 +1,5 @@
 pub mod Mounting
+pub mod Restarting
 pub mod Script
 pub mod Steps
 pub mod Submitting

@@ -1,5 +1,5 @@
 -- What an opening of both stores finds on their disks.
-use Rattle.std.specs.Prelude.{◌≡◌, ◌⊎◌, ℕ, ◌≤◌}
+use Rattle.std.specs.Prelude.{◌≡◌, ◌≤◌}
 use Rattle.qz_civil.specs.Causes.{Rose}
 use Rattle.qz_disk.specs.declared.disk.Disk.{Ghosts}
 use Rattle.qz_journal.specs.declared.errors.MountError.{MountError}

@@ -1,5 +1,5 @@
 -- One step of a script at the cluster: what it answers, and what it makes of both stores and of the held epochs.
-use Rattle.std.specs.Prelude.{⊤, ◌≡◌, ◌⊎◌, ℕ, ℤ, true, false, Bool, not, ◌&&◌, ◌||◌, IsTrue, List, [], Option, Some, None, is_none}
+use Rattle.std.specs.Prelude.{◌≡◌, ◌⊎◌, ℕ, ℤ, true, false, Bool, not, ◌&&◌, ◌||◌, IsTrue, List, [], Option, Some, None, is_none}
 use Rattle.qz_civil.specs.Causes.{Rose}
 use Rattle.qz_types.specs.Rows.{MemberData}
 use Rattle.qz_types.specs.Entries.{EntryData, StateEntryData}
@@ -10,7 +10,6 @@ use Rattle.qz_types.specs.declared.commands.Command.TheVariants as command
 use Rattle.qz_types.specs.declared.replies.Reply.{Reply}
 use Rattle.qz_types.specs.declared.replies.Reply.TheVariants as answer
 use Rattle.qz_types.specs.declared.replies.Refusal.{Refusal}
-use Rattle.qz_types.specs.declared.stores.Store.{Store}
 use Rattle.qz_steps.specs.Steps.{is_step}
 use Rattle.qz_steps.specs.declared.steps.Step.{Step}
 use Rattle.qz_steps.specs.declared.steps.Step.TheVariants.{Client, Join, CheckIn, Node, Forget, Stop, Restart}

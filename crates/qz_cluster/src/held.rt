@@ -18,24 +18,13 @@ pub(crate) fn epoch_of(held: &[MemberRow], node: &Text) -> Option<u64>
     }
 }
 
-/// The rows of the other nodes with room for one more, and the node's name once more.
-pub(crate) fn room_for_one(
+/// The rows of the other nodes.
+#[tactic(auto, unfolding(qz_types::specs::Words::without_member, qz_types::specs::Words::same_text))]
+pub(crate) fn others(
     alloc: Global,
     held: &[MemberRow],
     node: &Text,
-) -> Result<(Vec<MemberRow>, Text), NoMemory>
-    ensures rows { IfOk result (λ r. r.0.items ≡ without_member node.now held.now) }
-    ensures room { IfOk result (λ r. vec_len r.0 < vec_capacity r.0) }
-    ensures name { IfOk result (λ r. r.1 ≡ node.now) }
-{
-    let mut rows = without(alloc, held, node)?;
-    rows.reserve(1)?;
-    let name = node.clone()?;
-    Ok((rows, name))
-}
-
-#[tactic(auto, unfolding(qz_types::specs::Words::without_member, qz_types::specs::Words::same_text))]
-fn without(alloc: Global, held: &[MemberRow], node: &Text) -> Result<Vec<MemberRow>, NoMemory>
+) -> Result<Vec<MemberRow>, NoMemory>
     ensures { IfOk result (λ rows. rows.items ≡ without_member node.now held.now) }
 {
     let mut rows = Vec::new(alloc);
@@ -47,6 +36,22 @@ fn without(alloc: Global, held: &[MemberRow], node: &Text) -> Result<Vec<MemberR
     Ok(rows)
 }
 
+/// The rows of the other nodes with room for one more, and the node's name once more.
+pub(crate) fn room_for_one(
+    alloc: Global,
+    held: &[MemberRow],
+    node: &Text,
+) -> Result<(Vec<MemberRow>, Text), NoMemory>
+    ensures rows { IfOk result (λ r. r.0.items ≡ without_member node.now held.now) }
+    ensures room { IfOk result (λ r. vec_len r.0 < vec_capacity r.0) }
+    ensures name { IfOk result (λ r. r.1 ≡ node.now) }
+{
+    let mut rows = others(alloc, held, node)?;
+    rows.reserve(1)?;
+    let name = node.clone()?;
+    Ok((rows, name))
+}
+
 /// Puts in a row for which there is room.
 #[tactic(auto, unfolding(qz_types::specs::Words::put_member))]
 pub(crate) fn put_reserved(rows: &mut Vec<MemberRow>, row: MemberRow)
@@ -55,4 +60,12 @@ pub(crate) fn put_reserved(rows: &mut Vec<MemberRow>, row: MemberRow)
 {
     // There is room, so it doesn't fail.
     let _ = insert(rows, row);
+}
+
+/// Removes a node's row. It takes no memory.
+#[tactic(auto, unfolding(qz_types::specs::Words::without_member, qz_types::specs::Words::same_text))]
+pub(crate) fn remove(rows: &mut Vec<MemberRow>, node: &Text)
+    ensures { rows.new.items ≡ without_member node.now rows.old.items }
+{
+    rows.retain(|row| node.cmp(&row.node) != Ordering::Equal);
 }

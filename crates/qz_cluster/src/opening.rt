@@ -23,11 +23,7 @@ impl<D: Disk> Cluster<D> {
     /// `Err` hands the disks back and names the store: `NotAStore` is returned where the header isn't that store's,
     /// `Damaged` also at the gate of the first payload that is no record or whose transaction is refused, and `Fault` only
     /// where the disk's count of faults rose.
-    pub fn mount(
-        alloc: Global,
-        triggers: D,
-        states: D,
-    ) -> Result<Cluster<D>, (MountFault, D, D)>
+    pub fn mount(alloc: Global, triggers: D, states: D) -> Result<Cluster<D>, (MountFault, D, D)>
         ensures opened { IfOk result (λ c. IsOpened (view c).triggers × AreOpened (view c).states) }
         ensures nothing_held { IfOk result (λ c. (view c).held ≡ []) }
         ensures stands { D.honest → IfOk result (λ c. Stands (D.state triggers).content (view c).triggers.history × StatesStand (D.state states).content (view c).states.history) }

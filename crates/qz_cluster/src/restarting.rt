@@ -1,4 +1,10 @@
 //! A restart of both disks.
+ghost use Rattle.std.specs.Prelude.{◌≡◌, ℤ, [], false, IfOk, IfErr};
+ghost use Rattle.qz_steps.specs.declared.steps.Step.TheVariants as step_is;
+ghost use Rattle.qz_cluster.specs.Restarting.{unread};
+ghost use Rattle.qz_cluster.specs.Steps.{StepCase, EndCase};
+ghost use Rattle.qz_cluster.specs.View.{view, KeepsUnlessDone, EachLeavesEither};
+
 use crate::{Cluster, StepEnd};
 use qz_disk::Disk;
 use qz_journal::MountError;
@@ -6,36 +12,53 @@ use qz_steps::StepReply;
 use qz_types::Store;
 
 impl<D: Disk> Cluster<D> {
-    // Both disks restart before anything on them is read, and both stores are read before one is opened. No node holds an
-    // epoch then.
+    /// Both disks restart before anything on them is read, and both stores are read before one is opened. No node holds
+    /// an epoch then.
     pub(crate) fn restart(&mut self) -> Result<StepReply, StepEnd>
+        ensures ok { (at : ℤ) → IfOk result (λ r. StepCase D.honest (record { step = step_is.Restart; at = at }) r (view self.old) (view self.new)) }
+        ensures err { (at : ℤ) → IfErr result (λ e. EndCase D.honest (record { step = step_is.Restart; at = at }) e (view self.old) (view self.new)) }
+        ensures keeps { IfOk result (λ r. KeepsUnlessDone r self.old self.new) }
+        ensures any_moment { D.honest → EachLeavesEither self.old self.new }
     {
         self.held = Vec::new(self.alloc);
-        let triggers_restarted = self.triggers.crash();
-        let states_restarted = self.states.crash();
-        if triggers_restarted.is_err() || states_restarted.is_err() {
+        let triggers_crashed = self.triggers.crash();
+        let states_crashed = self.states.crash();
+        if triggers_crashed.is_err() || states_crashed.is_err() {
             return Ok(StepReply::Fault);
         }
-        let triggers = match self.triggers.reread() {
-            Ok(triggers) => triggers,
-            Err(error) => return unread(Store::Triggers, error),
-        };
-        match self.states.reread() {
-            Ok(states) => {
-                self.triggers.open(triggers);
-                self.states.open(states);
-                Ok(StepReply::Restarted)
-            }
-            Err(error) => {
-                drop(triggers);
-                unread(Store::States, error)
-            }
+        self.reopen()
+    }
+
+    // What is on both disks is read, and then both stores are opened.
+    #[tactic(auto, using(crate::proofs::Restarts::triggers_leave, crate::proofs::Restarts::states_leave))]
+    fn reopen(&mut self) -> Result<StepReply, StepEnd>
+        requires triggers { (view self.old).triggers.is_open ≡ false }
+        requires states { (view self.old).states.is_open ≡ false }
+        requires held { (view self.old).held ≡ [] }
+        ensures ok { (at : ℤ) → IfOk result (λ r. StepCase D.honest (record { step = step_is.Restart; at = at }) r (view self.old) (view self.new)) }
+        ensures err { (at : ℤ) → IfErr result (λ e. EndCase D.honest (record { step = step_is.Restart; at = at }) e (view self.old) (view self.new)) }
+        ensures any_moment { D.honest → EachLeavesEither self.old self.new }
+    {
+        match self.triggers.reread() {
+            Ok(triggers) => match self.states.reread() {
+                Ok(states) => {
+                    self.triggers.open(triggers);
+                    self.states.open(states);
+                    Ok(StepReply::Restarted)
+                }
+                Err(error) => {
+                    drop(triggers);
+                    unread(Store::States, error)
+                }
+            },
+            Err(error) => unread(Store::Triggers, error),
         }
     }
 }
 
 // What comes of a restart that couldn't read a store.
 fn unread(store: Store, error: MountError) -> Result<StepReply, StepEnd>
+    ensures { result ≡ unread store error }
 {
     match error {
         MountError::Fault => Ok(StepReply::Fault),

@@ -1,12 +1,13 @@
 //! What a store shows of itself.
-ghost use Rattle.std.specs.Prelude.{◌≡◌, ◌++◌, length, not};
+ghost use Rattle.std.specs.Prelude.{◌≡◌, ◌++◌, length, not, is_some};
 ghost use Rattle.qz_types.specs.Tables.{new_tables};
-ghost use Rattle.qz_model.specs.History.{replay_from, replies_from, moments_from};
+ghost use Rattle.qz_types.specs.Words.{member_of};
+ghost use Rattle.qz_model.specs.History.{replay, replay_from, replies_from, moments_from};
 ghost use Rattle.qz_trigger_store.specs.View.{view, found_of, added_of, moments_of, replies_of, disk_of};
 
 use crate::TriggerStore;
 use qz_disk::Disk;
-use qz_types::{Entry, Reply};
+use qz_types::{Entry, Reply, Text};
 
 impl<D: Disk> TriggerStore<D> {
     /// How many entries the history has.
@@ -21,6 +22,13 @@ impl<D: Disk> TriggerStore<D> {
         ensures { result ≡ not (view self.now).is_open }
     {
         !self.is_open
+    }
+
+    /// Whether a node of this name is a member.
+    pub fn is_member(&self, node: &Text) -> bool
+        ensures { result ≡ is_some (member_of node.now (replay (view self.now).history).members) }
+    {
+        self.tables.tables().get_member(node).is_some()
     }
 
     /// The entries accepted since the mount, in order.

@@ -1,10 +1,18 @@
-use Rattle.std.proofs.Common.{◌++◌, refl}
-use Rattle.qz_trigger_store.proofs.Appending.{leaves_same}
+use Rattle.qz_cluster.proofs.AtRest.{rests}
 use Rattle.qz_cluster.proofs.clusters.Cluster.node.Goals as goal
 
 -- nothing was done
-pub returns-in-None-clause-any_moment : goal.returns-in-None-clause-any_moment
-returns-in-None-clause-any_moment g c honest =
-    let s = c.args.self.now.triggers in
-    leaves_same (g.D.Disk.state s.journal.disk) (g.D.Disk.state s.journal.disk) (s.found.items ++ s.accepted.entries.items) (s.found.items ++ s.accepted.entries.items) s.undecided s.undecided
-    (g.met.D.Disk.lawful honest s.journal.disk) refl (s.images honest)
+pub returns-then-is_closed_for-clause-any_moment : goal.returns-then-is_closed_for-clause-any_moment
+returns-then-is_closed_for-clause-any_moment g c honest =
+    let s = c.args.self.now in
+    rests s (g.met.D.Disk.lawful honest s.triggers.journal.disk) (g.met.D.Disk.lawful honest s.states.journal.disk) honest
+
+pub returns-in_default-clause-any_moment : goal.returns-in_default-clause-any_moment
+returns-in_default-clause-any_moment g c honest =
+    let s = c.args.self.now in
+    rests s (g.met.D.Disk.lawful honest s.triggers.journal.disk) (g.met.D.Disk.lawful honest s.states.journal.disk) honest
+
+pub returns-in-Some-not_late-clause-any_moment : goal.returns-in-Some-not_late-clause-any_moment
+returns-in-Some-not_late-clause-any_moment g c honest =
+    let s = c.args.self.now in
+    rests s (g.met.D.Disk.lawful honest s.triggers.journal.disk) (g.met.D.Disk.lawful honest s.states.journal.disk) honest

@@ -1,7 +1,8 @@
-use Rattle.std.proofs.Common.{◌&&◌}
+use Rattle.std.proofs.Common.{◌&&◌, refl}
 use Rattle.std.proofs.lemmas.Bool.{and_parts}
 use Rattle.qz_types.specs.Rows.{is_node}
 use Rattle.qz_types.specs.Entries.{is_command, is_of_node}
+use Rattle.qz_cluster.proofs.StepCases.{steps_of, cuts_of}
 use Rattle.qz_cluster.proofs.clusters.Cluster.step.Goals as goal
 
 pub node-requires-clause-valid : goal.node-requires-clause-valid
@@ -9,11 +10,12 @@ node-requires-clause-valid g c =
     let parts = and_parts (is_node c.in-Node.node && is_command c.in-Node.command) (is_of_node c.in-Node.command) (rw c.in-Node.is at c.requires) in
     (and_parts (is_node c.in-Node.node) (is_command c.in-Node.command) parts.0).1
 
-pub node-requires-clause-name : goal.node-requires-clause-name
-node-requires-clause-name g c =
-    let parts = and_parts (is_node c.in-Node.node && is_command c.in-Node.command) (is_of_node c.in-Node.command) (rw c.in-Node.is at c.requires) in
-    (and_parts (is_node c.in-Node.node) (is_command c.in-Node.command) parts.0).0
-
 pub node-requires-clause-node : goal.node-requires-clause-node
 node-requires-clause-node g c =
     (and_parts (is_node c.in-Node.node && is_command c.in-Node.command) (is_of_node c.in-Node.command) (rw c.in-Node.is at c.requires)).1
+
+pub returns-in-Restart-clause-ok : goal.returns-in-Restart-clause-ok
+returns-in-Restart-clause-ok g c = rw c.in-Restart.is (steps_of g.D.Disk.honest _ c.restart.result _ _ refl (c.restart.ensures.ok c.args.at))
+
+pub returns-in-Restart-clause-err : goal.returns-in-Restart-clause-err
+returns-in-Restart-clause-err g c = rw c.in-Restart.is (cuts_of g.D.Disk.honest _ c.restart.result _ _ refl (c.restart.ensures.err c.args.at))

@@ -1,0 +1,89 @@
+-- The case of a step, by where it ends and by what its entry came to there.
+use Rattle.std.proofs.Common.{◌≡◌, ◌||◌, inl, inr, true, false, not, refl}
+use Rattle.std.specs.Prelude.{Bool, ℕ, ℤ, IsTrue, List, Some, Ok, Err, IfOk, IfErr}
+use Rattle.std.specs.declared.result.Result.{Result}
+use Rattle.qz_types.specs.Entries.{StateEntryData}
+use Rattle.qz_steps.specs.declared.steps.StepReply.{StepReply}
+use Rattle.qz_steps.specs.declared.steps.StepReply.TheVariants as reply
+use Rattle.qz_stores.specs.Stores.{Same}
+use Rattle.qz_checkin.specs.Entries.{of_states}
+use Rattle.qz_steps.specs.Steps.{is_step}
+use Rattle.qz_steps.specs.declared.steps.Step.TheVariants.{Join}
+use Rattle.qz_cluster.specs.Script.{TimedStep, check_in_entry}
+use Rattle.qz_cluster.specs.Steps.{ClusterState, is_closed, IsStep, IsCutShort, Submits, StepCase, EndCase, state_entry_of_step}
+use Rattle.qz_cluster.specs.Submitting.{Declined, Unsubmitted}
+use Rattle.qz_cluster.specs.declared.errors.StepEnd.{StepEnd}
+use Rattle.qz_cluster.specs.declared.errors.StepEnd.TheVariants as ends
+
+not_closed : {A : Type 0} (b : Bool) → b ≡ true → b ≡ false → A
+not_closed b is isnt = cc
+
+-- It ends at the state store, which didn't accept.
+pub declined : (honest : Type 0) (t : TimedStep) (e : StateEntryData) (r : StepReply) (S new : ClusterState) → Submits t S
+    → state_entry_of_step S t.step t.at ≡ Some e → S.states.is_open ≡ true
+    → Declined of_states e r S.states new.states → Same S.triggers new.triggers → new.held ≡ S.held → StepCase honest t r S new
+declined honest t e (reply.Ok r) S new submits asked ready way triggers held = absurd way
+declined honest t e (reply.Refused refusal) S new submits asked ready way triggers held =
+    inr (record { submits = submits; which = inl (record { entry = e; asked = asked; states = way; triggers = triggers; held = held }) })
+declined honest t e reply.Fault S new submits asked ready way triggers held =
+    inl (record { submits = submits; which = inl (record { entry = e; asked = asked; states = way; triggers = triggers; held = held }) })
+declined honest t e reply.Closed S new submits asked ready way triggers held = not_closed S.states.is_open ready way.was_closed
+declined honest t e reply.Stopped S new submits asked ready way triggers held = absurd way
+declined honest t e reply.Restarted S new submits asked ready way triggers held = absurd way
+
+pub ends_at_states : (honest : Type 0) (t : TimedStep) (e : StateEntryData) (end : StepEnd) (S new : ClusterState) → Submits t S
+    → state_entry_of_step S t.step t.at ≡ Some e → Unsubmitted of_states e end S.states new.states → Same S.triggers new.triggers → new.held ≡ S.held → EndCase honest t end S new
+ends_at_states honest t e (ends.JournalFull need room) S new submits asked way triggers held =
+    record { submits = submits; which = inl (record { entry = e; asked = asked; states = way; triggers = triggers; held = held }) }
+ends_at_states honest t e (ends.NotAStore store) S new submits asked way triggers held = absurd way
+ends_at_states honest t e (ends.Damaged store at) S new submits asked way triggers held = absurd way
+ends_at_states honest t e ends.NoMemory S new submits asked way triggers held =
+    inl (record { submits = submits; which = inl (record { entry = e; asked = asked; states = way; triggers = triggers; held = held }) })
+
+-- The same of results.
+
+pub states_declined : (honest : Type 0) (t : TimedStep) (e : StateEntryData) (result : Result StepReply StepEnd) (S new : ClusterState) → Submits t S
+    → state_entry_of_step S t.step t.at ≡ Some e → S.states.is_open ≡ true
+    → IfOk result (λ r. Declined of_states e r S.states new.states) → Same S.triggers new.triggers → new.held ≡ S.held → IfOk result (λ r. StepCase honest t r S new)
+states_declined honest t e (Ok r) S new submits asked ready way triggers held = declined honest t e r S new submits asked ready way triggers held
+states_declined honest t e (Err end) S new submits asked ready way triggers held = tt
+
+pub states_ended : (honest : Type 0) (t : TimedStep) (e : StateEntryData) (result : Result StepReply StepEnd) (S new : ClusterState) → Submits t S
+    → state_entry_of_step S t.step t.at ≡ Some e → IfErr result (λ end. Unsubmitted of_states e end S.states new.states) → Same S.triggers new.triggers → new.held ≡ S.held
+    → IfErr result (λ end. EndCase honest t end S new)
+states_ended honest t e (Ok r) S new submits asked way triggers held = tt
+states_ended honest t e (Err end) S new submits asked way triggers held = ends_at_states honest t e end S new submits asked way triggers held
+
+-- What isn't closed is open.
+
+pub second_open : (a b : Bool) → not a || not b ≡ false → b ≡ true
+second_open true true is = refl
+second_open true false is = cc
+second_open false b is = cc
+
+-- A step of a node that checks in and joins.
+
+join_submits : (node : List ℕ) (interval at : ℤ) (S : ClusterState) → is_closed S ≡ false → Submits (record { step = Join node interval; at = at }) S
+join_submits node interval at S ready = record { allowed = record { needs_open = ready; is_held = refl; works = refl }; unrefused = refl }
+
+pub join_declined : (honest : Type 0) (node : List ℕ) (interval at : ℤ) (result : Result StepReply StepEnd) (S new : ClusterState) → is_closed S ≡ false
+    → IfOk result (λ r. Declined of_states (check_in_entry node interval at) r S.states new.states) → Same S.triggers new.triggers → new.held ≡ S.held
+    → IfOk result (λ r. StepCase honest (record { step = Join node interval; at = at }) r S new)
+join_declined honest node interval at result S new ready way triggers held =
+    states_declined honest (record { step = Join node interval; at = at }) (check_in_entry node interval at) result S new (join_submits node interval at S ready) refl (second_open S.triggers.is_open S.states.is_open ready)
+    way triggers held
+
+pub join_cut : (honest : Type 0) (node : List ℕ) (interval at : ℤ) (result : Result StepReply StepEnd) (S new : ClusterState) → is_closed S ≡ false
+    → IfErr result (λ end. Unsubmitted of_states (check_in_entry node interval at) end S.states new.states) → Same S.triggers new.triggers → new.held ≡ S.held
+    → IfErr result (λ end. EndCase honest (record { step = Join node interval; at = at }) end S new)
+join_cut honest node interval at result S new ready way triggers held =
+    states_ended honest (record { step = Join node interval; at = at }) (check_in_entry node interval at) result S new (join_submits node interval at S ready) refl
+    way triggers held
+
+pub steps_of : (honest : Type 0) (t : TimedStep) (result : Result StepReply StepEnd) (S new : ClusterState) → IsTrue (is_step t.step) → IfOk result (λ r. StepCase honest t r S new) → IfOk result (λ r. IsStep honest t r S new)
+steps_of honest t (Ok r) S new valid case = record { valid = valid; case = case }
+steps_of honest t (Err end) S new valid case = tt
+
+pub cuts_of : (honest : Type 0) (t : TimedStep) (result : Result StepReply StepEnd) (S new : ClusterState) → IsTrue (is_step t.step) → IfErr result (λ e. EndCase honest t e S new) → IfErr result (λ e. IsCutShort honest t e S new)
+cuts_of honest t (Ok r) S new valid case = tt
+cuts_of honest t (Err end) S new valid case = record { valid = valid; case = case }

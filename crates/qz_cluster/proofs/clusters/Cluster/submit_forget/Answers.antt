@@ -1,0 +1,8 @@
+use Rattle.qz_cluster.proofs.AtRest.{triggers_rest}
+use Rattle.qz_cluster.proofs.clusters.Cluster.submit_forget.Goals as goal
+
+-- nothing was done on the other disk
+pub returns-clause-any_moment : goal.returns-clause-any_moment
+returns-clause-any_moment g c honest =
+    let s = c.args.self.now.triggers in
+    record { triggers = triggers_rest s (g.met.D.Disk.lawful honest s.journal.disk) honest; states = c.forget-answer.ensures.any_moment honest }
