@@ -29,7 +29,9 @@ impl<D: Disk> StateStore<D> {
     }
 
     /// Reads what is on the disk, as `mount` does. The store is closed until `open`, with its history and its undecided
-    /// entry, whatever is answered.
+    /// entry, whatever is answered. `Fault` is returned only where the disk's count of faults rose. `NotAStore` and
+    /// `Damaged` come only where the disk isn't honest; the offset of `Damaged` may then be that of a bad gate, though a
+    /// payload before it is unfit too.
     pub fn reread(&mut self) -> Result<Reread, MountError>
         ensures shut { Shuts (view self.old) (view self.new) }
         ensures found { IfOk result (IsReread self.new) }

@@ -30,7 +30,7 @@ pub mod Numbers
 pub mod Putting
 pub mod RecoveryTriggers
 pub mod References
-mod Refusals
+pub mod Refusals
 pub mod Replaced
 pub mod RowChanges
 pub mod RowLaws

@@ -45,12 +45,12 @@ recovery_reserved : (groups : List (List ℕ)) (f : FiredData) → is_reserved (
 unfolding is_reserved recovery_trigger same_text
 recovery_reserved groups f = refl
 
-recovery_named : (groups : List (List ℕ)) (f : FiredData) → EndsIn (recovery_trigger groups f).spec.key.name f.entry
+pub recovery_named : (groups : List (List ℕ)) (f : FiredData) → EndsIn (recovery_trigger groups f).spec.key.name f.entry
 unfolding recovery_trigger
 recovery_named groups f = (codes "recover_" ++ f.node, refl)
 
 -- no stored trigger has the key
-no_such : (groups : List (List ℕ)) (f : FiredData) (u : TriggerData) → IsNotOf f.entry u → same_key (recovery_trigger groups f).spec.key u.spec.key ≡ false
+pub no_such : (groups : List (List ℕ)) (f : FiredData) (u : TriggerData) → IsNotOf f.entry u → same_key (recovery_trigger groups f).spec.key u.spec.key ≡ false
 no_such groups f u other = false_from_ne_true (same_key (recovery_trigger groups f).spec.key u.spec.key) (λ is.
     let same : (recovery_trigger groups f).spec.key ≡ u.spec.key = same_key-exact (recovery_trigger groups f).spec.key u.spec.key is in
     other (subst (λ k. is_reserved k.group ≡ true) same (recovery_reserved groups f)) (subst (λ k. EndsIn k.name f.entry) same (recovery_named groups f)))

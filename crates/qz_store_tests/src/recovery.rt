@@ -42,10 +42,12 @@ fn counts(store: &mut PlainStore, entry: Result<Entry, AllocError>) -> Option<[u
                 triggers,
             },
         ) => Some([*epoch, *executions, *triggers]),
-        Ok(Reply::Recovered {
-            executions,
-            triggers,
-        }) => Some([0, *executions, *triggers]),
+        Ok(
+            Reply::Recovered {
+                executions,
+                triggers,
+            },
+        ) => Some([0, *executions, *triggers]),
         _ => None,
     };
     drop(answer);

@@ -1,0 +1,13 @@
+pub mod Beginnings
+pub mod Counts
+pub mod Entries
+pub mod Facts
+pub mod Fenced
+pub mod Histories
+pub mod Names
+pub mod Quiet
+pub mod QuietChanges
+pub mod QuietClients
+pub mod QuietNodes
+pub mod Recovered
+pub mod Recoveries
