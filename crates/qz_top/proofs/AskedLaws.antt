@@ -1,15 +1,18 @@
 -- What a call did, by what its words ask for, and the causes of its status.
-use Rattle.std.proofs.Common.{◌≡◌, ◌⊎◌, inl, inr, List, Result, subst, refl}
+use Rattle.std.proofs.Common.{◌≡◌, ◌⊎◌, inl, inr, List, Result, subst, refl, sym, ◌∙◌}
 use Rattle.std.specs.Prelude.{Ok, Err}
 use Rattle.qz_civil.specs.Causes.{Rose}
 use Rattle.qz_disk.specs.declared.disk.Disk.{Ghosts}
 use Rattle.qz_io.specs.Outside.{Outside}
+use Rattle.qz_journal.specs.declared.errors.MountError.{MountError}
+use Rattle.qz_journal.specs.declared.errors.MountError.TheVariants as mount
+use Rattle.qz_types.specs.declared.stores.Store.{Store}
 use Rattle.qz_words.specs.declared.wishes.WordFault.{WordFault}
 use Rattle.qz_words.specs.declared.wishes.Wish.{Wish}
 use Rattle.qz_words.specs.declared.wishes.Wish.TheVariants as wish
 use Rattle.qz_cluster.specs.Steps.{ClusterState}
-use Rattle.qz_top.specs.Asked.{DidAsAsked}
-use Rattle.qz_top.specs.Calls.{OwnDone, RanOnDisk, NotOpened, IsOfOpening}
+use Rattle.qz_top.specs.Asked.{RanScript, DidAsAsked}
+use Rattle.qz_top.specs.Calls.{OwnDone, refusal_of}
 use Rattle.qz_top.specs.Causes.{FaultCounts, DiskFailed, HasCause}
 use Rattle.qz_top.specs.Making.{IsInit}
 use Rattle.qz_top.specs.Runs.{IsOfScript}
@@ -47,10 +50,16 @@ pub own_disk : (s : Status) (trail : List ClusterState) (old new : Outside) → 
 own_disk s trail old new (inl ran) is = ran.no_fault is
 own_disk s trail old new (inr none) is = let status_is = none.0 in absurd cc
 
-pub script_words : {D : Type 0} {g : Ghosts D} (triggers : D) (e : Ended D g) (old new : Outside) (fault : WordFault)
-    → RanOnDisk triggers e old new ⊎ NotOpened triggers e old new → e.status ≡ status.BadWords fault → ⊥
-script_words triggers e old new fault (inl ran) is = subst IsOfScript is ran.run.called
-script_words triggers e old new fault (inr none) is = subst IsOfOpening is none.called
+not_of_opening : (store : Store) (error : MountError) (fault : WordFault) → refusal_of store error ≡ status.BadWords fault → ⊥
+not_of_opening store mount.Fault fault is = cc
+not_of_opening store mount.NotAStore fault is = cc
+not_of_opening store (mount.Damaged at) fault is = cc
+not_of_opening store mount.NoMemory fault is = cc
+
+pub script_words : {D : Type 0} {g : Ghosts D} (triggers states : D) (e : Ended D g) (old new : Outside) (fault : WordFault)
+    → RanScript triggers states e old new → e.status ≡ status.BadWords fault → ⊥
+script_words triggers states e old new fault (inl ran) is = subst IsOfScript is ran.run.called
+script_words triggers states e old new fault (inr none) is = not_of_opening none.store none.error fault (sym none.status_is ∙ is)
 
 pub times_words : (s : Status) (fault : WordFault) → IsOfTimes s → s ≡ status.BadWords fault → ⊥
 times_words s fault called is = subst IsOfTimes is called

@@ -34,10 +34,9 @@ use Rattle.qz_top.specs.Runs.{ReadToBad, WrotePart, Clocked, IsOfScript, IsRun}
 use Rattle.qz_top.specs.Seen.{view}
 use Rattle.qz_top.specs.Statuses.{Finishes}
 use Rattle.qz_top.specs.Trails.{texts, RunState}
-use Rattle.qz_top.specs.LineOutcomes.{Ran, RanPart, IsBad, NothingDone, LineFull}
+use Rattle.qz_top.specs.LineOutcomes.{Ran, RanPart, IsBad}
 use Rattle.qz_top.proofs.LineLaws.{first_bad_from-append, first_bad_from-bad, first_bad_from-many}
 use Rattle.qz_top.proofs.MomentLaws.{Shows-none, Shows-more, Shows-less}
-use Rattle.qz_top.proofs.TrailLaws.{NothingDone-none}
 use Rattle.qz_top.proofs.OutcomeLaws.{Ran-none, Ran-more}
 
 -- Readings and replies.
@@ -74,8 +73,8 @@ wrote_whole x z replies written = record {
 }
 
 -- all replies except the last were written, and a part of that
-pub wrote_part : (a b c : Outside) (lines : List (List ℕ)) (readings : List ℤ) (line : List ℕ) (R S T : RunState)
-    → (ran : Ran lines readings R S a b) → (part : RanPart line S T b c) → WrotePart a.held c.held (ran.did.replies ++ part.did.replies)
+pub wrote_part : {honest : Type 0} (a b c : Outside) (lines : List (List ℕ)) (readings : List ℤ) (line : List ℕ) (R S T : RunState)
+    → (ran : Ran honest lines readings R S a b) → (part : RanPart honest line S T b c) → WrotePart a.held c.held (ran.did.replies ++ part.did.replies)
 wrote_part a b c lines readings line R S T ran part =
     let text = texts part.did.replies in
     record {
@@ -132,14 +131,6 @@ reads_many bytes line lines next good full =
           ∙ first_bad_from-many (1 + length lines) line next.rest (omega arith) ∙ ap (λ n. Some (status.BadLine n bad.TooManyLines)) same;
     }
 
--- a step that finds no room changes nothing
-pub full_does_nothing : (line : List ℕ) (need room : ℕ) (R S : RunState) (a b : Outside) → LineFull line need room R S a b → NothingDone R S
-full_does_nothing line need room R S a b full = record {
-  trail = full.full.trail;
-  own = full.full.is_own;
-  stays = λ not_own. record { triggers = full.full.full.triggers.same; held = full.full.full.held };
-}
-
 pub rose_later : (x y z : ℕ) → x ≤ y → Rose y z → Rose x z
 rose_later x y z later rose = omega (arith, later, rose)
 
@@ -156,12 +147,12 @@ module _ {D K C : Type 0} (g : Ghosts D) (k : sink.Ghosts K) (c : clock.Ghosts C
 
   -- some run of lines
   abbrev pub SomeRun : Status → RunState → RunState → Outside → Outside → Type 0
-  SomeRun s R S old new = (lines : List (List ℕ)) × (readings : List ℤ) × (replies : List StepReply) × IsRun s R S old new lines readings replies
+  SomeRun s R S old new = (lines : List (List ℕ)) × (readings : List ℤ) × (replies : List StepReply) × IsRun g.honest s R S old new lines readings replies
 
   -- lines that were done and answered
   pub record AllRan (lines : List (List ℕ)) (a b : State) : Type 0 where
     pub readings : List ℤ
-    pub ran : Ran lines readings (view a.handler) (view b.handler) (beside a) (beside b)
+    pub ran : Ran g.honest lines readings (view a.handler) (view b.handler) (beside a) (beside b)
     pub later : k.faults a.out ≤ k.faults b.out
 
   pub all_ran : (lines : List (List ℕ)) (a b : State) → AllHandled (Does {g = g} k c) lines a b → AllRan lines a b
@@ -192,8 +183,7 @@ module _ {D K C : Type 0} (g : Ghosts D) (k : sink.Ghosts K) (c : clock.Ghosts C
           good = all.ran.did.good;
           last = view b.handler;
           steps = all.ran.did.steps;
-          nothing = NothingDone-none (view b.handler);
-          full = tt;
+          end = refl;
           closed = sym tells ∙ finishes.0;
           reads = λ bytes is. let whole = lines.ends.all bytes is in record { all = whole; no_bad = ap first_bad whole ∙ none_bad lines.lines all.ran.did.good lines.ends.within; ended = lines.ends.ended };
           clocked = exact_readings status.Ok _ _ lines.lines all.readings all.ran.did.count all.ran.did.told;
@@ -211,8 +201,7 @@ module _ {D K C : Type 0} (g : Ghosts D) (k : sink.Ghosts K) (c : clock.Ghosts C
           good = all.ran.did.good;
           last = view b.handler;
           steps = all.ran.did.steps;
-          nothing = NothingDone-none (view b.handler);
-          full = tt;
+          end = refl;
           closed = sym tells ∙ finishes.0;
           reads = λ bytes is. let whole = lines.ends.all bytes is in record { all = whole; no_bad = ap first_bad whole ∙ none_bad lines.lines all.ran.did.good lines.ends.within; ended = lines.ends.ended };
           clocked = exact_readings status.DiskFault _ _ lines.lines all.readings all.ran.did.count all.ran.did.told;
@@ -230,8 +219,7 @@ module _ {D K C : Type 0} (g : Ghosts D) (k : sink.Ghosts K) (c : clock.Ghosts C
           good = all.ran.did.good;
           last = view b.handler;
           steps = all.ran.did.steps;
-          nothing = NothingDone-none (view b.handler);
-          full = tt;
+          end = refl;
           closed = tt;
           reads = λ bytes is. record { rest = []; all = lines.ends.all bytes is ∙ sym (append-nil lines.lines) };
           clocked = exact_readings status.WriteFault _ _ lines.lines all.readings all.ran.did.count all.ran.did.told;

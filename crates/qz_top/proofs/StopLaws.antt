@@ -1,7 +1,7 @@
 -- How a script stops before the end of its input.
-use Rattle.std.proofs.Common.{◌≡◌, ℕ, List, [], ◌∷◌, ◌++◌, Option, refl, sym, ap, subst}
+use Rattle.std.proofs.Common.{◌≡◌, inl, inr, ℕ, ℤ, List, [], ◌∷◌, ◌++◌, Option, refl, sym, ap, subst}
 use Rattle.std.specs.Prelude.{Err}
-use Rattle.std.specs.Io.KnownBytes.{Consumes}
+use Rattle.std.specs.Io.KnownBytes.{Consumes, Appends}
 use Rattle.qz_civil.specs.Causes.{Rose}
 use Rattle.qz_disk.specs.declared.disk.Disk.{Ghosts}
 use Rattle.qz_io.specs.declared.handlers.LinesEnd.{LinesEnd}
@@ -10,7 +10,12 @@ use Rattle.qz_io.specs.declared.traits.Clock as clock
 use Rattle.qz_io.specs.declared.traits.Sink as sink
 use Rattle.qz_io.specs.Handlers.{HandlesLines, IfKnown, IsNextLine, IsNextNumber}
 use Rattle.qz_io.specs.Lines.{lines_of}
+use Rattle.qz_io.specs.Outside.{Outside}
 use Rattle.qz_io.proofs.Readings.{Tells-trans}
+use Rattle.qz_steps.specs.declared.steps.StepReply.{StepReply}
+use Rattle.qz_cluster.specs.Steps.{ClusterState}
+use Rattle.qz_cluster.specs.declared.errors.StepEnd.{StepEnd}
+use Rattle.qz_cluster.specs.declared.errors.StepEnd.TheVariants as step
 use Rattle.qz_job_json.specs.declared.faults.LineFault.TheVariants as line_fault
 use Rattle.qz_top.specs.declared.statuses.BadKind.TheVariants as bad
 use Rattle.qz_top.specs.declared.statuses.Status.TheVariants as status
@@ -19,24 +24,77 @@ use Rattle.qz_top.specs.declared.line_handler.LineEnd.TheVariants as ends
 use Rattle.qz_top.specs.Handling.{Does}
 use Rattle.qz_top.specs.Moments.{Shows}
 use Rattle.qz_top.specs.Seen.{view}
-use Rattle.qz_top.specs.Statuses.{status_at, status_of}
-use Rattle.qz_top.specs.LineOutcomes.{taken_reading, NothingDone, LineDone}
-use Rattle.qz_top.proofs.EndLaws.{exact_readings, told_nothing, wrote_nothing, wrote_whole, wrote_part, begins_before, reads_bad, reads_many, too_long, full_does_nothing, rose_later, State, around, beside, SomeRun, AllRan, all_ran, ran_to, all_shown, shown_to}
+use Rattle.qz_top.specs.Runs.{Reads, ReadFirst, TellsClosed, Writes, HandsOn, IsShort, IsOfScript, EndsShort, EndsRun}
+use Rattle.qz_top.specs.Statuses.{cut_status, status_at, status_of}
+use Rattle.qz_top.specs.Trails.{texts, RunState}
+use Rattle.qz_top.specs.LineOutcomes.{taken_reading, LineDone}
+use Rattle.qz_top.proofs.EndLaws.{exact_readings, told_nothing, wrote_nothing, wrote_whole, wrote_part, begins_before, reads_bad, reads_many, too_long, rose_later, State, around, beside, SomeRun, AllRan, all_ran, ran_to, all_shown, shown_to}
 use Rattle.qz_top.proofs.MomentLaws.{Shows-more, Shows-less}
 use Rattle.qz_top.proofs.TrailLaws.{NothingDone-none}
 use Rattle.qz_top.proofs.OutcomeLaws.{at_most_one, Did-more}
+
+not_write : (end : StepEnd) → cut_status end ≡ status.WriteFault → ⊥
+not_write (step.JournalFull need room) is = cc
+not_write (step.NotAStore store) is = cc
+not_write (step.Damaged store at) is = cc
+not_write step.NoMemory is = cc
 
 at_write : (number : ℕ) (e : LineEnd) → status_at number e ≡ status.WriteFault → e ≡ ends.WriteFault
 at_write number ends.WriteFault is = refl
 at_write number (ends.Bad kind) is = absurd cc
 at_write number ends.Unanswered is = absurd cc
 at_write number ends.NoMemory is = absurd cc
-at_write number (ends.JournalFull need room) is = absurd cc
+at_write number (ends.CutShort end) is = absurd (not_write end is)
+
+-- The status of a step that was cut short.
+
+cut_called : (e : StepEnd) → IsOfScript (cut_status e)
+cut_called (step.JournalFull need room) = tt
+cut_called (step.NotAStore store) = tt
+cut_called (step.Damaged store at) = tt
+cut_called step.NoMemory = tt
+
+cut_short : (e : StepEnd) → IsShort (cut_status e)
+cut_short (step.JournalFull need room) = tt
+cut_short (step.NotAStore store) = tt
+cut_short (step.Damaged store at) = tt
+cut_short step.NoMemory = tt
+
+cut_ends : (e : StepEnd) (honest : Type 0) (left : Option (List ℕ)) (lines : List (List ℕ)) (more : List ℤ) (last after : RunState) → EndsShort honest e left lines more last after
+    → EndsRun honest (cut_status e) left lines more last after
+cut_ends (step.JournalFull need room) honest left lines more last after short = short
+cut_ends (step.NotAStore store) honest left lines more last after short = short
+cut_ends (step.Damaged store at) honest left lines more last after short = short
+cut_ends step.NoMemory honest left lines more last after short = inr short
+
+cut_closed : (e : StepEnd) (S : ClusterState) → TellsClosed (cut_status e) S
+cut_closed (step.JournalFull need room) S = tt
+cut_closed (step.NotAStore store) S = tt
+cut_closed (step.Damaged store at) S = tt
+cut_closed step.NoMemory S = tt
+
+cut_reads : (e : StepEnd) (left left_now : Option (List ℕ)) (lines : List (List ℕ)) → ReadFirst left lines → Reads (cut_status e) left left_now lines
+cut_reads (step.JournalFull need room) left left_now lines first = first
+cut_reads (step.NotAStore store) left left_now lines first = first
+cut_reads (step.Damaged store at) left left_now lines first = first
+cut_reads step.NoMemory left left_now lines first = first
+
+cut_writes : (e : StepEnd) (old new : Option (List ℕ)) (replies : List StepReply) → Appends old new (texts replies) → Writes (cut_status e) old new replies
+cut_writes (step.JournalFull need room) old new replies written = written
+cut_writes (step.NotAStore store) old new replies written = written
+cut_writes (step.Damaged store at) old new replies written = written
+cut_writes step.NoMemory old new replies written = wrote_whole old new replies written
+
+cut_hands_on : (e : StepEnd) (o : Outside) → HandsOn (cut_status e) o
+cut_hands_on (step.JournalFull need room) o = tt
+cut_hands_on (step.NotAStore store) o = tt
+cut_hands_on (step.Damaged store at) o = tt
+cut_hands_on step.NoMemory o = tt
 
 module _ {D K C : Type 0} (g : Ghosts D) (k : sink.Ghosts K) (c : clock.Ghosts C) where
   -- The handler refused the next line.
   refused_run : (e : LineEnd) (number : ℕ) (i j : Option (List ℕ)) (lines : List (List ℕ)) (line : List ℕ) (a m b : State g k c) → AllRan g k c lines a m
-      → IfKnown i (IsNextLine lines line) → IsNextNumber lines number → LineDone (Err e) line (view m.handler) (view b.handler) (beside g k c m) (beside g k c b)
+      → IfKnown i (IsNextLine lines line) → IsNextNumber lines number → LineDone g.honest (Err e) line (view m.handler) (view b.handler) (beside g k c m) (beside g k c b)
       → SomeRun g k c (status_at number e) (view a.handler) (view b.handler) (around g k c i a.out a.rest) (around g k c j b.out b.rest)
   unfolding Did-more
   refused_run (ends.Bad kind) number i j lines line a m b all next at done = (
@@ -48,8 +106,7 @@ module _ {D K C : Type 0} (g : Ghosts D) (k : sink.Ghosts K) (c : clock.Ghosts C
       good = all.ran.did.good;
       last = view m.handler;
       steps = all.ran.did.steps;
-      nothing = subst (NothingDone (view m.handler)) (sym done.1.same) (NothingDone-none (view m.handler));
-      full = tt;
+      end = done.1.same;
       closed = tt;
       reads = λ bytes is. reads_bad bytes line lines kind number (next bytes is) all.ran.did.good at.is at.within done.0;
       clocked = exact_readings _ _ _ lines all.readings all.ran.did.count (told_nothing (c.readings a.rest) (c.readings m.rest) (c.readings b.rest) all.readings all.ran.did.told done.1.told);
@@ -58,7 +115,7 @@ module _ {D K C : Type 0} (g : Ghosts D) (k : sink.Ghosts K) (c : clock.Ghosts C
     },
   )
   refused_run ends.WriteFault number i j lines line a m b all next at part =
-      let did = Did-more lines (line ∷ []) all.readings part.readings (view a.handler) (view m.handler) (view b.handler) (beside g k c a) (beside g k c m) (beside g k c b) all.ran.did part.did in (
+      let did = Did-more g.honest lines (line ∷ []) all.readings part.readings (view a.handler) (view m.handler) (view b.handler) (beside g k c a) (beside g k c m) (beside g k c b) all.ran.did part.did in (
         lines ++ line ∷ [],
         all.readings ++ part.readings,
         did.replies,
@@ -67,8 +124,7 @@ module _ {D K C : Type 0} (g : Ghosts D) (k : sink.Ghosts K) (c : clock.Ghosts C
           good = did.good;
           last = view b.handler;
           steps = did.steps;
-          nothing = NothingDone-none (view b.handler);
-          full = tt;
+          end = refl;
           closed = tt;
           reads = next;
           clocked = exact_readings _ _ _ _ _ did.count did.told;
@@ -77,7 +133,7 @@ module _ {D K C : Type 0} (g : Ghosts D) (k : sink.Ghosts K) (c : clock.Ghosts C
         },
       )
   refused_run ends.Unanswered number i j lines line a m b all next at part =
-      let did = Did-more lines (line ∷ []) all.readings part.readings (view a.handler) (view m.handler) (view b.handler) (beside g k c a) (beside g k c m) (beside g k c b) all.ran.did part.did in (
+      let did = Did-more g.honest lines (line ∷ []) all.readings part.readings (view a.handler) (view m.handler) (view b.handler) (beside g k c a) (beside g k c m) (beside g k c b) all.ran.did part.did in (
         lines ++ line ∷ [],
         all.readings ++ part.readings,
         did.replies,
@@ -86,8 +142,7 @@ module _ {D K C : Type 0} (g : Ghosts D) (k : sink.Ghosts K) (c : clock.Ghosts C
           good = did.good;
           last = view b.handler;
           steps = did.steps;
-          nothing = NothingDone-none (view b.handler);
-          full = tt;
+          end = inl (NothingDone-none (view b.handler));
           closed = tt;
           reads = next;
           clocked = exact_readings _ _ _ _ _ did.count did.told;
@@ -104,8 +159,7 @@ module _ {D K C : Type 0} (g : Ghosts D) (k : sink.Ghosts K) (c : clock.Ghosts C
       good = all.ran.did.good;
       last = view m.handler;
       steps = all.ran.did.steps;
-      nothing = gave_up.nothing;
-      full = tt;
+      end = inl gave_up.nothing;
       closed = tt;
       reads = λ bytes is. begins_before bytes line lines (next bytes is);
       clocked = record {
@@ -119,37 +173,28 @@ module _ {D K C : Type 0} (g : Ghosts D) (k : sink.Ghosts K) (c : clock.Ghosts C
       hands_on = tt;
     },
   )
-  refused_run (ends.JournalFull need room) number i j lines line a m b all next at done = (
+  refused_run (ends.CutShort end) number i j lines line a m b all next at done = (
     lines,
     all.readings,
     all.ran.did.replies,
     record {
-      called = tt;
+      called = cut_called end;
       good = all.ran.did.good;
       last = view m.handler;
       steps = all.ran.did.steps;
-      nothing = full_does_nothing line need room (view m.handler) (view b.handler) (beside g k c m) (beside g k c b) done;
-      full = record {
-        line = line;
-        next = next;
-        given = done.given;
-        meaning = done.meaning;
-        at = done.full.at;
-        own = done.full.own;
-        read = refl;
-        full = done.full.full;
-      };
-      closed = tt;
-      reads = λ bytes is. begins_before bytes line lines (next bytes is);
       clocked = record {
         count = all.ran.did.count;
-        more = taken_reading done.given.at done.full.at;
-        told = Tells-trans (c.readings a.rest) (c.readings m.rest) (c.readings b.rest) all.readings _ all.ran.did.told done.full.told;
-        none = λ other. absurd (other tt);
-        one = at_most_one done.given.at done.full.at;
+        more = taken_reading done.given.at done.step.at;
+        told = Tells-trans (c.readings a.rest) (c.readings m.rest) (c.readings b.rest) all.readings _ all.ran.did.told done.step.told;
+        none = λ other. absurd (other (cut_short end));
+        one = at_most_one done.given.at done.step.at;
       };
-      writes = wrote_nothing (k.held a.out) (k.held m.out) (k.held b.out) _ all.ran.written done.full.kept;
-      hands_on = tt;
+      end = cut_ends end g.honest i lines _ (view m.handler) (view b.handler)
+          (record { line = line; next = next; given = done.given; meaning = done.meaning; at = done.step.at; own = done.step.own; read = refl; cut = done.step.cut });
+      closed = cut_closed end _;
+      reads = cut_reads end i j lines (λ bytes is. begins_before bytes line lines (next bytes is));
+      writes = cut_writes end (k.held a.out) (k.held b.out) _ (wrote_nothing (k.held a.out) (k.held m.out) (k.held b.out) _ all.ran.written done.step.kept);
+      hands_on = cut_hands_on end _;
     },
   )
 
@@ -168,8 +213,7 @@ module _ {D K C : Type 0} (g : Ghosts D) (k : sink.Ghosts K) (c : clock.Ghosts C
           good = all.ran.did.good;
           last = view b.handler;
           steps = all.ran.did.steps;
-          nothing = NothingDone-none (view b.handler);
-          full = tt;
+          end = refl;
           closed = tt;
           reads = λ bytes is.
               let long = lines.ends.next bytes is in
@@ -190,8 +234,7 @@ module _ {D K C : Type 0} (g : Ghosts D) (k : sink.Ghosts K) (c : clock.Ghosts C
           good = all.ran.did.good;
           last = view b.handler;
           steps = all.ran.did.steps;
-          nothing = NothingDone-none (view b.handler);
-          full = tt;
+          end = refl;
           closed = tt;
           reads = λ bytes is. let more = lines.ends.next bytes is in reads_many bytes more.line lines.lines more.next all.ran.did.good lines.ends.full;
           clocked = exact_readings _ _ _ lines.lines all.readings all.ran.did.count all.ran.did.told;
@@ -209,8 +252,7 @@ module _ {D K C : Type 0} (g : Ghosts D) (k : sink.Ghosts K) (c : clock.Ghosts C
           good = all.ran.did.good;
           last = view b.handler;
           steps = all.ran.did.steps;
-          nothing = NothingDone-none (view b.handler);
-          full = tt;
+          end = refl;
           closed = tt;
           reads = record { part = lines.ends.part; taken = subst (Consumes i j) lines.ends.got_is lines.taken; no_feed = lines.ends.no_feed };
           clocked = exact_readings _ _ _ lines.lines all.readings all.ran.did.count all.ran.did.told;
@@ -228,8 +270,7 @@ module _ {D K C : Type 0} (g : Ghosts D) (k : sink.Ghosts K) (c : clock.Ghosts C
           good = all.ran.did.good;
           last = view b.handler;
           steps = all.ran.did.steps;
-          nothing = NothingDone-none (view b.handler);
-          full = tt;
+          end = inl (NothingDone-none (view b.handler));
           closed = tt;
           reads = λ bytes is. record { rest = lines_of bytes; all = sym (ap (λ l. l ++ lines_of bytes) lines.ends.no_line) };
           clocked = exact_readings _ _ _ lines.lines all.readings all.ran.did.count all.ran.did.told;

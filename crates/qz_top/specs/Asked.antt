@@ -37,10 +37,9 @@ pub record RanInit {D : Type 0} {g : Ghosts D} (triggers states : D) (e : Ended 
   pub not_read : new.left ≡ old.left
   pub not_asked : new.readings ≡ old.readings
 
--- A script ran on the trigger store, or that wasn't opened.
-pub record RanScript {D : Type 0} {g : Ghosts D} (triggers states : D) (e : Ended D g) (old new : Outside) : Type 0 where
-  pub ran : RanOnDisk triggers e old new ⊎ NotOpened triggers e old new
-  pub states_stay : e.states ≡ states
+-- A script ran on both stores, or one of them wasn't opened.
+abbrev pub RanScript : {D : Type 0} {g : Ghosts D} → D → D → Ended D g → Outside → Outside → Type 0
+RanScript triggers states e old new = RanOnDisk triggers states e old new ⊎ NotOpened triggers states e old new
 
 -- Fire times were told: at most so many of each trigger, after this moment.
 pub record ToldTimes {D : Type 0} {g : Ghosts D} (after : ℤ) (count : ℕ) (triggers states : D) (e : Ended D g)

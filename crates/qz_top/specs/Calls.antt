@@ -1,19 +1,21 @@
 -- What the calls that run scripts did.
-use Rattle.std.specs.Prelude.{⊤, ◌≡◌, ◌⊎◌, ◌≤◌, ℕ, ℤ, true, false, Bool, List, [], ◌∷◌, ◌++◌, length, take, None}
+use Rattle.std.specs.Prelude.{⊤, ◌≡◌, ◌⊎◌, ◌≤◌, ℕ, ℤ, true, false, Bool, List, [], ◌∷◌, ◌++◌, length, take}
 use Rattle.std.specs.List.{AllByRecursion}
 use Rattle.qz_steps.specs.declared.steps.StepReply.{StepReply}
-use Rattle.qz_types.specs.declared.stores.Store.TheVariants as store
+use Rattle.qz_types.specs.declared.stores.Store.{Store}
 use Rattle.qz_disk.specs.declared.disk.Disk.{Ghosts}
 use Rattle.qz_io.specs.Outside.{Outside}
 use Rattle.qz_journal.specs.declared.errors.MountError.{MountError}
 use Rattle.qz_journal.specs.declared.errors.MountError.TheVariants as mount
-use Rattle.qz_journal.specs.Through.{OnlyReadsUnless}
-use Rattle.qz_trigger_store.specs.Bytes.{Stands, MayBe}
-use Rattle.qz_trigger_store.specs.Opening.{IsOpened, IsSound, IsRefused}
-use Rattle.qz_cluster.specs.Steps.{ClusterState}
-use Rattle.qz_cluster.specs.Script.{ScriptState, new_script, step_replies}
+use Rattle.qz_trigger_store.specs.Bytes.{Stands}
+use Rattle.qz_trigger_store.specs.Opening.{IsOpened, IsSound}
+use Rattle.qz_checkin.specs.Bytes.{Stands as StatesStand}
+use Rattle.qz_checkin.specs.Opening.{IsOpened as AreOpened, IsSound as AreSound}
+use Rattle.qz_cluster.specs.Mounting.{DisksAfter, RefusedBy}
+use Rattle.qz_cluster.specs.Steps.{ClusterState, is_restart}
+use Rattle.qz_cluster.specs.Script.{ScriptState, TimedStep, new_script, step_replies}
 use Rattle.qz_top.specs.Lines.{steps_of}
-use Rattle.qz_top.specs.Moments.{BeginsWithReads, EachIsKept}
+use Rattle.qz_top.specs.Moments.{HasTriggers, HasStates, BeginsWithReads, EachIsKept}
 use Rattle.qz_top.specs.Runs.{IsRun}
 use Rattle.qz_top.specs.Seen.{states_in}
 use Rattle.qz_top.specs.Trails.{IsNoFault, RunState, new_cluster}
@@ -30,20 +32,22 @@ trail_of t = states_in t.on_disk.value ++ states_in t.in_memory.value
 abbrev pub begun : Bool → ClusterState → RunState
 begun is_own S = record { cluster = S; trail = S ∷ []; is_own = is_own }
 
--- A script on a new store in memory was run. Its replies are those of a plain scheduler that is new and empty.
+-- A script on new stores in memory was run. Its replies are those of a plain scheduler that is new and empty. Disks in
+-- memory are honest.
 pub record RanInMemory (s : Status) (trail : List ClusterState)
     (old new : Outside) : Type 0 where
-  pub faults : ℕ
+  pub triggers_faults : ℕ
+  pub states_faults : ℕ
   pub end : RunState
   pub lines : List (List ℕ)
   pub readings : List ℤ
   pub replies : List StepReply
-  pub run : IsRun s (begun true (new_cluster faults)) end old new lines readings replies
+  pub run : IsRun ⊤ s (begun true (new_cluster triggers_faults states_faults)) end old new lines readings replies
   pub plain : replies ≡ step_replies (new_script) (steps_of lines readings)
   pub trail_is : trail ≡ end.trail
   pub no_fault : s ≡ status.DiskFault → ⊥
 
--- A script on a new store in memory was run, or there was no memory for the store.
+-- A script on new stores in memory was run, or there was no memory for the stores.
 abbrev pub OwnDone : Status → List ClusterState → Outside → Outside → Type 0
 OwnDone s trail old new =
     RanInMemory s trail old new
@@ -51,74 +55,67 @@ OwnDone s trail old new =
 
 -- what a plain scheduler sees of a cluster
 abbrev pub script_of : ClusterState → ScriptState
-script_of S = record { history = S.triggers.history; held = S.held }
+script_of S = record { history = S.triggers.history; states = S.states.history; held = S.held }
 
--- the store's history is legal and its tables are valid
-abbrev pub HasSoundStore : ClusterState → Type 0
-HasSoundStore S = IsSound S.triggers
+-- each store's history is legal, and the tables and the rows that they leave are valid
+abbrev pub HasSoundStores : ClusterState → Type 0
+HasSoundStores S = IsSound S.triggers × AreSound S.states
 
--- The store that stands on the disk was opened, and a script was run on it.
-pub record RanOnDisk {D : Type 0} {g : Ghosts D} (triggers : D) (e : Ended D g)
+-- the disks are honest where the step is a restart
+abbrev pub IsOnHonest : Type 0 → TimedStep → Type 0
+IsOnHonest honest t = is_restart t.step ≡ true → honest
+
+-- The stores that stand on the disks were opened, and a script was run on them.
+pub record RanOnDisk {D : Type 0} {g : Ghosts D} (triggers states : D) (e : Ended D g)
     (old new : Outside) : Type 0 where
-  -- the history that the bytes represent was opened: it begins with a new store, and it is legal
+  -- the histories that the bytes represent were opened: they begin with new stores, and they are legal
   pub opened : ClusterState
-  pub is_opened : IsOpened opened.triggers
+  pub are_opened : IsOpened opened.triggers × AreOpened opened.states
   pub nothing_held : opened.held ≡ []
-  pub stands : g.honest → Stands (g.state triggers).content opened.triggers.history
-  pub no_earlier : g.faults triggers ≤ opened.triggers.faults
+  pub stand : g.honest → Stands (g.state triggers).content opened.triggers.history × StatesStand (g.state states).content opened.states.history
+  pub no_earlier : (g.faults triggers ≤ opened.triggers.faults) × (g.faults states ≤ opened.states.faults)
   -- the script, and the states that it went through
   pub end : RunState
   pub lines : List (List ℕ)
   pub readings : List ℤ
   pub replies : List StepReply
-  pub run : IsRun e.status (begun false opened) end old new lines readings replies
+  pub run : IsRun g.honest e.status (begun false opened) end old new lines readings replies
   pub trail_is : trail_of e.trail ≡ end.trail
   pub on_disk : states_in e.trail.on_disk.value ≡ end.trail
-  -- each of these states has a legal history and valid tables
-  pub sound : AllByRecursion HasSoundStore (trail_of e.trail)
-  -- without a fault the replies are those of a plain scheduler that goes on from the opened history, and so are those
-  -- before the first fault
-  pub plain : AllByRecursion IsNoFault replies → replies ≡ step_replies (script_of opened) (steps_of lines readings)
-  pub plain_first : (first rest : List StepReply) → replies ≡ first ++ rest → AllByRecursion IsNoFault first
+  -- each of these states has legal histories, valid tables and valid rows, and so has the one at the end
+  pub sound : AllByRecursion HasSoundStores (trail_of e.trail)
+  pub sound_end : HasSoundStores end.cluster
+  -- without a fault the replies are those of a plain scheduler that goes on from the opened histories, and so are those
+  -- before the first fault; restarts are so on honest disks
+  pub plain : AllByRecursion (IsOnHonest g.honest) (steps_of lines readings) → AllByRecursion IsNoFault replies
+      → replies ≡ step_replies (script_of opened) (steps_of lines readings)
+  pub plain_first : (first rest : List StepReply) → replies ≡ first ++ rest
+      → AllByRecursion (IsOnHonest g.honest) (take (length first) (steps_of lines readings)) → AllByRecursion IsNoFault first
       → first ≡ take (length first) (step_replies (script_of opened) (steps_of lines readings))
-  pub faults : g.faults e.triggers ≡ end.cluster.triggers.faults
-  -- at the end a crash leaves the bytes of the last history, or of it with the undecided entry
-  pub images : g.honest → (b : List ℕ) → (g.state e.triggers).IsImage b
-      → MayBe end.cluster.triggers.history end.cluster.triggers.undecided b
-  -- before, at any moment, it leaves what it could have left before the call, until the store is open; and from the
-  -- moment on when a state was reached, that state or a later one
-  pub opening : g.honest → BeginsWithReads (g.state triggers) e.trail.on_disk.value.items
-  pub any_moment : g.honest → EachIsKept e.trail.on_disk.value.items (g.state e.triggers)
+  pub faults : (g.faults e.triggers ≡ end.cluster.triggers.faults) × (g.faults e.states ≡ end.cluster.states.faults)
+  -- at the end a crash leaves the bytes of the last history of each store, or of it with the undecided entry
+  pub images : g.honest → (b : List ℕ) → ((g.state e.triggers).IsImage b → HasTriggers b end.cluster) × ((g.state e.states).IsImage b → HasStates b end.cluster)
+  -- before, at any moment, it leaves what it could have left before the call, until both stores are open; and from the
+  -- moment on when a state was reached, each store as in that state or in a later one
+  pub opening : g.honest → BeginsWithReads (g.state triggers) (g.state states) e.trail.on_disk.value.items
+  pub any_moment : g.honest → EachIsKept e.trail.on_disk.value.items end.cluster (g.state e.triggers) (g.state e.states)
 
--- how a call may end that opened no store
-abbrev pub IsOfOpening : Status → Type 0
-IsOfOpening (status.NotAStore store.Triggers) = ⊤
-IsOfOpening (status.Damaged store.Triggers at) = ⊤
-IsOfOpening status.DiskFault = ⊤
-IsOfOpening status.NoMemory = ⊤
-IsOfOpening s = ⊥
+-- the status of a script whose store of this name wasn't opened
+abbrev pub refusal_of : Store → MountError → Status
+refusal_of store mount.Fault = status.DiskFault
+refusal_of store mount.NotAStore = status.NotAStore store
+refusal_of store (mount.Damaged at) = status.Damaged store at
+refusal_of store mount.NoMemory = status.NoMemory
 
--- why no store was opened
-abbrev pub RefusedBy : Status → List ℕ → Type 0
-RefusedBy (status.NotAStore store.Triggers) bytes = IsRefused bytes mount.NotAStore
-RefusedBy (status.Damaged store.Triggers at) bytes = IsRefused bytes (mount.Damaged at)
-RefusedBy status.DiskFault bytes = ⊤
-RefusedBy status.NoMemory bytes = ⊤
-RefusedBy s bytes = IsOfOpening s
-
--- No store was opened, and nothing was done: the disk was only read, so unless it failed it is as it was, and a crash
--- leaves only what it could have left before.
-pub record NotOpened {D : Type 0} {g : Ghosts D} (triggers : D) (e : Ended D g)
+-- A store wasn't opened, and nothing was done: the disks were only read, so unless one failed they are as they were, and
+-- a crash leaves only what it could have left before. The trigger store is opened first. Where both were opened and there
+-- was no memory for the script, this is told as of the state store.
+pub record NotOpened {D : Type 0} {g : Ghosts D} (triggers states : D) (e : Ended D g)
     (old new : Outside) : Type 0 where
-  pub called : IsOfOpening e.status
+  pub store : Store
+  pub error : MountError
+  pub status_is : e.status ≡ refusal_of store error
   pub none : trail_of e.trail ≡ []
-  pub refused : g.honest → RefusedBy e.status (g.state triggers).content
-  pub reads : g.honest → OnlyReadsUnless (e.status ≡ status.DiskFault) (g.state triggers) (g.state e.triggers)
+  pub refused : g.honest → RefusedBy g store error triggers states
+  pub reads : g.honest → DisksAfter g store error triggers states e.triggers e.states
   pub untouched : new ≡ old
-
--- the status of a trigger store that wasn't opened
-abbrev pub refusal_of : MountError → Status
-refusal_of mount.Fault = status.DiskFault
-refusal_of mount.NotAStore = status.NotAStore store.Triggers
-refusal_of (mount.Damaged at) = status.Damaged store.Triggers at
-refusal_of mount.NoMemory = status.NoMemory

@@ -13,11 +13,11 @@ use Rattle.qz_top.specs.declared.runs.Run.{Run}
 use Rattle.qz_top.specs.declared.line_handler.LineEnd.{LineEnd}
 use Rattle.qz_top.specs.declared.line_handler.LineEnd.TheVariants as ends
 
--- The line was done and answered, or it ended the script, and the state after its step was shown. The output's count of
+-- The line was done and answered, and the state after its step was shown; or it ended the script. The output's count of
 -- faults never falls, and rose where the output is said to have failed.
 pub record Does {D K C : Type 0} {g : Ghosts D} (k : sink.Ghosts K) (c : clock.Ghosts C) (line : List ℕ) (result : Result (Unit {0}) LineEnd)
     (old new : LineState (Run D g) K C) : Type 0 where
-  pub done : LineDone result line (view old.handler) (view new.handler) (without_input k c old.out old.rest) (without_input k c new.out new.rest)
+  pub done : LineDone g.honest result line (view old.handler) (view new.handler) (without_input k c old.out old.rest) (without_input k c new.out new.rest)
   pub shows : Shows (IsOk result) old.handler new.handler
   pub later : k.faults old.out ≤ k.faults new.out
   pub rose : result ≡ Err ends.WriteFault → Rose (k.faults old.out) (k.faults new.out)

@@ -1,4 +1,4 @@
--- What a crash at any moment of a script leaves on the disk.
+-- What a crash at any moment of a script leaves on the disks.
 use Rattle.std.specs.Prelude.{⊤, ◌≡◌, ◌⊎◌, ◌≤◌, ℕ, false, List, [], ◌∷◌, ◌++◌}
 use Rattle.std.specs.declared.snapshot.Snapshot.{Snapshot}
 use Rattle.qz_disk.specs.declared.disk.Disk.{Ghosts}
@@ -6,55 +6,68 @@ use Rattle.qz_disk.specs.Disk.{DiskState, LeavesOnly}
 use Rattle.qz_journal.specs.Through.{OnlyReads}
 use Rattle.qz_trigger_store.specs.Bytes.{Stands, MayBe}
 use Rattle.qz_trigger_store.specs.Opening.{IsOpened}
+use Rattle.qz_checkin.specs.Bytes.{Stands as StatesStand, MayBe as StatesMayBe}
+use Rattle.qz_checkin.specs.Opening.{IsOpened as AreOpened}
 use Rattle.qz_cluster.specs.declared.clusters.Cluster.{Cluster}
 use Rattle.qz_cluster.specs.Steps.{ClusterState}
-use Rattle.qz_cluster.specs.View.{view as cluster_view, disk_of, triggers_disk, EachLeavesEither}
+use Rattle.qz_cluster.specs.View.{view as cluster_view, triggers_disk, states_disk, EachLeavesEither}
 use Rattle.qz_top.specs.Seen.{Shown, states_of}
 use Rattle.qz_top.specs.declared.runs.Run.{Run}
 
--- these bytes are those of one of these states: of its history, or of that with the state's undecided entry
-abbrev pub IsOfOne : List ClusterState → List ℕ → Type 0
-IsOfOne [] bytes = ⊥
-IsOfOne (S ∷ states) bytes = MayBe S.triggers.history S.triggers.undecided bytes ⊎ IsOfOne states bytes
+-- these bytes are those of this state's trigger store: of its history, or of that with the undecided entry
+abbrev pub HasTriggers : List ℕ → ClusterState → Type 0
+HasTriggers bytes S = MayBe S.triggers.history S.triggers.undecided bytes
 
--- the disk was only read before the first cluster was shown
-abbrev pub BeginsWithReads : {D : Type 0} {g : Ghosts D} → DiskState → Shown D g → Type 0
-BeginsWithReads old [] = ⊥
-BeginsWithReads old (first ∷ later) = OnlyReads old (triggers_disk first.value)
+-- the same of its state store
+abbrev pub HasStates : List ℕ → ClusterState → Type 0
+HasStates bytes S = StatesMayBe S.states.history S.states.undecided bytes
 
--- From the moment on when a state was shown, a crash leaves that state or a later one: what was done until then isn't
--- lost again.
-abbrev pub EachIsKept : {D : Type 0} {g : Ghosts D} → Shown D g → DiskState → Type 0
-EachIsKept [] end = ⊤
-EachIsKept (s ∷ later) end = LeavesOnly (triggers_disk s.value) end (IsOfOne (states_of (s ∷ later))) × EachIsKept later end
+-- it holds of one of these states, or of the one at the end
+abbrev pub HoldsOfOne : (ClusterState → Type 0) → List ClusterState → ClusterState → Type 0
+HoldsOfOne Holds [] end = Holds end
+HoldsOfOne Holds (S ∷ states) end = Holds S ⊎ HoldsOfOne Holds states end
+
+-- both disks were only read before the first cluster was shown
+abbrev pub BeginsWithReads : {D : Type 0} {g : Ghosts D} → DiskState → DiskState → Shown D g → Type 0
+BeginsWithReads triggers states [] = ⊥
+BeginsWithReads triggers states (first ∷ later) = OnlyReads triggers (triggers_disk first.value) × OnlyReads states (states_disk first.value)
+
+-- From the moment on when a state was shown, a crash leaves each store as in that state, in a later one or in the one at
+-- the end: what was done until then isn't lost again.
+abbrev pub EachIsKept : {D : Type 0} {g : Ghosts D} → Shown D g → ClusterState → DiskState → DiskState → Type 0
+EachIsKept [] end triggers states = ⊤
+EachIsKept (s ∷ later) end triggers states =
+    LeavesOnly (triggers_disk s.value) triggers (λ b. HoldsOfOne (HasTriggers b) (states_of (s ∷ later)) end)
+    × LeavesOnly (states_disk s.value) states (λ b. HoldsOfOne (HasStates b) (states_of (s ∷ later)) end)
+    × EachIsKept later end triggers states
 
 -- the last cluster that was shown after this one
 abbrev pub last_shown : {D : Type 0} {g : Ghosts D} → Cluster D g → Shown D g → Cluster D g
 last_shown c [] = c
 last_shown c (s ∷ later) = last_shown s.value later
 
--- a crash at any moment between two neighbours leaves the one or the other
+-- a crash at any moment between two neighbours leaves each store as in the one or in the other
 abbrev pub EachStepLeaves : {D : Type 0} {g : Ghosts D} → Cluster D g → Shown D g → Type 0
 EachStepLeaves c [] = ⊤
 EachStepLeaves c (s ∷ later) = EachLeavesEither c s.value × EachStepLeaves s.value later
 
--- What a script in progress showed of its cluster from one moment to another. Nothing but the shown steps was done to
--- the disk, unless it is the call's own; and where all is shown, nothing but these was done to the cluster.
+-- What a script in progress showed of its cluster from one moment to another. Where all is shown, nothing but the shown
+-- steps was done; else one step more may have been.
 pub record Shows {D : Type 0} {g : Ghosts D} (all : Type 0) (old new : Run D g) : Type 0 where
   pub shown : Shown D g
   pub trail : new.trail.items ≡ old.trail.items ++ shown
   pub own : new.is_own ≡ old.is_own
   pub last : all → new.cluster ≡ last_shown old.cluster shown
-  pub disk : old.is_own ≡ false → disk_of new.cluster ≡ disk_of (last_shown old.cluster shown)
   pub moments : g.honest → EachStepLeaves old.cluster shown
+  pub end : g.honest → (new.cluster ≡ last_shown old.cluster shown) ⊎ EachLeavesEither (last_shown old.cluster shown) new.cluster
 
--- A script that begins on the store that was just opened on this disk.
-pub record BeginsOn {D : Type 0} {g : Ghosts D} (triggers : D) (r : Run D g) : Type 0 where
-  pub is_opened : IsOpened (cluster_view r.cluster).triggers
+-- A script that begins on the stores that were just opened on these disks.
+pub record BeginsOn {D : Type 0} {g : Ghosts D} (triggers states : D) (r : Run D g) : Type 0 where
+  pub are_opened : IsOpened (cluster_view r.cluster).triggers × AreOpened (cluster_view r.cluster).states
   pub nothing_held : (cluster_view r.cluster).held ≡ []
-  pub stands : g.honest → Stands (g.state triggers).content (cluster_view r.cluster).triggers.history
-  pub no_earlier : g.faults triggers ≤ (cluster_view r.cluster).triggers.faults
-  pub reads : g.honest → OnlyReads (g.state triggers) (triggers_disk r.cluster)
+  pub stand : g.honest → Stands (g.state triggers).content (cluster_view r.cluster).triggers.history × StatesStand (g.state states).content (cluster_view r.cluster).states.history
+  pub no_earlier : (g.faults triggers ≤ (cluster_view r.cluster).triggers.faults) × (g.faults states ≤ (cluster_view r.cluster).states.faults)
+  pub reads : g.honest → OnlyReads (g.state triggers) (triggers_disk r.cluster) × OnlyReads (g.state states) (states_disk r.cluster)
   pub not_own : r.is_own ≡ false
   pub first : Snapshot (Cluster D g)
   pub trail : r.trail.items ≡ first ∷ []

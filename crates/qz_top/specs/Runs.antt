@@ -1,5 +1,5 @@
 -- What a script run did, when it ended with a status.
-use Rattle.std.specs.Prelude.{◌≡◌, ⊤, ℕ, ◌+◌, ◌≤◌, ℤ, true, false, List, [], ◌++◌, length, Option, Some, None, Ok}
+use Rattle.std.specs.Prelude.{◌≡◌, ◌⊎◌, ⊤, ℕ, ◌+◌, ◌≤◌, ℤ, true, false, List, [], ◌++◌, length, Option, Some, None, Ok}
 use Rattle.std.specs.List.{AllByRecursion}
 use Rattle.std.specs.Io.KnownBytes.{Consumes, Appends, IsAtEnd}
 use Rattle.qz_io.specs.Ahead.{BeginWith}
@@ -8,11 +8,13 @@ use Rattle.qz_io.specs.Handlers.{IfKnown, IsNextLine}
 use Rattle.qz_io.specs.Lines.{IsOneLine, lines_of, with_feeds}
 use Rattle.qz_io.specs.Outside.{Outside, IsHandedOn}
 use Rattle.qz_steps.specs.declared.steps.StepReply.{StepReply}
-use Rattle.qz_cluster.specs.Steps.{ClusterState, OverflowedStep, is_closed}
+use Rattle.qz_cluster.specs.Steps.{ClusterState, is_closed}
+use Rattle.qz_cluster.specs.declared.errors.StepEnd.{StepEnd}
+use Rattle.qz_cluster.specs.declared.errors.StepEnd.TheVariants as ends
 use Rattle.qz_job_json.specs.declared.lines.Given.{Given}
 use Rattle.qz_top.specs.Lines.{line_meaning, IsGood, readings_of, steps_of, first_bad}
 use Rattle.qz_top.specs.Trails.{texts, RunState, RanSteps}
-use Rattle.qz_top.specs.LineOutcomes.{IsOwn, taken_reading, step_at, NothingDone}
+use Rattle.qz_top.specs.LineOutcomes.{IsOwn, taken_reading, step_at, NothingDone, WasCut}
 use Rattle.qz_top.specs.declared.statuses.BadKind.{BadKind}
 use Rattle.qz_top.specs.declared.statuses.Status.{Status}
 use Rattle.qz_top.specs.declared.statuses.Status.TheVariants as status
@@ -47,16 +49,16 @@ Reads (status.BadLine line kind) left left_now lines = IfKnown left (ReadToBad l
 Reads status.ReadFault left left_now lines = ReadToFault left left_now lines
 Reads status.WriteFault left left_now lines = ReadFirst left lines
 Reads status.DiskFault left left_now lines = IfKnown left (ReadAll left_now lines)
-Reads (status.NotAStore store) left left_now lines = ⊥
-Reads (status.Damaged store at) left left_now lines = ⊥
+Reads (status.NotAStore store) left left_now lines = ReadFirst left lines
+Reads (status.Damaged store at) left left_now lines = ReadFirst left lines
 Reads (status.JournalFull need room) left left_now lines = ReadFirst left lines
 Reads status.NoMemory left left_now lines = ReadFirst left lines
 Reads status.Exists left left_now lines = ⊥
 
--- The line after those that were done asks for a step that would be accepted, and its record finds no room. The step
--- was tried at its own reading, or else at the one reading that was taken of the clock after those of these lines.
-pub record EndsFull (need room : ℕ) (left : Option (List ℕ)) (lines : List (List ℕ)) (more : List ℤ)
-    (S T : ClusterState) : Type 0 where
+-- The line after those that were done asks for a step that was cut short. The step was tried at its own reading, or else
+-- at the one reading that was taken of the clock after those of these lines.
+pub record EndsShort (honest : Type 0) (end : StepEnd) (left : Option (List ℕ)) (lines : List (List ℕ)) (more : List ℤ)
+    (last after : RunState) : Type 0 where
   pub line : List ℕ
   pub next : IfKnown left (IsNextLine lines line)
   pub given : Given
@@ -64,14 +66,18 @@ pub record EndsFull (need room : ℕ) (left : Option (List ℕ)) (lines : List (
   pub at : ℤ
   pub own : IsOwn given.at at
   pub read : more ≡ taken_reading given.at at
-  pub full : OverflowedStep (step_at given at) need room S T
+  pub cut : WasCut honest (step_at given at) end last after
 
--- why a journal is full, at that status
-abbrev pub Overflowed : Status → Option (List ℕ) → List (List ℕ) → List ℤ → ClusterState → ClusterState → Type 0
-Overflowed (status.JournalFull need room) left lines more S T = EndsFull need room left lines more S T
-Overflowed s left lines more S T = ⊤
+-- What the end of a run left of the state after its last reply, by the status: that state; or, where the next line's step
+-- was cut short, what that left.
+abbrev pub EndsRun : Type 0 → Status → Option (List ℕ) → List (List ℕ) → List ℤ → RunState → RunState → Type 0
+EndsRun honest (status.NotAStore store) left lines more last after = EndsShort honest (ends.NotAStore store) left lines more last after
+EndsRun honest (status.Damaged store at) left lines more last after = EndsShort honest (ends.Damaged store at) left lines more last after
+EndsRun honest (status.JournalFull need room) left lines more last after = EndsShort honest (ends.JournalFull need room) left lines more last after
+EndsRun honest status.NoMemory left lines more last after = NothingDone last after ⊎ EndsShort honest ends.NoMemory left lines more last after
+EndsRun honest s left lines more last after = after ≡ last
 
--- After the last line the status says whether the store is closed.
+-- After the last line the status says whether a store is closed.
 abbrev pub TellsClosed : Status → ClusterState → Type 0
 TellsClosed status.Ok S = is_closed S ≡ false
 TellsClosed status.DiskFault S = is_closed S ≡ true
@@ -100,10 +106,12 @@ HandsOn status.Ok o = IsHandedOn o.held o.handed
 HandsOn status.DiskFault o = IsHandedOn o.held o.handed
 HandsOn s o = ⊤
 
--- it ended before a step that isn't among those that were done
+-- it may have ended at a step that isn't among those that were done
 abbrev pub IsShort : Status → Type 0
 IsShort status.NoMemory = ⊤
 IsShort (status.JournalFull need room) = ⊤
+IsShort (status.NotAStore store) = ⊤
+IsShort (status.Damaged store at) = ⊤
 IsShort s = ⊥
 
 -- Which readings of the clock were taken: one for each step without a reading of its own, and maybe one more for a
@@ -118,22 +126,19 @@ pub record Clocked (s : Status) (old new : Option (List ℤ)) (lines : List (Lis
 -- how a run of lines may end
 abbrev pub IsOfScript : Status → Type 0
 IsOfScript (status.BadWords fault) = ⊥
-IsOfScript (status.NotAStore store) = ⊥
-IsOfScript (status.Damaged store at) = ⊥
 IsOfScript status.Exists = ⊥
 IsOfScript s = ⊤
 
 -- A run of these lines from the first state on, with these readings of the clock and these replies. The last state is
--- the one after the last reply.
-pub record IsRun (s : Status) (before after : RunState) (old new : Outside)
+-- the one after the last reply. Whether the disks are honest matters to restarts.
+pub record IsRun (honest : Type 0) (s : Status) (before after : RunState) (old new : Outside)
     (lines : List (List ℕ)) (readings : List ℤ) (replies : List StepReply) : Type 0 where
   pub called : IsOfScript s
   pub good : AllByRecursion IsGood lines
   pub last : RunState
-  pub steps : RanSteps (steps_of lines readings) replies before last
-  pub nothing : NothingDone last after
+  pub steps : RanSteps honest (steps_of lines readings) replies before last
   pub clocked : Clocked s old.readings new.readings lines readings
-  pub full : Overflowed s old.left lines clocked.more last.cluster after.cluster
+  pub end : EndsRun honest s old.left lines clocked.more last after
   pub closed : TellsClosed s last.cluster
   pub reads : Reads s old.left new.left lines
   pub writes : Writes s old.held new.held replies

@@ -8,6 +8,8 @@ use Rattle.qz_io.specs.declared.limits.TheConstants.{LINE_COUNT_LIMIT}
 use Rattle.qz_io.specs.declared.handlers.LinesEnd.{LinesEnd}
 use Rattle.qz_io.specs.declared.handlers.LinesEnd.TheVariants as lines
 use Rattle.qz_io.specs.Outside.{Outside, IsHandedOn}
+use Rattle.qz_cluster.specs.declared.errors.StepEnd.{StepEnd}
+use Rattle.qz_cluster.specs.declared.errors.StepEnd.TheVariants as step
 use Rattle.qz_types.specs.declared.stores.Store.{Store}
 use Rattle.qz_types.specs.declared.stores.Store.TheVariants.{Triggers, States}
 use Rattle.qz_top.specs.declared.statuses.BadKind.{BadKind}
@@ -62,13 +64,20 @@ error_text (status.JournalFull need room) = need_text need ++ room_text room
 error_text status.NoMemory = codes "qz: no memory\n"
 error_text status.Exists = codes "qz: store exists\n"
 
+-- how a script ends whose next step was cut short so
+abbrev pub cut_status : StepEnd → Status
+cut_status (step.JournalFull need room) = status.JournalFull need room
+cut_status (step.NotAStore store) = status.NotAStore store
+cut_status (step.Damaged store at) = status.Damaged store at
+cut_status step.NoMemory = status.NoMemory
+
 -- how a script ends whose line of this number ended so
 abbrev pub status_at : ℕ → LineEnd → Status
 status_at number (ends.Bad kind) = status.BadLine number kind
 status_at number ends.WriteFault = status.WriteFault
 status_at number ends.Unanswered = status.NoMemory
 status_at number ends.NoMemory = status.NoMemory
-status_at number (ends.JournalFull need room) = status.JournalFull need room
+status_at number (ends.CutShort end) = cut_status end
 
 -- how a script ends whose lines weren't handled to the end of the input
 abbrev pub status_of : LinesEnd LineEnd → Status
@@ -86,7 +95,7 @@ Reported text old new faults faults_now = Appends old new text ⊎ Rose faults f
 abbrev pub Flushed : Outside → Outside → Type 0
 Flushed old new = Appends old.held new.held [] × IsHandedOn new.held new.handed
 
--- After the last line the output was flushed, and the status says whether the store is closed; or the flush failed.
+-- After the last line the output was flushed, and the status says whether a store is closed; or the flush failed.
 abbrev pub Finishes : Status → Bool → Outside → Outside → ℕ → ℕ → Type 0
 Finishes status.Ok closed old new faults faults_now = (closed ≡ false) × Flushed old new
 Finishes status.DiskFault closed old new faults faults_now = (closed ≡ true) × Flushed old new

@@ -4,15 +4,16 @@ use Rattle.std.specs.List.{AllByRecursion, flat_map}
 use Rattle.qz_steps.specs.declared.steps.StepReply.{StepReply}
 use Rattle.qz_steps.specs.declared.steps.StepReply.TheVariants as reply
 use Rattle.qz_model.specs.History.{new_history}
+use Rattle.qz_checkin.specs.History.{new_state_history}
 use Rattle.qz_cluster.specs.Script.{TimedStep}
 use Rattle.qz_report.specs.Replies.{reply_text}
 use Rattle.qz_cluster.specs.Steps.{ClusterState, IsStep}
 
--- each state follows from the one before by its step and reply
-abbrev pub StepsDone : ClusterState → List TimedStep → List StepReply → List ClusterState → Type 0
-StepsDone S [] [] [] = ⊤
-StepsDone S (t ∷ ts) (r ∷ rs) (S' ∷ states) = IsStep t r S S' × StepsDone S' ts rs states
-StepsDone S ts rs states = ⊥
+-- Each state follows from the one before by its step and reply. Whether the disks are honest matters to restarts.
+abbrev pub StepsDone : Type 0 → ClusterState → List TimedStep → List StepReply → List ClusterState → Type 0
+StepsDone honest S [] [] [] = ⊤
+StepsDone honest S (t ∷ ts) (r ∷ rs) (S' ∷ states) = IsStep honest t r S S' × StepsDone honest S' ts rs states
+StepsDone honest S ts rs states = ⊥
 
 -- the last of these states, which come after the first
 abbrev pub last_of : ClusterState → List ClusterState → ClusterState
@@ -29,30 +30,32 @@ is_fault (reply.Refused refusal) = false
 is_fault reply.Fault = true
 is_fault reply.Closed = false
 is_fault reply.Stopped = false
+is_fault reply.Restarted = false
 
 abbrev pub IsNoFault : StepReply → Type 0
 IsNoFault r = is_fault r ≡ false
 
 -- A script in progress: the cluster, the states that it went through with the one that it began with, and whether its
--- disk is the call's own.
+-- disks are the call's own.
 pub record RunState : Type 0 where
   pub cluster : ClusterState
   pub trail : List ClusterState
   pub is_own : Bool
 
--- These steps led from one state of a script to the other, with these replies. On a disk of its own it goes on after
+-- These steps led from one state of a script to the other, with these replies. On disks of its own it goes on after
 -- no fault.
-pub record RanSteps (steps : List TimedStep) (replies : List StepReply) (before after : RunState) : Type 0 where
+pub record RanSteps (honest : Type 0) (steps : List TimedStep) (replies : List StepReply) (before after : RunState) : Type 0 where
   pub states : List ClusterState
-  pub done : StepsDone before.cluster steps replies states
+  pub done : StepsDone honest before.cluster steps replies states
   pub last : after.cluster ≡ last_of before.cluster states
   pub trail : after.trail ≡ before.trail ++ states
   pub own : after.is_own ≡ before.is_own
   pub no_fault : before.is_own ≡ true → AllByRecursion IsNoFault replies
 
--- a cluster on a new store
-abbrev pub new_cluster : ℕ → ClusterState
-new_cluster faults = record {
-  triggers = record { history = new_history; gate = 16; payloads = 0; is_open = true; undecided = None; faults = faults };
+-- a cluster on new stores, whose disks failed so often before
+abbrev pub new_cluster : ℕ → ℕ → ClusterState
+new_cluster triggers_faults states_faults = record {
+  triggers = record { history = new_history; gate = 16; payloads = 0; is_open = true; undecided = None; faults = triggers_faults };
+  states = record { history = new_state_history; gate = 16; payloads = 0; is_open = true; undecided = None; faults = states_faults };
   held = [];
 }

@@ -23,7 +23,7 @@ use std::alloc::Global;
 /// - Without words it runs the lines of `input` as a script on new stores in memory, and writes a reply line a step to
 ///   `out`. The two disks aren't touched.
 /// - `init` makes the stores that aren't there, and writes `created`.
-/// - `script` opens the trigger store and runs the lines of `input` on it.
+/// - `script` opens both stores and runs the lines of `input` on them.
 /// - `times AFTER COUNT` writes for each trigger of `input` its first fire times. The two disks aren't touched.
 ///
 /// The disks come back in every case.

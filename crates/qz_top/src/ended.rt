@@ -9,9 +9,9 @@ use std::alloc::Global;
 use std::snapshot::Snapshot;
 
 /// The states of a script, for contracts alone: they take no bytes. One list is of a script on the handed-in disks,
-/// the other of one on the call's own; the one that isn't meant is empty. The first state is the one in which the
-/// store was opened, and then comes one after each step that was done. Both are empty where no store was opened, and
-/// for a call that runs no script.
+/// the other of one on the call's own; the one that isn't meant is empty. The first state is the one in which both
+/// stores were opened, and then comes one after each step that was answered. Both are empty where a store wasn't opened,
+/// and for a call that runs no script.
 #[derive(Drop)]
 pub struct Trail<D: Disk> {
     pub on_disk: Snapshot<Vec<Snapshot<Cluster<D>>>>,

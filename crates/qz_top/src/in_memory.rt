@@ -77,7 +77,7 @@ fn script_in_memory<S: Source, K: Sink, C: Clock>(
 
 // A script that begins on new stores. None, where there is no memory for them.
 fn new_run(alloc: Global) -> Option<Run<MemDisk>>
-    ensures { IfSome result (λ run. view run ≡ begun true (new_cluster (cluster_view run.cluster).triggers.faults)) }
+    ensures { IfSome result (λ run. view run ≡ begun true (new_cluster (cluster_view run.cluster).triggers.faults (cluster_view run.cluster).states.faults)) }
 {
     let cluster = new_stores(alloc)?;
     match Run::begin(alloc, cluster, true) {
@@ -91,12 +91,11 @@ fn new_run(alloc: Global) -> Option<Run<MemDisk>>
 
 // An open cluster on new stores.
 fn new_stores(alloc: Global) -> Option<Cluster<MemDisk>>
-    ensures { IfSome result (λ c. cluster_view c ≡ new_cluster (cluster_view c).triggers.faults) }
+    ensures { IfSome result (λ c. cluster_view c ≡ new_cluster (cluster_view c).triggers.faults (cluster_view c).states.faults) }
 {
-    // A script has both stores, as `init` makes them; nothing works on the states yet.
-    drop(new_store(alloc, STATES)?);
     let triggers = new_store(alloc, TRIGGERS)?;
-    match Cluster::mount(alloc, triggers) {
+    let states = new_store(alloc, STATES)?;
+    match Cluster::mount(alloc, triggers, states) {
         Ok(cluster) => Some(cluster),
         Err(refused) => {
             drop(refused);

@@ -7,7 +7,6 @@ ghost use Rattle.qz_steps.specs.Steps.{is_step};
 ghost use Rattle.qz_steps.specs.declared.steps.StepReply.{StepReply as Reply};
 ghost use Rattle.qz_job_json.specs.Lines.{ReadsLineAs};
 ghost use Rattle.qz_report.specs.Replies.{reply_text};
-ghost use Rattle.qz_cluster.specs.Steps.{IsStep, IsCutShort};
 ghost use Rattle.qz_cluster.specs.View.{view as cluster_view};
 ghost use Rattle.qz_top.specs.Lines.{line_meaning};
 ghost use Rattle.qz_top.specs.Moments.{Shows};
@@ -37,10 +36,10 @@ pub(crate) enum LineEnd {
     WriteFault,
     /// The line's step was done, and there was no memory for its reply.
     Unanswered,
-    /// The line's step wasn't done.
+    /// There was no memory for the line or its step, which wasn't done; or disks of the call's own failed in the step.
     NoMemory,
-    /// The line's step wasn't done, since its record finds no room.
-    JournalFull { need: u64, room: u64 },
+    /// The line's step was cut short.
+    CutShort(StepEnd),
 }
 
 impl<D: Disk, K: Sink, C: Clock> LineHandler<K, C> for Run<D> {
@@ -63,7 +62,7 @@ fn do_line<K: Sink, D: Disk, C: Clock>(
     out: &mut K,
     clock: &mut C,
 ) -> Result<(), LineEnd>
-    ensures done { LineDone result line.now (view run.old) (view run.new) (without_input K.Sink C.Clock out.old clock.old) (without_input K.Sink C.Clock out.new clock.new) }
+    ensures done { LineDone D.honest result line.now (view run.old) (view run.new) (without_input K.Sink C.Clock out.old clock.old) (without_input K.Sink C.Clock out.new clock.new) }
     ensures shows { Shows (IsOk result) run.old run.new }
     ensures later { K.faults out.old ≤ K.faults out.new }
     ensures write { result ≡ Err LineEnd.WriteFault → Rose (K.faults out.old) (K.faults out.new) }
@@ -102,7 +101,7 @@ fn do_step<K: Sink, D: Disk, C: Clock>(
     clock: &mut C,
 ) -> Result<(), LineEnd>
     requires { IsTrue (is_step given.step) }
-    ensures done { StepDone result given (view run.old) (view run.new) (without_input K.Sink C.Clock out.old clock.old) (without_input K.Sink C.Clock out.new clock.new) }
+    ensures done { StepDone D.honest result given (view run.old) (view run.new) (without_input K.Sink C.Clock out.old clock.old) (without_input K.Sink C.Clock out.new clock.new) }
     ensures shows { Shows (IsOk result) run.old run.new }
     ensures later { K.faults out.old ≤ K.faults out.new }
     ensures write { result ≡ Err LineEnd.WriteFault → Rose (K.faults out.old) (K.faults out.new) }
@@ -127,8 +126,8 @@ fn answer_text<D: Disk>(
     run: &mut Run<D>,
 ) -> Result<Text, LineEnd>
     requires { IsTrue (is_step step) }
-    ensures ok { IfOk result (λ text. (reply : Reply) × RanSteps (record { step = step; at = at } ∷ []) (reply ∷ []) (view run.old) (view run.new) × (text ≡ reply_text reply)) }
-    ensures err { IfErr result (λ e. NotAnswered e (record { step = step; at = at }) (view run.old) (view run.new)) }
+    ensures ok { IfOk result (λ text. (reply : Reply) × RanSteps D.honest (record { step = step; at = at } ∷ []) (reply ∷ []) (view run.old) (view run.new) × (text ≡ reply_text reply)) }
+    ensures err { IfErr result (λ e. NotAnswered D.honest e (record { step = step; at = at }) (view run.old) (view run.new)) }
     ensures shows { Shows (IsOk result) run.old run.new }
 {
     match answer(step, at, run) {
@@ -149,11 +148,11 @@ fn line_of(alloc: Global, reply: StepReply) -> Result<Text, NoMemory>
     line
 }
 
-/// Does a step, and shows the state after it.
+/// Does a step, and shows the state after it. That disks of the call's own fail is want of memory.
 fn answer<D: Disk>(step: Step, at: i64, run: &mut Run<D>) -> Result<StepReply, LineEnd>
     requires { IsTrue (is_step step) }
-    ensures ok { IfOk result (λ reply. RanSteps (record { step = step; at = at } ∷ []) (reply ∷ []) (view run.old) (view run.new)) }
-    ensures err { IfErr result (λ e. NotDone e (record { step = step; at = at }) (view run.old) (view run.new)) }
+    ensures ok { IfOk result (λ reply. RanSteps D.honest (record { step = step; at = at } ∷ []) (reply ∷ []) (view run.old) (view run.new)) }
+    ensures err { IfErr result (λ e. NotDone D.honest e (record { step = step; at = at }) (view run.old) (view run.new)) }
     ensures shows { Shows (IsOk result) run.old run.new }
 {
     if run.trail.reserve(1).is_err() {
@@ -169,8 +168,7 @@ fn answer<D: Disk>(step: Step, at: i64, run: &mut Run<D>) -> Result<StepReply, L
             run.trail.push_reserved(Snapshot::of(&run.cluster));
             Ok(reply)
         }
-        Err(StepEnd::JournalFull { need, room }) => Err(LineEnd::JournalFull { need, room }),
-        Err(StepEnd::NoMemory) => Err(LineEnd::NoMemory),
+        Err(end) => Err(LineEnd::CutShort(end)),
     }
 }
 
@@ -179,7 +177,11 @@ fn is_fault(reply: &StepReply) -> bool
 {
     match reply {
         StepReply::Fault => true,
-        StepReply::Ok(_) | StepReply::Refused(_) | StepReply::Closed | StepReply::Stopped => false,
+        StepReply::Ok(_)
+        | StepReply::Refused(_)
+        | StepReply::Closed
+        | StepReply::Stopped
+        | StepReply::Restarted => false,
     }
 }
 

@@ -1,22 +1,22 @@
 //! A script on the stores of two disks.
-ghost use Rattle.std.specs.Prelude.{◌≡◌, ◌⊎◌, []};
+ghost use Rattle.std.specs.Prelude.{◌≡◌, ◌⊎◌};
 ghost use Rattle.qz_civil.specs.Causes.{Rose};
 ghost use Rattle.qz_io.specs.Around.{outside};
-ghost use Rattle.qz_top.specs.Calls.{RanOnDisk, NotOpened, refusal_of};
+ghost use Rattle.qz_top.specs.Asked.{RanScript};
+ghost use Rattle.qz_top.specs.Calls.{RanOnDisk, refusal_of};
 ghost use Rattle.qz_top.specs.Moments.{BeginsOn};
 
 use crate::Status;
 use crate::ended::{Ended, Trail, ran_no_script};
 use crate::runs::Run;
 use crate::scripts::run_lines;
-use qz_cluster::{Cluster, MountError};
+use qz_cluster::{Cluster, MountError, MountFault};
 use qz_disk::Disk;
 use qz_io::{Clock, Sink, Source};
-use qz_types::Store;
 use std::alloc::Global;
 use std::snapshot::Snapshot;
 
-/// Opens the trigger store, and runs the lines of the input on it.
+/// Opens both stores, and runs the lines of the input on them.
 pub(crate) fn script_on_disk<S: Source, K: Sink, D: Disk, C: Clock>(
     alloc: Global,
     input: &mut S,
@@ -25,36 +25,37 @@ pub(crate) fn script_on_disk<S: Source, K: Sink, D: Disk, C: Clock>(
     states: D,
     clock: &mut C,
 ) -> Ended<D>
-    ensures done { RanOnDisk triggers result (outside S.Source K.Sink C.Clock input.old out.old clock.old) (outside S.Source K.Sink C.Clock input.new out.new clock.new)
-        ⊎ NotOpened triggers result (outside S.Source K.Sink C.Clock input.old out.old clock.old) (outside S.Source K.Sink C.Clock input.new out.new clock.new) }
-    ensures states { result.states ≡ states }
-    ensures disk { result.status ≡ Status.DiskFault → Rose (D.faults triggers) (D.faults result.triggers) }
+    ensures done { RanScript triggers states result (outside S.Source K.Sink C.Clock input.old out.old clock.old) (outside S.Source K.Sink C.Clock input.new out.new clock.new) }
+    ensures disk { result.status ≡ Status.DiskFault → Rose (D.faults triggers) (D.faults result.triggers) ⊎ Rose (D.faults states) (D.faults result.states) }
     ensures read { result.status ≡ Status.ReadFault → Rose (S.faults input.old) (S.faults input.new) }
     ensures write { result.status ≡ Status.WriteFault → Rose (K.faults out.old) (K.faults out.new) }
 {
-    match Cluster::mount(alloc, triggers) {
+    match Cluster::mount(alloc, triggers, states) {
         Ok(cluster) => match Run::begin(alloc, cluster, false) {
-            Ok(run) => run_opened(alloc, input, out, run, states, clock),
-            Err(cluster) => ran_no_script(alloc, Status::NoMemory, cluster.into_disk(), states),
+            Ok(run) => run_opened(alloc, input, out, run, clock),
+            Err(cluster) => {
+                let (triggers, states) = cluster.into_disks();
+                ran_no_script(alloc, Status::NoMemory, triggers, states)
+            }
         },
-        Err((error, triggers)) => ran_no_script(alloc, refusal_of(error), triggers, states),
+        Err((fault, triggers, states)) => {
+            ran_no_script(alloc, refusal_of(fault), triggers, states)
+        }
     }
 }
 
-// A script on the store that was opened.
+// A script on the stores that were opened.
 fn run_opened<S: Source, K: Sink, D: Disk, C: Clock>(
     alloc: Global,
     input: &mut S,
     out: &mut K,
     mut run: Run<D>,
-    states: D,
     clock: &mut C,
 ) -> Ended<D>
-    ensures done { (triggers : D) → BeginsOn triggers run
-        → RanOnDisk triggers result (outside S.Source K.Sink C.Clock input.old out.old clock.old) (outside S.Source K.Sink C.Clock input.new out.new clock.new) }
-    ensures states { result.states ≡ states }
-    ensures disk { (triggers : D) → BeginsOn triggers run
-        → result.status ≡ Status.DiskFault → Rose (D.faults triggers) (D.faults result.triggers) }
+    ensures done { (triggers : D) → (states : D) → BeginsOn triggers states run
+        → RanOnDisk triggers states result (outside S.Source K.Sink C.Clock input.old out.old clock.old) (outside S.Source K.Sink C.Clock input.new out.new clock.new) }
+    ensures disk { (triggers : D) → (states : D) → BeginsOn triggers states run
+        → result.status ≡ Status.DiskFault → Rose (D.faults triggers) (D.faults result.triggers) ⊎ Rose (D.faults states) (D.faults result.states) }
     ensures read { result.status ≡ Status.ReadFault → Rose (S.faults input.old) (S.faults input.new) }
     ensures write { result.status ≡ Status.WriteFault → Rose (K.faults out.old) (K.faults out.new) }
 {
@@ -65,9 +66,10 @@ fn run_opened<S: Source, K: Sink, D: Disk, C: Clock>(
         alloc: _,
         is_own: _,
     } = run;
+    let (triggers, states) = cluster.into_disks();
     Ended {
         status,
-        triggers: cluster.into_disk(),
+        triggers,
         states,
         trail: Trail {
             on_disk: Snapshot::of(&trail),
@@ -76,19 +78,15 @@ fn run_opened<S: Source, K: Sink, D: Disk, C: Clock>(
     }
 }
 
-// The status of a trigger store that wasn't opened.
-fn refusal_of(error: MountError) -> Status
-    ensures { result ≡ refusal_of error }
+// The status of a script whose store wasn't opened.
+fn refusal_of(fault: MountFault) -> Status
+    ensures { result ≡ refusal_of fault.store fault.error }
 {
+    let MountFault { store, error } = fault;
     match error {
         MountError::Fault => Status::DiskFault,
-        MountError::NotAStore => Status::NotAStore {
-            store: Store::Triggers,
-        },
-        MountError::Damaged { at } => Status::Damaged {
-            store: Store::Triggers,
-            at,
-        },
+        MountError::NotAStore => Status::NotAStore { store },
+        MountError::Damaged { at } => Status::Damaged { store, at },
         MountError::NoMemory => Status::NoMemory,
     }
 }

@@ -5,12 +5,12 @@ use std::alloc::Global;
 use std::snapshot::Snapshot;
 
 /// The cluster that a script works on, and the states that it went through, which contracts alone see and which take
-/// no bytes: the first as the store was opened, then one after each step that was done.
+/// no bytes: the first as the stores were opened, then one after each step that was answered.
 #[derive(Drop)]
 pub(crate) struct Run<D: Disk> {
     pub(crate) alloc: Global,
     pub(crate) cluster: Cluster<D>,
     pub(crate) trail: Vec<Snapshot<Cluster<D>>>,
-    /// Whether the disk is the call's own. That it fails is then want of memory.
+    /// Whether the disks are the call's own. That one fails is then want of memory.
     pub(crate) is_own: bool,
 }

@@ -6,11 +6,12 @@ ghost use Rattle.qz_steps.specs.declared.steps.StepReply.{StepReply};
 ghost use Rattle.qz_top.specs.Moments.{Shows};
 ghost use Rattle.qz_top.specs.Runs.{IsOfScript, IsRun};
 ghost use Rattle.qz_top.specs.Seen.{view};
-ghost use Rattle.qz_top.specs.Statuses.{status_at, status_of, Finishes};
+ghost use Rattle.qz_top.specs.Statuses.{cut_status, status_at, status_of, Finishes};
 
 use crate::line_handler::LineEnd;
 use crate::runs::Run;
 use crate::{BadKind, Status};
+use qz_cluster::StepEnd;
 use qz_disk::Disk;
 use qz_io::{Clock, LINE_COUNT_LIMIT, LinesEnd, Sink, Source, handle_lines};
 
@@ -23,7 +24,7 @@ pub(crate) fn run_lines<S: Source, K: Sink, D: Disk, C: Clock>(
     clock: &mut C,
 ) -> Status
     ensures run { (lines : List (List ℕ)) × (readings : List ℤ) × (replies : List StepReply)
-        × IsRun result (view run.old) (view run.new) (outside S.Source K.Sink C.Clock input.old out.old clock.old) (outside S.Source K.Sink C.Clock input.new out.new clock.new) lines readings replies }
+        × IsRun D.honest result (view run.old) (view run.new) (outside S.Source K.Sink C.Clock input.old out.old clock.old) (outside S.Source K.Sink C.Clock input.new out.new clock.new) lines readings replies }
     ensures called { IsOfScript result }
     ensures shows { Shows ⊥ run.old run.new }
     ensures read { result ≡ Status.ReadFault → Rose (S.faults input.old) (S.faults input.new) }
@@ -36,7 +37,7 @@ pub(crate) fn run_lines<S: Source, K: Sink, D: Disk, C: Clock>(
     }
 }
 
-/// All lines were done: hands on what the output holds, and answers whether the store is closed.
+/// All lines were done: hands on what the output holds, and answers whether a store is closed.
 fn finish<K: Sink>(out: &mut K, closed: bool) -> Status
     ensures { Finishes result closed (output_alone K.Sink out.old) (output_alone K.Sink out.new) (K.faults out.old) (K.faults out.new) }
 {
@@ -77,6 +78,19 @@ fn status_at(line: u64, end: LineEnd) -> Status
         LineEnd::WriteFault => Status::WriteFault,
         LineEnd::Unanswered => Status::NoMemory,
         LineEnd::NoMemory => Status::NoMemory,
-        LineEnd::JournalFull { need, room } => Status::JournalFull { need, room },
+        LineEnd::CutShort(end) => cut_status(end),
+    }
+}
+
+/// The status of a script whose next step was cut short so.
+fn cut_status(end: StepEnd) -> Status
+    ensures value { result ≡ cut_status end }
+    ensures called { IsOfScript result }
+{
+    match end {
+        StepEnd::JournalFull { need, room } => Status::JournalFull { need, room },
+        StepEnd::NotAStore { store } => Status::NotAStore { store },
+        StepEnd::Damaged { store, at } => Status::Damaged { store, at },
+        StepEnd::NoMemory => Status::NoMemory,
     }
 }

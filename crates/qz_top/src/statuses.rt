@@ -51,13 +51,15 @@ pub enum Status {
     ReadFault,
     /// A write of the output failed.
     WriteFault,
-    /// A disk failed while the stores were made or opened; or, after a whole script, a store is closed since its disk
+    /// A disk failed while the stores were made or opened; or, after a whole script, a store is closed since a disk
     /// failed.
     DiskFault,
-    /// `script`: the disk doesn't begin with the trigger store's header. `init`: this disk begins with the other
-    /// store's header; a trigger store that was made before it stays. No input was read and no output written.
+    /// `script`: the disk doesn't begin with this store's header. `init`: this disk begins with the other store's header;
+    /// a trigger store that was made before it stays. No input was read and no output written. In a script's restart: a
+    /// disk lost what was acknowledged, which no honest one does; the lines before were done and answered.
     NotAStore { store: Store },
-    /// The first bad place of the store's bytes, as an offset. Nothing was read from the input or written.
+    /// The first bad place of the store's bytes, as an offset. Nothing was read from the input or written; or it was
+    /// found in a script's restart, as `NotAStore` is.
     Damaged { store: Store, at: u64 },
     /// A step would be accepted, and its record needs more bytes than are left in the store.
     JournalFull { need: u64, room: u64 },

@@ -20,8 +20,8 @@ const THREE_DONE: Wanted<'static> = Wanted {
     status: Status::Ok,
 };
 
-// The disks of new stores.
-fn made(alloc: Global) -> Option<(MemDisk, MemDisk)> {
+/// The disks of new stores.
+pub fn made(alloc: Global) -> Option<(MemDisk, MemDisk)> {
     let wanted = Wanted {
         replies: "created\n",
         ..DONE
@@ -125,6 +125,26 @@ fn what_is_no_store_is_not_opened(rt: HostRuntime) {
     are_answered(&rt, rt.alloc(), &["script"], &rows);
 }
 
+// Disks of which the first alone has a store.
+fn without_states(alloc: Global) -> Option<(MemDisk, MemDisk)> {
+    let (triggers, states) = made(alloc)?;
+    drop(states);
+    Some((triggers, MemDisk::new(alloc)))
+}
+
+#[test]
+fn no_store_is_opened_alone(rt: HostRuntime) {
+    let alloc = rt.alloc();
+    let wanted = Wanted {
+        replies: "",
+        error: "qz: states not a store\n",
+        status: Status::NotAStore {
+            store: Store::States,
+        },
+    };
+    assert!(rt; answers(alloc, without_states(alloc), &["script"], THREE, &wanted));
+}
+
 // Disks of which the first holds a journal whose payload is cut.
 fn damaged(alloc: Global) -> Option<(MemDisk, MemDisk)> {
     let bytes = b"QZ23\x01T\0\0\0\0\0\0\0\0\0\0\xa5\0\0\0\x10\x01\x02\x03";
@@ -147,15 +167,22 @@ fn a_damaged_store_is_not_opened(rt: HostRuntime) {
     assert!(rt; answers(alloc, damaged(alloc), &["script"], THREE, &wanted));
 }
 
-// New stores on disks of which the first fails at this call.
-fn failing(alloc: Global, at: u64) -> Option<(FaultDisk<MemDisk>, FaultDisk<MemDisk>)> {
-    let calls = numbers(alloc, &[at]).ok()?;
+// New stores on disks that fail at these calls.
+fn failing(
+    alloc: Global,
+    triggers_at: &[u64],
+    states_at: &[u64],
+) -> Option<(FaultDisk<MemDisk>, FaultDisk<MemDisk>)> {
+    let triggers_calls = numbers(alloc, triggers_at).ok()?;
+    let states_calls = numbers(alloc, states_at).ok()?;
     let (triggers, states) = made(alloc)?;
     Some((
-        FaultDisk::new(triggers, calls),
-        FaultDisk::new(states, List::new(alloc)),
+        FaultDisk::new(triggers, triggers_calls),
+        FaultDisk::new(states, states_calls),
     ))
 }
+
+const FAULT: Status = Status::DiskFault;
 
 #[test]
 fn a_disk_that_fails_closes_the_store(rt: HostRuntime) {
@@ -163,8 +190,100 @@ fn a_disk_that_fails_closes_the_store(rt: HostRuntime) {
     let wanted = Wanted {
         replies: "ok\nfault\nclosed\n",
         error: "qz: disk fault\n",
-        status: Status::DiskFault,
+        status: FAULT,
     };
     // the first call of the second commit, after four of the opening and four of the first commit
-    assert!(rt; answers(alloc, failing(alloc, 9), &["script"], THREE, &wanted));
+    assert!(rt;
+        answers(
+            alloc,
+            failing(alloc, &[9], &[]),
+            &["script"],
+            THREE,
+            &wanted
+        )
+    );
+}
+
+const RESTARTED: &str = r#"{"do":"add_job","job":{"name":"report","class":"ok"}}
+{"do":"add_trigger","trigger":{"name":"t1","job":"report","kind":"simple","start":1704067200000}}
+{"do":"join","node":"A"}
+{"do":"restart"}
+{"do":"add_trigger","trigger":{"name":"t1","job":"report","kind":"simple","start":1704067200000}}
+"#;
+
+#[test]
+fn a_restart_opens_a_closed_store(rt: HostRuntime) {
+    let alloc = rt.alloc();
+    let wanted = Wanted {
+        replies: "ok\nfault\nclosed\nrestarted\nok next 1704067200000\n",
+        ..DONE
+    };
+    assert!(rt;
+        answers(
+            alloc,
+            failing(alloc, &[9], &[]),
+            &["script"],
+            RESTARTED,
+            &wanted
+        )
+    );
+}
+
+const CHECKED_IN: &str = r#"{"do":"join","node":"A"}
+{"do":"join","node":"A"}
+{"do":"add_job","job":{"name":"report","class":"ok"}}
+"#;
+
+#[test]
+fn a_closed_state_store_is_told(rt: HostRuntime) {
+    let alloc = rt.alloc();
+    let wanted = Wanted {
+        replies: "fault\nclosed\nok\n",
+        error: "qz: disk fault\n",
+        status: FAULT,
+    };
+    // the first call of the first commit
+    assert!(rt;
+        answers(
+            alloc,
+            failing(alloc, &[], &[5]),
+            &["script"],
+            CHECKED_IN,
+            &wanted
+        )
+    );
+}
+
+const RESTARTED_AT_ONCE: &str = r#"{"do":"restart"}
+{"do":"stop","node":"A"}
+{"do":"join","node":"A"}
+"#;
+
+#[test]
+fn a_restart_that_fails_closes_both_stores(rt: HostRuntime) {
+    let alloc = rt.alloc();
+    let wanted = Wanted {
+        replies: "fault\nstopped\nclosed\n",
+        error: "qz: disk fault\n",
+        status: FAULT,
+    };
+    // the first call after those of the opening
+    assert!(rt;
+        answers(
+            alloc,
+            failing(alloc, &[5], &[]),
+            &["script"],
+            RESTARTED_AT_ONCE,
+            &wanted
+        )
+    );
+    assert!(rt;
+        answers(
+            alloc,
+            failing(alloc, &[], &[5]),
+            &["script"],
+            RESTARTED_AT_ONCE,
+            &wanted
+        )
+    );
 }

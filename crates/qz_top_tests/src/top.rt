@@ -66,18 +66,9 @@ fn scripts_have_their_replies(rt: HostRuntime) {
 const UNENDED: &str = r#"{"do":"join","node":"A"}
 {"do":"fire","node":"A""#;
 
-const UNBUILT: &str = r#"{"do":"check_in","node":"A"}
-{"do":"join","node":"A"}
-"#;
-
 const NOT_JSON: Status = Status::BadLine {
     line: 2,
     fault: BadKind::NotJson,
-};
-
-const NOT_HERE: Status = Status::BadLine {
-    line: 1,
-    fault: BadKind::NotHere,
 };
 
 const NOT_A_STEP: Status = Status::BadLine {
@@ -85,9 +76,8 @@ const NOT_A_STEP: Status = Status::BadLine {
     fault: BadKind::Shape,
 };
 
-const BAD_LINES: [Row; 3] = [
+const BAD_LINES: [Row; 2] = [
     (UNENDED, JOINED, "qz: line 2: not JSON\n", NOT_JSON),
-    (UNBUILT, "", "qz: line 1: not here\n", NOT_HERE),
     ("\n\n[1]\n", "", "qz: line 3: not a step\n", NOT_A_STEP),
 ];
 

@@ -25,7 +25,7 @@ returns-in-Ok-Init-clause-done g c =
 pub returns-in-Ok-Script-clause-done : goal.returns-in-Ok-Script-clause-done
 returns-in-Ok-Script-clause-done g c =
     done_at _ _ _ _ _ _ _ (rw c.in-Ok-Script.field-0-is at c.in-Ok-Script.ensures.value)
-    (record { ran = c.script_on_disk.ensures.done; states_stay = c.script_on_disk.ensures.states })
+    c.script_on_disk.ensures.done
 
 pub returns-in-Ok-Times-clause-done : goal.returns-in-Ok-Times-clause-done
 returns-in-Ok-Times-clause-done g c =
@@ -54,7 +54,7 @@ returns-in-Ok-Init-clause-cause g c =
 pub returns-in-Ok-Script-clause-cause : goal.returns-in-Ok-Script-clause-cause
 returns-in-Ok-Script-clause-cause g c =
     let script = c.script_on_disk.ensures in
-    caused_at _ _ _ _ _ (rw c.in-Ok-Script.field-0-is at c.in-Ok-Script.ensures.value) (λ fault is. absurd (script_words _ _ _ _ fault script.done is)) script.read script.write script.disk
+    caused_at _ _ _ _ _ (rw c.in-Ok-Script.field-0-is at c.in-Ok-Script.ensures.value) (λ fault is. absurd (script_words _ _ _ _ _ fault script.done is)) script.read script.write script.disk
 
 pub returns-in-Ok-Times-clause-cause : goal.returns-in-Ok-Times-clause-cause
 returns-in-Ok-Times-clause-cause g c =

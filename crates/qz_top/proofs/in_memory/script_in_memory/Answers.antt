@@ -8,13 +8,14 @@ pub returns-clause-done : goal.returns-clause-done
 returns-clause-done g c =
     let ran = rw c.in-Some.ensures at c.run_lines-status.ensures.run in
     inl (record {
-      faults = (cluster_view c.in-Some.run'.cluster).triggers.faults;
+      triggers_faults = (cluster_view c.in-Some.run'.cluster).triggers.faults;
+      states_faults = (cluster_view c.in-Some.run'.cluster).states.faults;
       end = view c.run_lines-status.new.run;
       lines = ran.0;
       readings = ran.1;
       replies = ran.2;
       run = ran.3;
-      plain = plain_of _ _ _ _ _ _ _ _ ran.3;
+      plain = plain_of _ _ _ _ _ _ _ _ _ ran.3;
       trail_is = ap states_in c.of-trail.ensures;
-      no_fault = no_disk_fault _ _ _ _ _ _ _ _ ran.3;
+      no_fault = no_disk_fault _ _ _ _ _ _ _ _ _ ran.3;
     })

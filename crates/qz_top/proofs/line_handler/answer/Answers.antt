@@ -1,8 +1,9 @@
 use Rattle.std.proofs.Common.{◌≡◌, ◌∙◌, ◌++◌, ◌∷◌, [], true, false, refl, sym, ap, w64, to_z, of_z, arith}
 use Rattle.std.proofs.lemmas.Grind.{common_steps}
 use Rattle.std.proofs.lemmas.Int.{to_z-of_z}
+use Rattle.qz_top.specs.Seen.{states_of}
 use Rattle.qz_top.specs.Trails.{is_fault}
-use Rattle.qz_top.proofs.MomentLaws.{Shows-one, Shows-kept, Shows-own, disk_kept}
+use Rattle.qz_top.proofs.MomentLaws.{Shows-one, Shows-kept, Shows-cut}
 use Rattle.qz_top.proofs.TrailLaws.{RanSteps-one}
 use Rattle.qz_top.proofs.ShownLaws.{shown-push}
 use Rattle.qz_top.proofs.line_handler.answer.Goals as goal
@@ -26,10 +27,12 @@ pub returns-then-is_err-clause-shows : goal.returns-then-is_err-clause-shows
 returns-then-is_err-clause-shows g c = Shows-kept _ _ c.reserve.ensures.items refl refl
 
 pub returns-then-is_fault-clause-shows : goal.returns-then-is_fault-clause-shows
-returns-then-is_fault-clause-shows g c = Shows-own _ _ c.reserve.ensures.items refl c.if-run.true
+returns-then-is_fault-clause-shows g c = Shows-cut _ _ c.reserve.ensures.items refl c.in-Ok.ensures.any_moment
 
-pub returns-in-Err-JournalFull-clause-shows : goal.returns-in-Err-JournalFull-clause-shows
-returns-in-Err-JournalFull-clause-shows g c = Shows-kept _ _ c.reserve.ensures.items refl (disk_kept c.args.run.now.cluster c.step.new.self c.in-Err-JournalFull.ensures.unchanged)
+pub returns-in-Err-clause-err : goal.returns-in-Err-clause-err
+returns-in-Err-clause-err g c =
+    let same : to_z w64 (of_z w64 c.args.at) ≡ c.args.at = grind (arith, common_steps, to_z-of_z) in
+    record { cut = rw same at c.in-Err.ensures.err; trail = ap states_of c.reserve.ensures.items; own = refl }
 
-pub returns-in-Err-NoMemory-clause-shows : goal.returns-in-Err-NoMemory-clause-shows
-returns-in-Err-NoMemory-clause-shows g c = Shows-kept _ _ c.reserve.ensures.items refl (disk_kept c.args.run.now.cluster c.step.new.self c.in-Err-NoMemory.ensures.unchanged)
+pub returns-in-Err-clause-shows : goal.returns-in-Err-clause-shows
+returns-in-Err-clause-shows g c = Shows-cut _ _ c.reserve.ensures.items refl c.in-Err.ensures.any_moment
