@@ -1,7 +1,6 @@
 -- Runs of steps that go on, and new clusters.
 use Rattle.std.proofs.Common.{◌≡◌, ℕ, List, [], ◌∷◌, ◌++◌, length, true, false, refl, sym, ap, ◌∙◌, subst, append_assoc}
 use Rattle.std.specs.Prelude.{map}
-
 use Rattle.std.proofs.lemmas.List.{append-nil}
 use Rattle.qz_steps.specs.declared.steps.StepReply.{StepReply}
 use Rattle.qz_types.specs.Entries.{EntryData}

@@ -40,7 +40,7 @@ returns-in-Err-begin-clause-done g c =
           let reads = c.in-Ok.ensures.reads honest in (
             subst (λ d. OnlyReads (disk.state c.args.triggers) (disk.state d)) (sym triggers_is) reads.0,
             subst (λ d. OnlyReadsUnless (mount.NoMemory ≡ mount.Fault) (disk.state c.args.states) (disk.state d)) (sym states_is)
-            (record { content = λ kept. reads.1.content; any_moment = reads.1.any_moment; bytes_read = reads.1.bytes_read }),
+                (record { content = λ kept. reads.1.content; any_moment = reads.1.any_moment; bytes_read = reads.1.bytes_read }),
           );
       untouched = refl;
     })
