@@ -1,6 +1,6 @@
 -- What a call did, by what its words ask for, and the causes of its status.
 use Rattle.std.proofs.Common.{◌≡◌, ◌⊎◌, inl, inr, List, Result, subst, refl, sym, ◌∙◌}
-use Rattle.std.specs.Prelude.{Ok, Err}
+use Rattle.std.specs.Prelude.{Err}
 use Rattle.qz_civil.specs.Causes.{Rose}
 use Rattle.qz_disk.specs.declared.disk.Disk.{Ghosts}
 use Rattle.qz_io.specs.Outside.{Outside}
@@ -9,7 +9,6 @@ use Rattle.qz_journal.specs.declared.errors.MountError.TheVariants as mount
 use Rattle.qz_types.specs.declared.stores.Store.{Store}
 use Rattle.qz_words.specs.declared.wishes.WordFault.{WordFault}
 use Rattle.qz_words.specs.declared.wishes.Wish.{Wish}
-use Rattle.qz_words.specs.declared.wishes.Wish.TheVariants as wish
 use Rattle.qz_cluster.specs.Steps.{ClusterState}
 use Rattle.qz_top.specs.Asked.{RanScript, DidAsAsked}
 use Rattle.qz_top.specs.Calls.{OwnDone, refusal_of}

@@ -1,5 +1,5 @@
 -- What a whole run tells: how it may end on disks, and in memory.
-use Rattle.std.proofs.Common.{◌≡◌, ◌⊎◌, inl, inr, ◌≤◌, ℕ, ℤ, List, [], ◌∷◌, ◌++◌, length, take, true, false, Option, None, refl, sym, ap, ◌∙◌, subst, arith}
+use Rattle.std.proofs.Common.{◌≡◌, ◌⊎◌, inl, inr, ◌≤◌, ℕ, ℤ, List, [], ◌∷◌, ◌++◌, length, take, true, false, Option, refl, sym, ap, ◌∙◌, subst, arith}
 use Rattle.std.specs.Prelude.{⊤}
 use Rattle.std.specs.List.{AllByRecursion}
 use Rattle.qz_civil.specs.Causes.{Rose}
@@ -14,7 +14,7 @@ use Rattle.qz_cluster.proofs.Closings.{IsReady, ready_open}
 use Rattle.qz_cluster.proofs.Sound.{cut_sound}
 use Rattle.qz_top.specs.Lines.{steps_of}
 use Rattle.qz_top.specs.Calls.{begun, script_of, HasSoundStores, IsOnHonest}
-use Rattle.qz_top.specs.LineOutcomes.{NothingDone, step_at}
+use Rattle.qz_top.specs.LineOutcomes.{step_at}
 use Rattle.qz_top.specs.Runs.{TellsClosed, EndsShort, EndsRun, IsRun}
 use Rattle.qz_top.specs.Trails.{StepsDone, IsNoFault, RunState, new_cluster}
 use Rattle.qz_top.specs.declared.statuses.Status.{Status}
