@@ -1,6 +1,7 @@
 pub mod AskedLaws
 pub mod EndLaws
 pub mod LineLaws
+pub mod LossLaws
 pub mod MakingLaws
 pub mod MomentLaws
 pub mod OpenedLaws
@@ -10,3 +11,4 @@ pub mod RunLaws
 pub mod ShownLaws
 pub mod StopLaws
 pub mod TrailLaws
+pub mod ValidEntries

@@ -85,7 +85,7 @@ end_sound honest status.Exists left lines more last after end not_own sound = sa
 short_trail : (honest : Type 0) (e : StepEnd) (left : Option (List ℕ)) (lines : List (List ℕ)) (more : List ℤ) (last after : RunState) → EndsShort honest e left lines more last after → after.trail ≡ last.trail
 short_trail honest e left lines more last after short = short.cut.trail
 
-end_trail : (honest : Type 0) (s : Status) (left : Option (List ℕ)) (lines : List (List ℕ)) (more : List ℤ) (last after : RunState) → EndsRun honest s left lines more last after → after.trail ≡ last.trail
+pub end_trail : (honest : Type 0) (s : Status) (left : Option (List ℕ)) (lines : List (List ℕ)) (more : List ℤ) (last after : RunState) → EndsRun honest s left lines more last after → after.trail ≡ last.trail
 end_trail honest (status.NotAStore store) left lines more last after end = short_trail honest _ left lines more last after end
 end_trail honest (status.Damaged store at) left lines more last after end = short_trail honest _ left lines more last after end
 end_trail honest (status.JournalFull need room) left lines more last after end = short_trail honest _ left lines more last after end

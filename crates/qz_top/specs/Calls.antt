@@ -5,6 +5,7 @@ use Rattle.qz_steps.specs.declared.steps.StepReply.{StepReply}
 use Rattle.qz_types.specs.declared.stores.Store.{Store}
 use Rattle.qz_disk.specs.declared.disk.Disk.{Ghosts}
 use Rattle.qz_io.specs.Outside.{Outside}
+use Rattle.qz_laws.specs.Losses.{AreExact}
 use Rattle.qz_journal.specs.declared.errors.MountError.{MountError}
 use Rattle.qz_journal.specs.declared.errors.MountError.TheVariants as mount
 use Rattle.qz_trigger_store.specs.Bytes.{Stands}
@@ -32,6 +33,11 @@ trail_of t = states_in t.on_disk.value ++ states_in t.in_memory.value
 abbrev pub begun : Bool → ClusterState → RunState
 begun is_own S = record { cluster = S; trail = S ∷ []; is_own = is_own }
 
+-- Each execution that was lost with a failed node so far yielded one recovery trigger if its job asked for it and was
+-- still stored, else none.
+abbrev pub RecoversLosses : ClusterState → Type 0
+RecoversLosses S = AreExact S.triggers.history.base S.triggers.history.entries
+
 -- A script on new stores in memory was run. Its replies are those of a plain scheduler that is new and empty. Disks in
 -- memory are honest.
 pub record RanInMemory (s : Status) (trail : List ClusterState)
@@ -45,6 +51,8 @@ pub record RanInMemory (s : Status) (trail : List ClusterState)
   pub run : IsRun ⊤ s (begun true (new_cluster triggers_faults states_faults)) end old new lines readings replies
   pub plain : replies ≡ step_replies (new_script) (steps_of lines readings)
   pub trail_is : trail ≡ end.trail
+  -- in each of these states lost executions are recovered once
+  pub recovered : AllByRecursion RecoversLosses trail
   pub no_fault : s ≡ status.DiskFault → ⊥
 
 -- A script on new stores in memory was run, or there was no memory for the stores.
@@ -85,6 +93,9 @@ pub record RanOnDisk {D : Type 0} {g : Ghosts D} (triggers states : D) (e : Ende
   -- each of these states has legal histories, valid tables and valid rows, and so has the one at the end
   pub sound : AllByRecursion HasSoundStores (trail_of e.trail)
   pub sound_end : HasSoundStores end.cluster
+  -- in each of them lost executions are recovered once
+  pub recovered : AllByRecursion RecoversLosses (trail_of e.trail)
+  pub recovered_end : RecoversLosses end.cluster
   -- without a fault the replies are those of a plain scheduler that goes on from the opened histories, and so are those
   -- before the first fault; restarts are so on honest disks
   pub plain : AllByRecursion (IsOnHonest g.honest) (steps_of lines readings) → AllByRecursion IsNoFault replies
