@@ -27,12 +27,12 @@ abbrev pub SparesHolders : List MemberData → Command → Type 0
 SparesHolders held (Recover failed) = member_of failed held ≡ None
 SparesHolders held c = ⊤
 
--- so does the step
+-- nor does the step
 abbrev pub IsSparing : List MemberData → Step → Type 0
 IsSparing held (Node node c) = SparesHolders held c
 IsSparing held step = ⊤
 
--- and each of these, at the state before it
+-- nor does any of these, at the state before it
 abbrev pub AreSparing : ClusterState → List TimedStep → List ClusterState → Type 0
 AreSparing S (t ∷ ts) (S' ∷ states) = IsSparing S.held t.step × AreSparing S' ts states
 AreSparing S ts states = ⊤
