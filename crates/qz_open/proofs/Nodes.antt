@@ -1,6 +1,6 @@
 -- What the commands of nodes do to executions, and a join.
 use Rattle.std.proofs.Common.{◌≡◌, ◌⊎◌, inl, inr, ℕ, ◌==◌, ◌≤◌, ℤ, ◌+ℤ◌, Bool, true, false, not, ◌&&◌, List, [], ◌∷◌, fold, length, nat_lt, Option, Some, None, refl, sym, ap, ◌∙◌, subst}
-use Rattle.std.proofs.lemmas.Bool.{eqb-true, eq-eqb, and_parts, ltb-false}
+use Rattle.std.proofs.lemmas.Bool.{eqb-true, eq-eqb, and_parts, ltb-false, not-false}
 use Rattle.qz_types.specs.Rows.{JobData, TriggerData, MemberData, FiredData}
 use Rattle.qz_types.specs.Changes.{begun}
 use Rattle.qz_types.specs.States.{is_acquired}
@@ -72,14 +72,10 @@ in_without_siblings : (b : Bool) (job : Key) (rows : List FiredData) (f : FiredD
 in_without_siblings true job rows f has executes = in_without_acquired (is_row_of_job job) rows f has executes
 in_without_siblings false job rows f has executes = has
 
-own_true : (b : Bool) → not b ≡ false → b ≡ true
-own_true true is = refl
-own_true false is = absurd (cc)
-
 -- a member's own row has its name
 own_row : (me : MemberData) (f : FiredData) → owner_refusal me f ≡ None → is_of me f ≡ true
 unfolding owner_refusal
-own_row me f clear = own_true (is_of me f) (not_refused (not (is_of me f)) _ None clear).0
+own_row me f clear = not-false (is_of me f) (not_refused (not (is_of me f)) _ None clear).0
 
 own_name : (me : MemberData) (f : FiredData) → is_of me f ≡ true → same_text me.node f.node ≡ true
 unfolding is_of
