@@ -4,6 +4,7 @@ use Rattle.std.proofs.lemmas.Bool.{eqb-true, eq-eqb, false_from_ne_true}
 use Rattle.qz_types.specs.Entries.{EntryData, is_entry}
 use Rattle.qz_types.specs.Rows.{JobData, MemberData}
 use Rattle.qz_types.specs.States.{is_acquired}
+use Rattle.qz_types.specs.Tables.{recorded_moment}
 use Rattle.qz_types.specs.Words.{same_text, member_of, without_member}
 use Rattle.qz_types.specs.declared.keys.Key.{Key}
 use Rattle.qz_types.specs.declared.commands.Actor.TheVariants as actor
@@ -19,10 +20,11 @@ use Rattle.qz_stores.specs.Stores.{Appends}
 use Rattle.qz_trigger_store.specs.Entries.{trigger_entry}
 use Rattle.qz_cluster.specs.Script.{entry_of, held_after_command}
 use Rattle.qz_cluster.specs.Steps.{ClusterState}
-use Rattle.qz_open.specs.Opened.{Execution, without_entry, without_node, open_after_reply, open_after_command}
+use Rattle.qz_open.specs.Opened.{Execution, without_entry, open_after_reply}
 use Rattle.qz_open.specs.Runs.{SparesHolders}
 use Rattle.qz_open.proofs.Facts.{Ends, completes, recovers, joins, Begins}
-use Rattle.qz_open.proofs.Steps.{Stands, Holds, some_is_none, true_is_false, apart_without, left_out, entry_facts, valid_then, goes_on}
+use Rattle.qz_open.proofs.Nodes.{text_trans, none_of_leaver, leave_reply}
+use Rattle.qz_open.proofs.Steps.{way, Stands, Holds, some_is_none, true_is_false, apart_without, left_out, entry_facts, valid_then, goes_on}
 
 spared : (held : List MemberData) (c : Command) (failed : List ℕ) → SparesHolders held c → c ≡ command.Recover failed → member_of failed held ≡ None
 spared held c failed spares is = subst (SparesHolders held) is spares
@@ -41,15 +43,6 @@ module _ (S S' : ClusterState) (os : List Execution) (node : List ℕ) (c : Comm
 
   stays : (o : Execution) → ((entry : ℕ) (code : _) → c ≡ command.Complete entry code → r ≡ reply.Completed o.entry → ⊥) → member_of o.node S'.held ≡ member_of o.node S.held → Stands S o → Stands S' o
   stays o completes_not keeps was = goes_on S S' os e r good on h o (ends_none o completes_not) keeps was
-
-  -- it left
-  holds_left : c ≡ command.Leave → S'.held ≡ without_member node S.held → Holds S' (without_node node os)
-  holds_left leaves held = record {
-    valid = valid_then S S' os e r good on h;
-    stands = left_out S S' (λ o. same_text node o.node) os
-        (λ o other was. stays o (λ entry code is replied. absurd (cc)) (ap (member_of o.node) held ∙ member_of-without_member node o.node S.held other) was) h.stands;
-    apart = apart_without (λ o. same_text node o.node) os h.apart;
-  }
 
   module _ (mine : member_of node S.held ≡ Some me) (held : S'.held ≡ S.held) where
     holds_else : ((x : ℕ) → r ≡ reply.Completed x → ⊥) → Holds S' os
@@ -112,6 +105,32 @@ module _ (S S' : ClusterState) (os : List Execution) (node : List ℕ) (c : Comm
         apart = new_apart;
       }
 
+-- A member that leaves has no execution.
+
+none_left_behind : (S S' : ClusterState) (os : List Execution) (node : List ℕ) (at : ℤ) (me : MemberData) (r : Reply) → IsTrue (is_entry (entry_of (actor.Node me) command.Leave at))
+    → Appends trigger_entry (entry_of (actor.Node me) command.Leave at) r S.triggers S'.triggers → Holds S os → member_of node S.held ≡ Some me → (o : Execution) → Stands S o → same_text node o.node ≡ false
+none_left_behind S S' os node at me r good on h mine o was =
+    let T = replay S.triggers.history in
+    let left = way S S' os (entry_of (actor.Node me) command.Leave at) r good on h in
+    false_from_ne_true (same_text node o.node) (λ same.
+    let own : same_text me.node node ≡ true = same_text_laws.symm me.node node ∙ member_of-node node me S.held mine in
+    let named : same_text me.node was.row.node ≡ true = text_trans me.node o.node was.row.node (text_trans me.node node o.node own same) was.node in
+    true_is_false (same_text me.node was.row.node) named (none_of_leaver T (replay S'.triggers.history) (recorded_moment T at) me r h.valid left was.row was.has was.executes))
+
+holds_left : (S S' : ClusterState) (os : List Execution) (node : List ℕ) (at : ℤ) (me : MemberData) (r : Reply) → IsTrue (is_entry (entry_of (actor.Node me) command.Leave at))
+    → Appends trigger_entry (entry_of (actor.Node me) command.Leave at) r S.triggers S'.triggers → Holds S os → member_of node S.held ≡ Some me → S'.held ≡ without_member node S.held → Holds S' (open_after_reply os node r)
+holds_left S S' os node at me r good on h mine held =
+    let T = replay S.triggers.history in
+    let e = entry_of (actor.Node me) command.Leave at in
+    let replied = leave_reply T (replay S'.triggers.history) (recorded_moment T at) me r (way S S' os e r good on h) in
+    subst (λ (q : Reply). Holds S' (open_after_reply os node q)) (sym replied) (record {
+      valid = valid_then S S' os e r good on h;
+      stands = All-weaker (Stands S) (Stands S') os
+          (λ o was. stays S S' os node command.Leave at me r good (λ name is. absurd (cc)) tt on h o (λ entry code is done. absurd (cc))
+          (ap (member_of o.node) held ∙ member_of-without_member node o.node S.held (none_left_behind S S' os node at me r good on h mine o was)) was) h.stands;
+      apart = h.apart;
+    })
+
 -- by what it was replied
 holds_reply : (S S' : ClusterState) (os : List Execution) (node : List ℕ) (c : Command) (at : ℤ) (me : MemberData) (r : Reply) → IsTrue (is_entry (entry_of (actor.Node me) c at)) → ((name : List ℕ) → c ≡ command.Join name → ⊥)
     → SparesHolders S.held c → Appends trigger_entry (entry_of (actor.Node me) c at) r S.triggers S'.triggers → Holds S os → member_of node S.held ≡ Some me → S'.held ≡ S.held → Holds S' (open_after_reply os node r)
@@ -122,6 +141,6 @@ holds_reply S S' os node c at me r good no_join spares on h mine held = holds_el
 
 pub holds_command : (S S' : ClusterState) (os : List Execution) (node : List ℕ) (c : Command) (at : ℤ) (me : MemberData) (r : Reply) → IsTrue (is_entry (entry_of (actor.Node me) c at)) → ((name : List ℕ) → c ≡ command.Join name → ⊥)
     → SparesHolders S.held c → Appends trigger_entry (entry_of (actor.Node me) c at) r S.triggers S'.triggers → Holds S os → member_of node S.held ≡ Some me → S'.held ≡ held_after_command node c S.held
-    → Holds S' (open_after_command os node c r)
-holds_command S S' os node command.Leave at me r good no_join spares on h mine held = holds_left S S' os node command.Leave at me r good no_join spares on h refl held
+    → Holds S' (open_after_reply os node r)
+holds_command S S' os node command.Leave at me r good no_join spares on h mine held = holds_left S S' os node at me r good on h mine held
 holds_command S S' os node c at me r good no_join spares on h mine held = holds_reply S S' os node c at me r good no_join spares on h mine held

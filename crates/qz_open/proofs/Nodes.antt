@@ -1,6 +1,6 @@
 -- What the commands of nodes do to executions, and a join.
-use Rattle.std.proofs.Common.{◌≡◌, ◌⊎◌, inl, inr, ℕ, ◌==◌, ◌≤◌, ℤ, ◌+ℤ◌, Bool, true, false, not, ◌&&◌, List, [], ◌∷◌, fold, length, nat_lt, Option, Some, None, refl, sym, ap, ◌∙◌, subst}
-use Rattle.std.proofs.lemmas.Bool.{eqb-true, eq-eqb, and_parts, ltb-false, not-false}
+use Rattle.std.proofs.Common.{◌≡◌, ◌⊎◌, inl, inr, ℕ, ◌==◌, ◌≤◌, ℤ, ◌+ℤ◌, Bool, true, false, not, ◌&&◌, List, [], ◌∷◌, fold, length, nat_lt, Option, Some, None, refl, sym, ap, ◌∙◌, subst, IsSomeAnd}
+use Rattle.std.proofs.lemmas.Bool.{eqb-true, eq-eqb, and_parts, and_from, false_from_ne_true, ltb-false, not-false}
 use Rattle.qz_types.specs.Rows.{JobData, TriggerData, MemberData, FiredData}
 use Rattle.qz_types.specs.Changes.{begun}
 use Rattle.qz_types.specs.States.{is_acquired}
@@ -26,10 +26,11 @@ use Rattle.qz_model.specs.Misfires.{misfires}
 use Rattle.qz_model.specs.Recovery.{lost_of, rows_of_others, recovered, recovery_refusal, recover_member, recover, with_new_member, join_refusal, joined, join, leave_refusal, leave}
 use Rattle.qz_model.specs.Tests.{or_refusal, is_of, is_row_of_job, is_row_of_trigger, stored_job}
 use Rattle.qz_model.proofs.Changes.{passes}
+use Rattle.qz_model.proofs.KeptAcquiring.{member_of_actor}
 use Rattle.qz_model.proofs.KeptFiring.{acquired_clear}
 use Rattle.qz_model.proofs.NamedRows.{same_text_laws}
 use Rattle.qz_model.proofs.Refusals.{not_refused, no_first}
-use Rattle.qz_model.proofs.RowLaws.{fired_of-entry, member_of-node}
+use Rattle.qz_model.proofs.RowLaws.{fired_of-entry, member_of-alike, member_of-node}
 use Rattle.qz_model.proofs.RowPoints.{none-filtered}
 use Rattle.qz_laws.proofs.QuietNodes.{stored_key}
 use Rattle.qz_open.proofs.Lists.{Has, of_all, in_filter}
@@ -222,9 +223,32 @@ facts-leave T T' who c m me r e =
     let none = none_lost T me (no_first (node_refusal T me) (leave_refusal T me) way.clear).1 in
     accepted_facts T _ T' who c _ r way.outcome (steady T who c _ _ refl (λ f has executes. in_others me T.fired f has (not_own me T.fired f none has executes)))
 
+-- such a row hasn't its name either: in valid tables each row of a member's name is its own
+same_epoch : (o : Option MemberData) (x y : ℕ) → IsSomeAnd o (λ m. m.epoch ≡ x) → IsSomeAnd o (λ m. m.epoch ≡ y) → x ≡ y
+same_epoch None x y one two = absurd one
+same_epoch (Some member) x y one two = sym one ∙ two
+
+own_by_name : (T : SchedulerTables) (me : MemberData) (f : FiredData) → TablesValid T → IsSomeAnd (member_of me.node T.members) (λ m. m.epoch ≡ me.epoch) → Has f T.fired → same_text me.node f.node ≡ true → is_of me f ≡ true
+unfolding is_of
+own_by_name T me f valid live has named =
+    let other = of_all (λ g. IsSomeAnd (member_of g.node T.members) (λ m. m.epoch ≡ g.epoch)) T.fired f valid.rows_of_members.rows has in
+    let here = subst (λ (o : Option MemberData). IsSomeAnd o (λ m. m.epoch ≡ f.epoch)) (sym (member_of-alike me.node f.node T.members named)) other in
+    and_from (same_text me.node f.node) (me.epoch == f.epoch) named (eq-eqb me.epoch f.epoch (same_epoch (member_of me.node T.members) me.epoch f.epoch live here))
+
+pub none_of_leaver : (T T' : SchedulerTables) (m : ℤ) (me : MemberData) (r : Reply) → TablesValid T → leave T m me ≡ accepted T' r → (f : FiredData) → Has f T.fired → is_acquired f.state ≡ false → same_text me.node f.node ≡ false
+none_of_leaver T T' m me r valid e f has executes =
+    let clear = no_first (node_refusal T me) (leave_refusal T me) (passes (or_refusal (node_refusal T me) (leave_refusal T me)) _ T' r e).clear in
+    false_from_ne_true (same_text me.node f.node) (λ named.
+    let own = own_by_name T me f valid (member_of_actor T me clear.0) has named in
+    let other = not_own me T.fired f (none_lost T me clear.1) has executes in
+    absurd (cc))
+
+pub leave_reply : (T T' : SchedulerTables) (m : ℤ) (me : MemberData) (r : Reply) → leave T m me ≡ accepted T' r → r ≡ reply.Done
+leave_reply T T' m me r e = let way = (passes (or_refusal (node_refusal T me) (leave_refusal T me)) _ T' r e).outcome in cc
+
 -- Recover and Join.
 
-text_trans : (a b c : List ℕ) → same_text a b ≡ true → same_text b c ≡ true → same_text a c ≡ true
+pub text_trans : (a b c : List ℕ) → same_text a b ≡ true → same_text b c ≡ true → same_text a c ≡ true
 text_trans a b c first second = same_text_laws.congr a b c first ∙ second
 
 -- where the rows of a member go

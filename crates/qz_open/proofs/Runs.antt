@@ -26,7 +26,7 @@ use Rattle.qz_model.proofs.RowPoints.{All-weaker}
 use Rattle.qz_cluster.specs.Script.{TimedStep, entry_of}
 use Rattle.qz_cluster.specs.Steps.{ClusterState, held_after, is_unheld, is_restart, entry_of_member, entry_of_step, TriggersDone, StepCase}
 use Rattle.qz_cluster.proofs.Sound.{valid_entry}
-use Rattle.qz_open.specs.Opened.{Execution, IsAlone, AreAlone, AreAlwaysAlone, open_after_command, open_after_done, open_after_fault, open_after}
+use Rattle.qz_open.specs.Opened.{Execution, IsAlone, AreAlone, AreAlwaysAlone, open_after_reply, open_after_done, open_after_fault, open_after}
 use Rattle.qz_open.specs.Runs.{IsStart, StepsDone, SparesHolders, IsSparing, AreSparing}
 use Rattle.qz_open.proofs.Lists.{of_all, only_one, fewer}
 use Rattle.qz_open.proofs.Steps.{Stands, Holds, true_is_false, holds_none, holds_same, holds_closed, holds_without, holds_client, holds_join}
@@ -38,7 +38,7 @@ node_joins_not : (c : Command) → is_of_node c ≡ true → (name : List ℕ) �
 node_joins_not c own name is = true_is_false (is_of_node c) own (ap is_of_node is)
 
 holds_member : (S S' : ClusterState) (os : List Execution) (node : List ℕ) (c : Command) (at : ℤ) (r : Reply) (o : Option MemberData) → member_of node S.held ≡ o → is_none o ≡ false → IsTrue (is_step (Node node c))
-    → TriggersDone (entry_of_member o c at) r S.triggers S'.triggers → S'.held ≡ held_after (Node node c) S.held r → SparesHolders S.held c → Holds S os → Holds S' (open_after_command os node c r)
+    → TriggersDone (entry_of_member o c at) r S.triggers S'.triggers → S'.held ≡ held_after (Node node c) S.held r → SparesHolders S.held c → Holds S os → Holds S' (open_after_reply os node r)
 holds_member S S' os node c at r None mine is_held valid on held spares h = absurd (cc)
 holds_member S S' os node c at r (Some me) mine is_held valid on held spares h =
     let good = valid_entry (Node node c) S.held at (entry_of (actor.Node me) c at) valid (ap (λ (o : Option MemberData). entry_of_member o c at) mine) in

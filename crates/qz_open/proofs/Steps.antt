@@ -127,7 +127,7 @@ module _ (S S' : ClusterState) (os : List Execution) (e : EntryData) (r : Reply)
   abbrev after : SchedulerTables
   after = replay S'.triggers.history
 
-  way : transaction before e ≡ accepted after r
+  pub way : transaction before e ≡ accepted after r
   way =
       let tables : after ≡ tables_left before (transaction before e) = ap replay on.history ∙ replay_from-append S.triggers.history.base S.triggers.history.entries (e ∷ []) in
       subst (λ (T : SchedulerTables). transaction before e ≡ accepted T r) (sym tables) (accepted_as before (transaction before e) r on.accepted_as)

@@ -4,8 +4,6 @@ use Rattle.std.specs.Prelude.{◌≡◌, ℕ, ◌≤◌, ◌==◌, Bool, true, n
 use Rattle.std.specs.List.{AllByRecursion, count_by}
 use Rattle.qz_types.specs.Words.{same_text, same_key}
 use Rattle.qz_types.specs.declared.keys.Key.{Key}
-use Rattle.qz_types.specs.declared.commands.Command.{Command}
-use Rattle.qz_types.specs.declared.commands.Command.TheVariants.{Leave}
 use Rattle.qz_types.specs.declared.replies.Reply.{Reply}
 use Rattle.qz_types.specs.declared.replies.Reply.TheVariants.{Fired, Completed}
 use Rattle.qz_steps.specs.declared.steps.Step.{Step}
@@ -34,17 +32,12 @@ open_after_reply os node (Fired entry scheduled at next trigger job) =
 open_after_reply os node (Completed entry) = without_entry entry os
 open_after_reply os node reply = os
 
--- a node that leaves has none
-abbrev pub open_after_command : List Execution → List ℕ → Command → Reply → List Execution
-open_after_command os node Leave reply = without_node node os
-open_after_command os node c reply = open_after_reply os node reply
-
--- the step was done: a node that joins or stops has none either
+-- the step was done: a node that joins or stops has none then
 abbrev pub open_after_done : List Execution → Step → Reply → List Execution
 open_after_done os (Client c) reply = os
 open_after_done os (Join node interval) reply = without_node node os
 open_after_done os (CheckIn node interval) reply = os
-open_after_done os (Node node c) reply = open_after_command os node c reply
+open_after_done os (Node node c) reply = open_after_reply os node reply
 open_after_done os (Forget node failed) reply = os
 open_after_done os (Stop node) reply = without_node node os
 open_after_done os Restart reply = os
