@@ -1,10 +1,11 @@
-//! An example, computed: it shows that there are answers against which the law speaks.
-ghost use Rattle.std.specs.Prelude.{[]};
-ghost use Rattle.qz_open.specs.Example.{example_steps, example_answers};
+//! An example, computed: it shows that the law needs its premise.
+ghost use Rattle.std.specs.Prelude.{[], ◌∷◌};
+ghost use Rattle.qz_cluster.specs.Script.{step_replies};
+ghost use Rattle.qz_open.specs.Example.{example_state, example_open, example_steps};
 ghost use Rattle.qz_open.specs.Opened.{AreAlwaysAlone};
 
-/// Node a begins an execution and is recovered, but wasn't stopped, and node b begins another one of the same job: then two
-/// are open. Such steps recover a node that holds an epoch, which the law leaves out.
+/// Node a works at an execution and holds its epoch. Node b recovers it all the same, which the law leaves out, and begins
+/// another execution of that job. By what the steps are answered two are open then.
 pub fn two_open_executions()
-    ensures { AreAlwaysAlone [] example_steps example_answers → ⊥ }
+    ensures { AreAlwaysAlone (example_open ∷ []) example_steps (step_replies example_state example_steps) → ⊥ }
 {}
