@@ -71,7 +71,7 @@ begins_here T m f g job next key row is found =
     let one : f ≡ g = cc in
     inr (inr (record { row = ap is_some found; reply = (same, key ∙ ap (λ (h : FiredData). h.job) one, refl) }))
 
-stored_key : (key : Key) (jobs : List JobData) (o : Option JobData) → job_of key jobs ≡ o → (stored_job key jobs).key ≡ key
+pub stored_key : (key : Key) (jobs : List JobData) (o : Option JobData) → job_of key jobs ≡ o → (stored_job key jobs).key ≡ key
 unfolding stored_job
 stored_key key jobs None found = rw found refl
 stored_key key jobs (Some job) found = rw found (sym (same_key-exact key job.key (job_of-key key job jobs found)))

@@ -1,0 +1,10 @@
+pub mod Clients
+pub mod Entries
+pub mod Facts
+pub mod Held
+pub mod Lists
+pub mod Members
+pub mod Nodes
+pub mod Rows
+pub mod Runs
+pub mod Steps
