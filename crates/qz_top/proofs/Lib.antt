@@ -1,3 +1,4 @@
+pub mod AloneLaws
 pub mod AskedLaws
 pub mod EndLaws
 pub mod LineLaws

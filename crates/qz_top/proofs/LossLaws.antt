@@ -27,10 +27,11 @@ use Rattle.qz_cluster.specs.Steps.{ClusterState, TriggersDone, AtStates, AtTrigg
 use Rattle.qz_cluster.specs.declared.errors.StepEnd.{StepEnd}
 use Rattle.qz_cluster.specs.declared.errors.StepEnd.TheVariants as ends
 use Rattle.qz_cluster.proofs.Sound.{valid_entry}
+use Rattle.qz_open.specs.Runs.{StepsDone}
 use Rattle.qz_top.specs.Calls.{RecoversLosses, begun}
 use Rattle.qz_top.specs.LineOutcomes.{step_at}
 use Rattle.qz_top.specs.Runs.{EndsShort, EndsRun, IsRun}
-use Rattle.qz_top.specs.Trails.{StepsDone, last_of, RunState, new_cluster}
+use Rattle.qz_top.specs.Trails.{last_of, RunState, new_cluster}
 use Rattle.qz_top.specs.declared.statuses.Status.{Status}
 use Rattle.qz_top.specs.declared.statuses.Status.TheVariants as status
 use Rattle.qz_top.proofs.OpenedLaws.{end_trail}

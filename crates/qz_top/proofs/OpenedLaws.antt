@@ -12,11 +12,12 @@ use Rattle.qz_cluster.specs.Steps.{ClusterState, is_closed}
 use Rattle.qz_cluster.specs.declared.errors.StepEnd.{StepEnd}
 use Rattle.qz_cluster.proofs.Closings.{IsReady, ready_open}
 use Rattle.qz_cluster.proofs.Sound.{cut_sound}
+use Rattle.qz_open.specs.Runs.{StepsDone}
 use Rattle.qz_top.specs.Lines.{steps_of}
 use Rattle.qz_top.specs.Calls.{begun, script_of, HasSoundStores, IsOnHonest}
 use Rattle.qz_top.specs.LineOutcomes.{step_at}
 use Rattle.qz_top.specs.Runs.{TellsClosed, EndsShort, EndsRun, IsRun}
-use Rattle.qz_top.specs.Trails.{StepsDone, IsNoFault, RunState, new_cluster}
+use Rattle.qz_top.specs.Trails.{IsNoFault, RunState, new_cluster}
 use Rattle.qz_top.specs.declared.statuses.Status.{Status}
 use Rattle.qz_top.specs.declared.statuses.Status.TheVariants as status
 use Rattle.qz_top.proofs.RunLaws.{OneRose, run_closes, run_ready, run_plain, run_plain_first, run_sound, last_sound}

@@ -11,8 +11,9 @@ use Rattle.qz_cluster.proofs.Closings.{IsReady, ready_open, step_ready, fault_ro
 use Rattle.qz_cluster.proofs.Counts.{NoneFalls, step_counts}
 use Rattle.qz_cluster.proofs.Plain.{step_plain}
 use Rattle.qz_cluster.proofs.Sound.{step_sound}
+use Rattle.qz_open.specs.Runs.{StepsDone}
 use Rattle.qz_top.specs.Calls.{script_of, HasSoundStores, IsOnHonest}
-use Rattle.qz_top.specs.Trails.{StepsDone, last_of, is_fault, IsNoFault}
+use Rattle.qz_top.specs.Trails.{last_of, is_fault, IsNoFault}
 
 -- which replies are faults
 no_fault_is : (r : StepReply) → is_fault r ≡ false → r ≡ reply.Fault → ⊥

@@ -17,7 +17,8 @@ use Rattle.qz_checkin.proofs.Appending.{holding}
 use Rattle.qz_checkin.specs.Opening.{IsOpened as AreOpened}
 use Rattle.qz_cluster.specs.Steps.{ClusterState, IsStep}
 use Rattle.qz_io.proofs.TakenLaws.{AllByRecursion-append}
-use Rattle.qz_top.specs.Trails.{StepsDone, last_of, is_fault, IsNoFault, RunState, RanSteps, new_cluster}
+use Rattle.qz_open.specs.Runs.{StepsDone}
+use Rattle.qz_top.specs.Trails.{last_of, is_fault, IsNoFault, RunState, RanSteps, new_cluster}
 use Rattle.qz_top.specs.LineOutcomes.{NothingDone}
 
 pub last_of-append : (S : ClusterState) (xs ys : List ClusterState) → last_of S (xs ++ ys) ≡ last_of (last_of S xs) ys

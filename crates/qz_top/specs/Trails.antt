@@ -1,5 +1,5 @@
 -- Steps that were done one after another, and the states that they went through.
-use Rattle.std.specs.Prelude.{⊤, ◌≡◌, ℕ, true, false, Bool, List, [], ◌∷◌, ◌++◌, None}
+use Rattle.std.specs.Prelude.{◌≡◌, ℕ, true, false, Bool, List, [], ◌∷◌, ◌++◌, None}
 use Rattle.std.specs.List.{AllByRecursion, flat_map}
 use Rattle.qz_steps.specs.declared.steps.StepReply.{StepReply}
 use Rattle.qz_steps.specs.declared.steps.StepReply.TheVariants as reply
@@ -7,13 +7,8 @@ use Rattle.qz_model.specs.History.{new_history}
 use Rattle.qz_checkin.specs.History.{new_state_history}
 use Rattle.qz_cluster.specs.Script.{TimedStep}
 use Rattle.qz_report.specs.Replies.{reply_text}
-use Rattle.qz_cluster.specs.Steps.{ClusterState, IsStep}
-
--- Each state follows from the one before by its step and reply. Whether the disks are honest matters to restarts.
-abbrev pub StepsDone : Type 0 → ClusterState → List TimedStep → List StepReply → List ClusterState → Type 0
-StepsDone honest S [] [] [] = ⊤
-StepsDone honest S (t ∷ ts) (r ∷ rs) (S' ∷ states) = IsStep honest t r S S' × StepsDone honest S' ts rs states
-StepsDone honest S ts rs states = ⊥
+use Rattle.qz_cluster.specs.Steps.{ClusterState}
+use Rattle.qz_open.specs.Runs.{StepsDone}
 
 -- the last of these states, which come after the first
 abbrev pub last_of : ClusterState → List ClusterState → ClusterState

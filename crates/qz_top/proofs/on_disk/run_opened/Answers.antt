@@ -4,6 +4,7 @@ use Rattle.qz_trigger_store.proofs.Appending.{may_be}
 use Rattle.qz_checkin.proofs.Appending.{may_be as states_may_be}
 use Rattle.qz_cluster.specs.View.{view as cluster_view}
 use Rattle.qz_top.specs.Seen.{view, states_in}
+use Rattle.qz_top.proofs.AloneLaws.{alone_from_start}
 use Rattle.qz_top.proofs.LossLaws.{recovered_opened, recovered_at_end}
 use Rattle.qz_top.proofs.MomentLaws.{begun_so, all_kept, opened_by_reads}
 use Rattle.qz_top.proofs.OpenedLaws.{disk_rose, plain_opened, plain_first, sound_opened, sound_at_end}
@@ -33,6 +34,7 @@ returns-clause-done g c triggers states begins =
       sound_end = sound_at_end _ _ _ _ _ _ _ _ _ opened.0 opened.1 ran.3;
       recovered = rw (c.of.ensures, c.of-2.ensures, c.new.ensures.items, trail) (recovered_opened _ _ _ _ _ _ _ _ _ opened.0 ran.3);
       recovered_end = recovered_at_end _ _ _ _ _ _ _ _ _ opened.0 ran.3;
+      alone = alone_from_start _ _ _ _ _ _ _ _ _ _ (record { opened = opened.0; held = begins.nothing_held }) ran.3;
       plain = plain_opened _ _ _ _ _ _ _ _ _ opened.0 opened.1 ran.3;
       plain_first = plain_first _ _ _ _ _ _ _ _ _ opened.0 opened.1 ran.3;
       faults = (ap g.D.Disk.faults disks.0, ap g.D.Disk.faults disks.1);
