@@ -5,7 +5,7 @@ ghost use Rattle.qz_steps.specs.Steps.{is_step};
 
 use qz_cluster::{Cluster, StepEnd};
 use qz_disk::{Disk, FaultDisk, MemDisk};
-use qz_journal::{TRIGGERS, create};
+use qz_journal::{STATES, TRIGGERS, create};
 use qz_steps::{Step, StepReply};
 use qz_types::{Command, List, Text};
 use std::alloc::{AllocError, Global};
@@ -18,6 +18,7 @@ enum Came {
     Failed,
     Closed,
     Stopped,
+    Restarted,
     Ended,
     Starved,
 }
@@ -29,6 +30,7 @@ fn reason(answer: &Result<StepReply, StepEnd>) -> Came {
         Ok(StepReply::Fault) => Came::Failed,
         Ok(StepReply::Closed) => Came::Closed,
         Ok(StepReply::Stopped) => Came::Stopped,
+        Ok(StepReply::Restarted) => Came::Restarted,
         Err(_) => Came::Ended,
     }
 }
@@ -55,12 +57,11 @@ fn fire(alloc: Global, name: &str) -> Result<Step, AllocError>
     })
 }
 
-// A disk whose ninth call fails: the first of the second commit, after four of the mount and four of the first
-// commit.
-fn failing_disk(alloc: Global) -> Option<FaultDisk<MemDisk>> {
-    let failing = Vec::from_slice(alloc, &[9u64]).ok()?;
+// A disk with a new store of this kind, of which these calls fail.
+fn failing_disk(alloc: Global, kind: u8, calls: &[u64]) -> Option<FaultDisk<MemDisk>> {
+    let failing = Vec::from_slice(alloc, calls).ok()?;
     let mut disk = MemDisk::new(alloc);
-    let made = create(&mut disk, TRIGGERS);
+    let made = create(&mut disk, kind);
     let disk = FaultDisk::new(disk, List::from_vec(failing));
     if made.is_ok() { Some(disk) } else { None }
 }
@@ -91,12 +92,12 @@ fn fails<D: Disk>(alloc: Global, cluster: &mut Cluster<D>) -> bool {
 }
 
 // Whether the second commit's fault closes the store.
-fn is_closed_by_a_fault<D: Disk>(alloc: Global, disk: D) -> bool {
-    match Cluster::mount(alloc, disk) {
+fn is_closed_by_a_fault<D: Disk>(alloc: Global, triggers: D, states: D) -> bool {
+    match Cluster::mount(alloc, triggers, states) {
         Ok(mut cluster) => {
             let begun = begins(alloc, &mut cluster) && !cluster.closed();
             let failed = fails(alloc, &mut cluster) && cluster.closed();
-            drop(cluster.into_disk());
+            drop(cluster.into_disks());
             begun && failed
         }
         Err(error) => {
@@ -107,8 +108,10 @@ fn is_closed_by_a_fault<D: Disk>(alloc: Global, disk: D) -> bool {
 }
 
 fn closes(alloc: Global) -> Option<bool> {
-    let disk = failing_disk(alloc)?;
-    Some(is_closed_by_a_fault(alloc, disk))
+    // The ninth call is the first of the second commit, after four of the mount and four of the first commit.
+    let triggers = failing_disk(alloc, TRIGGERS, &[9])?;
+    let states = failing_disk(alloc, STATES, &[])?;
+    Some(is_closed_by_a_fault(alloc, triggers, states))
 }
 
 #[test]

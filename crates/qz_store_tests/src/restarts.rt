@@ -53,7 +53,9 @@ fn goes_on<D: Disk>(alloc: Global, store: &mut TriggerStore<D>, found: u64) -> b
     let taken = takes(store, add_job(alloc, T0)) == Some(true)
         && takes(store, join(alloc, T0)).is_none()
         && restarts(store, 1, found);
-    taken && takes(store, join(alloc, T0 + 1)) == Some(found == 1) && restarts(store, 2, 2)
+    taken
+        && takes(store, join(alloc, T0 + 1)) == Some(true)
+        && restarts(store, found + 1, found + 1)
 }
 
 // A mount makes four calls and a submit makes four. The second submit writes its record, and then this many calls pass.
