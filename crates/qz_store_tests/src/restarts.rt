@@ -47,23 +47,21 @@ fn restarts<D: Disk>(store: &mut TriggerStore<D>, before: u64, after: u64) -> bo
     }
 }
 
-// Whether a store takes a job, fails at a node, restarts with this many entries, takes a node after
-// that, and restarts once more.
-fn goes_on<D: Disk>(alloc: Global, store: &mut TriggerStore<D>, found: u64) -> bool {
+// Whether a store takes a job, fails at a node, restarts with this many entries, takes the node after that, and restarts once
+// more with so many.
+fn goes_on<D: Disk>(alloc: Global, store: &mut TriggerStore<D>, found: u64, after: u64) -> bool {
     let taken = takes(store, add_job(alloc, T0)) == Some(true)
         && takes(store, join(alloc, T0)).is_none()
         && restarts(store, 1, found);
-    taken
-        && takes(store, join(alloc, T0 + 1)) == Some(true)
-        && restarts(store, found + 1, found + 1)
+    taken && takes(store, join(alloc, T0 + 1)) == Some(true) && restarts(store, after, after)
 }
 
-// A mount makes four calls and a submit makes four. The second submit writes its record, and then this many calls pass.
-fn goes_on_cut(alloc: Global, passes: u64, found: u64) -> Option<bool> {
-    let disk = CutDisk::new(new_disk(alloc)?, 8 + passes);
+// The same on a disk that is cut after so many calls.
+fn goes_on_cut(alloc: Global, calls: u64, found: u64, after: u64) -> Option<bool> {
+    let disk = CutDisk::new(new_disk(alloc)?, calls);
     match TriggerStore::mount(alloc, disk) {
         Ok(mut store) => {
-            let is_right = goes_on(alloc, &mut store, found);
+            let is_right = goes_on(alloc, &mut store, found, after);
             drop(store);
             Some(is_right)
         }
@@ -76,8 +74,9 @@ fn goes_on_cut(alloc: Global, passes: u64, found: u64) -> Option<bool> {
 
 #[test]
 fn an_undecided_entry_is_decided_by_a_restart(rt: HostRuntime) {
-    let cuts = [(0, 1), (1, 1), (2, 1), (3, 2)];
-    for (passes, found) in cuts {
-        assert!(rt; goes_on_cut(rt.alloc(), passes, found) == Some(true));
+    // A mount makes four calls and a submit makes four: the second submit is cut after none of its calls, or 1, 2 or 3.
+    let cuts = [(8, 1, 2), (9, 1, 2), (10, 1, 2), (11, 2, 3)];
+    for (calls, found, after) in cuts {
+        assert!(rt; goes_on_cut(rt.alloc(), calls, found, after) == Some(true));
     }
 }
