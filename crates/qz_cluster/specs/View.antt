@@ -4,6 +4,8 @@ use Rattle.qz_disk.specs.declared.disk.Disk.{Ghosts}
 use Rattle.qz_disk.specs.Disk.{DiskState}
 use Rattle.qz_steps.specs.declared.steps.StepReply.{StepReply}
 use Rattle.qz_steps.specs.declared.steps.StepReply.TheVariants as reply
+use Rattle.qz_checkin.specs.declared.stores.StateStore.{StateStore}
+use Rattle.qz_trigger_store.specs.declared.stores.TriggerStore.{TriggerStore}
 use Rattle.qz_trigger_store.specs.View.{view as store_view, disk_of as store_disk, disk_state, IsAsBefore, LeavesEither}
 use Rattle.qz_checkin.specs.View.{view as states_view, disk_of as rows_disk, disk_state as rows_disk_state, IsAsBefore as AreAsBefore, LeavesEither as LeaveEither}
 use Rattle.qz_cluster.specs.Steps.{ClusterState}
@@ -12,6 +14,13 @@ use Rattle.qz_cluster.specs.declared.clusters.Cluster.{Cluster}
 -- the cluster at this moment
 abbrev pub view : {D : Type 0} {g : Ghosts D} → Cluster D g → ClusterState
 view c = record { triggers = store_view c.triggers; states = states_view c.states; held = c.held.items }
+
+-- the stores
+abbrev pub triggers_of : {D : Type 0} {g : Ghosts D} → Cluster D g → TriggerStore D g
+triggers_of c = c.triggers
+
+abbrev pub states_of : {D : Type 0} {g : Ghosts D} → Cluster D g → StateStore D g
+states_of c = c.states
 
 -- the disks that the stores are on
 abbrev pub disk_of_triggers : {D : Type 0} {g : Ghosts D} → Cluster D g → D

@@ -9,6 +9,7 @@ mod held;
 mod laws;
 mod node_steps;
 mod opening;
+mod parts;
 mod restarting;
 mod steps;
 mod submitting;

@@ -9,7 +9,7 @@ ghost use Rattle.qz_checkin.specs.History.{StateHistory};
 ghost use Rattle.qz_checkin.specs.Opening.{IsOpened as AreOpened};
 ghost use Rattle.qz_cluster.specs.Mounting.{DisksAfter, RefusedBy, RoseOf, CountsRise};
 ghost use Rattle.qz_cluster.specs.Steps.{is_closed};
-ghost use Rattle.qz_cluster.specs.View.{view, disk_of_triggers, disk_of_states, triggers_disk, states_disk};
+ghost use Rattle.qz_cluster.specs.View.{view, triggers_of, states_of, disk_of_triggers, disk_of_states, triggers_disk, states_disk};
 
 use crate::{Cluster, MountError, MountFault};
 use qz_checkin::StateStore;
@@ -84,5 +84,18 @@ impl<D: Disk> Cluster<D> {
             held: _,
         } = self;
         (triggers.into_disk(), states.into_disk())
+    }
+
+    /// Gives the stores back, as they are. The epochs that nodes held are forgotten.
+    pub fn into_stores(self) -> (TriggerStore<D>, StateStore<D>)
+        ensures { (result.0 ≡ triggers_of self) × (result.1 ≡ states_of self) }
+    {
+        let Cluster {
+            alloc: _,
+            triggers,
+            states,
+            held: _,
+        } = self;
+        (triggers, states)
     }
 }

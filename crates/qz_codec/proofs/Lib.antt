@@ -4,3 +4,4 @@ pub mod CommandFormats
 pub mod EntryFormats
 pub mod StateFormats
 pub mod RowRecordFormats
+pub mod ValidEntries

@@ -4,6 +4,7 @@ pub mod Clocks
 pub mod Commands
 pub mod Faults
 pub mod Forms
+pub mod Items
 pub mod Lines
 pub mod Members
 pub mod Objects

@@ -55,7 +55,7 @@ fn add_calendar(alloc: Global, value: &Value) -> Result<Command, LineError>
 }
 
 #[tactic(auto, unfolding(crate::specs::Commands::add_zone))]
-fn add_zone(alloc: Global, value: &Value) -> Result<Command, LineError>
+pub(crate) fn add_zone(alloc: Global, value: &Value) -> Result<Command, LineError>
     ensures value { ReadsAs result (spec.add_zone (view value.now)) }
     ensures valid { IfOk result (λ command. IsTrue (is_step (Step.Client command))) }
 {

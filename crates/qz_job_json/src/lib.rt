@@ -7,6 +7,7 @@ mod clients;
 mod clocks;
 mod faults;
 mod forms;
+mod items;
 mod lines;
 mod members;
 mod nodes;
@@ -18,5 +19,7 @@ mod zones;
 
 pub use asked::{Asked, read_asked};
 pub use faults::{LineError, LineFault};
-pub use lines::{Given, read_step};
+pub use items::{Item, item_of};
+pub use lines::{Given, read_step, value_of};
+pub use members::{integer_in, optional_integer_at};
 pub use qz_io::LINE_LIMIT;

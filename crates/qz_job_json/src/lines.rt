@@ -42,8 +42,8 @@ fn is_blank(line: &[u8]) -> bool
         .all(|byte| matches!(*byte, b' ' | b'\t' | b'\r'))
 }
 
-/// The JSON value that the bytes are.
-fn value_of(alloc: Global, bytes: &[u8]) -> Result<Value, LineError>
+/// The JSON value that the bytes are, NotJson where they are none. They may have any length.
+pub fn value_of(alloc: Global, bytes: &[u8]) -> Result<Value, LineError>
     ensures ok { IfOk result (λ value. value_of bytes.now ≡ Some (view value)) }
     ensures err { IfErr result (λ error. (error ≡ LineError.NoMemory) ⊎ ((error ≡ LineError.Bad LineFault.NotJson) × (value_of bytes.now ≡ None))) }
 {

@@ -57,7 +57,7 @@ pub(crate) fn span_at(value: &Value, name: &str) -> Option<i64>
 }
 
 /// The whole number of 64 bits under this name, which may be missing. None is a member that is no such number.
-pub(crate) fn optional_integer_at(value: &Value, name: &str) -> Option<Option<i64>>
+pub fn optional_integer_at(value: &Value, name: &str) -> Option<Option<i64>>
     ensures { result ≡ optional_integer_at name.now (view value.now) }
 {
     match value.get(name) {
@@ -117,7 +117,7 @@ pub(crate) fn group_at<'v>(value: &'v Value, name: &str) -> Option<&'v str>
 }
 
 /// The whole number that the value is, if it is one from `low` to `high`.
-pub(crate) fn integer_in(value: &Value, low: i64, high: i64) -> Option<i64>
+pub fn integer_in(value: &Value, low: i64, high: i64) -> Option<i64>
     ensures value { result ≡ integer_in low high (view value.now) }
     ensures low { IfSome result (λ n. low ≤ℤ n) }
     ensures high { IfSome result (λ n. n ≤ℤ high) }

@@ -131,7 +131,7 @@ fn lines_beyond_the_limit_are_too_long(rt: HostRuntime) -> Result<(), AllocError
 
 /// A source that gives at most three bytes at a time.
 #[derive(Drop)]
-struct Slow {
+pub(crate) struct Slow {
     inner: MemSource,
 }
 
@@ -146,7 +146,7 @@ impl Source for Slow {
     }
 }
 
-fn slow_source(alloc: Global, bytes: &[u8]) -> Result<Slow, AllocError> {
+pub(crate) fn slow_source(alloc: Global, bytes: &[u8]) -> Result<Slow, AllocError> {
     let inner = MemSource::new(list(alloc, bytes)?);
     Ok(Slow { inner })
 }

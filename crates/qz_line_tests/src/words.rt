@@ -28,6 +28,8 @@ const ASKED: &[WordRow] = &[
     (&[], Ok(Wish::Own)),
     (&["init"], Ok(Wish::Init)),
     (&["script"], Ok(Wish::Script)),
+    (&["load"], Ok(Wish::Load)),
+    (&["list"], Ok(Wish::List)),
     (&["times", "0", "1"], Ok(Wish::Times { after: 0, count: 1 })),
     (
         &["times", "4102444799999", "1000"],

@@ -5,6 +5,8 @@ pub const VERSION: &str = "qz_sched 0.3.0\n";
 pub const HELP: &str = "usage: qz_sched < LINES           a script on new stores in memory
        qz_sched init              new stores in the current folder
        qz_sched script < LINES    a script on the stores of the current folder
+       qz_sched load < DOCUMENT   jobs and triggers into the stores of the current folder
+       qz_sched list              what the stores of the current folder hold
        qz_sched times AFTER COUNT < LINES
                                   the first COUNT fire times after AFTER of each trigger
 

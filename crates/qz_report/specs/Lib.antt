@@ -1,3 +1,5 @@
+pub mod Histories
 pub mod Names
 pub mod Replies
+pub mod Summaries
 pub mod Times

@@ -14,14 +14,15 @@ fn escaped_bytes() -> AsciiSet
     CONTROLS.add(b' ').add(b'/').add(b'%')
 }
 
-pub(crate) fn push_name(text: &mut String, name: &str) -> Result<(), AllocError>
+/// Adds a group, a name, a class or a node. Each byte that isn't plain is added as `%` and two upper-case hexadecimal digits.
+pub fn push_name(text: &mut String, name: &str) -> Result<(), AllocError>
     ensures { OnOk result (string_bytes text.new ≡ string_bytes text.old ++ escaped name.now) }
 {
     utf8_percent_encode(name, escaped_bytes()).append_to(text)
 }
 
 /// Adds a key as GROUP/NAME.
-pub(crate) fn push_key(text: &mut String, key: &Key) -> Result<(), AllocError>
+pub fn push_key(text: &mut String, key: &Key) -> Result<(), AllocError>
     ensures { OnOk result (string_bytes text.new ≡ string_bytes text.old ++ key_text key.now) }
 {
     push_name(text, key.group.as_str())?;

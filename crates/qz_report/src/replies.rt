@@ -37,7 +37,7 @@ fn push_step(text: &mut String, reply: &StepReply) -> Result<(), AllocError>
     }
 }
 
-fn push_ok(text: &mut String, reply: &Reply) -> Result<(), AllocError>
+pub(crate) fn push_ok(text: &mut String, reply: &Reply) -> Result<(), AllocError>
     ensures { OnOk result (string_bytes text.new ≡ string_bytes text.old ++ ok_text reply.now) }
 {
     match reply {
@@ -160,9 +160,9 @@ fn push_all_moved(text: &mut String, rows: &[MovedRow]) -> Result<(), AllocError
     }
 }
 
-/// A next time, or `none`.
+/// A next time in ms since 1970-01-01T00:00:00Z, or `none`.
 #[derive(Drop)]
-struct Next(Option<i64>);
+pub struct Next(pub Option<i64>);
 
 impl fmt::Display for Next {
     ghost output = { λ next. Some (next_text next.0) };

@@ -38,6 +38,8 @@ caused_at (status.Damaged store at) v w old new same words read write disk = tt
 caused_at (status.JournalFull need room) v w old new same words read write disk = tt
 caused_at status.NoMemory v w old new same words read write disk = tt
 caused_at status.Exists v w old new same words read write disk = tt
+caused_at (status.Budget firings) v w old new same words read write disk = tt
+caused_at (status.TooMany count) v w old new same words read write disk = tt
 
 -- Statuses that some calls don't end with.
 
@@ -49,7 +51,7 @@ pub own_disk : (s : Status) (trail : List ClusterState) (old new : Outside) → 
 own_disk s trail old new (inl ran) is = ran.no_fault is
 own_disk s trail old new (inr none) is = let status_is = none.0 in absurd cc
 
-not_of_opening : (store : Store) (error : MountError) (fault : WordFault) → refusal_of store error ≡ status.BadWords fault → ⊥
+pub not_of_opening : (store : Store) (error : MountError) (fault : WordFault) → refusal_of store error ≡ status.BadWords fault → ⊥
 not_of_opening store mount.Fault fault is = cc
 not_of_opening store mount.NotAStore fault is = cc
 not_of_opening store (mount.Damaged at) fault is = cc

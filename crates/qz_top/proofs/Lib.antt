@@ -1,7 +1,9 @@
 pub mod AloneLaws
 pub mod AskedLaws
+pub mod ClientLaws
 pub mod EndLaws
 pub mod LineLaws
+pub mod LoadLaws
 pub mod LossLaws
 pub mod MakingLaws
 pub mod MomentLaws
@@ -12,4 +14,3 @@ pub mod RunLaws
 pub mod ShownLaws
 pub mod StopLaws
 pub mod TrailLaws
-pub mod ValidEntries

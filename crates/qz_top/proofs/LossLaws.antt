@@ -35,7 +35,7 @@ use Rattle.qz_top.specs.Trails.{last_of, RunState, new_cluster}
 use Rattle.qz_top.specs.declared.statuses.Status.{Status}
 use Rattle.qz_top.specs.declared.statuses.Status.TheVariants as status
 use Rattle.qz_top.proofs.OpenedLaws.{end_trail}
-use Rattle.qz_top.proofs.ValidEntries.{entries_valid}
+use Rattle.qz_codec.proofs.ValidEntries.{entries_valid}
 
 -- The history begins with a new store, and each of its entries is valid and was accepted.
 record IsLawful (h : History) : Type 0 where
@@ -136,6 +136,8 @@ end_keeps honest status.ReadFault left lines more last after end not_own = same_
 end_keeps honest status.WriteFault left lines more last after end not_own = same_history last after end
 end_keeps honest status.DiskFault left lines more last after end not_own = same_history last after end
 end_keeps honest status.Exists left lines more last after end not_own = same_history last after end
+end_keeps honest (status.Budget firings) left lines more last after end not_own = same_history last after end
+end_keeps honest (status.TooMany count) left lines more last after end not_own = same_history last after end
 
 -- Runs.
 

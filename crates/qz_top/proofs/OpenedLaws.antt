@@ -23,7 +23,7 @@ use Rattle.qz_top.specs.declared.statuses.Status.TheVariants as status
 use Rattle.qz_top.proofs.RunLaws.{OneRose, run_closes, run_ready, run_plain, run_plain_first, run_sound, last_sound}
 
 -- stores that were just opened are open, and nothing is undecided
-opened_ready : (S : ClusterState) → IsOpened S.triggers → AreOpened S.states → IsReady S
+pub opened_ready : (S : ClusterState) → IsOpened S.triggers → AreOpened S.states → IsReady S
 opened_ready S triggers states =
     record { triggers_open = triggers.is_open; states_open = states.is_open; triggers_settled = triggers.settled; states_settled = states.settled }
 
@@ -33,7 +33,7 @@ new_ready m n = record { triggers_open = refl; states_open = refl; triggers_sett
 rose_from : (a b c : ℕ) → a ≤ b → Rose b c → Rose a c
 rose_from a b c earlier rose = omega (arith, earlier, rose)
 
-rose_from_first : (m n : ℕ) (S S' : ClusterState) → m ≤ S.triggers.faults → n ≤ S.states.faults → OneRose S S' → Rose m S'.triggers.faults ⊎ Rose n S'.states.faults
+pub rose_from_first : (m n : ℕ) (S S' : ClusterState) → m ≤ S.triggers.faults → n ≤ S.states.faults → OneRose S S' → Rose m S'.triggers.faults ⊎ Rose n S'.states.faults
 rose_from_first m n S S' earlier states_earlier (inl rose) = inl (rose_from m S.triggers.faults S'.triggers.faults earlier rose)
 rose_from_first m n S S' earlier states_earlier (inr rose) = inr (rose_from n S.states.faults S'.states.faults states_earlier rose)
 
@@ -80,6 +80,8 @@ end_sound honest status.ReadFault left lines more last after end not_own sound =
 end_sound honest status.WriteFault left lines more last after end not_own sound = same_run_sound last after end sound
 end_sound honest status.DiskFault left lines more last after end not_own sound = same_run_sound last after end sound
 end_sound honest status.Exists left lines more last after end not_own sound = same_run_sound last after end sound
+end_sound honest (status.Budget firings) left lines more last after end not_own sound = same_run_sound last after end sound
+end_sound honest (status.TooMany count) left lines more last after end not_own sound = same_run_sound last after end sound
 
 -- The trail stays, whatever the end left of the cluster.
 
@@ -99,6 +101,8 @@ end_trail honest status.ReadFault left lines more last after end = ap (λ (r : R
 end_trail honest status.WriteFault left lines more last after end = ap (λ (r : RunState). r.trail) end
 end_trail honest status.DiskFault left lines more last after end = ap (λ (r : RunState). r.trail) end
 end_trail honest status.Exists left lines more last after end = ap (λ (r : RunState). r.trail) end
+end_trail honest (status.Budget firings) left lines more last after end = ap (λ (r : RunState). r.trail) end
+end_trail honest (status.TooMany count) left lines more last after end = ap (λ (r : RunState). r.trail) end
 
 -- A run on opened stores.
 module _ (honest : Type 0) (s : Status) (S : ClusterState) (after : RunState) (old new : Outside) (lines : List (List ℕ)) (readings : List ℤ) (replies : List StepReply)

@@ -5,7 +5,7 @@ use Rattle.qz_io.specs.Outside.{Outside, no_clock, only_output}
 use Rattle.qz_words.specs.declared.wishes.WordFault.{WordFault}
 use Rattle.qz_words.specs.declared.wishes.Wish.{Wish}
 use Rattle.qz_words.specs.declared.wishes.Wish.TheVariants as wish
-use Rattle.qz_top.specs.Calls.{OwnDone, RanOnDisk, NotOpened, trail_of}
+use Rattle.qz_top.specs.Calls.{OwnDone, RanOnDisk, LoadedOnDisk, ListedOnDisk, NotOpened, trail_of}
 use Rattle.qz_top.specs.Making.{IsInit, SaysMade}
 use Rattle.qz_top.specs.Times.{TimesDone}
 use Rattle.qz_top.specs.declared.statuses.Status.TheVariants as status
@@ -41,6 +41,20 @@ pub record RanInit {D : Type 0} {g : Ghosts D} (triggers states : D) (e : Ended 
 abbrev pub RanScript : {D : Type 0} {g : Ghosts D} → D → D → Ended D g → Outside → Outside → Type 0
 RanScript triggers states e old new = RanOnDisk triggers states e old new ⊎ NotOpened triggers states e old new
 
+-- The commands of a document were done on both stores, or one of them wasn't opened.
+abbrev pub RanLoad : {D : Type 0} {g : Ghosts D} → D → D → Ended D g → Outside → Outside → Type 0
+RanLoad triggers states e old new = LoadedOnDisk triggers states e old new ⊎ NotOpened triggers states e old new
+
+-- What both stores hold was written, or one of them wasn't opened.
+abbrev pub RanList : {D : Type 0} {g : Ghosts D} → D → D → Ended D g → Outside → Outside → Type 0
+RanList triggers states e old new = ListedOnDisk triggers states e old new ⊎ NotOpened triggers states e old new
+
+-- A list was written; the input wasn't read and the clock not asked.
+pub record Listed {D : Type 0} {g : Ghosts D} (triggers states : D) (e : Ended D g) (old new : Outside) : Type 0 where
+  pub ran : RanList triggers states e (only_output old) (only_output new)
+  pub not_read : new.left ≡ old.left
+  pub not_asked : new.readings ≡ old.readings
+
 -- Fire times were told: at most so many of each trigger, after this moment.
 pub record ToldTimes {D : Type 0} {g : Ghosts D} (after : ℤ) (count : ℕ) (triggers states : D) (e : Ended D g)
     (old new : Outside) : Type 0 where
@@ -56,4 +70,6 @@ DidAsAsked (Err fault) triggers states e old new = RefusedWords fault triggers s
 DidAsAsked (Ok wish.Own) triggers states e old new = RanOwn triggers states e old new
 DidAsAsked (Ok wish.Init) triggers states e old new = RanInit triggers states e old new
 DidAsAsked (Ok wish.Script) triggers states e old new = RanScript triggers states e old new
+DidAsAsked (Ok wish.Load) triggers states e old new = RanLoad triggers states e old new
+DidAsAsked (Ok wish.List) triggers states e old new = Listed triggers states e old new
 DidAsAsked (Ok (wish.Times after count)) triggers states e old new = ToldTimes after count triggers states e old new

@@ -6,6 +6,7 @@ use Rattle.qz_types.specs.declared.stores.Store.{Store}
 use Rattle.qz_disk.specs.declared.disk.Disk.{Ghosts}
 use Rattle.qz_io.specs.Outside.{Outside}
 use Rattle.qz_laws.specs.Losses.{AreExact}
+use Rattle.qz_journal.specs.Through.{OnlyReads}
 use Rattle.qz_journal.specs.declared.errors.MountError.{MountError}
 use Rattle.qz_journal.specs.declared.errors.MountError.TheVariants as mount
 use Rattle.qz_trigger_store.specs.Bytes.{Stands}
@@ -18,6 +19,8 @@ use Rattle.qz_cluster.specs.Script.{ScriptState, TimedStep, new_script, step_rep
 use Rattle.qz_open.specs.Opened.{AreAlwaysAlone}
 use Rattle.qz_open.specs.Runs.{AreSparing}
 use Rattle.qz_top.specs.Lines.{steps_of}
+use Rattle.qz_top.specs.Lists.{WritesText, lines_of}
+use Rattle.qz_top.specs.Loads.{Loads}
 use Rattle.qz_top.specs.Moments.{HasTriggers, HasStates, BeginsWithReads, EachIsKept}
 use Rattle.qz_top.specs.Runs.{IsRun}
 use Rattle.qz_top.specs.Seen.{states_in}
@@ -118,6 +121,34 @@ pub record RanOnDisk {D : Type 0} {g : Ghosts D} (triggers states : D) (e : Ende
   -- moment on when a state was reached, each store as in that state or in a later one
   pub opening : g.honest → BeginsWithReads (g.state triggers) (g.state states) e.trail.on_disk.value.items
   pub any_moment : g.honest → EachIsKept e.trail.on_disk.value.items end.cluster (g.state e.triggers) (g.state e.states)
+
+-- The stores that stand on the disks were opened, and a document's commands were done on them.
+pub record LoadedOnDisk {D : Type 0} {g : Ghosts D} (triggers states : D) (e : Ended D g)
+    (old new : Outside) : Type 0 where
+  -- the histories that the bytes represent were opened: they begin with new stores, and they are legal
+  pub opened : ClusterState
+  pub are_opened : IsOpened opened.triggers × AreOpened opened.states
+  pub stand : g.honest → Stands (g.state triggers).content opened.triggers.history × StatesStand (g.state states).content opened.states.history
+  -- the commands as steps of a client, and the states that they went through
+  pub end : RunState
+  pub loads : Loads g.honest e.status (begun false opened) end old new
+  pub trail_is : trail_of e.trail ≡ end.trail
+  pub on_disk : states_in e.trail.on_disk.value ≡ end.trail
+  pub faults : (g.faults e.triggers ≡ end.cluster.triggers.faults) × (g.faults e.states ≡ end.cluster.states.faults)
+  -- a crash at the end and at each moment before it, as in a script
+  pub images : g.honest → (b : List ℕ) → ((g.state e.triggers).IsImage b → HasTriggers b end.cluster) × ((g.state e.states).IsImage b → HasStates b end.cluster)
+  pub opening : g.honest → BeginsWithReads (g.state triggers) (g.state states) e.trail.on_disk.value.items
+  pub any_moment : g.honest → EachIsKept e.trail.on_disk.value.items end.cluster (g.state e.triggers) (g.state e.states)
+
+-- The stores that stand on the disks were opened, and what they hold was written.
+pub record ListedOnDisk {D : Type 0} {g : Ghosts D} (triggers states : D) (e : Ended D g)
+    (old new : Outside) : Type 0 where
+  pub opened : ClusterState
+  pub are_opened : IsOpened opened.triggers × AreOpened opened.states
+  pub stand : g.honest → Stands (g.state triggers).content opened.triggers.history × StatesStand (g.state states).content opened.states.history
+  pub written : WritesText e.status (lines_of opened) old new
+  -- the disks were only read
+  pub reads : g.honest → OnlyReads (g.state triggers) (g.state e.triggers) × OnlyReads (g.state states) (g.state e.states)
 
 -- the status of a script whose store of this name wasn't opened
 abbrev pub refusal_of : Store → MountError → Status

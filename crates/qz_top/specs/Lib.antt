@@ -1,9 +1,12 @@
 pub mod Asked
 pub mod Calls
 pub mod Causes
+pub mod Clients
 pub mod Handling
 pub mod LineOutcomes
 pub mod Lines
+pub mod Lists
+pub mod Loads
 pub mod Making
 pub mod Moments
 pub mod Runs

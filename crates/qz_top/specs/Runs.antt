@@ -54,6 +54,8 @@ Reads (status.Damaged store at) left left_now lines = ReadFirst left lines
 Reads (status.JournalFull need room) left left_now lines = ReadFirst left lines
 Reads status.NoMemory left left_now lines = ReadFirst left lines
 Reads status.Exists left left_now lines = ⊥
+Reads (status.Budget firings) left left_now lines = ⊥
+Reads (status.TooMany count) left left_now lines = ⊥
 
 -- The line after those that were done asks for a step that was cut short. The step was tried at its own reading, or else
 -- at the one reading that was taken of the clock after those of these lines.
@@ -127,6 +129,8 @@ pub record Clocked (s : Status) (old new : Option (List ℤ)) (lines : List (Lis
 abbrev pub IsOfScript : Status → Type 0
 IsOfScript (status.BadWords fault) = ⊥
 IsOfScript status.Exists = ⊥
+IsOfScript (status.Budget firings) = ⊥
+IsOfScript (status.TooMany count) = ⊥
 IsOfScript s = ⊤
 
 -- A run of these lines from the first state on, with these readings of the clock and these replies. The last state is

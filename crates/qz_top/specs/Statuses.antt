@@ -29,8 +29,10 @@ exit_number status.DiskFault = 5
 exit_number (status.NotAStore store) = 6
 exit_number (status.Damaged store at) = 6
 exit_number (status.JournalFull need room) = 7
+exit_number (status.Budget firings) = 8
 exit_number status.NoMemory = 9
 exit_number status.Exists = 10
+exit_number (status.TooMany count) = 11
 
 abbrev pub kind_text : BadKind → List ℕ
 kind_text TooLong = codes "too long"
@@ -61,8 +63,10 @@ error_text status.DiskFault = codes "qz: disk fault\n"
 error_text (status.NotAStore store) = codes "qz: " ++ store_text store ++ codes " not a store\n"
 error_text (status.Damaged store at) = codes "qz: " ++ store_text store ++ codes " damaged at " ++ decimal at ++ codes "\n"
 error_text (status.JournalFull need room) = need_text need ++ room_text room
+error_text (status.Budget firings) = codes "qz: budget " ++ decimal firings ++ codes " spent\n"
 error_text status.NoMemory = codes "qz: no memory\n"
 error_text status.Exists = codes "qz: store exists\n"
+error_text (status.TooMany count) = codes "qz: too many " ++ decimal count ++ codes "\n"
 
 -- how a script ends whose next step was cut short so
 abbrev pub cut_status : StepEnd → Status

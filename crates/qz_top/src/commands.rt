@@ -7,6 +7,8 @@ ghost use Rattle.qz_words.specs.Wishes.{wish_of};
 
 use crate::ended::{Ended, ran_no_script};
 use crate::in_memory::own_script;
+use crate::list_on_disk::list_on_disk;
+use crate::load_on_disk::load_on_disk;
 use crate::making::make_stores;
 use crate::on_disk::script_on_disk;
 use crate::times::tell_times;
@@ -24,6 +26,8 @@ use std::alloc::Global;
 ///   `out`. The two disks aren't touched.
 /// - `init` makes the stores that aren't there, and writes `created`.
 /// - `script` opens both stores and runs the lines of `input` on them.
+/// - `load` opens both stores, does the commands of the document on `input`, and writes a reply line for each.
+/// - `list` opens both stores, and writes a line for each row of theirs.
 /// - `times AFTER COUNT` writes for each trigger of `input` its first fire times. The two disks aren't touched.
 ///
 /// The disks come back in every case.
@@ -70,5 +74,7 @@ fn work<S: Source, K: Sink, D: Disk, C: Clock>(
         Ok(Wish::Times { after, count }) => {
             tell_times(alloc, input, out, triggers, states, Query { after, count })
         }
+        Ok(Wish::Load) => load_on_disk(alloc, input, out, triggers, states, clock),
+        Ok(Wish::List) => list_on_disk(alloc, out, triggers, states),
     }
 }

@@ -3,16 +3,22 @@
 
 mod beginning;
 mod commands;
+mod documents;
 mod ended;
 mod in_memory;
 mod line_handler;
+mod list_on_disk;
+mod load_on_disk;
+mod loading;
 mod making;
 mod on_disk;
+mod opening;
 mod reports;
 mod runs;
 mod scripts;
 mod statuses;
 mod times;
+mod writing;
 
 pub use commands::command;
 pub use ended::{Ended, Trail};

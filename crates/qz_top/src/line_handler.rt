@@ -93,7 +93,7 @@ fn end_of(error: LineError) -> LineEnd
 }
 
 /// Does a step at its own reading, or at one of the clock, and writes the reply.
-fn do_step<K: Sink, D: Disk, C: Clock>(
+pub(crate) fn do_step<K: Sink, D: Disk, C: Clock>(
     alloc: Global,
     given: Given,
     run: &mut Run<D>,

@@ -3,18 +3,17 @@ ghost use Rattle.std.specs.Prelude.{◌≡◌, ◌⊎◌};
 ghost use Rattle.qz_civil.specs.Causes.{Rose};
 ghost use Rattle.qz_io.specs.Around.{outside};
 ghost use Rattle.qz_top.specs.Asked.{RanScript};
-ghost use Rattle.qz_top.specs.Calls.{RanOnDisk, refusal_of};
+ghost use Rattle.qz_top.specs.Calls.{RanOnDisk};
 ghost use Rattle.qz_top.specs.Moments.{BeginsOn};
 
 use crate::Status;
-use crate::ended::{Ended, Trail, ran_no_script};
+use crate::ended::Ended;
+use crate::opening::open_run;
 use crate::runs::Run;
 use crate::scripts::run_lines;
-use qz_cluster::{Cluster, MountError, MountFault};
 use qz_disk::Disk;
 use qz_io::{Clock, Sink, Source};
 use std::alloc::Global;
-use std::snapshot::Snapshot;
 
 /// Opens both stores, and runs the lines of the input on them.
 pub(crate) fn script_on_disk<S: Source, K: Sink, D: Disk, C: Clock>(
@@ -30,23 +29,14 @@ pub(crate) fn script_on_disk<S: Source, K: Sink, D: Disk, C: Clock>(
     ensures read { result.status ≡ Status.ReadFault → Rose (S.faults input.old) (S.faults input.new) }
     ensures write { result.status ≡ Status.WriteFault → Rose (K.faults out.old) (K.faults out.new) }
 {
-    match Cluster::mount(alloc, triggers, states) {
-        Ok(cluster) => match Run::begin(alloc, cluster, false) {
-            Ok(run) => run_opened(alloc, input, out, run, clock),
-            Err(cluster) => {
-                let (triggers, states) = cluster.into_disks();
-                ran_no_script(alloc, Status::NoMemory, triggers, states)
-            }
-        },
-        Err((fault, triggers, states)) => {
-            ran_no_script(alloc, refusal_of(fault), triggers, states)
-        }
+    match open_run(alloc, triggers, states) {
+        Ok(run) => run_opened(input, out, run, clock),
+        Err(ended) => ended,
     }
 }
 
 // A script on the stores that were opened.
 fn run_opened<S: Source, K: Sink, D: Disk, C: Clock>(
-    alloc: Global,
     input: &mut S,
     out: &mut K,
     mut run: Run<D>,
@@ -60,33 +50,5 @@ fn run_opened<S: Source, K: Sink, D: Disk, C: Clock>(
     ensures write { result.status ≡ Status.WriteFault → Rose (K.faults out.old) (K.faults out.new) }
 {
     let status = run_lines(input, out, &mut run, clock);
-    let Run {
-        cluster,
-        trail,
-        alloc: _,
-        is_own: _,
-    } = run;
-    let (triggers, states) = cluster.into_disks();
-    Ended {
-        status,
-        triggers,
-        states,
-        trail: Trail {
-            on_disk: Snapshot::of(&trail),
-            in_memory: Snapshot::of(&Vec::new(alloc)),
-        },
-    }
-}
-
-// The status of a script whose store wasn't opened.
-fn refusal_of(fault: MountFault) -> Status
-    ensures { result ≡ refusal_of fault.store fault.error }
-{
-    let MountFault { store, error } = fault;
-    match error {
-        MountError::Fault => Status::DiskFault,
-        MountError::NotAStore => Status::NotAStore { store },
-        MountError::Damaged { at } => Status::Damaged { store, at },
-        MountError::NoMemory => Status::NoMemory,
-    }
+    run.end(status)
 }

@@ -31,8 +31,10 @@ fn write_error<E: Sink>(status: Status, err: &mut E) -> Result<(), Failed>
         Status::NotAStore { store } => write_all(err, not_a_store(store).as_bytes()),
         Status::Damaged { store, at } => write_damaged(store, at, err),
         Status::JournalFull { need, room } => write_full(need, room, err),
+        Status::Budget { firings } => write_budget(firings, err),
         Status::NoMemory => write_all(err, b"qz: no memory\n"),
         Status::Exists => write_all(err, b"qz: store exists\n"),
+        Status::TooMany { count } => write_too_many(count, err),
     }
 }
 
@@ -68,6 +70,22 @@ fn write_full<E: Sink>(need: u64, room: u64, err: &mut E) -> Result<(), Failed>
 {
     write_number(b"qz: journal full need ", need, err)?;
     write_number(b" room ", room, err)?;
+    write_all(err, b"\n")
+}
+
+fn write_budget<E: Sink>(firings: u64, err: &mut E) -> Result<(), Failed>
+    ensures ok { OnOk result (Appends (E.held err.old) (E.held err.new) (error_text (Status.Budget firings))) }
+    ensures cause { HasCause (E.faults err.old) (E.faults err.new) result }
+{
+    write_number(b"qz: budget ", firings, err)?;
+    write_all(err, b" spent\n")
+}
+
+fn write_too_many<E: Sink>(count: u64, err: &mut E) -> Result<(), Failed>
+    ensures ok { OnOk result (Appends (E.held err.old) (E.held err.new) (error_text (Status.TooMany count))) }
+    ensures cause { HasCause (E.faults err.old) (E.faults err.new) result }
+{
+    write_number(b"qz: too many ", count, err)?;
     write_all(err, b"\n")
 }
 

@@ -38,7 +38,7 @@ pub(crate) fn run_lines<S: Source, K: Sink, D: Disk, C: Clock>(
 }
 
 /// All lines were done: hands on what the output holds, and answers whether a store is closed.
-fn finish<K: Sink>(out: &mut K, closed: bool) -> Status
+pub(crate) fn finish<K: Sink>(out: &mut K, closed: bool) -> Status
     ensures { Finishes result closed (output_alone K.Sink out.old) (output_alone K.Sink out.new) (K.faults out.old) (K.faults out.new) }
 {
     match out.flush() {
@@ -69,7 +69,7 @@ fn status_of(end: LinesEnd<LineEnd>) -> Status
 }
 
 /// The status of a script whose line of this number ended so.
-fn status_at(line: u64, end: LineEnd) -> Status
+pub(crate) fn status_at(line: u64, end: LineEnd) -> Status
     ensures value { result ≡ status_at line end }
     ensures called { IsOfScript result }
 {

@@ -63,10 +63,15 @@ pub enum Status {
     Damaged { store: Store, at: u64 },
     /// A step would be accepted, and its record needs more bytes than are left in the store.
     JournalFull { need: u64, room: u64 },
+    /// `run` and `gen`: so many firings were made, which is all that the call may make, and a trigger that waits has a next
+    /// time that isn't after the run's end.
+    Budget { firings: u64 },
     /// Memory ran out.
     NoMemory,
-    /// Both stores exist already.
+    /// `init`: both stores exist already. `gen`: the history of the trigger store isn't empty.
     Exists,
+    /// `run` and `gen`: a transaction of one of the nodes was refused, since there would be this many rows or members.
+    TooMany { count: u64 },
 }
 
 impl Status {
@@ -84,8 +89,10 @@ impl Status {
             Status::NotAStore { store: _ } => 6,
             Status::Damaged { store: _, at: _ } => 6,
             Status::JournalFull { need: _, room: _ } => 7,
+            Status::Budget { firings: _ } => 8,
             Status::NoMemory => 9,
             Status::Exists => 10,
+            Status::TooMany { count: _ } => 11,
         }
     }
 }

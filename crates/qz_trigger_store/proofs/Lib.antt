@@ -1,6 +1,7 @@
 pub mod Appending
 pub mod Committing
 pub mod Decided
+pub mod Kept
 pub mod Moments
 pub mod Once
 pub mod Refused

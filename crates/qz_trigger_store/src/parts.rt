@@ -3,10 +3,12 @@ ghost use Rattle.std.specs.Prelude.{◌≡◌, ◌++◌, length, not, is_some};
 ghost use Rattle.qz_types.specs.Tables.{new_tables};
 ghost use Rattle.qz_types.specs.Words.{member_of};
 ghost use Rattle.qz_model.specs.History.{replay, replay_from, replies_from, moments_from};
-ghost use Rattle.qz_trigger_store.specs.View.{view, found_of, added_of, moments_of, replies_of, disk_of};
+ghost use Rattle.qz_model.specs.Invariant.{TablesValid};
+ghost use Rattle.qz_trigger_store.specs.View.{view, found_of, added_of, moments_of, replies_of, tables_of, disk_of};
 
 use crate::TriggerStore;
 use qz_disk::Disk;
+use qz_tables::Tables;
 use qz_types::{Entry, Reply, Text};
 
 impl<D: Disk> TriggerStore<D> {
@@ -29,6 +31,15 @@ impl<D: Disk> TriggerStore<D> {
         ensures { result ≡ is_some (member_of node.now (replay (view self.now).history).members) }
     {
         self.tables.tables().get_member(node).is_some()
+    }
+
+    /// The tables that the history leaves, which are valid.
+    pub fn tables(&self) -> &Tables
+        ensures kept { result.now.tables ≡ tables_of self.now }
+        ensures value { result.now.tables ≡ replay (view self.now).history }
+        ensures valid { TablesValid result.now.tables }
+    {
+        self.tables.tables()
     }
 
     /// The entries accepted since the mount, in order.

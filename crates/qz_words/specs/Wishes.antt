@@ -1,18 +1,15 @@
 -- What the words of the command line ask for. Of several faults the first in the order of WordFault is meant, and of two
 -- of one kind the one further left.
-use Rattle.std.specs.Prelude.{⊤, ℕ, ◌≤◌, pos, ◌≤ℤ◌, ◌-◌, ◌^◌, min, List, [], ◌∷◌, length, codes, ◌&&◌, not, nat_le, int_le, if◌then◌else◌, Option, Some, None, Result, Ok, Err}
+use Rattle.std.specs.Prelude.{⊤, ℕ, ◌≤◌, pos, ◌≤ℤ◌, List, [], ◌∷◌, codes, ◌&&◌, not, nat_le, int_le, if◌then◌else◌, Option, Some, None, Result, Ok, Err}
 use Rattle.std.specs.Str.{bytes_eq}
 use Rattle.qz_civil.specs.declared.limits.TheConstants.{LAST}
 use Rattle.qz_words.specs.declared.wishes.TheConstants.{COUNT_LIMIT}
 use Rattle.qz_words.specs.declared.wishes.Wish.{Wish}
-use Rattle.qz_words.specs.declared.wishes.Wish.TheVariants.{Own, Init, Script, Times}
+use Rattle.qz_words.specs.declared.wishes.Wish.TheVariants.{Own, Init, Script, Load, List as ListAll, Times}
 use Rattle.qz_words.specs.declared.wishes.WordFault.{WordFault}
 use Rattle.qz_words.specs.declared.wishes.WordFault.TheVariants as fault
 use Rattle.qz_words.specs.Numbers.{number_of}
-
--- how many words stand behind the first, as far as the fault can tell
-abbrev pub wrong_count : List (List ℕ) → Result Wish WordFault
-wrong_count further = Err (fault.WrongCount (min (length further) (2 ^ 32 - 1)))
+use Rattle.qz_words.specs.Counts.{wrong_count}
 
 -- the wish of a call that has no further words
 abbrev pub alone : Wish → List (List ℕ) → Result Wish WordFault
@@ -39,6 +36,8 @@ wish_of [] = Ok Own
 wish_of (word ∷ further) =
     if bytes_eq word (codes "init") then alone Init further
     else if bytes_eq word (codes "script") then alone Script further
+    else if bytes_eq word (codes "load") then alone Load further
+    else if bytes_eq word (codes "list") then alone ListAll further
     else if bytes_eq word (codes "times") then times further
     else Err fault.UnknownCommand
 
@@ -47,4 +46,6 @@ abbrev pub IsWish : Wish → Type 0
 IsWish Own = ⊤
 IsWish Init = ⊤
 IsWish Script = ⊤
+IsWish Load = ⊤
+IsWish ListAll = ⊤
 IsWish (Times after count) = (pos 0 ≤ℤ after) × (after ≤ℤ LAST) × (1 ≤ count) × (count ≤ COUNT_LIMIT)

@@ -1,4 +1,4 @@
-//! How many fire times a call may ask for, and how long a number may be.
+//! How much a call may ask for, and how long a number may be.
 ghost use Rattle.std.specs.Prelude.{◌≡◌};
 
 use crate::numbers::DIGITS;

@@ -1,5 +1,6 @@
 //! What a call is asked for.
 ghost use Rattle.std.specs.Prelude.{◌≡◌, IfOk};
+ghost use Rattle.qz_words.specs.Counts.{wrong_count};
 ghost use Rattle.qz_words.specs.Wishes as spec;
 
 use crate::numbers::number_of;
@@ -17,6 +18,10 @@ pub enum Wish {
     Init,
     /// A script on the stores.
     Script,
+    /// The commands of a document on the stores.
+    Load,
+    /// What the stores hold.
+    List,
     /// For each trigger of the input its first fire times after a moment.
     Times {
         /// In ms since 1970-01-01T00:00:00Z, from 0 to `LAST`.
@@ -50,6 +55,8 @@ pub fn read_words(words: &[Text]) -> Result<Wish, WordFault>
         Some((word, further)) => match word.as_str() {
             "init" => alone(Wish::Init, further),
             "script" => alone(Wish::Script, further),
+            "load" => alone(Wish::Load, further),
+            "list" => alone(Wish::List, further),
             "times" => times(further),
             _ => Err(WordFault::UnknownCommand),
         },
@@ -70,7 +77,7 @@ fn alone(wish: Wish, further: &[Text]) -> Result<Wish, WordFault>
 }
 
 fn wrong_count(further: &[Text]) -> Result<Wish, WordFault>
-    ensures value { result ≡ spec.wrong_count further.now }
+    ensures value { result ≡ wrong_count further.now }
     ensures valid { IfOk result spec.IsWish }
 {
     Err(WordFault::WrongCount {

@@ -2,6 +2,7 @@ use Rattle.std.proofs.Common.{◌≡◌, refl, w64, to_z, of_z, arith}
 use Rattle.std.proofs.lemmas.Grind.{common_steps}
 use Rattle.std.proofs.lemmas.Int.{to_z-of_z}
 use Rattle.qz_top.proofs.AskedLaws.{done_at, caused_at, own_words, own_disk, script_words, times_words, times_disk, init_words, init_read, init_disk}
+use Rattle.qz_top.proofs.LoadLaws.{load_words, list_words}
 use Rattle.qz_top.proofs.commands.work.Goals as goal
 
 pub returns-in-Err-clause-done : goal.returns-in-Err-clause-done
@@ -61,3 +62,23 @@ returns-in-Ok-Times-clause-cause g c =
     let told = c.tell_times.ensures in
     caused_at _ _ _ _ _ (rw c.in-Ok-Times.field-0-is at c.in-Ok-Times.ensures.value) (λ fault is. absurd (times_words _ fault told.called is)) told.read told.write
     (λ is. absurd (times_disk _ told.called is))
+
+pub returns-in-Ok-Load-clause-done : goal.returns-in-Ok-Load-clause-done
+returns-in-Ok-Load-clause-done g c =
+    done_at _ _ _ _ _ _ _ (rw c.in-Ok-Load.field-0-is at c.in-Ok-Load.ensures.value)
+    c.load_on_disk.ensures.done
+
+pub returns-in-Ok-Load-clause-cause : goal.returns-in-Ok-Load-clause-cause
+returns-in-Ok-Load-clause-cause g c =
+    let load = c.load_on_disk.ensures in
+    caused_at _ _ _ _ _ (rw c.in-Ok-Load.field-0-is at c.in-Ok-Load.ensures.value) (λ fault is. absurd (load_words _ _ _ _ _ fault load.done is)) load.read load.write load.disk
+
+pub returns-in-Ok-List-clause-done : goal.returns-in-Ok-List-clause-done
+returns-in-Ok-List-clause-done g c =
+    done_at _ _ _ _ _ _ _ (rw c.in-Ok-List.field-0-is at c.in-Ok-List.ensures.value)
+    (record { ran = c.list_on_disk.ensures.done; not_read = refl; not_asked = refl })
+
+pub returns-in-Ok-List-clause-cause : goal.returns-in-Ok-List-clause-cause
+returns-in-Ok-List-clause-cause g c =
+    let list = c.list_on_disk.ensures in
+    caused_at _ _ _ _ _ (rw c.in-Ok-List.field-0-is at c.in-Ok-List.ensures.value) (λ fault is. absurd (list_words _ _ _ _ _ fault list.done is)) (λ is. absurd (list.read is)) list.write list.disk

@@ -1,36 +1,28 @@
-use Rattle.std.proofs.Common.{◌≡◌, ◌∙◌, inl, inr, sym, ap, subst, refl}
+use Rattle.std.proofs.Common.{◌≡◌, ◌∙◌, sym, ap, subst, refl}
 use Rattle.qz_journal.specs.Through.{OnlyReads, OnlyReadsUnless}
 use Rattle.qz_journal.specs.declared.errors.MountError.TheVariants as mount
 use Rattle.qz_types.specs.declared.stores.Store.TheVariants as store
 use Rattle.qz_cluster.specs.View.{disk_of_triggers, disk_of_states}
 use Rattle.qz_top.specs.Trails.{RunState}
 use Rattle.qz_top.proofs.MomentLaws.{begins_on}
-use Rattle.qz_top.proofs.on_disk.script_on_disk.Goals as goal
+use Rattle.qz_top.proofs.opening.open_run.Goals as goal
 
-pub returns-in-Ok-begin-clause-done : goal.returns-in-Ok-begin-clause-done
-returns-in-Ok-begin-clause-done g c =
+pub returns-in-Ok-begin-clause-ok : goal.returns-in-Ok-begin-clause-ok
+returns-in-Ok-begin-clause-ok g c =
     let mounted = c.in-Ok.ensures in
     let begun = c.in-Ok-begin.ensures in
-    inl (c.run_opened.ensures.done c.args.triggers c.args.states
-    (begins_on c.args.triggers c.args.states _ _ begun.ok.1 mounted.opened mounted.nothing_held mounted.stands mounted.later mounted.reads (ap (λ (r : RunState). r.is_own) begun.ok.0) begun.shown))
-
-pub returns-in-Ok-begin-clause-disk : goal.returns-in-Ok-begin-clause-disk
-returns-in-Ok-begin-clause-disk g c =
-    let mounted = c.in-Ok.ensures in
-    let begun = c.in-Ok-begin.ensures in
-    c.run_opened.ensures.disk c.args.triggers c.args.states
-    (begins_on c.args.triggers c.args.states _ _ begun.ok.1 mounted.opened mounted.nothing_held mounted.stands mounted.later mounted.reads (ap (λ (r : RunState). r.is_own) begun.ok.0) begun.shown)
+    begins_on c.args.triggers c.args.states _ _ begun.ok.1 mounted.opened mounted.nothing_held mounted.stands mounted.later mounted.reads (ap (λ (r : RunState). r.is_own) begun.ok.0) begun.shown
 
 -- both stores were opened, and then there was no memory
-pub returns-in-Err-begin-clause-done : goal.returns-in-Err-begin-clause-done
-returns-in-Err-begin-clause-done g c =
+pub returns-in-Err-begin-clause-err : goal.returns-in-Err-begin-clause-err
+returns-in-Err-begin-clause-err g c o =
     let disk = g.D.Disk in
     let none = c.ran_no_script.ensures in
     let back = c.into_disks-triggers.ensures in
     let same = c.in-Err-begin.ensures.err in
     let triggers_is : c.ran_no_script.result.triggers ≡ disk_of_triggers c.in-Ok.cluster = none.disks.0 ∙ back.0 ∙ ap disk_of_triggers same in
     let states_is : c.ran_no_script.result.states ≡ disk_of_states c.in-Ok.cluster = none.disks.1 ∙ back.1 ∙ ap disk_of_states same in
-    inr (record {
+    record {
       store = store.States;
       error = mount.NoMemory;
       status_is = none.status;
@@ -43,4 +35,4 @@ returns-in-Err-begin-clause-done g c =
                 (record { content = λ kept. reads.1.content; any_moment = reads.1.any_moment; bytes_read = reads.1.bytes_read }),
           );
       untouched = refl;
-    })
+    }

@@ -1,0 +1,9 @@
+pub mod Stores
+pub mod Laws
+pub mod StateLaws
+pub mod JobLaw
+pub mod Working
+pub mod Steps
+pub mod RoundRules
+pub mod Moments
+pub mod RunRules

@@ -1,0 +1,4 @@
+pub mod Accounts
+pub mod Declining
+pub mod Logs
+pub mod View

@@ -1,0 +1,14 @@
+pub mod Beginnings
+pub mod Chains
+pub mod Clients
+pub mod Entries
+pub mod Fires
+pub mod Histories
+pub mod Nodes
+pub mod Often
+pub mod Once
+pub mod Plans
+pub mod Recoveries
+pub mod Schedules
+pub mod Stays
+pub mod Turns

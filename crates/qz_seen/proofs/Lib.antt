@@ -1,0 +1,12 @@
+pub mod Acquiring
+pub mod Clear
+pub mod Completing
+pub mod Effects
+pub mod Firing
+pub mod Joining
+pub mod Leaving
+pub mod Lists
+pub mod Misfiring
+pub mod Names
+pub mod NodeRows
+pub mod Still

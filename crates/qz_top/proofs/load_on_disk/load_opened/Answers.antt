@@ -1,0 +1,33 @@
+use Rattle.std.proofs.Common.{ap}
+use Rattle.qz_trigger_store.proofs.Appending.{may_be}
+use Rattle.qz_checkin.proofs.Appending.{may_be as states_may_be}
+use Rattle.qz_cluster.specs.View.{view as cluster_view}
+use Rattle.qz_top.specs.Seen.{view, states_in}
+use Rattle.qz_top.proofs.LoadLaws.{load_rose}
+use Rattle.qz_top.proofs.MomentLaws.{begun_so, all_kept, opened_by_reads}
+use Rattle.qz_top.proofs.load_on_disk.load_opened.Goals as goal
+
+pub returns-clause-done : goal.returns-clause-done
+returns-clause-done g c triggers states begins =
+    let loads = rw (begun_so triggers states c.args.run begins) at c.load-status.ensures.loads in
+    let end = c.end.ensures in
+    let cluster = c.load-status.new.run.cluster in
+    record {
+      opened = cluster_view c.args.run.cluster;
+      are_opened = begins.are_opened;
+      stand = begins.stand;
+      end = view c.load-status.new.run;
+      loads = rw end.status loads;
+      trail_is = end.trail;
+      on_disk = ap states_in end.shown;
+      faults = (ap g.D.Disk.faults end.disks.0, ap g.D.Disk.faults end.disks.1);
+      images = λ honest b. (λ is. may_be _ _ b (cluster.triggers.images honest b (rw end.disks.0 at is)), λ is. states_may_be _ _ b (cluster.states.images honest b (rw end.disks.1 at is)));
+      opening = λ honest. rw end.shown (opened_by_reads (g.met.D.Disk.lawful honest) honest triggers states _ _ begins c.load-status.ensures.shows);
+      any_moment = λ honest. rw (end.shown, end.disks.0, end.disks.1) (all_kept (g.met.D.Disk.lawful honest) honest triggers states _ _ begins c.load-status.ensures.shows);
+    }
+
+pub returns-clause-disk : goal.returns-clause-disk
+returns-clause-disk g c triggers states begins status =
+    let loads = rw (begun_so triggers states c.args.run begins) at c.load-status.ensures.loads in
+    let end = c.end.ensures in
+    rw (end.disks.0, end.disks.1) (load_rose _ _ _ begins.are_opened.0 begins.are_opened.1 _ _ begins.no_earlier.0 begins.no_earlier.1 _ _ _ loads (rw end.status at status))

@@ -1,0 +1,80 @@
+//! Opening both stores, and giving their disks back.
+ghost use Rattle.std.specs.Prelude.{◌≡◌, ◌≢◌, ◌⊎◌, IfOk, IfErr};
+ghost use Rattle.qz_civil.specs.Causes.{Rose};
+ghost use Rattle.qz_io.specs.Outside.{Outside};
+ghost use Rattle.qz_cluster.specs.View.{disk_of_triggers, disk_of_states};
+ghost use Rattle.qz_top.specs.Calls.{NotOpened, refusal_of, trail_of};
+ghost use Rattle.qz_top.specs.Moments.{BeginsOn};
+ghost use Rattle.qz_top.specs.Seen.{states_in};
+
+use crate::Status;
+use crate::ended::{Ended, Trail, ran_no_script};
+use crate::runs::Run;
+use qz_cluster::{Cluster, MountError, MountFault};
+use qz_disk::Disk;
+use std::alloc::Global;
+use std::snapshot::Snapshot;
+
+/// Opens both stores, the trigger store first. Where one isn't opened, or there is no memory, the call has ended.
+pub(crate) fn open_run<D: Disk>(alloc: Global, triggers: D, states: D) -> Result<Run<D>, Ended<D>>
+    ensures ok { IfOk result (λ run. BeginsOn triggers states run) }
+    ensures err { IfErr result (λ ended. (o : Outside) → NotOpened triggers states ended o o) }
+    ensures other { IfErr result (λ ended. (ended.status ≢ Status.ReadFault) × (ended.status ≢ Status.WriteFault)) }
+    ensures disk { IfErr result (λ ended. ended.status ≡ Status.DiskFault → Rose (D.faults triggers) (D.faults ended.triggers) ⊎ Rose (D.faults states) (D.faults ended.states)) }
+{
+    match Cluster::mount(alloc, triggers, states) {
+        Ok(cluster) => match Run::begin(alloc, cluster, false) {
+            Ok(run) => Ok(run),
+            Err(cluster) => {
+                let (triggers, states) = cluster.into_disks();
+                Err(ran_no_script(alloc, Status::NoMemory, triggers, states))
+            }
+        },
+        Err((fault, triggers, states)) => Err(ran_no_script(
+            alloc,
+            refusal_of(fault),
+            triggers,
+            states,
+        )),
+    }
+}
+
+impl<D: Disk> Run<D> {
+    /// The end of a call that worked on both stores: their disks and what was shown of them.
+    pub(crate) fn end(self, status: Status) -> Ended<D>
+        ensures status { result.status ≡ status }
+        ensures shown { result.trail.on_disk.value ≡ self.trail }
+        ensures trail { trail_of result.trail ≡ states_in self.trail }
+        ensures disks { (result.triggers ≡ disk_of_triggers self.cluster) × (result.states ≡ disk_of_states self.cluster) }
+    {
+        let Run {
+            cluster,
+            trail,
+            alloc,
+            is_own: _,
+        } = self;
+        let (triggers, states) = cluster.into_disks();
+        Ended {
+            status,
+            triggers,
+            states,
+            trail: Trail {
+                on_disk: Snapshot::of(&trail),
+                in_memory: Snapshot::of(&Vec::new(alloc)),
+            },
+        }
+    }
+}
+
+// The status of a call whose store wasn't opened.
+fn refusal_of(fault: MountFault) -> Status
+    ensures { result ≡ refusal_of fault.store fault.error }
+{
+    let MountFault { store, error } = fault;
+    match error {
+        MountError::Fault => Status::DiskFault,
+        MountError::NotAStore => Status::NotAStore { store },
+        MountError::Damaged { at } => Status::Damaged { store, at },
+        MountError::NoMemory => Status::NoMemory,
+    }
+}

@@ -1,0 +1,7 @@
+use Rattle.std.proofs.Common.{sym, subst}
+use Rattle.qz_model.specs.Invariant.{TablesValid}
+use Rattle.qz_trigger_store.proofs.Kept.{tables_valid}
+use Rattle.qz_trigger_store.proofs.stores.TriggerStore.tables.Goals as goal
+
+pub returns-clause-valid : goal.returns-clause-valid
+returns-clause-valid g c = subst TablesValid (sym c.tables.ensures) (tables_valid c.args.self.now)
