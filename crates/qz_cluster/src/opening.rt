@@ -4,6 +4,7 @@ ghost use Rattle.qz_model.specs.History.{History};
 ghost use Rattle.qz_journal.specs.Through.{OnlyReads};
 ghost use Rattle.qz_trigger_store.specs.Bytes.{Stands, IsHistory};
 ghost use Rattle.qz_trigger_store.specs.Opening.{IsOpened};
+ghost use Rattle.qz_trigger_store.specs.View.{added_of};
 ghost use Rattle.qz_checkin.specs.Bytes.{Stands as StatesStand, IsHistory as IsStateHistory};
 ghost use Rattle.qz_checkin.specs.History.{StateHistory};
 ghost use Rattle.qz_checkin.specs.Opening.{IsOpened as AreOpened};
@@ -26,6 +27,7 @@ impl<D: Disk> Cluster<D> {
     pub fn mount(alloc: Global, triggers: D, states: D) -> Result<Cluster<D>, (MountFault, D, D)>
         ensures opened { IfOk result (λ c. IsOpened (view c).triggers × AreOpened (view c).states) }
         ensures nothing_held { IfOk result (λ c. (view c).held ≡ []) }
+        ensures nothing_added { IfOk result (λ c. added_of (triggers_of c) ≡ []) }
         ensures stands { D.honest → IfOk result (λ c. Stands (D.state triggers).content (view c).triggers.history × StatesStand (D.state states).content (view c).states.history) }
         ensures reads { D.honest → IfOk result (λ c. OnlyReads (D.state triggers) (triggers_disk c) × OnlyReads (D.state states) (states_disk c)) }
         ensures reads_err { D.honest → IfErr result (λ e. DisksAfter D.Disk e.0.store e.0.error triggers states e.1 e.2) }

@@ -1,9 +1,10 @@
 -- The lists with one command more.
-use Rattle.std.proofs.Common.{◌≡◌, ℕ, ◌+◌, List, [], ◌∷◌, ◌++◌, false, true, All, IsTrue, length, sym, ap, ◌∙◌, subst, add-one, append_assoc, arith}
+use Rattle.std.proofs.Common.{◌≡◌, ℕ, ◌+◌, List, [], ◌∷◌, ◌++◌, false, true, All, IsTrue, length, refl, sym, ap, ◌∙◌, subst, add-one, append_assoc, arith}
 use Rattle.std.proofs.lemmas.List.{length-append}
 use Rattle.std.proofs.lemmas.List.Elements.{All-append, All-cons, All-nil}
-use Rattle.qz_types.specs.Entries.{is_command}
-use Rattle.qz_types.specs.Rows.{JobData}
+use Rattle.qz_steps.specs.Steps.{is_step}
+use Rattle.qz_steps.specs.declared.steps.Step.TheVariants.{Client}
+use Rattle.qz_types.specs.Rows.{JobData, is_trigger_spec}
 use Rattle.qz_types.specs.declared.commands.Command.{Command}
 use Rattle.qz_types.specs.declared.commands.Command.TheVariants.{AddJob, AddTrigger}
 use Rattle.qz_types.specs.declared.triggers.TriggerSpec.{TriggerSpec}
@@ -24,10 +25,14 @@ next_trigger old now new seed number state choice spec were before drawn made pu
 pub next_draws : (seed number state more : ℕ) → state ≡ state_before number seed → more ≡ after_choice state → more ≡ state_before (number + 1) seed
 next_draws seed number state more before drawn = rw add-one (drawn ∙ ap after_choice before)
 
-pub all_valid : (now new : List Command) (c : Command) → new ≡ now ++ c ∷ [] → is_command c ≡ true → All (λ c. IsTrue (is_command c)) now → All (λ c. IsTrue (is_command c)) new
+pub all_valid : (now new : List Command) (c : Command) → new ≡ now ++ c ∷ [] → is_step (Client c) ≡ true → All (λ c. IsTrue (is_step (Client c))) now → All (λ c. IsTrue (is_step (Client c))) new
 all_valid now new c pushed valid all =
-    subst (All (λ (x : Command). IsTrue (is_command x))) (sym pushed)
-    (All-append (λ (x : Command). IsTrue (is_command x)) now (c ∷ []) all (All-cons (λ (x : Command). IsTrue (is_command x)) c [] valid (All-nil (λ (x : Command). IsTrue (is_command x)))))
+    subst (All (λ (x : Command). IsTrue (is_step (Client x)))) (sym pushed)
+    (All-append (λ (x : Command). IsTrue (is_step (Client x))) now (c ∷ []) all (All-cons (λ (x : Command). IsTrue (is_step (Client x))) c [] valid (All-nil (λ (x : Command). IsTrue (is_step (Client x))))))
+
+-- a trigger within its limits is one that a client may add
+pub trigger_valid : (spec : TriggerSpec) → is_trigger_spec spec ≡ true → is_step (Client (AddTrigger spec false)) ≡ true
+trigger_valid spec valid = rw valid refl
 
 pub one_longer : (old now new : List Command) (c : Command) (n : ℕ) → new ≡ now ++ c ∷ [] → length now ≡ length old + n → length new ≡ length old + (n + 1)
 one_longer old now new c n pushed long = omega (arith, ap length pushed, length-append now (c ∷ []))

@@ -1,6 +1,7 @@
 //! The commands: all jobs, and then a trigger for each.
 ghost use Rattle.std.specs.Prelude.{◌≡◌, ◌++◌, ◌*◌, ◌+◌, All, IfOk, IsTrue, OnOk, length};
-ghost use Rattle.qz_types.specs.Entries.{is_command};
+ghost use Rattle.qz_steps.specs.Steps.{is_step};
+ghost use Rattle.qz_steps.specs.declared.steps.Step.TheVariants.{Client};
 ghost use Rattle.qz_generator.specs.Commands.{first_jobs, first_triggers, generated};
 
 use crate::draws::Draws;
@@ -10,10 +11,10 @@ use qz_types::{Command, List, NoMemory};
 use std::alloc::Global;
 
 /// The commands that add so many jobs and then a trigger for each, `j0`, `j1` and so on with `t0`, `t1` and so on. They are the
-/// same each time for the same seed, which is any number. Each is within its limits, and none replaces another.
+/// same each time for the same seed, which is any number. Each is a client's and within its limits, and none replaces another.
 pub fn make_commands(alloc: Global, seed: u64, jobs: u32) -> Result<List<Command>, NoMemory>
     ensures value { IfOk result (λ commands. commands ≡ generated seed jobs) }
-    ensures valid { IfOk result (λ commands. All (λ c. IsTrue (is_command c)) commands) }
+    ensures valid { IfOk result (λ commands. All (λ c. IsTrue (is_step (Client c))) commands) }
     ensures count { IfOk result (λ commands. length commands ≡ 2 * jobs) }
 {
     let mut commands = List::new(alloc);
@@ -29,7 +30,7 @@ fn push_jobs(
     jobs: u32,
 ) -> Result<(), NoMemory>
     ensures value { OnOk result (commands.new ≡ commands.old ++ first_jobs jobs seed) }
-    ensures valid { All (λ c. IsTrue (is_command c)) commands.old → All (λ c. IsTrue (is_command c)) commands.new }
+    ensures valid { All (λ c. IsTrue (is_step (Client c))) commands.old → All (λ c. IsTrue (is_step (Client c))) commands.new }
     ensures count { OnOk result (length commands.new ≡ length commands.old + jobs) }
 {
     let mut draws = Draws { state: seed };
@@ -51,7 +52,7 @@ fn push_triggers(
     jobs: u32,
 ) -> Result<(), NoMemory>
     ensures value { OnOk result (commands.new ≡ commands.old ++ first_triggers jobs seed) }
-    ensures valid { All (λ c. IsTrue (is_command c)) commands.old → All (λ c. IsTrue (is_command c)) commands.new }
+    ensures valid { All (λ c. IsTrue (is_step (Client c))) commands.old → All (λ c. IsTrue (is_step (Client c))) commands.new }
     ensures count { OnOk result (length commands.new ≡ length commands.old + jobs) }
 {
     let mut draws = Draws { state: seed };

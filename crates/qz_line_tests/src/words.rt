@@ -76,7 +76,87 @@ const ASKED: &[WordRow] = &[
     ),
 ];
 
+/// Words of runs on a virtual clock, and what they ask for.
+const RUNS: &[WordRow] = &[
+    (
+        &["run", "3", "1704067200000", "1704671999999"],
+        Ok(Wish::Run {
+            nodes: 3,
+            from: 1704067200000,
+            until: 1704671999999,
+            budget: 100000,
+        }),
+    ),
+    (
+        &["run", "16", "0", "0", "1000000"],
+        Ok(Wish::Run {
+            nodes: 16,
+            from: 0,
+            until: 0,
+            budget: 1000000,
+        }),
+    ),
+    (&["run", "1", "0"], Err(WordFault::WrongCount { found: 2 })),
+    (
+        &["run", "1", "0", "1", "1", "1"],
+        Err(WordFault::WrongCount { found: 5 }),
+    ),
+    (
+        &["run", "17", "0", "x"],
+        Err(WordFault::BadNumber { place: 3 }),
+    ),
+    (
+        &["run", "17", "0", "1"],
+        Err(WordFault::OutOfRange { place: 1 }),
+    ),
+    (
+        &["run", "0", "0", "1"],
+        Err(WordFault::OutOfRange { place: 1 }),
+    ),
+    (
+        &["run", "1", "4102444800000", "4102444800000"],
+        Err(WordFault::OutOfRange { place: 2 }),
+    ),
+    (
+        &["run", "1", "2", "1"],
+        Err(WordFault::OutOfRange { place: 3 }),
+    ),
+    (
+        &["run", "1", "0", "1", "0"],
+        Err(WordFault::OutOfRange { place: 4 }),
+    ),
+    (
+        &["run", "1", "0", "1", "1000001"],
+        Err(WordFault::OutOfRange { place: 4 }),
+    ),
+    (
+        &["gen", "9999999999999999999", "1000", "28"],
+        Ok(Wish::Gen {
+            seed: 9999999999999999999,
+            jobs: 1000,
+            days: 28,
+        }),
+    ),
+    (
+        &["gen", "7", "1001", "7"],
+        Err(WordFault::OutOfRange { place: 2 }),
+    ),
+    (
+        &["gen", "7", "100", "0"],
+        Err(WordFault::OutOfRange { place: 3 }),
+    ),
+    (
+        &["gen", "7", "100"],
+        Err(WordFault::WrongCount { found: 2 }),
+    ),
+];
+
 #[test]
 fn words_have_their_meaning(rt: HostRuntime) -> Result<(), AllocError> {
     check(&rt, rt.alloc(), ASKED)
+}
+
+#[test]
+fn words_of_runs_have_their_meaning(rt: HostRuntime) -> Result<(), AllocError> {
+    check(&rt, rt.alloc(), RUNS)
 }

@@ -1,12 +1,17 @@
 //! What the program tells of itself.
 
-pub const VERSION: &str = "qz_sched 0.3.0\n";
+pub const VERSION: &str = "qz_sched 0.4.0\n";
 
 pub const HELP: &str = "usage: qz_sched < LINES           a script on new stores in memory
        qz_sched init              new stores in the current folder
        qz_sched script < LINES    a script on the stores of the current folder
        qz_sched load < DOCUMENT   jobs and triggers into the stores of the current folder
        qz_sched list              what the stores of the current folder hold
+       qz_sched run NODES FROM UNTIL [BUDGET]
+                                  nodes work on the stores of the current folder, on a
+                                  clock that begins at FROM, up to UNTIL
+       qz_sched gen SEED JOBS DAYS
+                                  jobs and triggers from a number, run on new stores
        qz_sched times AFTER COUNT < LINES
                                   the first COUNT fire times after AFTER of each trigger
 
@@ -31,9 +36,10 @@ program at a time may work on them. What ends a call early is told on standard e
 
   status 1  bad words                  status 6   no store, or a damaged one
   status 2  a bad line                 status 7   the journal is full
-  status 3  read fault                 status 9   no memory
-  status 4  write fault                status 10  the stores exist already
-  status 5  disk fault
+  status 3  read fault                 status 8   the budget of a run is spent
+  status 4  write fault                status 9   no memory
+  status 5  disk fault                 status 10  the stores exist already
+                                       status 11  too many rows
 
 --help and --version, as the only word, print this text and the version.
 ";

@@ -2,11 +2,14 @@
 #![tactic(auto)]
 
 mod help;
+mod jobs;
 mod words;
 
 use help::{HELP, VERSION};
+use jobs::{OwnJobs, own_jobs};
 use qz_disk::{FileDisk, SystemFile};
 use qz_io::{RealClock, Sink, StdSink, StdSource, write_all};
+use qz_node::Job;
 use qz_top::{Status, command};
 use qz_types::{NoMemory, Text};
 use std::process::ExitCode;
@@ -58,26 +61,68 @@ fn starve<E: Sink>(err: &mut E) -> Status {
     Status::NoMemory
 }
 
-// The top call over real objects. The files are opened at the first call on them.
+// The top call over real objects.
 fn work<K: Sink, E: Sink>(rt: HostRuntime, words: &[Text], out: &mut K, err: &mut E) -> Status {
-    match paths(rt) {
-        Ok((triggers, states)) => {
-            let mut input = StdSource::new(rt.reader());
-            let mut clock = RealClock::new(&rt);
-            let ended = command(
-                rt.alloc(),
-                words,
-                &mut input,
-                out,
-                err,
-                FileDisk::new(SystemFile::new(rt, triggers)),
-                FileDisk::new(SystemFile::new(rt, states)),
-                &mut clock,
-            );
-            ended.status
-        }
+    match prepare(rt) {
+        Ok(prepared) => call(rt, prepared, words, out, err),
         Err(_) => starve(err),
     }
+}
+
+// What a call needs beside its words.
+#[derive(Drop)]
+struct Prepared {
+    triggers: Text,
+    states: Text,
+    jobs: OwnJobs,
+}
+
+fn prepare(rt: HostRuntime) -> Result<Prepared, NoMemory> {
+    let (triggers, states) = paths(rt)?;
+    Ok(Prepared {
+        triggers,
+        states,
+        jobs: own_jobs(rt.alloc())?,
+    })
+}
+
+// The files are opened at the first call on them.
+fn call<K: Sink, E: Sink>(
+    rt: HostRuntime,
+    prepared: Prepared,
+    words: &[Text],
+    out: &mut K,
+    err: &mut E,
+) -> Status {
+    let Prepared {
+        triggers,
+        states,
+        jobs,
+    } = prepared;
+    let OwnJobs {
+        ok,
+        fail,
+        last,
+        again,
+    } = jobs;
+    let boxes: [Box<dyn Job + Send>; 4] = [ok, fail, last, again];
+    let Ok(mut jobs) = Vec::from_array(rt.alloc(), boxes) else {
+        return starve(err);
+    };
+    let mut input = StdSource::new(rt.reader());
+    let mut clock = RealClock::new(&rt);
+    let ended = command(
+        rt.alloc(),
+        words,
+        &mut input,
+        out,
+        err,
+        FileDisk::new(SystemFile::new(rt, triggers)),
+        FileDisk::new(SystemFile::new(rt, states)),
+        &mut clock,
+        &mut jobs,
+    );
+    ended.status
 }
 
 fn paths(rt: HostRuntime) -> Result<(Text, Text), NoMemory> {

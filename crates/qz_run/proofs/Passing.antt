@@ -1,5 +1,5 @@
 -- A pass goes on.
-use Rattle.std.proofs.Common.{◌≡◌, ◌≢◌, ◌⊎◌, inl, inr, ℕ, zero, suc, ◌<◌, ◌≤◌, ℤ, List, [], ◌∷◌, length, set, Bool, true, false, refl, sym, ap, ◌∙◌, subst, arith, rules}
+use Rattle.std.proofs.Common.{◌≡◌, ◌≢◌, ◌⊎◌, inl, inr, ℕ, zero, suc, ◌+◌, ◌<◌, ◌≤◌, ℤ, List, [], ◌∷◌, length, set, Bool, true, false, refl, sym, ap, ◌∙◌, subst, arith, rules}
 use Rattle.std.specs.Prelude.{slice_index_or}
 use Rattle.std.proofs.lemmas.Bool.Decides.{eqb_tells}
 use Rattle.qz_run.specs.declared.commands.Plan.{Plan}
@@ -7,7 +7,7 @@ use Rattle.qz_run.specs.declared.stores.TheConstants.{ROOM}
 use Rattle.qz_run.specs.Stores.{RowState, RunState}
 use Rattle.qz_run.specs.Laws.{IsOurs, fires}
 use Rattle.qz_run.specs.Working.{MayAsk, Moves}
-use Rattle.qz_run.specs.RoundRules.{RoundRests}
+use Rattle.qz_run.specs.RoundRules.{RoundFires, RoundRests}
 use Rattle.qz_run.specs.Moments.{AllKnown, Working, Passes, TurnTaken, NoTurn, SomeTurn, HasWorked, HasBegun, rests}
 
 decide : (k n : ℕ) → (k ≡ n) ⊎ (k ≢ n)
@@ -55,6 +55,23 @@ pub turn_rests : (p : Plan) (n : ℕ) (at : ℤ) (fired : ℕ) (resting : List B
 turn_rests p n at fired resting s t passes ours here is within round = record {
   passes = pass_rests p n at resting s t passes ours here round;
   fired_is = is ∙ sym round.fires;
+  within = omega (arith, within);
+  longer = round.moves.longer;
+  room = round.moves.room;
+}
+
+here_asks : (k n : ℕ) (at : ℤ) (t : RunState) → ((k ≡ n) ⊎ (k ≢ n)) → MayAsk n at t → ((k ≢ n) → MayAsk k at t) → MayAsk k at t
+here_asks k n at t (inl is) own other = subst (λ i. MayAsk i at t) (sym is) own
+here_asks k n at t (inr ne) own other = other ne
+
+pub turn_fires : (p : Plan) (n : ℕ) (at : ℤ) (fired : ℕ) (resting : List Bool) (s t : RunState) → Passes p at resting s → IsOurs p n → rests resting n ≡ false → fired ≡ fires s.log → fired < p.budget → RoundFires p n at s t → TurnTaken p at (fired + 1) resting s t
+turn_fires p n at fired resting s t passes ours awake is within round = record {
+  passes = record {
+    working = still_working p n at s t passes.working round.moves round.work.free;
+    may_ask = λ k our up. here_asks k n at t (decide k n) round.work.may_ask (λ ne. round.moves.may_ask k ne (passes.may_ask k our up));
+    quiet = λ all. absurd (true_false (sym (all n ours) ∙ awake));
+  };
+  fired_is = ap (λ k. k + 1) is ∙ sym round.fires;
   within = omega (arith, within);
   longer = round.moves.longer;
   room = round.moves.room;

@@ -24,6 +24,7 @@ pub(crate) fn submit_as<S: Stores>(
     ensures accepted { IfOk result (λ reply. Accepts worker.now.at worker.now.node command reply (S.state stores.old) (S.state stores.new)) }
     ensures declined { IfErr result (λ why. S.declines stores.new worker.now.node worker.now.at command why) }
     ensures same { OnErr result (S.state stores.new ≡ S.state stores.old) }
+    ensures origin { S.origin stores.new ≡ S.origin stores.old }
 {
     stores.submit(worker.at, worker.node, command)
 }
@@ -40,6 +41,7 @@ pub(crate) fn ask_misfires<S: Stores>(
     ensures ok { IfOk result (λ none. HasAsked plan.now worker.now.node worker.now.at none (S.state stores.old) (S.state stores.new)) }
     ensures err { OnErr result (S.state stores.new ≡ S.state stores.old) }
     ensures stopped { IfErr result (λ why. Stopped plan.now (S.declines stores.new) (S.declines_row stores.new) why (S.state stores.new)) }
+    ensures origin { S.origin stores.new ≡ S.origin stores.old }
 {
     match submit_as(stores, worker, NodeCommand::Misfires) {
         Ok(Reply::Misfired(moved)) => match moved.as_slice() {
@@ -66,6 +68,7 @@ fn submit_acquire<S: Stores>(
     ensures ok { IfOk result (λ taken. Accepts worker.now.at worker.now.node (NodeCommand.Acquire (int_min plan.now.until worker.now.at)) (Reply.Acquired taken) (S.state stores.old) (S.state stores.new)) }
     ensures err { OnErr result (S.state stores.new ≡ S.state stores.old) }
     ensures declined { IfErr result (λ why. S.declines stores.new worker.now.node worker.now.at (NodeCommand.Acquire (int_min plan.now.until worker.now.at)) why) }
+    ensures origin { S.origin stores.new ≡ S.origin stores.old }
 {
     let no_later = plan.until.min(worker.at);
     match submit_as(stores, worker, NodeCommand::Acquire { no_later }) {
@@ -100,6 +103,7 @@ pub fn ask_acquire<S: Stores>(
     ensures ok { IfOk result (λ taken. HasTaken plan.now worker.now.node worker.now.at taken (S.state stores.old) (S.state stores.new)) }
     ensures err { OnErr result (S.state stores.new ≡ S.state stores.old) }
     ensures stopped { IfErr result (λ why. Stopped plan.now (S.declines stores.new) (S.declines_row stores.new) why (S.state stores.new)) }
+    ensures origin { S.origin stores.new ≡ S.origin stores.old }
 {
     match submit_acquire(stores, plan, worker) {
         Ok(taken) => match taken.as_slice() {
@@ -127,6 +131,7 @@ pub fn ask_fire<S: Stores>(
     ensures ok { IfOk result (λ context. HasFired plan.now worker.now.node worker.now.at grip.now.entry context (S.state stores.old) (S.state stores.new)) }
     ensures err { OnErr result (S.state stores.new ≡ S.state stores.old) }
     ensures stopped { IfErr result (λ why. Stopped plan.now (S.declines stores.new) (S.declines_row stores.new) why (S.state stores.new)) }
+    ensures origin { S.origin stores.new ≡ S.origin stores.old }
 {
     match submit_as(stores, worker, NodeCommand::Fire { entry: grip.entry }) {
         Ok(reply) => match JobContext::of_reply(reply) {
@@ -154,6 +159,7 @@ pub fn ask_complete<S: Stores>(
     ensures ok { IfOk result (λ ended. HasEnded plan.now worker.now.node worker.now.at context.now code ended (S.state stores.old) (S.state stores.new)) }
     ensures err { OnErr result (S.state stores.new ≡ S.state stores.old) }
     ensures stopped { IfErr result (λ why. Stopped plan.now (S.declines stores.new) (S.declines_row stores.new) why (S.state stores.new)) }
+    ensures origin { S.origin stores.new ≡ S.origin stores.old }
 {
     match submit_as(
         stores,

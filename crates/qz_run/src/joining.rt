@@ -15,6 +15,7 @@ fn check_in_as<S: Stores>(stores: &mut S, worker: &Worker) -> Result<(), Decline
     ensures accepted { OnOk result (ChecksIn worker.now.at worker.now.node (S.state stores.old) (S.state stores.new)) }
     ensures declined { IfErr result (λ why. S.declines_row stores.new worker.now.node worker.now.at (RowCommand.checks_in CHECK_IN_INTERVAL) why) }
     ensures same { OnErr result (S.state stores.new ≡ S.state stores.old) }
+    ensures origin { S.origin stores.new ≡ S.origin stores.old }
 {
     stores.check_in(worker.at, worker.node)
 }
@@ -28,6 +29,7 @@ fn ask_check_in<S: Stores>(stores: &mut S, plan: &Plan, worker: &Worker) -> Resu
     ensures calls { OnOk result (CallsNone (S.state stores.old) (S.state stores.new)) }
     ensures err { OnErr result (S.state stores.new ≡ S.state stores.old) }
     ensures stopped { IfErr result (λ why. Stopped plan.now (S.declines stores.new) (S.declines_row stores.new) why (S.state stores.new)) }
+    ensures origin { S.origin stores.new ≡ S.origin stores.old }
 {
     let _ = plan;
     check_in_as(stores, worker)
@@ -42,6 +44,7 @@ fn ask_join<S: Stores>(stores: &mut S, plan: &Plan, worker: &Worker) -> Result<(
     ensures calls { OnOk result (CallsNone (S.state stores.old) (S.state stores.new)) }
     ensures err { OnErr result (S.state stores.new ≡ S.state stores.old) }
     ensures stopped { IfErr result (λ why. Stopped plan.now (S.declines stores.new) (S.declines_row stores.new) why (S.state stores.new)) }
+    ensures origin { S.origin stores.new ≡ S.origin stores.old }
 {
     let _ = plan;
     submit_as(stores, worker, NodeCommand::Join)?;
@@ -55,6 +58,7 @@ pub fn join_all<S: Stores>(stores: &mut S, plan: &Plan, clock: &Clock) -> Result
     ensures calls { CallsNone (S.state stores.old) (S.state stores.new) }
     ensures lawful { OnErr result (IsLawfulRun plan.now (S.state stores.new)) }
     ensures stopped { IfErr result (λ why. Stopped plan.now (S.declines stores.new) (S.declines_row stores.new) why (S.state stores.new)) }
+    ensures origin { S.origin stores.new ≡ S.origin stores.old }
 {
     for node in 0..plan.nodes {
         let worker = Worker { node, at: clock.at };

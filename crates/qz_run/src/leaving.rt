@@ -20,6 +20,7 @@ fn ask_leave<S: Stores>(stores: &mut S, plan: &Plan, worker: &Worker) -> Result<
     ensures calls { OnOk result (CallsNone (S.state stores.old) (S.state stores.new)) }
     ensures err { OnErr result (S.state stores.new ≡ S.state stores.old) }
     ensures stopped { IfErr result (λ why. Stopped plan.now (S.declines stores.new) (S.declines_row stores.new) why (S.state stores.new)) }
+    ensures origin { S.origin stores.new ≡ S.origin stores.old }
 {
     let _ = plan;
     submit_as(stores, worker, NodeCommand::Leave)?;
@@ -33,6 +34,7 @@ fn forget_as<S: Stores>(stores: &mut S, worker: &Worker) -> Result<(), Declined>
     ensures accepted { OnOk result (Forgets worker.now.at worker.now.node (S.state stores.old) (S.state stores.new)) }
     ensures declined { IfErr result (λ why. S.declines_row stores.new worker.now.node worker.now.at RowCommand.forgets why) }
     ensures same { OnErr result (S.state stores.new ≡ S.state stores.old) }
+    ensures origin { S.origin stores.new ≡ S.origin stores.old }
 {
     stores.forget(worker.at, worker.node)
 }
@@ -48,6 +50,7 @@ fn ask_forget<S: Stores>(stores: &mut S, plan: &Plan, worker: &Worker) -> Result
     ensures calls { OnOk result (CallsNone (S.state stores.old) (S.state stores.new)) }
     ensures err { OnErr result (S.state stores.new ≡ S.state stores.old) }
     ensures stopped { IfErr result (λ why. Stopped plan.now (S.declines stores.new) (S.declines_row stores.new) why (S.state stores.new)) }
+    ensures origin { S.origin stores.new ≡ S.origin stores.old }
 {
     let clock = first_clock(stores, plan);
     let reader = Worker {
@@ -66,6 +69,7 @@ pub fn leave_all<S: Stores>(stores: &mut S, plan: &Plan, clock: &Clock) -> Resul
     ensures calls { CallsNone (S.state stores.old) (S.state stores.new) }
     ensures lawful { OnErr result (IsLawfulRun plan.now (S.state stores.new)) }
     ensures stopped { IfErr result (λ why. Stopped plan.now (S.declines stores.new) (S.declines_row stores.new) why (S.state stores.new)) }
+    ensures origin { S.origin stores.new ≡ S.origin stores.old }
 {
     for node in 0..plan.nodes {
         let worker = Worker { node, at: clock.at };

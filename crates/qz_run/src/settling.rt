@@ -1,5 +1,5 @@
 //! Misfires come before an Acquire.
-ghost use Rattle.std.specs.Prelude.{OnOk, OnErr, IfErr};
+ghost use Rattle.std.specs.Prelude.{◌≡◌, OnOk, OnErr, IfErr};
 ghost use Rattle.qz_run.specs.Laws.{IsOurs};
 ghost use Rattle.qz_run.specs.StateLaws.{Stopped};
 ghost use Rattle.qz_run.specs.Working.{Ready, CallsNone, IsLawfulRun};
@@ -17,6 +17,7 @@ pub fn settle<S: Stores>(stores: &mut S, plan: &Plan, worker: &Worker) -> Result
     ensures lawful { OnErr result (IsLawfulRun plan.now (S.state stores.new)) }
     ensures calls { OnErr result (CallsNone (S.state stores.old) (S.state stores.new)) }
     ensures stopped { IfErr result (λ why. Stopped plan.now (S.declines stores.new) (S.declines_row stores.new) why (S.state stores.new)) }
+    ensures origin { S.origin stores.new ≡ S.origin stores.old }
 {
     loop {
         let none = ask_misfires(stores, plan, worker)?;

@@ -22,6 +22,11 @@ pub trait Stores {
     /// What a run sees of the tables and of its nodes' state rows, and what was accepted since the stores were opened.
     ghost state: { Self → RunState };
 
+    /// What the stores were at the beginning of the run. No call changes it.
+    ghost Origin: { Type 0 };
+
+    ghost origin: { Self → Origin };
+
     /// Why the trigger store, as it stands, declines what this node asks at this moment.
     ghost declines: { Self → ℕ → ℤ → NodeCommand → Declined → Type 0 };
 
@@ -35,14 +40,16 @@ pub trait Stores {
         requires can { CanAsk node at command (state self.old).view }
         ensures accepted { IfOk result (λ reply. Accepts at node command reply (state self.old) (state self.new)) }
         ensures declined { IfErr result (λ why. declines self.new node at command why) }
-        ensures same { OnErr result (state self.new ≡ state self.old) };
+        ensures same { OnErr result (state self.new ≡ state self.old) }
+        ensures origin { origin self.new ≡ origin self.old };
 
     /// A node checks in: from now on it has a state row with the interval `CHECK_IN_INTERVAL`.
     fn check_in(&mut self, at: i64, node: u32) -> Result<(), Declined>
         requires time { IsTime at }
         ensures accepted { OnOk result (ChecksIn at node (state self.old) (state self.new)) }
         ensures declined { IfErr result (λ why. declines_row self.new node at (RowCommand.checks_in CHECK_IN_INTERVAL) why) }
-        ensures same { OnErr result (state self.new ≡ state self.old) };
+        ensures same { OnErr result (state self.new ≡ state self.old) }
+        ensures origin { origin self.new ≡ origin self.old };
 
     /// The state row of a node that has left is removed.
     fn forget(&mut self, at: i64, node: u32) -> Result<(), Declined>
@@ -51,7 +58,8 @@ pub trait Stores {
         requires known { (state self.old).states.has node ≡ true }
         ensures accepted { OnOk result (Forgets at node (state self.old) (state self.new)) }
         ensures declined { IfErr result (λ why. declines_row self.new node at RowCommand.forgets why) }
-        ensures same { OnErr result (state self.new ≡ state self.old) };
+        ensures same { OnErr result (state self.new ≡ state self.old) }
+        ensures origin { origin self.new ≡ origin self.old };
 
     /// The least next time of a WAITING trigger.
     fn next_due(&self) -> Option<i64>

@@ -1,7 +1,10 @@
 pub mod Accepting
+pub mod Asked
 pub mod Declining
 pub mod DueFirst
+pub mod Going
 pub mod Logs
 pub mod NodeNames
 pub mod Rows
 pub mod Telling
+pub mod Ways

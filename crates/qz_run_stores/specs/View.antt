@@ -30,6 +30,14 @@ entries_before s = s.entries_before
 abbrev pub rows_before : {D : Type 0} {g : Ghosts D} → RunStores D g → ℕ
 rows_before s = s.rows_before
 
+-- Both stores as a run found them.
+pub record Origin {D : Type 0} (g : Ghosts D) : Type 0 where
+  pub triggers : TriggerStore D g
+  pub states : StateStore D g
+
+abbrev pub origin : {D : Type 0} {g : Ghosts D} → RunStores D g → Origin g
+origin s = record { triggers = s.triggers_begun.value; states = s.states_begun.value }
+
 -- what a run sees
 abbrev pub run_state : {D : Type 0} {g : Ghosts D} → RunStores D g → RunState
 run_state s = record {

@@ -2,7 +2,8 @@
 ghost use Rattle.std.specs.Prelude.{◌≡◌, [], length};
 ghost use Rattle.qz_trigger_store.specs.View.{view};
 ghost use Rattle.qz_checkin.specs.View.{view as states_view};
-ghost use Rattle.qz_run_stores.specs.View.{triggers_of, states_of, entries_before, rows_before, run_state};
+ghost use Rattle.qz_run_stores.specs.View.{triggers_of, states_of, origin, entries_before, rows_before, run_state};
+ghost use Rattle.qz_run_stores.specs.Going.{TriggersWent, StatesWent};
 
 use crate::RunStores;
 use crate::asking::declined;
@@ -14,28 +15,38 @@ use qz_run::{CHECK_IN_INTERVAL, Declined, NodeCommand, Stores};
 use qz_trigger_store::TriggerStore;
 use qz_types::Reply;
 use std::alloc::Global;
+use std::snapshot::Snapshot;
 
 impl<D: Disk> RunStores<D> {
     /// Begins a run on these stores.
     pub fn new(alloc: Global, triggers: TriggerStore<D>, states: StateStore<D>) -> RunStores<D>
         ensures stores { (triggers_of result ≡ triggers) × (states_of result ≡ states) }
+        ensures begun { origin result ≡ record { triggers = triggers; states = states } }
         ensures begins { (entries_before result ≡ length (view triggers).history.entries) × (rows_before result ≡ length (states_view states).history.entries) }
         ensures fresh { ((run_state result).log ≡ []) × ((run_state result).states.log ≡ []) }
     {
         let entries_before = triggers.history_len();
         let rows_before = states.history_len();
+        let triggers_begun = Snapshot::of(&triggers);
+        let states_begun = Snapshot::of(&states);
         RunStores {
             alloc,
             triggers,
             states,
             entries_before,
             rows_before,
+            triggers_begun,
+            states_begun,
         }
     }
 
     /// Gives the stores back, as the run left them.
     pub fn into_stores(self) -> (TriggerStore<D>, StateStore<D>)
-        ensures { (result.0 ≡ triggers_of self) × (result.1 ≡ states_of self) }
+        ensures stores { (result.0 ≡ triggers_of self) × (result.1 ≡ states_of self) }
+        ensures counted { (entries_before self ≡ length (view (origin self).triggers).history.entries) × (rows_before self ≡ length (states_view (origin self).states).history.entries) }
+        // Their histories went on since the run began, and one that is closed had its disk fail.
+        ensures triggers { TriggersWent (origin self).triggers result.0 }
+        ensures states { StatesWent (origin self).states result.1 }
     {
         let RunStores {
             alloc: _,
@@ -43,15 +54,21 @@ impl<D: Disk> RunStores<D> {
             states,
             entries_before: _,
             rows_before: _,
+            triggers_begun: _,
+            states_begun: _,
         } = self;
         (triggers, states)
     }
 }
 
 impl<D: Disk> Stores for RunStores<D> {
-    ghost use Rattle.qz_run_stores.specs.View.{run_state, Declines, DeclinesRowOf};
+    ghost use Rattle.qz_run_stores.specs.View.{run_state, Origin, origin, Declines, DeclinesRowOf};
 
     ghost state = { λ s. run_state s };
+
+    ghost Origin = { Origin D.Disk };
+
+    ghost origin = { λ s. origin s };
 
     ghost declines = { λ s n at command why. Declines s n at command why };
 

@@ -1,12 +1,17 @@
 //! Both stores in a run.
-ghost use Rattle.std.specs.Prelude.{◌≤◌, length};
-ghost use Rattle.qz_trigger_store.specs.View.{view};
+ghost use Rattle.std.specs.Prelude.{◌≡◌, ◌≤◌, length, take, drop, true, false};
+ghost use Rattle.qz_civil.specs.Causes.{Rose};
+ghost use Rattle.qz_model.specs.History.{replay};
+ghost use Rattle.qz_trigger_store.specs.View.{view, found_of};
 ghost use Rattle.qz_checkin.specs.View.{view as states_view};
+ghost use Rattle.qz_run_stores.specs.Asked.{AreAsked};
+ghost use Rattle.qz_run_stores.specs.Ways.{KeepsTriggers, KeepsStates};
 
 use qz_checkin::StateStore;
 use qz_disk::Disk;
 use qz_trigger_store::TriggerStore;
 use std::alloc::Global;
+use std::snapshot::Snapshot;
 
 /// Both stores, which nothing but the run changes.
 #[derive(Drop)]
@@ -17,6 +22,21 @@ pub struct RunStores<D: Disk> {
     // how many entries their histories had when the run began
     pub(crate) entries_before: u64,
     pub(crate) rows_before: u64,
+    // the stores as the run found them, which contracts alone see
+    pub(crate) triggers_begun: Snapshot<TriggerStore<D>>,
+    pub(crate) states_begun: Snapshot<StateStore<D>>,
     ghost entries_within: { entries_before ≤ length (view triggers).history.entries },
     ghost rows_within: { rows_before ≤ length (states_view states).history.entries },
+    ghost entries_counted: { entries_before ≡ length (view triggers_begun.value).history.entries },
+    ghost rows_counted: { rows_before ≡ length (states_view states_begun.value).history.entries },
+    ghost found_stays: { found_of triggers ≡ found_of triggers_begun.value },
+    ghost entries_stay: { take entries_before (view triggers).history.entries ≡ (view triggers_begun.value).history.entries },
+    ghost asked: { ∥ AreAsked (replay (view triggers_begun.value).history) (drop entries_before (view triggers).history.entries) ∥₁ },
+    ghost rows_stay: { take rows_before (states_view states).history.entries ≡ (states_view states_begun.value).history.entries },
+    ghost kept: { ∥ KeepsTriggers triggers_begun.value triggers ∥₁ },
+    ghost states_kept: { ∥ KeepsStates states_begun.value states ∥₁ },
+    ghost later: { (view triggers_begun.value).faults ≤ (view triggers).faults },
+    ghost states_later: { (states_view states_begun.value).faults ≤ (states_view states).faults },
+    ghost closes: { (view triggers_begun.value).is_open ≡ true → (view triggers).is_open ≡ false → Rose (view triggers_begun.value).faults (view triggers).faults },
+    ghost states_close: { (states_view states_begun.value).is_open ≡ true → (states_view states).is_open ≡ false → Rose (states_view states_begun.value).faults (states_view states).faults },
 }

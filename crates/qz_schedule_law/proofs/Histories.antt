@@ -41,7 +41,7 @@ gone_on T U e r key t u valid way before after alone =
       plan = f.plan t before (stored_value (λ (s : TriggerData). is_chain_changed T s.spec e.command ≡ false) (trigger_of key T.triggers) t before alone.calendars);
     }
 
-abbrev AreValid : List EntryData → Type 0
+abbrev pub AreValid : List EntryData → Type 0
 AreValid es = AllByRecursion (λ e. IsTrue (is_entry e)) es
 
 -- what the law says from these tables on, where the trigger is that at the end
@@ -75,11 +75,11 @@ goes_on T (e ∷ es) key t u valid good legal before after goes =
 
 -- Moments of a history.
 
-All-back : (P : EntryData → Type 0) (front back : List EntryData) → AllByRecursion P (front ++ back) → AllByRecursion P front × AllByRecursion P back
+pub All-back : (P : EntryData → Type 0) (front back : List EntryData) → AllByRecursion P (front ++ back) → AllByRecursion P front × AllByRecursion P back
 All-back P [] back all = (tt, all)
 All-back P (e ∷ front) back all = let rest = All-back P front back all.1 in ((all.0, rest.0), rest.1)
 
-legal_back : (T : SchedulerTables) (front back : List EntryData) → IsLegalFrom T (front ++ back) → IsLegalFrom T front × IsLegalFrom (replay_from T front) back
+pub legal_back : (T : SchedulerTables) (front back : List EntryData) → IsLegalFrom T (front ++ back) → IsLegalFrom T front × IsLegalFrom (replay_from T front) back
 legal_back T [] back legal = (tt, legal)
 legal_back T (e ∷ front) back legal = let rest = legal_back (tables_left T (transaction T e)) front back legal.1 in ((legal.0, rest.0), rest.1)
 

@@ -3,6 +3,7 @@ pub mod Chains
 pub mod Clients
 pub mod Entries
 pub mod Fires
+pub mod Following
 pub mod Histories
 pub mod Nodes
 pub mod Often

@@ -1,3 +1,4 @@
 pub mod Example
+pub mod Following
 pub mod Turns
 pub mod Undisturbed

@@ -13,6 +13,7 @@ ghost use Rattle.qz_model.specs.History.{IsLegalFrom, replay_from, replies_from}
 ghost use Rattle.qz_model.specs.Invariant.{TablesValid};
 ghost use Rattle.qz_model.specs.Plan.{zone_named_by, stretches_for, zoned_chain, next_after, first_time};
 ghost use Rattle.qz_model.specs.Transaction.{transaction};
+ghost use Rattle.qz_schedule_law.specs.Following.{FollowsFrom};
 ghost use Rattle.qz_schedule_law.specs.Turns.{onto_times, fired_times, AreInTurn, AreAllFrom, IsPrefix};
 ghost use Rattle.qz_schedule_law.specs.Undisturbed.{IsUndisturbed, GoesOn, IsStretch, IsStoredBy};
 
@@ -26,4 +27,6 @@ pub fn triggers_fire_their_schedule()
     ensures whole { (T : SchedulerTables) (es : List EntryData) (key : TriggerKey) (t u : TriggerData) (rest : List ℤ) → IsStretch T es key t u → AreAllFrom (next_after T t.spec) u.next rest → AreAllFrom (next_after T t.spec) t.next (fired_times key (replies_from T es) ++ rest) }
     ensures from_the_start { (T : SchedulerTables) (e : EntryData) (es : List EntryData) (key : TriggerKey) (t u : TriggerData) → IsStoredBy T e es key t u → AreInTurn (next_after T t.spec) (first_time T t.spec) (fired_times key (replies_from T (e ∷ es))) u.next }
     ensures prefix { (T : SchedulerTables) (e : EntryData) (es : List EntryData) (key : TriggerKey) (t u : TriggerData) (all : List ℤ) → IsStoredBy T e es key t u → AreFireTimes T.horizon t.spec.timing (stretches_for T.zones (zone_named_by t.spec.timing.kind)) (zoned_chain T t.spec.calendar) all → IsPrefix (fired_times key (replies_from T (e ∷ es))) all }
+    // So it is in each legal history.
+    ensures everywhere { (T : SchedulerTables) (all : List EntryData) → TablesValid T → AllByRecursion (λ e. IsTrue (is_entry e)) all → IsLegalFrom T all → FollowsFrom T all }
 {}

@@ -7,22 +7,28 @@ use Rattle.qz_io.specs.Outside.{Outside}
 use Rattle.qz_journal.specs.declared.errors.MountError.{MountError}
 use Rattle.qz_journal.specs.declared.errors.MountError.TheVariants as mount
 use Rattle.qz_types.specs.declared.stores.Store.{Store}
+use Rattle.qz_node.specs.Jobs.{JobMeaning}
+use Rattle.qz_run.specs.declared.commands.Plan.{Plan}
 use Rattle.qz_words.specs.declared.wishes.WordFault.{WordFault}
 use Rattle.qz_words.specs.declared.wishes.Wish.{Wish}
 use Rattle.qz_cluster.specs.Steps.{ClusterState}
-use Rattle.qz_top.specs.Asked.{RanScript, DidAsAsked}
+use Rattle.qz_top.specs.Asked.{RanScript, UsesJobs, DidAsAsked}
 use Rattle.qz_top.specs.Calls.{OwnDone, refusal_of}
 use Rattle.qz_top.specs.Causes.{FaultCounts, DiskFailed, HasCause}
 use Rattle.qz_top.specs.Making.{IsInit}
+use Rattle.qz_top.specs.NodeRuns.{seen_after, EndsWork, RanNodes}
 use Rattle.qz_top.specs.Runs.{IsOfScript}
 use Rattle.qz_top.specs.Times.{IsOfTimes}
 use Rattle.qz_top.specs.declared.statuses.Status.{Status}
 use Rattle.qz_top.specs.declared.statuses.Status.TheVariants as status
 use Rattle.qz_top.specs.declared.ended.Ended.{Ended}
 
-pub done_at : {D : Type 0} {g : Ghosts D} (triggers states : D) (e : Ended D g) (old new : Outside) (v w : Result Wish WordFault) → v ≡ w
-    → DidAsAsked v triggers states e old new → DidAsAsked w triggers states e old new
-done_at triggers states e old new v w same done = subst (λ (x : Result Wish WordFault). DidAsAsked x triggers states e old new) same done
+pub done_at : {D : Type 0} {g : Ghosts D} (jobs jobs' : List JobMeaning) (triggers states : D) (e : Ended D g) (old new : Outside) (v w : Result Wish WordFault) → v ≡ w
+    → DidAsAsked v jobs jobs' triggers states e old new → DidAsAsked w jobs jobs' triggers states e old new
+done_at jobs jobs' triggers states e old new v w same done = subst (λ (x : Result Wish WordFault). DidAsAsked x jobs jobs' triggers states e old new) same done
+
+pub uses_at : (jobs jobs' : List JobMeaning) (v w : Result Wish WordFault) → v ≡ w → UsesJobs v jobs jobs' → UsesJobs w jobs jobs'
+uses_at jobs jobs' v w same uses = subst (λ (x : Result Wish WordFault). UsesJobs x jobs jobs') same uses
 
 -- the cause of a status that may be answered to such words
 pub caused_at : (s : Status) (v w : Result Wish WordFault) (old new : FaultCounts) → v ≡ w → ((fault : WordFault) → s ≡ status.BadWords fault → v ≡ Err fault)
@@ -61,6 +67,11 @@ pub script_words : {D : Type 0} {g : Ghosts D} (triggers states : D) (e : Ended 
     → RanScript triggers states e old new → e.status ≡ status.BadWords fault → ⊥
 script_words triggers states e old new fault (inl ran) is = subst IsOfScript is ran.run.called
 script_words triggers states e old new fault (inr none) is = not_of_opening none.store none.error fault (sym none.status_is ∙ is)
+
+pub run_words : {D : Type 0} {g : Ghosts D} (p : Plan) (jobs jobs' : List JobMeaning) (triggers states : D) (e : Ended D g) (old new : Outside) (fault : WordFault)
+    → RanNodes p jobs jobs' triggers states e old new → e.status ≡ status.BadWords fault → ⊥
+run_words p jobs jobs' triggers states e old new fault (inl ran) is = subst (λ (s : Status). EndsWork p s ran.end (seen_after ran.opened ran.end ran.worked.added ran.worked.rows)) is ran.worked.ends
+run_words p jobs jobs' triggers states e old new fault (inr none) is = not_of_opening none.0.store none.0.error fault (sym none.0.status_is ∙ is)
 
 pub times_words : (s : Status) (fault : WordFault) → IsOfTimes s → s ≡ status.BadWords fault → ⊥
 times_words s fault called is = subst IsOfTimes is called

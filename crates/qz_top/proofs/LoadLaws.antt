@@ -1,5 +1,5 @@
 -- How a load may end.
-use Rattle.std.proofs.Common.{◌≡◌, ◌⊎◌, inl, inr, ◌≤◌, ℕ, ℤ, List, [], ◌∷◌, false, true, refl, sym, ap, ◌∙◌, subst}
+use Rattle.std.proofs.Common.{◌≡◌, ◌⊎◌, inl, inr, ◌≤◌, ℕ, ℤ, List, false, sym, ap, ◌∙◌, subst}
 use Rattle.qz_civil.specs.Causes.{Rose}
 use Rattle.qz_io.specs.Outside.{Outside}
 use Rattle.qz_disk.specs.declared.disk.Disk.{Ghosts}
@@ -35,7 +35,7 @@ run_with {honest = honest} {before = before} {after = after} {old = old} {new = 
 
 -- Statuses that no command ends with.
 
-cut_no_fault : (end : StepEnd) → status.DiskFault ≡ cut_status end → ⊥
+pub cut_no_fault : (end : StepEnd) → status.DiskFault ≡ cut_status end → ⊥
 cut_no_fault (step.JournalFull need room) is = cc
 cut_no_fault (step.NotAStore store) is = cc
 cut_no_fault (step.Damaged store at) is = cc
@@ -48,7 +48,7 @@ end_no_fault ends.Unanswered is = cc
 end_no_fault ends.NoMemory is = cc
 end_no_fault (ends.CutShort end) is = cut_no_fault end is
 
-cut_no_words : (fault : WordFault) (end : StepEnd) → status.BadWords fault ≡ cut_status end → ⊥
+pub cut_no_words : (fault : WordFault) (end : StepEnd) → status.BadWords fault ≡ cut_status end → ⊥
 cut_no_words fault (step.JournalFull need room) is = cc
 cut_no_words fault (step.NotAStore store) is = cc
 cut_no_words fault (step.Damaged store at) is = cc

@@ -9,13 +9,14 @@ use Rattle.qz_disk.proofs.Moments.{started, then_leaves}
 use Rattle.qz_journal.specs.Through.{OnlyReads}
 use Rattle.qz_trigger_store.specs.Bytes.{Stands}
 use Rattle.qz_trigger_store.specs.Opening.{IsOpened}
+use Rattle.qz_trigger_store.specs.View.{added_of}
 use Rattle.qz_trigger_store.proofs.Appending.{may_be}
 use Rattle.qz_checkin.specs.Bytes.{Stands as StatesStand}
 use Rattle.qz_checkin.specs.Opening.{IsOpened as AreOpened}
 use Rattle.qz_checkin.proofs.Appending.{may_be as states_may_be}
 use Rattle.qz_cluster.specs.declared.clusters.Cluster.{Cluster}
 use Rattle.qz_cluster.specs.Steps.{ClusterState}
-use Rattle.qz_cluster.specs.View.{view as cluster_view, disk_of_triggers, disk_of_states, triggers_disk, states_disk, EachLeavesEither}
+use Rattle.qz_cluster.specs.View.{view as cluster_view, triggers_of, disk_of_triggers, disk_of_states, triggers_disk, states_disk, EachLeavesEither}
 use Rattle.qz_top.specs.Calls.{begun}
 use Rattle.qz_top.specs.Moments.{HasTriggers, HasStates, HoldsOfOne, BeginsWithReads, EachIsKept, last_shown, EachStepLeaves, Shows, BeginsOn}
 use Rattle.qz_top.specs.Seen.{Shown, states_of, view}
@@ -124,13 +125,15 @@ module _ {D : Type 0} {g : Ghosts D} where
 
   -- a script that begins with the cluster that was opened
   pub begins_on : (triggers states : D) (r : Run D g) (c : Cluster D g) → r.cluster ≡ c → IsOpened (cluster_view c).triggers × AreOpened (cluster_view c).states → (cluster_view c).held ≡ []
+      → added_of (triggers_of c) ≡ []
       → (g.honest → Stands (g.state triggers).content (cluster_view c).triggers.history × StatesStand (g.state states).content (cluster_view c).states.history)
       → (g.faults triggers ≤ (cluster_view c).triggers.faults) × (g.faults states ≤ (cluster_view c).states.faults)
       → (g.honest → OnlyReads (g.state triggers) (triggers_disk c) × OnlyReads (g.state states) (states_disk c)) → r.is_own ≡ false
       → (first : Snapshot (Cluster D g)) × (r.trail.items ≡ first ∷ []) × (first.value ≡ c) → BeginsOn triggers states r
-  begins_on triggers states r c same opened held stand later reads not_own shown = record {
+  begins_on triggers states r c same opened held added stand later reads not_own shown = record {
     are_opened = rw same opened;
     nothing_held = rw same held;
+    nothing_added = rw same added;
     stand = rw same stand;
     no_earlier = rw same later;
     reads = rw same reads;

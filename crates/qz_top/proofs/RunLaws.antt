@@ -50,7 +50,7 @@ rose_then : (S S' S'' : ClusterState) → OneRose S S' → NoneFalls S' S'' → 
 rose_then S S' S'' (inl rose) later = inl (omega (arith, rose, later.0))
 rose_then S S' S'' (inr rose) later = inr (omega (arith, rose, later.1))
 
-then_rose : (S S' S'' : ClusterState) → NoneFalls S S' → OneRose S' S'' → OneRose S S''
+pub then_rose : (S S' S'' : ClusterState) → NoneFalls S S' → OneRose S' S'' → OneRose S S''
 then_rose S S' S'' earlier (inl rose) = inl (omega (arith, earlier.0, rose))
 then_rose S S' S'' earlier (inr rose) = inr (omega (arith, earlier.1, rose))
 

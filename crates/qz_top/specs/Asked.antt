@@ -1,15 +1,20 @@
 -- What a call did, by what its words ask for.
-use Rattle.std.specs.Prelude.{◌≡◌, ◌⊎◌, ℕ, ℤ, [], Result, Ok, Err}
+use Rattle.std.specs.Prelude.{⊤, ◌≡◌, ◌⊎◌, ℕ, ℤ, List, [], Result, Ok, Err}
 use Rattle.qz_disk.specs.declared.disk.Disk.{Ghosts}
 use Rattle.qz_io.specs.Outside.{Outside, no_clock, only_output}
+use Rattle.qz_node.specs.Jobs.{JobMeaning}
+use Rattle.qz_run.specs.declared.commands.Plan.{Plan}
 use Rattle.qz_words.specs.declared.wishes.WordFault.{WordFault}
 use Rattle.qz_words.specs.declared.wishes.Wish.{Wish}
 use Rattle.qz_words.specs.declared.wishes.Wish.TheVariants as wish
 use Rattle.qz_top.specs.Calls.{OwnDone, RanOnDisk, LoadedOnDisk, ListedOnDisk, NotOpened, trail_of}
+use Rattle.qz_top.specs.Generating.{Generates}
 use Rattle.qz_top.specs.Making.{IsInit, SaysMade}
+use Rattle.qz_top.specs.NodeRuns.{RanNodes}
 use Rattle.qz_top.specs.Times.{TimesDone}
 use Rattle.qz_top.specs.declared.statuses.Status.TheVariants as status
 use Rattle.qz_top.specs.declared.ended.Ended.{Ended}
+use Rattle.qz_top.specs.declared.gen_on_disk.Workload.{Workload}
 
 -- the disks came back as they were
 pub record DisksUntouched {D : Type 0} {g : Ghosts D} (triggers states : D) (e : Ended D g) : Type 0 where
@@ -63,13 +68,39 @@ pub record ToldTimes {D : Type 0} {g : Ghosts D} (after : ℤ) (count : ℕ) (tr
   pub not_asked : new.readings ≡ old.readings
   pub disks : DisksUntouched triggers states e
 
--- what a call did, by what its words ask for; words that no call has are refused
-abbrev pub DidAsAsked : {D : Type 0} {g : Ghosts D} → Result Wish WordFault → D → D → Ended D g
+-- The nodes of a plan worked on both stores with these jobs, or one of the stores wasn't opened; the input wasn't read and
+-- the clock not asked.
+pub record RanPlan {D : Type 0} {g : Ghosts D} (p : Plan) (jobs jobs' : List JobMeaning) (triggers states : D) (e : Ended D g)
+    (old new : Outside) : Type 0 where
+  pub ran : RanNodes p jobs jobs' triggers states e (only_output old) (only_output new)
+  pub not_read : new.left ≡ old.left
+  pub not_asked : new.readings ≡ old.readings
+
+-- Jobs and triggers that a number gives were added to both stores, and nodes worked on them with these jobs, or one of the stores
+-- wasn't opened; the input wasn't read and the clock not asked.
+pub record RanWorkload {D : Type 0} {g : Ghosts D} (w : Workload) (jobs jobs' : List JobMeaning) (triggers states : D) (e : Ended D g)
+    (old new : Outside) : Type 0 where
+  pub ran : Generates w jobs jobs' triggers states e (only_output old) (only_output new)
+  pub not_read : new.left ≡ old.left
+  pub not_asked : new.readings ≡ old.readings
+
+-- which calls use the jobs that are handed in; the others leave them as they are
+abbrev pub UsesJobs : Result Wish WordFault → List JobMeaning → List JobMeaning → Type 0
+UsesJobs (Ok (wish.Run nodes from until budget)) jobs jobs' = ⊤
+UsesJobs (Ok (wish.Gen seed jobs_wanted days)) jobs jobs' = ⊤
+UsesJobs w jobs jobs' = jobs' ≡ jobs
+
+-- what a call did, by what its words ask for, with the jobs before and after it; words that no call has are refused
+abbrev pub DidAsAsked : {D : Type 0} {g : Ghosts D} → Result Wish WordFault → List JobMeaning → List JobMeaning → D → D → Ended D g
     → Outside → Outside → Type 0
-DidAsAsked (Err fault) triggers states e old new = RefusedWords fault triggers states e old new
-DidAsAsked (Ok wish.Own) triggers states e old new = RanOwn triggers states e old new
-DidAsAsked (Ok wish.Init) triggers states e old new = RanInit triggers states e old new
-DidAsAsked (Ok wish.Script) triggers states e old new = RanScript triggers states e old new
-DidAsAsked (Ok wish.Load) triggers states e old new = RanLoad triggers states e old new
-DidAsAsked (Ok wish.List) triggers states e old new = Listed triggers states e old new
-DidAsAsked (Ok (wish.Times after count)) triggers states e old new = ToldTimes after count triggers states e old new
+DidAsAsked (Err fault) jobs jobs' triggers states e old new = RefusedWords fault triggers states e old new
+DidAsAsked (Ok wish.Own) jobs jobs' triggers states e old new = RanOwn triggers states e old new
+DidAsAsked (Ok wish.Init) jobs jobs' triggers states e old new = RanInit triggers states e old new
+DidAsAsked (Ok wish.Script) jobs jobs' triggers states e old new = RanScript triggers states e old new
+DidAsAsked (Ok wish.Load) jobs jobs' triggers states e old new = RanLoad triggers states e old new
+DidAsAsked (Ok wish.List) jobs jobs' triggers states e old new = Listed triggers states e old new
+DidAsAsked (Ok (wish.Times after count)) jobs jobs' triggers states e old new = ToldTimes after count triggers states e old new
+DidAsAsked (Ok (wish.Run nodes from until budget)) jobs jobs' triggers states e old new =
+    RanPlan (record { nodes = nodes; from = from; until = until; budget = budget }) jobs jobs' triggers states e old new
+DidAsAsked (Ok (wish.Gen seed jobs_wanted days)) jobs jobs' triggers states e old new =
+    RanWorkload (record { seed = seed; jobs = jobs_wanted; days = days }) jobs jobs' triggers states e old new

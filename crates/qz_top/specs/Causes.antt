@@ -25,11 +25,13 @@ counts s k d input out triggers states = record {
   states = d.faults states;
 }
 
--- a disk failed that the call works on: `script`, `load`, `list` and `init` work on both, other calls on none
+-- a disk failed that the call works on: `script`, `load`, `list`, `init`, `run` and `gen` work on both, other calls on none
 abbrev pub DiskFailed : Result Wish WordFault → FaultCounts → FaultCounts → Type 0
 DiskFailed (Ok wish.Script) old new = Rose old.triggers new.triggers ⊎ Rose old.states new.states
 DiskFailed (Ok wish.Load) old new = Rose old.triggers new.triggers ⊎ Rose old.states new.states
 DiskFailed (Ok wish.List) old new = Rose old.triggers new.triggers ⊎ Rose old.states new.states
+DiskFailed (Ok (wish.Run nodes from until budget)) old new = Rose old.triggers new.triggers ⊎ Rose old.states new.states
+DiskFailed (Ok (wish.Gen seed jobs days)) old new = Rose old.triggers new.triggers ⊎ Rose old.states new.states
 DiskFailed (Ok wish.Init) old new = Rose old.triggers new.triggers ⊎ Rose old.states new.states
 DiskFailed w old new = ⊥
 

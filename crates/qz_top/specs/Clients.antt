@@ -1,5 +1,5 @@
 -- Commands that are done in turn, as steps of a client, and answered.
-use Rattle.std.specs.Prelude.{⊤, ◌≡◌, ℤ, List, [], ◌∷◌, ◌++◌, length, Option, Some, None, Result, Ok, Err, IsTrue}
+use Rattle.std.specs.Prelude.{◌≡◌, ℤ, List, [], ◌∷◌, ◌++◌, length, Option, Some, None, Result, Ok, Err, IsTrue}
 use Rattle.std.specs.List.{AllByRecursion}
 use Rattle.std.specs.Io.KnownBytes.{Appends}
 use Rattle.qz_io.specs.Clocks.{Tells}

@@ -2,6 +2,7 @@ pub mod Asked
 pub mod Calls
 pub mod Causes
 pub mod Clients
+pub mod Generating
 pub mod Handling
 pub mod LineOutcomes
 pub mod Lines
@@ -9,7 +10,9 @@ pub mod Lists
 pub mod Loads
 pub mod Making
 pub mod Moments
+pub mod NodeRuns
 pub mod Runs
+pub mod Schedules
 pub mod Seen
 pub mod Statuses
 pub mod Times

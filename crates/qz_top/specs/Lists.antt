@@ -1,5 +1,5 @@
 -- What `list` wrote.
-use Rattle.std.specs.Prelude.{◌≡◌, ◌≤◌, ℕ, List, [], length, take}
+use Rattle.std.specs.Prelude.{◌≤◌, ℕ, List, [], length, take}
 use Rattle.std.specs.Io.KnownBytes.{Appends}
 use Rattle.qz_io.specs.Outside.{Outside, IsHandedOn}
 use Rattle.qz_model.specs.History.{replay}

@@ -6,11 +6,12 @@ use Rattle.qz_disk.specs.Disk.{DiskState, LeavesOnly}
 use Rattle.qz_journal.specs.Through.{OnlyReads}
 use Rattle.qz_trigger_store.specs.Bytes.{Stands, MayBe}
 use Rattle.qz_trigger_store.specs.Opening.{IsOpened}
+use Rattle.qz_trigger_store.specs.View.{added_of}
 use Rattle.qz_checkin.specs.Bytes.{Stands as StatesStand, MayBe as StatesMayBe}
 use Rattle.qz_checkin.specs.Opening.{IsOpened as AreOpened}
 use Rattle.qz_cluster.specs.declared.clusters.Cluster.{Cluster}
 use Rattle.qz_cluster.specs.Steps.{ClusterState}
-use Rattle.qz_cluster.specs.View.{view as cluster_view, triggers_disk, states_disk, EachLeavesEither}
+use Rattle.qz_cluster.specs.View.{view as cluster_view, triggers_of, triggers_disk, states_disk, EachLeavesEither}
 use Rattle.qz_top.specs.Seen.{Shown, states_of}
 use Rattle.qz_top.specs.declared.runs.Run.{Run}
 
@@ -65,6 +66,7 @@ pub record Shows {D : Type 0} {g : Ghosts D} (all : Type 0) (old new : Run D g) 
 pub record BeginsOn {D : Type 0} {g : Ghosts D} (triggers states : D) (r : Run D g) : Type 0 where
   pub are_opened : IsOpened (cluster_view r.cluster).triggers × AreOpened (cluster_view r.cluster).states
   pub nothing_held : (cluster_view r.cluster).held ≡ []
+  pub nothing_added : added_of (triggers_of r.cluster) ≡ []
   pub stand : g.honest → Stands (g.state triggers).content (cluster_view r.cluster).triggers.history × StatesStand (g.state states).content (cluster_view r.cluster).states.history
   pub no_earlier : (g.faults triggers ≤ (cluster_view r.cluster).triggers.faults) × (g.faults states ≤ (cluster_view r.cluster).states.faults)
   pub reads : g.honest → OnlyReads (g.state triggers) (triggers_disk r.cluster) × OnlyReads (g.state states) (states_disk r.cluster)

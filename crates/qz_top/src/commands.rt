@@ -1,20 +1,27 @@
 //! The top call.
+ghost use Rattle.std.specs.Prelude.{map};
 ghost use Rattle.qz_io.specs.Around.{outside};
-ghost use Rattle.qz_top.specs.Asked.{DidAsAsked};
+ghost use Rattle.qz_top.specs.Asked.{DidAsAsked, UsesJobs};
 ghost use Rattle.qz_top.specs.Causes.{counts, HasCause};
+ghost use Rattle.qz_top.specs.Calls.{trail_of};
+ghost use Rattle.qz_top.specs.Schedules.{FollowSchedules};
 ghost use Rattle.qz_top.specs.Statuses.{error_text, Reported};
 ghost use Rattle.qz_words.specs.Wishes.{wish_of};
 
 use crate::ended::{Ended, ran_no_script};
+use crate::gen_on_disk::{Workload, gen_on_disk};
 use crate::in_memory::own_script;
 use crate::list_on_disk::list_on_disk;
 use crate::load_on_disk::load_on_disk;
 use crate::making::make_stores;
 use crate::on_disk::script_on_disk;
+use crate::run_on_disk::run_on_disk;
 use crate::times::tell_times;
 use crate::{Status, report};
 use qz_disk::Disk;
 use qz_io::{Clock, Sink, Source};
+use qz_node::{Job, Jobs};
+use qz_run::Plan;
 use qz_times::Query;
 use qz_types::Text;
 use qz_words::{Wish, read_words};
@@ -28,6 +35,10 @@ use std::alloc::Global;
 /// - `script` opens both stores and runs the lines of `input` on them.
 /// - `load` opens both stores, does the commands of the document on `input`, and writes a reply line for each.
 /// - `list` opens both stores, and writes a line for each row of theirs.
+/// - `run NODES FROM UNTIL [BUDGET]` opens both stores, lets so many nodes work on them with the jobs, on a clock that begins at
+///   FROM, until nothing is due up to UNTIL, and writes a line for each entry that they added and one that sums them up.
+/// - `gen SEED JOBS DAYS` opens both stores. Where the trigger store's history is empty, it adds jobs and triggers that SEED gives,
+///   lets 4 nodes work on them for DAYS days from 2024-01-01T00:00:00Z on, and writes the line that sums up all of it.
 /// - `times AFTER COUNT` writes for each trigger of `input` its first fire times. The two disks aren't touched.
 ///
 /// The disks come back in every case.
@@ -40,15 +51,20 @@ pub fn command<S: Source, K: Sink, E: Sink, D: Disk, C: Clock>(
     triggers: D,
     states: D,
     clock: &mut C,
+    jobs: &mut Jobs,
 ) -> Ended<D>
-    // What was done is what the words ask for: each of the five cases is a definition of its own.
-    ensures done { DidAsAsked (wish_of words.now) triggers states result (outside S.Source K.Sink C.Clock input.old out.old clock.old) (outside S.Source K.Sink C.Clock input.new out.new clock.new) }
+    // What was done is what the words ask for: each of the cases is a definition of its own.
+    ensures done { DidAsAsked (wish_of words.now) (map means jobs.old.items) (map means jobs.new.items) triggers states result (outside S.Source K.Sink C.Clock input.old out.old clock.old) (outside S.Source K.Sink C.Clock input.new out.new clock.new) }
+    // Only `run` and `gen` call the jobs.
+    ensures jobs { UsesJobs (wish_of words.now) (map means jobs.old.items) (map means jobs.new.items) }
     // Bad words are answered only where the words are refused, and a fault only where the object's count of faults rose.
     ensures cause { HasCause result.status (wish_of words.now) (counts S.Source K.Sink D.Disk input.old out.old triggers states) (counts S.Source K.Sink D.Disk input.new out.new result.triggers result.states) }
+    // In each state that it showed, triggers that weren't disturbed have fired for the first times of their schedules.
+    ensures schedules { FollowSchedules (trail_of result.trail) }
     // The line on `err` was written, or `err` failed.
     ensures reported { Reported (error_text result.status) (E.held err.old) (E.held err.new) (E.faults err.old) (E.faults err.new) }
 {
-    let ended = work(alloc, words, input, out, triggers, states, clock);
+    let ended = work(alloc, words, input, out, triggers, states, clock, jobs);
     report(ended.status, err);
     ended
 }
@@ -62,8 +78,10 @@ fn work<S: Source, K: Sink, D: Disk, C: Clock>(
     triggers: D,
     states: D,
     clock: &mut C,
+    jobs: &mut Jobs,
 ) -> Ended<D>
-    ensures done { DidAsAsked (wish_of words.now) triggers states result (outside S.Source K.Sink C.Clock input.old out.old clock.old) (outside S.Source K.Sink C.Clock input.new out.new clock.new) }
+    ensures done { DidAsAsked (wish_of words.now) (map means jobs.old.items) (map means jobs.new.items) triggers states result (outside S.Source K.Sink C.Clock input.old out.old clock.old) (outside S.Source K.Sink C.Clock input.new out.new clock.new) }
+    ensures jobs { UsesJobs (wish_of words.now) (map means jobs.old.items) (map means jobs.new.items) }
     ensures cause { HasCause result.status (wish_of words.now) (counts S.Source K.Sink D.Disk input.old out.old triggers states) (counts S.Source K.Sink D.Disk input.new out.new result.triggers result.states) }
 {
     match read_words(words) {
@@ -76,5 +94,35 @@ fn work<S: Source, K: Sink, D: Disk, C: Clock>(
         }
         Ok(Wish::Load) => load_on_disk(alloc, input, out, triggers, states, clock),
         Ok(Wish::List) => list_on_disk(alloc, out, triggers, states),
+        Ok(
+            Wish::Run {
+                nodes,
+                from,
+                until,
+                budget,
+            },
+        ) => {
+            let plan = Plan {
+                nodes,
+                from,
+                until,
+                budget,
+            };
+            run_on_disk(alloc, plan, out, triggers, states, jobs)
+        }
+        Ok(
+            Wish::Gen {
+                seed,
+                jobs: count,
+                days,
+            },
+        ) => {
+            let workload = Workload {
+                seed,
+                jobs: count,
+                days,
+            };
+            gen_on_disk(alloc, workload, out, triggers, states, jobs)
+        }
     }
 }

@@ -1,8 +1,9 @@
 //! Calls of the top call, over objects in memory.
 use qz_disk::{Disk, MemDisk};
 use qz_io::{ListClock, MemSink, MemSource};
+use qz_node::{Job, ListJob};
 use qz_top::{Ended, Status, command};
-use qz_types::{List, Text};
+use qz_types::{Code, List, Text};
 use std::alloc::{AllocError, Global};
 use std::process::Abort;
 
@@ -36,6 +37,13 @@ pub fn texts(alloc: Global, words: &[&str]) -> Result<Vec<Text>, AllocError> {
     Ok(texts)
 }
 
+// A job of the class `ok`, which gives these answers in turn, and then is done at each call.
+fn ok_job(alloc: Global, answers: &[Code]) -> Result<Box<ListJob>, AllocError> {
+    let class = Text::from_str(alloc, "ok")?;
+    let answers = List::from_vec(Vec::from_slice(alloc, answers)?);
+    Ok(Box::new(alloc, ListJob::new(alloc, class, answers))?)
+}
+
 pub fn prepare(alloc: Global, words: &[&str], script: &str) -> Result<Given, AllocError> {
     Ok(Given {
         words: texts(alloc, words)?,
@@ -52,8 +60,17 @@ pub struct Called<D: Disk> {
     pub err: MemSink,
 }
 
-pub fn call<D: Disk>(alloc: Global, given: Given, triggers: D, states: D) -> Called<D> {
+// The box of any job is made here, beside the top call: no function hands one out.
+fn call<D: Disk>(
+    alloc: Global,
+    given: Given,
+    job: Box<ListJob>,
+    triggers: D,
+    states: D,
+) -> Option<Called<D>> {
     let mut given = given;
+    let boxes: [Box<dyn Job + Send>; 1] = [job];
+    let mut jobs = Vec::from_array(alloc, boxes).ok()?;
     let mut out = MemSink::new(alloc);
     let mut err = MemSink::new(alloc);
     let ended = command(
@@ -65,9 +82,10 @@ pub fn call<D: Disk>(alloc: Global, given: Given, triggers: D, states: D) -> Cal
         triggers,
         states,
         &mut given.clock,
+        &mut jobs,
     );
-    drop(given);
-    Called { ended, out, err }
+    drop((given, jobs));
+    Some(Called { ended, out, err })
 }
 
 /// What a call is to write, and how it is to end.
@@ -79,7 +97,7 @@ pub struct Wanted<'a> {
 }
 
 impl<D: Disk> Called<D> {
-    fn is(&self, wanted: &Wanted) -> bool {
+    pub fn is(&self, wanted: &Wanted) -> bool {
         let is_handed = wanted.status != Status::Ok || self.out.handed() == self.out.bytes();
         is_handed
             && self.out.bytes() == wanted.replies.as_bytes()
@@ -87,9 +105,15 @@ impl<D: Disk> Called<D> {
             && self.ended.status == wanted.status
     }
 
-    // The disks of a call that is as wanted.
-    fn disks(self, wanted: &Wanted) -> Option<(D, D)> {
-        let is_right = self.is(wanted);
+    /// Whether the call is as wanted, where only the end of what it writes is wanted.
+    pub fn ends_as(&self, wanted: &Wanted) -> bool {
+        self.out.bytes().ends_with(wanted.replies.as_bytes())
+            && self.err.bytes() == wanted.error.as_bytes()
+            && self.ended.status == wanted.status
+    }
+
+    /// The disks of a call that is right.
+    pub fn disks(self, is_right: bool) -> Option<(D, D)> {
         let Called { ended, out, err } = self;
         drop((out, err));
         let Ended {
@@ -106,7 +130,35 @@ impl<D: Disk> Called<D> {
     }
 }
 
-/// The disks behind a call on these, if it is as wanted.
+/// A call on these disks, whose one job gives these answers in turn.
+pub fn call_by<D: Disk>(
+    alloc: Global,
+    disks: Option<(D, D)>,
+    words: &[&str],
+    script: &str,
+    job_answers: &[Code],
+) -> Option<Called<D>> {
+    let given = prepare(alloc, words, script).ok()?;
+    let job = ok_job(alloc, job_answers).ok()?;
+    let (triggers, states) = disks?;
+    call(alloc, given, job, triggers, states)
+}
+
+/// The disks behind a call on these, if it is as wanted. Its one job gives these answers in turn.
+pub fn left_by<D: Disk>(
+    alloc: Global,
+    disks: Option<(D, D)>,
+    words: &[&str],
+    script: &str,
+    job_answers: &[Code],
+    wanted: &Wanted,
+) -> Option<(D, D)> {
+    let called = call_by(alloc, disks, words, script, job_answers)?;
+    let is_right = called.is(wanted);
+    called.disks(is_right)
+}
+
+/// The same, with a job that is done at each call.
 pub fn left<D: Disk>(
     alloc: Global,
     disks: Option<(D, D)>,
@@ -114,9 +166,7 @@ pub fn left<D: Disk>(
     script: &str,
     wanted: &Wanted,
 ) -> Option<(D, D)> {
-    let given = prepare(alloc, words, script).ok()?;
-    let (triggers, states) = disks?;
-    call(alloc, given, triggers, states).disks(wanted)
+    left_by(alloc, disks, words, script, &[], wanted)
 }
 
 /// Whether a call on these disks is as wanted.

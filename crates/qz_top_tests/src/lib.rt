@@ -4,12 +4,20 @@
 #[cfg(test)]
 mod calls;
 #[cfg(test)]
+mod generated;
+#[cfg(test)]
 mod loads;
 #[cfg(test)]
 mod nodes;
+#[cfg(test)]
+mod run_ends;
+#[cfg(test)]
+mod runs;
 #[cfg(test)]
 mod scripts;
 #[cfg(test)]
 mod stores;
 #[cfg(test)]
 mod top;
+#[cfg(test)]
+mod weeks;

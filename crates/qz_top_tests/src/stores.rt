@@ -3,6 +3,7 @@ use crate::calls::{DONE, Wanted, answers, are_answered, left, new_disks, numbers
 use crate::top::{SIX, SIX_REPLIES, WEEKDAYS};
 use qz_disk::{FaultDisk, MemDisk};
 use qz_io::{FaultSink, MemSink, Sink};
+use qz_node::Jobs;
 use qz_top::{Status, command};
 use qz_types::{List, Store};
 use std::alloc::Global;
@@ -38,6 +39,17 @@ fn stores_are_made_once(rt: HostRuntime) {
         status: Status::Exists,
     };
     assert!(rt; answers(alloc, made(alloc), &["init"], "", &wanted));
+    assert!(rt; wanted.status.exit_number() == 10);
+}
+
+#[test]
+fn new_stores_are_empty(rt: HostRuntime) {
+    let alloc = rt.alloc();
+    let wanted = Wanted {
+        replies: "threshold 60000\n",
+        ..DONE
+    };
+    assert!(rt; answers(alloc, made(alloc), &["list"], "", &wanted));
 }
 
 // The disks of stores that took three entries.
@@ -48,10 +60,21 @@ fn filled(alloc: Global) -> Option<(MemDisk, MemDisk)> {
 /// The words of a call, its input, what it writes, and the number of the flush among the calls on its output.
 type FlushRow = (&'static [&'static str], &'static str, &'static str, u64);
 
-const FLUSHES: [FlushRow; 4] = [
+const NONE_DUE: &str = "1 1704067200000 client join joined 1 executions 0 triggers 0
+2 1704067200000 n1:1 leave ok
+summary fired 0 misfired 0 recovered 0 jobs 0 triggers 0 at 1704067200000
+";
+
+const FLUSHES: [FlushRow; 5] = [
     (&[], SIX, SIX_REPLIES, 7),
     (&["script"], THREE, THREE_REPLIES, 4),
     (&["init"], "", "created\n", 2),
+    (
+        &["run", "1", "1704067200000", "1704067200000"],
+        "",
+        NONE_DUE,
+        2,
+    ),
     (
         &["times", "1704456000000", "1"],
         WEEKDAYS,
@@ -67,9 +90,10 @@ fn fails_at_the_flush(alloc: Global, row: &FlushRow) -> Option<bool> {
     let mut given = prepare(alloc, words, script).ok()?;
     let mut err = MemSink::new(alloc);
     let (triggers, states) = match words {
-        ["script"] => made(alloc)?,
+        ["script"] | ["run", ..] => made(alloc)?,
         _ => new_disks(alloc)?,
     };
+    let mut jobs: Jobs = Vec::new(alloc);
     let ended = command(
         alloc,
         &given.words,
@@ -79,6 +103,7 @@ fn fails_at_the_flush(alloc: Global, row: &FlushRow) -> Option<bool> {
         triggers,
         states,
         &mut given.clock,
+        &mut jobs,
     );
     let is_right = ended.status == Status::WriteFault && out.bytes() == replies.as_bytes();
     drop((ended, given, out, err));
@@ -167,15 +192,16 @@ fn a_damaged_store_is_not_opened(rt: HostRuntime) {
     assert!(rt; answers(alloc, damaged(alloc), &["script"], THREE, &wanted));
 }
 
-// New stores on disks that fail at these calls.
-fn failing(
+/// The stores of these disks, on disks that fail at these calls.
+pub fn failing(
     alloc: Global,
+    disks: Option<(MemDisk, MemDisk)>,
     triggers_at: &[u64],
     states_at: &[u64],
 ) -> Option<(FaultDisk<MemDisk>, FaultDisk<MemDisk>)> {
     let triggers_calls = numbers(alloc, triggers_at).ok()?;
     let states_calls = numbers(alloc, states_at).ok()?;
-    let (triggers, states) = made(alloc)?;
+    let (triggers, states) = disks?;
     Some((
         FaultDisk::new(triggers, triggers_calls),
         FaultDisk::new(states, states_calls),
@@ -196,7 +222,7 @@ fn a_disk_that_fails_closes_the_store(rt: HostRuntime) {
     assert!(rt;
         answers(
             alloc,
-            failing(alloc, &[9], &[]),
+            failing(alloc, made(alloc), &[9], &[]),
             &["script"],
             THREE,
             &wanted
@@ -221,7 +247,7 @@ fn a_restart_opens_a_closed_store(rt: HostRuntime) {
     assert!(rt;
         answers(
             alloc,
-            failing(alloc, &[9], &[]),
+            failing(alloc, made(alloc), &[9], &[]),
             &["script"],
             RESTARTED,
             &wanted
@@ -246,7 +272,7 @@ fn a_closed_state_store_is_told(rt: HostRuntime) {
     assert!(rt;
         answers(
             alloc,
-            failing(alloc, &[], &[5]),
+            failing(alloc, made(alloc), &[], &[5]),
             &["script"],
             CHECKED_IN,
             &wanted
@@ -271,7 +297,7 @@ fn a_restart_that_fails_closes_both_stores(rt: HostRuntime) {
     assert!(rt;
         answers(
             alloc,
-            failing(alloc, &[5], &[]),
+            failing(alloc, made(alloc), &[5], &[]),
             &["script"],
             RESTARTED_AT_ONCE,
             &wanted
@@ -280,7 +306,7 @@ fn a_restart_that_fails_closes_both_stores(rt: HostRuntime) {
     assert!(rt;
         answers(
             alloc,
-            failing(alloc, &[], &[5]),
+            failing(alloc, made(alloc), &[], &[5]),
             &["script"],
             RESTARTED_AT_ONCE,
             &wanted

@@ -3,6 +3,7 @@ use crate::calls::{Row, are_answered, bytes_of, clock, numbers};
 use qz_cron_text::CronError;
 use qz_disk::MemDisk;
 use qz_io::{FaultSink, FaultSource, MemSink, MemSource, Sink, Source};
+use qz_node::Jobs;
 use qz_top::{BadKind, Status, WordFault, command};
 use std::alloc::{AllocError, Global};
 
@@ -97,6 +98,7 @@ fn ends<S: Source, K: Sink>(
     let mut clock = clock(alloc)?;
     let mut err = MemSink::new(alloc);
     let (triggers, states) = (MemDisk::new(alloc), MemDisk::new(alloc));
+    let mut jobs: Jobs = Vec::new(alloc);
     let ended = command(
         alloc,
         &[],
@@ -106,6 +108,7 @@ fn ends<S: Source, K: Sink>(
         triggers,
         states,
         &mut clock,
+        &mut jobs,
     );
     let is_right = ended.status == status && err.bytes() == error.as_bytes();
     drop((ended, err));

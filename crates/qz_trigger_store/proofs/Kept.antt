@@ -15,7 +15,7 @@ use Rattle.qz_trigger_store.specs.View.{view, found_of, added_of, tables_of}
 use Rattle.qz_trigger_store.specs.declared.stores.TriggerStore.{TriggerStore}
 
 module _ {D : Type 0} {g : Ghosts D} (s : TriggerStore D g) where
-  each_valid : AllByRecursion (λ e. IsTrue (is_entry e)) (found_of s ++ added_of s)
+  pub each_valid : AllByRecursion (λ e. IsTrue (is_entry e)) (found_of s ++ added_of s)
   each_valid = ∥∥₁_elim s.recorded (AllByRecursion-prop (λ e. IsTrue (is_entry e)) (λ e. hlevel props) (found_of s ++ added_of s)) (entries_valid (found_of s ++ added_of s))
 
   -- its history leaves valid tables, which are those that it keeps

@@ -5,11 +5,13 @@ use Rattle.std.specs.Str.{bytes_eq}
 use Rattle.qz_civil.specs.declared.limits.TheConstants.{LAST}
 use Rattle.qz_words.specs.declared.wishes.TheConstants.{COUNT_LIMIT}
 use Rattle.qz_words.specs.declared.wishes.Wish.{Wish}
-use Rattle.qz_words.specs.declared.wishes.Wish.TheVariants.{Own, Init, Script, Load, List as ListAll, Times}
+use Rattle.qz_words.specs.declared.running.TheConstants.{NODE_LIMIT, BUDGET_LIMIT, JOB_LIMIT, DAY_LIMIT}
+use Rattle.qz_words.specs.declared.wishes.Wish.TheVariants.{Own, Init, Script, Load, List as ListAll, Times, Run, Gen}
 use Rattle.qz_words.specs.declared.wishes.WordFault.{WordFault}
 use Rattle.qz_words.specs.declared.wishes.WordFault.TheVariants as fault
 use Rattle.qz_words.specs.Numbers.{number_of}
 use Rattle.qz_words.specs.Counts.{wrong_count}
+use Rattle.qz_words.specs.Running.{run, generate}
 
 -- the wish of a call that has no further words
 abbrev pub alone : Wish → List (List ℕ) → Result Wish WordFault
@@ -39,6 +41,8 @@ wish_of (word ∷ further) =
     else if bytes_eq word (codes "load") then alone Load further
     else if bytes_eq word (codes "list") then alone ListAll further
     else if bytes_eq word (codes "times") then times further
+    else if bytes_eq word (codes "run") then run further
+    else if bytes_eq word (codes "gen") then generate further
     else Err fault.UnknownCommand
 
 -- the numbers of a wish are in their ranges
@@ -49,3 +53,6 @@ IsWish Script = ⊤
 IsWish Load = ⊤
 IsWish ListAll = ⊤
 IsWish (Times after count) = (pos 0 ≤ℤ after) × (after ≤ℤ LAST) × (1 ≤ count) × (count ≤ COUNT_LIMIT)
+IsWish (Run nodes start end budget) =
+    (1 ≤ nodes) × (nodes ≤ NODE_LIMIT) × (pos 0 ≤ℤ start) × (start ≤ℤ end) × (end ≤ℤ LAST) × (1 ≤ budget) × (budget ≤ BUDGET_LIMIT)
+IsWish (Gen seed jobs days) = (1 ≤ jobs) × (jobs ≤ JOB_LIMIT) × (1 ≤ days) × (days ≤ DAY_LIMIT)

@@ -4,6 +4,7 @@ ghost use Rattle.qz_words.specs.Counts.{wrong_count};
 ghost use Rattle.qz_words.specs.Wishes as spec;
 
 use crate::numbers::number_of;
+use crate::running::{generate, run};
 use qz_civil::{LAST, Text};
 
 /// How many fire times of a trigger may be asked for.
@@ -28,6 +29,25 @@ pub enum Wish {
         after: i64,
         /// From 1 to `COUNT_LIMIT`.
         count: u32,
+    },
+    /// The work of some nodes on a virtual clock.
+    Run {
+        /// From 1 to `NODE_LIMIT`.
+        nodes: u32,
+        /// In ms since 1970-01-01T00:00:00Z, from 0 to `until`.
+        from: i64,
+        /// In ms since 1970-01-01T00:00:00Z, up to `LAST`.
+        until: i64,
+        /// How many firings the run may make: from 1 to `BUDGET_LIMIT`.
+        budget: u64,
+    },
+    /// The work of four nodes on jobs and triggers that are made from a number.
+    Gen {
+        seed: u64,
+        /// From 1 to `JOB_LIMIT`.
+        jobs: u32,
+        /// From 1 to `DAY_LIMIT`.
+        days: u32,
     },
 }
 
@@ -58,6 +78,8 @@ pub fn read_words(words: &[Text]) -> Result<Wish, WordFault>
             "load" => alone(Wish::Load, further),
             "list" => alone(Wish::List, further),
             "times" => times(further),
+            "run" => run(further),
+            "gen" => generate(further),
             _ => Err(WordFault::UnknownCommand),
         },
     }
@@ -76,7 +98,7 @@ fn alone(wish: Wish, further: &[Text]) -> Result<Wish, WordFault>
     }
 }
 
-fn wrong_count(further: &[Text]) -> Result<Wish, WordFault>
+pub(crate) fn wrong_count(further: &[Text]) -> Result<Wish, WordFault>
     ensures value { result ≡ wrong_count further.now }
     ensures valid { IfOk result spec.IsWish }
 {

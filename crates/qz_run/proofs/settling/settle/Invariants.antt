@@ -9,6 +9,7 @@ invariant-loop-none g l = record {
   ready : Ready l.plan l.worker.at (g.S.Stores.state l.stores);
   work : AtWork l.worker.node l.worker.at (g.S.Stores.state l.stores);
   went : (g.S.Stores.state l.stores ≡ g.S.Stores.state l.fn.stores) ⊎ HasMoved l.plan l.worker.node l.worker.at (g.S.Stores.state l.fn.stores) (g.S.Stores.state l.stores);
+  origin : g.S.Stores.origin l.stores ≡ g.S.Stores.origin l.fn.stores;
 }
 
 abbrev pub decreases-loop-none : goal.decreases-loop-none

@@ -1,12 +1,10 @@
-use Rattle.std.proofs.Common.{ℤ, negsuc, ◌∷◌, subst}
-use Rattle.qz_plan.specs.FireTimes.{IsFireTime, AreAllAfter}
 use Rattle.qz_model.specs.History.{replies_from}
-use Rattle.qz_model.specs.Plan.{zone_named_by, stretches_for, zoned_chain, next_after, first_time}
+use Rattle.qz_model.specs.Plan.{next_after}
 use Rattle.qz_schedule_law.specs.Turns.{fired_times}
 use Rattle.qz_schedule_law.proofs.Beginnings.{from_the_first}
 use Rattle.qz_schedule_law.proofs.Histories.{gone_on, goes_on, later_stretch}
-use Rattle.qz_schedule_law.proofs.Schedules.{fire_times_turn}
-use Rattle.qz_schedule_law.proofs.Turns.{turns-append, turns-left}
+use Rattle.qz_schedule_law.proofs.Following.{first_times, follows}
+use Rattle.qz_schedule_law.proofs.Turns.{turns-append}
 use Rattle.qz_schedule_law.proofs.laws.triggers_fire_their_schedule.Goals as goal
 
 pub returns-clause-step : goal.returns-clause-step
@@ -26,8 +24,7 @@ pub returns-clause-from_the_start : goal.returns-clause-from_the_start
 returns-clause-from_the_start c T e es key t u by = (from_the_first T e es key t u by).1
 
 pub returns-clause-prefix : goal.returns-clause-prefix
-returns-clause-prefix c T e es key t u all by are =
-    let first = from_the_first T e es key t u by in
-    let within = subst (λ (h : ℤ). AreAllAfter h (IsFireTime t.spec.timing (stretches_for T.zones (zone_named_by t.spec.timing.kind)) (zoned_chain T t.spec.calendar)) (negsuc 0) all) by.valid.references_and_limits.limits.horizon are in
-    let left = turns-left (next_after T t.spec) (first_time T t.spec) (fired_times key (replies_from T (e ∷ es))) u.next all first.1 (fire_times_turn T t.spec all first.0 within) in
-    (left.0, left.1)
+returns-clause-prefix c T e es key t u all by are = first_times T e es key t u all by are
+
+pub returns-clause-everywhere : goal.returns-clause-everywhere
+returns-clause-everywhere c T all valid good legal = follows T all valid good legal

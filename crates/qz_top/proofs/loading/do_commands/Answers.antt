@@ -1,4 +1,4 @@
-use Rattle.std.proofs.Common.{◌≤◌, ◌∙◌, refl, sym, subst, arith}
+use Rattle.std.proofs.Common.{◌∙◌, refl, sym, subst, arith}
 use Rattle.std.specs.List.{AllByRecursion}
 use Rattle.qz_top.specs.Clients.{IsOfClient}
 use Rattle.qz_top.proofs.ClientLaws.{DidFront-none, DidFront-more, DidFront-end}

@@ -11,7 +11,7 @@ pub returns-in-Ok-begin-clause-ok : goal.returns-in-Ok-begin-clause-ok
 returns-in-Ok-begin-clause-ok g c =
     let mounted = c.in-Ok.ensures in
     let begun = c.in-Ok-begin.ensures in
-    begins_on c.args.triggers c.args.states _ _ begun.ok.1 mounted.opened mounted.nothing_held mounted.stands mounted.later mounted.reads (ap (λ (r : RunState). r.is_own) begun.ok.0) begun.shown
+    begins_on c.args.triggers c.args.states _ _ begun.ok.1 mounted.opened mounted.nothing_held mounted.nothing_added mounted.stands mounted.later mounted.reads (ap (λ (r : RunState). r.is_own) begun.ok.0) begun.shown
 
 -- both stores were opened, and then there was no memory
 pub returns-in-Err-begin-clause-err : goal.returns-in-Err-begin-clause-err

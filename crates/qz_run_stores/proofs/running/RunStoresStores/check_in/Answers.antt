@@ -11,6 +11,8 @@ use Rattle.qz_seen.specs.Seen.{node_name}
 use Rattle.qz_run_stores.specs.Declining.{HasDeclined}
 use Rattle.qz_run_stores.specs.View.{run_state}
 use Rattle.qz_run_stores.proofs.Rows.{checked_in, check_in_declinable, check_in_declines}
+use Rattle.qz_run_stores.proofs.Ways.{states_kept}
+use Rattle.qz_run_stores.proofs.Going.{later_then, closes_then, stay_then}
 use Rattle.qz_run_stores.proofs.running.RunStoresStores.check_in.Goals as goal
 
 pub returns-in-Ok-check_in-clause-accepted : goal.returns-in-Ok-check_in-clause-accepted
@@ -41,3 +43,23 @@ returns-clause-declined g c =
     (subst (λ (at : ℤ). Submits of_states (record { at = at; seat = 0; command = CheckIn (node_name c.args.node) CHECK_IN_INTERVAL }) (Err c.in-Err.error) (states_view self.states) (states_view c.check_in.new.self)) reading
     (subst (λ (name : List ℕ). Submits of_states (record { at = to_z w64 (of_z w64 c.args.at); seat = 0; command = CheckIn name CHECK_IN_INTERVAL }) (Err c.in-Err.error) (states_view self.states) (states_view c.check_in.new.self))
     c.in-Ok.ensures.name c.in-Err.ensures.one)))
+
+pub invariant_of-self-clause-states_later : goal.invariant_of-self-clause-states_later
+invariant_of-self-clause-states_later g c =
+    let self = c.args.self.now in
+    later_then of_states _ c.check_in.result (states_view self.states_begun.value).faults (states_view self.states) (states_view c.check_in.new.self) c.check_in.ensures.one self.states_later
+
+pub invariant_of-self-clause-states_close : goal.invariant_of-self-clause-states_close
+invariant_of-self-clause-states_close g c =
+    let self = c.args.self.now in
+    closes_then of_states _ c.check_in.result (states_view self.states_begun.value) (states_view self.states) (states_view c.check_in.new.self) c.check_in.ensures.one self.states_later self.states_close
+
+pub invariant_of-self-clause-rows_stay : goal.invariant_of-self-clause-rows_stay
+invariant_of-self-clause-rows_stay g c =
+    let self = c.args.self.now in
+    stay_then self.rows_before (states_view self.states_begun.value).history.entries _ c.check_in.result (states_view self.states) (states_view c.check_in.new.self) c.check_in.ensures.one self.rows_within self.rows_stay
+
+pub invariant_of-self-clause-states_kept : goal.invariant_of-self-clause-states_kept
+invariant_of-self-clause-states_kept g c =
+    let self = c.args.self.now in
+    states_kept self.states_begun.value self.states c.check_in.new.self _ c.check_in.result (omega (arith, self.rows_counted, self.rows_within)) c.check_in.ensures.one c.check_in.ensures.any_moment self.states_kept

@@ -14,6 +14,8 @@ use Rattle.qz_seen.specs.Seen.{node_name}
 use Rattle.qz_run_stores.specs.Declining.{HasDeclined}
 use Rattle.qz_run_stores.specs.View.{run_state}
 use Rattle.qz_run_stores.proofs.Rows.{forget_entry, forgot, forget_declinable, forget_declines}
+use Rattle.qz_run_stores.proofs.Ways.{states_kept}
+use Rattle.qz_run_stores.proofs.Going.{later_then, closes_then, stay_then}
 use Rattle.qz_run_stores.proofs.running.RunStoresStores.forget.Goals as goal
 
 pub returns-in_default-clause-declined : goal.returns-in_default-clause-declined
@@ -60,3 +62,23 @@ returns-clause-declined g c =
     (subst (λ (at : ℤ). Submits of_states (record { at = at; seat = 0; command = Forget (node_name c.args.node) row.last }) (Err c.in-Err.error) (states_view self.states) (states_view c.forget.new.self)) reading
     (subst (λ (name : List ℕ). Submits of_states (record { at = to_z w64 (of_z w64 c.args.at); seat = 0; command = Forget name row.last }) (Err c.in-Err.error) (states_view self.states) (states_view c.forget.new.self)) c.in-Ok.ensures.name
     (subst (λ (x : ℤ). Submits of_states (record { at = to_z w64 (of_z w64 c.args.at); seat = 0; command = Forget c.in-Ok.name x }) (Err c.in-Err.error) (states_view self.states) (states_view c.forget.new.self)) last c.in-Err.ensures.one))))
+
+pub invariant_of-self-clause-states_later : goal.invariant_of-self-clause-states_later
+invariant_of-self-clause-states_later g c =
+    let self = c.args.self.now in
+    later_then of_states _ c.forget.result (states_view self.states_begun.value).faults (states_view self.states) (states_view c.forget.new.self) c.forget.ensures.one self.states_later
+
+pub invariant_of-self-clause-states_close : goal.invariant_of-self-clause-states_close
+invariant_of-self-clause-states_close g c =
+    let self = c.args.self.now in
+    closes_then of_states _ c.forget.result (states_view self.states_begun.value) (states_view self.states) (states_view c.forget.new.self) c.forget.ensures.one self.states_later self.states_close
+
+pub invariant_of-self-clause-rows_stay : goal.invariant_of-self-clause-rows_stay
+invariant_of-self-clause-rows_stay g c =
+    let self = c.args.self.now in
+    stay_then self.rows_before (states_view self.states_begun.value).history.entries _ c.forget.result (states_view self.states) (states_view c.forget.new.self) c.forget.ensures.one self.rows_within self.rows_stay
+
+pub invariant_of-self-clause-states_kept : goal.invariant_of-self-clause-states_kept
+invariant_of-self-clause-states_kept g c =
+    let self = c.args.self.now in
+    states_kept self.states_begun.value self.states c.forget.new.self _ c.forget.result (omega (arith, self.rows_counted, self.rows_within)) c.forget.ensures.one c.forget.ensures.any_moment self.states_kept

@@ -1,4 +1,4 @@
-use Rattle.std.proofs.Common.{◌≡◌, ◌<◌, ◌^◌, ℤ, w64, to_z, of_z, sym, ap, ◌∙◌, subst, arith}
+use Rattle.std.proofs.Common.{◌≡◌, ◌<◌, ◌^◌, ℤ, w64, to_z, of_z, refl, sym, ap, ◌∙◌, subst, arith}
 use Rattle.std.proofs.lemmas.Int.{ints}
 use Rattle.std.specs.Prelude.{Err}
 use Rattle.qz_types.specs.Entries.{EntryData}
@@ -11,7 +11,10 @@ use Rattle.qz_seen.specs.Asking.{entry_of}
 use Rattle.qz_run_stores.specs.Declining.{DeclinesEntry}
 use Rattle.qz_run_stores.specs.View.{run_state}
 use Rattle.qz_run_stores.proofs.Accepting.{accepts}
+use Rattle.qz_run_stores.proofs.Asked.{asked_then}
 use Rattle.qz_run_stores.proofs.Declining.{entry_declinable, entry_declines}
+use Rattle.qz_run_stores.proofs.Ways.{triggers_kept}
+use Rattle.qz_run_stores.proofs.Going.{later_then, closes_then, entries_stay_then}
 use Rattle.qz_run_stores.proofs.running.RunStoresStores.submit.Goals as goal
 
 pub declined-requires : goal.declined-requires
@@ -44,3 +47,34 @@ returns-in-Err-clause-declined g c =
     subst (λ why. DeclinesEntry (view c.submit.new.self) (entry_of (replay (view c.submit.new.self).history) c.args.at c.args.node c.args.command) why) (sym c.declined.ensures)
     (entry_declines (view s) (view c.submit.new.self) c.args.at c.args.node c.args.command (history_valid s) c.requires.time c.requires.clock c.requires.can c.in-Err.error
     (subst (λ (e : EntryData). Submits trigger_entry e (Err c.in-Err.error) (view s) (view c.submit.new.self)) entry_is c.in-Err.ensures.one))
+
+pub invariant_of-self-clause-later : goal.invariant_of-self-clause-later
+invariant_of-self-clause-later g c =
+    let self = c.args.self.now in
+    later_then trigger_entry c.in-Ok.entry c.submit.result (view self.triggers_begun.value).faults (view self.triggers) (view c.submit.new.self) c.submit.ensures.one self.later
+
+pub invariant_of-self-clause-closes : goal.invariant_of-self-clause-closes
+invariant_of-self-clause-closes g c =
+    let self = c.args.self.now in
+    closes_then trigger_entry c.in-Ok.entry c.submit.result (view self.triggers_begun.value) (view self.triggers) (view c.submit.new.self) c.submit.ensures.one self.later self.closes
+
+pub invariant_of-self-clause-entries_stay : goal.invariant_of-self-clause-entries_stay
+invariant_of-self-clause-entries_stay g c =
+    let self = c.args.self.now in
+    entries_stay_then self.entries_before (view self.triggers_begun.value).history.entries c.in-Ok.entry c.submit.result (view self.triggers) (view c.submit.new.self) c.submit.ensures.one self.entries_within self.entries_stay
+
+pub invariant_of-self-clause-asked : goal.invariant_of-self-clause-asked
+invariant_of-self-clause-asked g c =
+    let self = c.args.self.now in
+    let s = self.triggers in
+    let reading : to_z w64 (of_z w64 c.args.at) ≡ c.args.at = omega (arith, ints) in
+    let entry_is : c.in-Ok.entry ≡ entry_of (replay (view s).history) c.args.at c.args.node c.args.command =
+    c.in-Ok.ensures ∙ ap (λ (at : ℤ). entry_of (replay (view s).history) at c.args.node c.args.command) reading in
+    let small : c.args.node < 2 ^ 32 = omega arith in
+    asked_then self.entries_before (view self.triggers_begun.value) (view s) (view c.submit.new.self) c.in-Ok.entry c.submit.result refl self.entries_stay self.entries_within c.submit.ensures.one
+    (record { at = c.args.at; node = c.args.node; small = small; command = c.args.command; entry = entry_is }) self.asked
+
+pub invariant_of-self-clause-kept : goal.invariant_of-self-clause-kept
+invariant_of-self-clause-kept g c =
+    let self = c.args.self.now in
+    triggers_kept self.triggers_begun.value self.triggers c.submit.new.self c.in-Ok.entry c.submit.result (omega (arith, self.entries_counted, self.entries_within)) c.submit.ensures.one c.submit.ensures.any_moment self.kept

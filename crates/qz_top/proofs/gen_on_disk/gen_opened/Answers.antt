@@ -1,0 +1,44 @@
+use Rattle.std.proofs.Common.{sym, ap, ◌∙◌}
+use Rattle.qz_trigger_store.proofs.Appending.{may_be}
+use Rattle.qz_checkin.proofs.Appending.{may_be as states_may_be}
+use Rattle.qz_top.specs.NodeRuns.{both}
+use Rattle.qz_top.proofs.NodeRunLaws.{kept_on_the_way}
+use Rattle.qz_top.proofs.OpenedLaws.{rose_from_first}
+use Rattle.qz_top.proofs.ScheduleLaws.{store_follows}
+use Rattle.qz_top.proofs.gen_on_disk.gen_opened.Goals as goal
+
+pub returns-clause-done : goal.returns-clause-done
+returns-clause-done g c triggers states begins =
+    let cluster = c.args.run.cluster in
+    let stores = c.into_stores-triggers.ensures in
+    let left = c.generate-status.result in
+    let end = c.ran_no_script.ensures in
+    let disk = c.into_disk.ensures in
+    let states_disk = c.into_disk-2.ensures in
+    let generated = rw (stores.0, stores.1) at c.generate-status.ensures in
+    record {
+      opened = both cluster.triggers cluster.states;
+      are_opened = begins.are_opened;
+      stand = begins.stand;
+      end = both left.triggers left.states;
+      did = rw end.status generated.did;
+      legal = (left.triggers.legal, left.states.legal);
+      schedules = store_follows left.triggers;
+      no_trail = end.trail;
+      faults = (ap g.D.Disk.faults (end.disks.0 ∙ disk), ap g.D.Disk.faults (end.disks.1 ∙ states_disk));
+      images = λ honest b. (
+        λ is. may_be _ _ b (left.triggers.images honest b (rw (end.disks.0 ∙ disk) at is)),
+        λ is. states_may_be _ _ b (left.states.images honest b (rw (end.disks.1 ∙ states_disk) at is)),
+      );
+      any_moment = kept_on_the_way triggers states cluster.triggers left.triggers cluster.states left.states _ _ (end.disks.0 ∙ disk) (end.disks.1 ∙ states_disk) begins.reads generated.any_moment.0 generated.any_moment.1;
+    }
+
+pub returns-clause-disk : goal.returns-clause-disk
+returns-clause-disk g c triggers states begins status =
+    let cluster = c.args.run.cluster in
+    let stores = c.into_stores-triggers.ensures in
+    let left = c.generate-status.result in
+    let end = c.ran_no_script.ensures in
+    let rose = rw (stores.0, stores.1) at (c.generate-status.ensures.disk (sym end.status ∙ status)) in
+    rw (end.disks.0 ∙ c.into_disk.ensures, end.disks.1 ∙ c.into_disk-2.ensures)
+    (rose_from_first _ _ (both cluster.triggers cluster.states) (both left.triggers left.states) begins.no_earlier.0 begins.no_earlier.1 rose)

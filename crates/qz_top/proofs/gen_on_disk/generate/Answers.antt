@@ -1,0 +1,62 @@
+use Rattle.std.proofs.Common.{◌≡◌, inl, inr, length, false, refl, ◌∙◌, subst, arith}
+use Rattle.std.proofs.lemmas.List.{nil_from_length}
+use Rattle.qz_generator.specs.Commands.{generated}
+use Rattle.qz_trigger_store.specs.View.{view, found_of, added_of}
+use Rattle.qz_checkin.specs.View.{view as states_view}
+use Rattle.qz_cluster.specs.Steps.{ClusterState, is_closed}
+use Rattle.qz_run_stores.proofs.Ways.{triggers_begin, states_begin}
+use Rattle.qz_top.specs.Generating.{FillEnded}
+use Rattle.qz_top.specs.NodeRuns.{both}
+use Rattle.qz_top.proofs.GeneratingLaws.{both_open, none_closed, none_found, fill_rose, filled_rose, kept_on}
+use Rattle.qz_top.specs.declared.statuses.Status.{Status}
+use Rattle.qz_top.proofs.gen_on_disk.generate.Goals as goal
+
+pub returns-then-history_len-gt0-clause-any_moment : goal.returns-then-history_len-gt0-clause-any_moment
+returns-then-history_len-gt0-clause-any_moment g c =
+    (triggers_begin (λ d honest. g.met.D.Disk.lawful honest d) c.args.triggers, states_begin (λ d honest. g.met.D.Disk.lawful honest d) c.args.states)
+
+pub returns-in-Ok-clause-did : goal.returns-in-Ok-clause-did
+returns-in-Ok-clause-did g c =
+    let triggers = c.args.triggers in
+    let filled = c.fill.new.triggers in
+    let fill = c.in-Ok.ensures in
+    let work = c.work_and_sum.ensures in
+    let none : length (view triggers).history.entries ≡ 0 = omega (arith, c.history_len.ensures, c.if-history_len-gt0.false) in
+    let opened = both_open (view triggers).is_open (states_view c.args.states).is_open c.requires.open in
+    inr (inr (record {
+      none = nil_from_length _ none;
+      between = both filled c.args.states;
+      filled = fill.filled (states_view c.args.states);
+      is_open = none_closed (view filled).is_open (states_view c.args.states).is_open fill.open opened.1;
+      worked = work.worked;
+      written = work.written (fill.found ∙ none_found (found_of triggers) (added_of triggers) none);
+    }))
+
+pub returns-in-Ok-clause-disk : goal.returns-in-Ok-clause-disk
+returns-in-Ok-clause-disk g c status =
+    let filled = c.fill.new.triggers in
+    let opened = both_open (view c.args.triggers).is_open (states_view c.args.states).is_open c.requires.open in
+    let still : is_closed (both filled c.args.states) ≡ false = none_closed (view filled).is_open (states_view c.args.states).is_open c.in-Ok.ensures.open opened.1 in
+    filled_rose g.D.Disk.honest (generated c.args.workload.now.seed c.args.workload.now.jobs) (both c.args.triggers c.args.states) (both filled c.args.states) (both c.work_and_sum.result.triggers c.work_and_sum.result.states)
+    (c.in-Ok.ensures.filled (states_view c.args.states)) (c.work_and_sum.ensures.disk still status)
+
+pub returns-in-Ok-clause-any_moment : goal.returns-in-Ok-clause-any_moment
+returns-in-Ok-clause-any_moment g c =
+    let fill = c.in-Ok.ensures in
+    let went = c.work_and_sum.ensures.went in
+    (kept_on c.args.triggers c.fill.new.triggers c.work_and_sum.result.triggers went.0.added fill.open fill.grows went.0.entries fill.any_moment went.0.kept, went.1.kept)
+
+pub returns-in-Err-clause-did : goal.returns-in-Err-clause-did
+returns-in-Err-clause-did g c =
+    let none : length (view c.args.triggers).history.entries ≡ 0 = omega (arith, c.history_len.ensures, c.if-history_len-gt0.false) in
+    inr (inl (record { none = nil_from_length _ none; ended = c.in-Err.ensures.ended (states_view c.args.states); not_called = refl; untouched = refl }))
+
+pub returns-in-Err-clause-disk : goal.returns-in-Err-clause-disk
+returns-in-Err-clause-disk g c status =
+    let commands = generated c.args.workload.now.seed c.args.workload.now.jobs in
+    let begun : ClusterState = both c.args.triggers c.args.states in
+    let left : ClusterState = both c.fill.new.triggers c.args.states in
+    fill_rose g.D.Disk.honest commands begun left (subst (λ (s : Status). FillEnded g.D.Disk.honest s commands begun left) status (c.in-Err.ensures.ended (states_view c.args.states)))
+
+pub returns-in-Err-clause-any_moment : goal.returns-in-Err-clause-any_moment
+returns-in-Err-clause-any_moment g c = (c.in-Err.ensures.any_moment, states_begin (λ d honest. g.met.D.Disk.lawful honest d) c.args.states)
