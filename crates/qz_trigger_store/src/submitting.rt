@@ -7,6 +7,7 @@ ghost use Rattle.qz_model.specs.Invariant.{TablesValid};
 ghost use Rattle.qz_types.specs.Outcomes.{accepted};
 ghost use Rattle.qz_types.specs.Tables.{recorded_moment};
 ghost use Rattle.qz_model.specs.Transaction.{transaction};
+ghost use Rattle.qz_schedule_law.specs.Following.{FollowsSchedules};
 ghost use Rattle.qz_types.specs.Entries.{is_entry};
 ghost use Rattle.qz_trigger_store.specs.Accepted.{HasRoomForOne};
 ghost use Rattle.qz_trigger_store.specs.Entries.{trigger_entry, IsUnwritten};
@@ -52,6 +53,8 @@ impl<D: Disk> TriggerStore<D> {
         ensures replies { IfOk result (λ reply. replies_of self.new ≡ replies_of self.old ++ reply ∷ []) }
         ensures recorded { OnOk result (IsEntry entry) }
         ensures any_moment { D.honest → LeavesEither self.old self.new }
+        // Triggers that weren't disturbed have fired for the first times of their schedules.
+        ensures schedules { FollowsSchedules (view self.new).history }
     {
         match self.prepare(&entry) {
             Ok(prepared) => self.commit(entry, prepared),

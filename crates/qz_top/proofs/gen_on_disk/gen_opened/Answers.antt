@@ -4,7 +4,7 @@ use Rattle.qz_checkin.proofs.Appending.{may_be as states_may_be}
 use Rattle.qz_top.specs.NodeRuns.{both}
 use Rattle.qz_top.proofs.NodeRunLaws.{kept_on_the_way}
 use Rattle.qz_top.proofs.OpenedLaws.{rose_from_first}
-use Rattle.qz_top.proofs.ScheduleLaws.{store_follows}
+use Rattle.qz_trigger_store.proofs.Kept.{schedules_kept}
 use Rattle.qz_top.proofs.gen_on_disk.gen_opened.Goals as goal
 
 pub returns-clause-done : goal.returns-clause-done
@@ -23,7 +23,7 @@ returns-clause-done g c triggers states begins =
       end = both left.triggers left.states;
       did = rw end.status generated.did;
       legal = (left.triggers.legal, left.states.legal);
-      schedules = store_follows left.triggers;
+      schedules = schedules_kept left.triggers;
       no_trail = end.trail;
       faults = (ap g.D.Disk.faults (end.disks.0 ∙ disk), ap g.D.Disk.faults (end.disks.1 ∙ states_disk));
       images = λ honest b. (

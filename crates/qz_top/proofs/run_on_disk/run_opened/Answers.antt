@@ -4,7 +4,7 @@ use Rattle.qz_trigger_store.proofs.Appending.{may_be}
 use Rattle.qz_checkin.proofs.Appending.{may_be as states_may_be}
 use Rattle.qz_top.specs.NodeRuns.{both}
 use Rattle.qz_top.proofs.NodeRunLaws.{told_run, kept_on_the_way, added_is, history_is, told_disk_rose}
-use Rattle.qz_top.proofs.ScheduleLaws.{store_follows}
+use Rattle.qz_trigger_store.proofs.Kept.{schedules_kept}
 use Rattle.qz_top.proofs.run_on_disk.run_opened.Goals as goal
 
 pub returns-clause-done : goal.returns-clause-done
@@ -31,7 +31,7 @@ returns-clause-done g c triggers states begins =
       worked = run.0;
       written = run.1;
       legal = (left.triggers.legal, left.states.legal);
-      schedules = store_follows left.triggers;
+      schedules = schedules_kept left.triggers;
       no_trail = end.trail;
       faults = (ap g.D.Disk.faults (end.disks.0 ∙ disk), ap g.D.Disk.faults (end.disks.1 ∙ states_disk));
       images = λ honest b. (
