@@ -1,6 +1,6 @@
 //! Calls of the top call, over objects in memory.
 use qz_disk::{Disk, MemDisk};
-use qz_io::{ListClock, MemSink, MemSource};
+use qz_io::{ListClock, MemSink, MemSource, Sink};
 use qz_node::{Job, ListJob};
 use qz_top::{Ended, Status, command};
 use qz_types::{Code, List, Text};
@@ -37,8 +37,8 @@ pub fn texts(alloc: Global, words: &[&str]) -> Result<Vec<Text>, AllocError> {
     Ok(texts)
 }
 
-// A job of the class `ok`, which gives these answers in turn, and then is done at each call.
-fn ok_job(alloc: Global, answers: &[Code]) -> Result<Box<ListJob>, AllocError> {
+/// A job of the class `ok`, which gives these answers in turn, and then is done at each call.
+pub fn ok_job(alloc: Global, answers: &[Code]) -> Result<Box<ListJob>, AllocError> {
     let class = Text::from_str(alloc, "ok")?;
     let answers = List::from_vec(Vec::from_slice(alloc, answers)?);
     Ok(Box::new(alloc, ListJob::new(alloc, class, answers))?)
@@ -60,24 +60,25 @@ pub struct Called<D: Disk> {
     pub err: MemSink,
 }
 
-// The box of any job is made here, beside the top call: no function hands one out.
-fn call<D: Disk>(
+/// A call that writes to this output, and what it says on the other one. The box of any job is made here, beside the top call: no
+/// function hands one out.
+pub fn call_into<K: Sink, D: Disk>(
     alloc: Global,
     given: Given,
     job: Box<ListJob>,
+    out: &mut K,
     triggers: D,
     states: D,
-) -> Option<Called<D>> {
+) -> Option<(Ended<D>, MemSink)> {
     let mut given = given;
     let boxes: [Box<dyn Job + Send>; 1] = [job];
     let mut jobs = Vec::from_array(alloc, boxes).ok()?;
-    let mut out = MemSink::new(alloc);
     let mut err = MemSink::new(alloc);
     let ended = command(
         alloc,
         &given.words,
         &mut given.input,
-        &mut out,
+        out,
         &mut err,
         triggers,
         states,
@@ -85,6 +86,18 @@ fn call<D: Disk>(
         &mut jobs,
     );
     drop((given, jobs));
+    Some((ended, err))
+}
+
+fn call<D: Disk>(
+    alloc: Global,
+    given: Given,
+    job: Box<ListJob>,
+    triggers: D,
+    states: D,
+) -> Option<Called<D>> {
+    let mut out = MemSink::new(alloc);
+    let (ended, err) = call_into(alloc, given, job, &mut out, triggers, states)?;
     Some(Called { ended, out, err })
 }
 

@@ -1,6 +1,6 @@
 //! Runs of nodes that end early.
 use crate::calls::{Wanted, answers, are_answered};
-use crate::runs::{AT_ONCE, ONCE, ONCE_REPLIES, filled};
+use crate::runs::{AT_ONCE, FIRED_LINES, ONCE, ONCE_REPLIES, filled};
 use crate::stores::failing;
 use qz_disk::MemDisk;
 use qz_top::{Status, WordFault};
@@ -31,20 +31,7 @@ summary fired 1 misfired 0 recovered 0 jobs 1 triggers 1 at 1704067200000
         "summary fired 0 misfired 0 recovered 0 jobs 1 triggers 1 at 1704067200000\n",
     ),
     // as its node is forgotten
-    (
-        &[],
-        &[9],
-        "3 1704067200000 client join joined 1 executions 0 triggers 0
-4 1704067200000 n1:1 misfires misfired none
-5 1704067200000 n1:1 acquire acquired 1 DEFAULT/t1 1704067200000
-6 1704067200000 n1:1 fire fired 1 scheduled 1704067200000 at 1704067200000 next none
-7 1704067200000 n1:1 complete completed 1
-8 1704067200000 n1:1 misfires misfired none
-9 1704067200000 n1:1 acquire acquired none
-10 1704067200000 n1:1 leave ok
-summary fired 1 misfired 0 recovered 0 jobs 0 triggers 0 at 1704067200000
-",
-    ),
+    (&[], &[9], FIRED_LINES),
 ];
 
 // Whether a run whose disks fail so stops there.

@@ -31,13 +31,8 @@ pub const ONCE_REPLIES: &str = "ok\nok next 1704067200000\n";
 
 const NOTHING: &str = "threshold 60000\n";
 
-/// The trigger fires, and then its job and it are gone.
-const FIRED: RunRow = RunRow {
-    script: ONCE,
-    replies: ONCE_REPLIES,
-    words: AT_ONCE,
-    job_answers: &[],
-    lines: "3 1704067200000 client join joined 1 executions 0 triggers 0
+/// What a node writes that fires what is due once.
+pub const FIRED_LINES: &str = "3 1704067200000 client join joined 1 executions 0 triggers 0
 4 1704067200000 n1:1 misfires misfired none
 5 1704067200000 n1:1 acquire acquired 1 DEFAULT/t1 1704067200000
 6 1704067200000 n1:1 fire fired 1 scheduled 1704067200000 at 1704067200000 next none
@@ -46,7 +41,15 @@ const FIRED: RunRow = RunRow {
 9 1704067200000 n1:1 acquire acquired none
 10 1704067200000 n1:1 leave ok
 summary fired 1 misfired 0 recovered 0 jobs 0 triggers 0 at 1704067200000
-",
+";
+
+/// The trigger fires, and then its job and it are gone.
+const FIRED: RunRow = RunRow {
+    script: ONCE,
+    replies: ONCE_REPLIES,
+    words: AT_ONCE,
+    job_answers: &[],
+    lines: FIRED_LINES,
     listed: NOTHING,
 };
 

@@ -1,10 +1,11 @@
 //! Stores through the top call: made, opened, and failing.
-use crate::calls::{DONE, Wanted, answers, are_answered, left, new_disks, numbers, prepare};
+use crate::calls::{
+    DONE, Wanted, answers, are_answered, call_into, left, new_disks, numbers, ok_job, prepare,
+};
 use crate::top::{SIX, SIX_REPLIES, WEEKDAYS};
 use qz_disk::{FaultDisk, MemDisk};
-use qz_io::{FaultSink, MemSink, Sink};
-use qz_node::Jobs;
-use qz_top::{Status, command};
+use qz_io::{FaultSink, Sink};
+use qz_top::Status;
 use qz_types::{List, Store};
 use std::alloc::Global;
 
@@ -87,26 +88,15 @@ const FLUSHES: [FlushRow; 5] = [
 fn fails_at_the_flush(alloc: Global, row: &FlushRow) -> Option<bool> {
     let &(words, script, replies, at) = row;
     let mut out = FaultSink::new(alloc, numbers(alloc, &[at]).ok()?);
-    let mut given = prepare(alloc, words, script).ok()?;
-    let mut err = MemSink::new(alloc);
+    let given = prepare(alloc, words, script).ok()?;
+    let job = ok_job(alloc, &[]).ok()?;
     let (triggers, states) = match words {
         ["script"] | ["run", ..] => made(alloc)?,
         _ => new_disks(alloc)?,
     };
-    let mut jobs: Jobs = Vec::new(alloc);
-    let ended = command(
-        alloc,
-        &given.words,
-        &mut given.input,
-        &mut out,
-        &mut err,
-        triggers,
-        states,
-        &mut given.clock,
-        &mut jobs,
-    );
+    let (ended, err) = call_into(alloc, given, job, &mut out, triggers, states)?;
     let is_right = ended.status == Status::WriteFault && out.bytes() == replies.as_bytes();
-    drop((ended, given, out, err));
+    drop((ended, out, err));
     Some(is_right)
 }
 
