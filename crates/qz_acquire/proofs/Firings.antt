@@ -5,21 +5,21 @@ use Rattle.std.proofs.Props.{props}
 use Rattle.qz_civil.specs.declared.limits.TheConstants.{LAST}
 use Rattle.qz_types.specs.Rows.{JobData, TriggerData, MemberData, FiredData}
 use Rattle.qz_types.specs.declared.keys.Key.{Key}
-use Rattle.qz_types.specs.declared.replies.Reply.TheVariants as reply
-use Rattle.qz_types.specs.Changes.{after_fire, begun}
 use Rattle.qz_types.specs.States.{is_acquired}
 use Rattle.qz_types.specs.Tables.{SchedulerTables, IsMoment}
-use Rattle.qz_types.specs.Outcomes.{accepted, IsAccepted}
-use Rattle.qz_types.specs.Words.{job_of, trigger_of, with_trigger, fired_of, with_fired}
+use Rattle.qz_types.specs.Outcomes.{IsAccepted}
+use Rattle.qz_types.specs.Words.{job_of, trigger_of, fired_of}
 use Rattle.qz_apply.proofs.Accepted.{no_refusal, accepted_within}
 use Rattle.qz_model.specs.Acquiring.{acquired_refusal, next_time}
 use Rattle.qz_model.specs.Membership.{node_refusal}
-use Rattle.qz_model.specs.Firing.{early, next_of, fired_state, fire_refusal, following, with_blocked, without_siblings, with_begun, fire_one, fire_row, fire}
+use Rattle.qz_model.specs.Firing.{early, next_of, fire_refusal, following, with_begun, fire_one, fire_row, fire}
 use Rattle.qz_model.specs.Invariant.{IsRowOf, is_live_state, TablesValid}
 use Rattle.qz_model.specs.Tests.{stored_job}
 use Rattle.qz_model.proofs.Changes.{HasItsTrigger, HasNextTime, passes}
 use Rattle.qz_model.proofs.RowLaws.{same_key-exact, job_of-key, All-trigger_of, All-fired_of}
 use Rattle.qz_model.proofs.KeptFiring.{clear_both, acquired_clear}
+use Rattle.qz_acquire.specs.Prepared.{committed}
+use Rattle.qz_acquire.specs.declared.changes.Change.TheVariants.{Fire}
 
 -- an accepted Fire begins the execution of this row, which was acquired
 pub record Fires (T : SchedulerTables) (m : ℤ) (me : MemberData) (entry : ℕ) (f : FiredData) : Type 0 where
@@ -55,18 +55,9 @@ unfolding stored_job
 key_of key jobs None is = rw is refl
 key_of key jobs (Some job) is = rw is (sym (same_key-exact key job.key (job_of-key key job jobs is)))
 
--- what was begun with the row's trigger and its job
-pub begun_is : (T : SchedulerTables) (m n : ℤ) (f : FiredData) (entry : ℕ) (trigger : Key) (job : JobData) (next : Option ℤ) → n ≡ m → entry ≡ f.entry → trigger ≡ f.trigger → job ≡ stored_job f.job T.jobs
-    → record T {
-      triggers = with_trigger trigger (after_fire next (fired_state next job.no_concurrent)) (with_blocked job.no_concurrent job.key T.triggers);
-      fired = without_siblings job.no_concurrent job.key (with_fired entry (begun n job.no_concurrent job.requests_recovery) T.fired);
-      last_moment = n;
-    } ≡ with_begun T m f (stored_job f.job T.jobs) next
+-- what begins with the row's trigger and its job is what the transaction begins
+pub fired_as : (T : SchedulerTables) (m s : ℤ) (f : FiredData) (entry : ℕ) (trigger : Key) (job : JobData) (next : Option ℤ) → s ≡ f.scheduled → entry ≡ f.entry → trigger ≡ f.trigger → job ≡ stored_job f.job T.jobs
+    → fire_one T m f (stored_job f.job T.jobs) next ≡ committed T m (Fire (record { entry = entry; scheduled = s; next = next; trigger = trigger; job = job }))
 unfolding with_begun
-begun_is T m n f entry trigger job next moment number key own =
-    rw (moment, number, key, own, key_of f.job T.jobs (job_of f.job T.jobs) refl) refl
-
--- and the outcome
-pub fired_is : (T U : SchedulerTables) (m n s : ℤ) (f : FiredData) (entry : ℕ) (trigger : Key) (job : JobData) (next : Option ℤ) → n ≡ m → s ≡ f.scheduled → entry ≡ f.entry → trigger ≡ f.trigger → job ≡ stored_job f.job T.jobs
-    → U ≡ with_begun T m f (stored_job f.job T.jobs) next → accepted U (reply.Fired entry s n next trigger job) ≡ fire_one T m f (stored_job f.job T.jobs) next
-fired_is T U m n s f entry trigger job next moment scheduled number key own tables = rw (moment, scheduled, number, key, own, tables) refl
+fired_as T m s f entry trigger job next scheduled number key own =
+    rw (scheduled, number, key, own, key_of f.job T.jobs (job_of f.job T.jobs) refl) refl

@@ -1,5 +1,5 @@
 -- The rows of the triggers that are acquired, put in one after the other.
-use Rattle.std.proofs.Common.{◌≡◌, ℕ, ◌+◌, ◌<◌, ◌≤◌, ℤ, ◌+ℤ◌, List, [], ◌∷◌, map, fold, length, None, refl, sym, ap, ◌∙◌, arith}
+use Rattle.std.proofs.Common.{◌≡◌, ℕ, ◌+◌, ◌<◌, ◌≤◌, ℤ, ◌+ℤ◌, List, [], ◌∷◌, map, fold, length, None, refl, sym, ap, ◌∙◌, subst, arith}
 use Rattle.std.proofs.Math.Logic.{∥∥₁_elim}
 use Rattle.std.proofs.Props.{props}
 use Rattle.std.specs.List.{AllByRecursion, AllByRecursion-prop}
@@ -17,7 +17,9 @@ use Rattle.qz_model.proofs.KeptAcquiring.{few_chosen, room_for}
 use Rattle.qz_model.proofs.RowLaws.{fired_of-above, All-put_fired}
 use Rattle.qz_model.proofs.RowPoints.{All-weaker}
 use Rattle.qz_apply.proofs.Accepted.{same_outcome}
+use Rattle.qz_tables.specs.Contents.{TablesData}
 use Rattle.qz_acquire.specs.Choosing.{rows_from, with_row, AreNew, taken_row}
+use Rattle.qz_acquire.specs.Prepared.{CanGrant}
 
 -- what is put in is what the transaction acquires
 pub granted : (me : MemberData) (T U : SchedulerTables) (ts : List TriggerData) → U.jobs ≡ T.jobs → fold with_row U (rows_from T me U.next_entry ts) ≡ fold (with_acquired me) U ts
@@ -61,6 +63,18 @@ pub record IsRoom (T : SchedulerTables) (count max : ℕ) : Type 0 where
 
 pub room_of_chosen : (T : SchedulerTables) (m limit : ℤ) (max : ℕ) → acquire_refusal T max ≡ None → IsRoom T (length (chosen T m limit max)) max
 room_of_chosen T m limit max clear = record { few = few_chosen T m limit max; numbers = omega (arith, few_chosen T m limit max, (room_for T max clear).numbers) }
+
+-- the rows can be put in where there is memory for them
+pub can_grant : (old new : TablesData) (m limit : ℤ) (max : ℕ) (me : MemberData) (rows : List FiredData) → ∥ TablesValid old.tables ∥₁ → acquire_refusal old.tables max ≡ None → new.tables ≡ old.tables
+    → rows ≡ rows_from old.tables me old.tables.next_entry (chosen old.tables m limit max) → length rows ≤ new.spare.fired → CanGrant new rows
+can_grant old new m limit max me rows valid clear same these space =
+    let ts = chosen old.tables m limit max in
+    let within = room_of_chosen old.tables m limit max clear in
+    record {
+      new = subst (λ T. AreNew T rows) (sym same) (subst (AreNew old.tables) (sym these) (new_rows me old.tables ts valid));
+      numbers = omega (arith, ap (λ T. T.next_entry) same, ap length these, length-rows me old.tables old.tables.next_entry ts, within.numbers);
+      room = space;
+    }
 
 -- what an accepted Acquire comes to
 pub outcome : (T U : SchedulerTables) (m n no_later window limit : ℤ) (max : ℕ) (me : MemberData) (rows : List FiredData) (taken : List Taken) → node_refusal T me ≡ None → acquire_refusal T max ≡ None → n ≡ m → limit ≡ (no_later +ℤ window)

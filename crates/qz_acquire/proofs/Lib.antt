@@ -6,7 +6,7 @@ mod Lists
 mod MisfireWalk
 mod Missed
 mod Moving
+mod Preparing
 mod Refused
 mod Releases
-mod Rooms
 mod Walk

@@ -26,7 +26,7 @@ use Rattle.qz_model.proofs.Changes.{HasNextTime}
 use Rattle.qz_model.proofs.DueLaws.{All-in_due_order, waiting_from}
 use Rattle.qz_model.proofs.RowPoints.{All-weaker, All-filter}
 use Rattle.qz_acquire.specs.Moves.{IsMissed, IsMovable, move_for}
-use Rattle.qz_acquire.specs.declared.misfires.Move.{Move}
+use Rattle.qz_acquire.specs.declared.changes.Move.{Move}
 use Rattle.qz_acquire.specs.Walk.{is_waiting_misfired}
 
 missed_by : (m threshold : ℤ) (horizon : ℤ) (o : Option ℤ) → pos 1 ≤ℤ threshold → is_before (m -ℤ threshold) o ≡ true → IsSomeAnd o (IsMoment horizon) → (pos 0 ≤ℤ unwrap_or o (pos 0)) × (unwrap_or o (pos 0) <ℤ m)

@@ -17,7 +17,7 @@ use Rattle.qz_model.proofs.RowPoints.{All-both}
 use Rattle.qz_model.proofs.Waiting.{still_waiting}
 use Rattle.qz_apply.proofs.Accepted.{same_outcome}
 use Rattle.qz_acquire.specs.Moves.{with_move, AreMovable, move_for, IsMovable}
-use Rattle.qz_acquire.specs.declared.misfires.Move.{Move}
+use Rattle.qz_acquire.specs.declared.changes.Move.{Move}
 use Rattle.qz_acquire.proofs.Walk.{AreInKeyOrder}
 
 -- what is moved is what the transaction moves

@@ -1,4 +1,5 @@
 pub mod Choosing
 pub mod Commands
 pub mod Moves
+pub mod Prepared
 pub mod Walk

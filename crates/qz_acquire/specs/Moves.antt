@@ -6,7 +6,7 @@ use Rattle.qz_types.specs.Tables.{SchedulerTables}
 use Rattle.qz_types.specs.Words.{trigger_of, with_trigger}
 use Rattle.qz_model.specs.Acquiring.{next_time}
 use Rattle.qz_model.specs.Misfires.{move_of}
-use Rattle.qz_acquire.specs.declared.misfires.Move.{Move}
+use Rattle.qz_acquire.specs.declared.changes.Move.{Move}
 
 -- the triggers, one moved
 abbrev pub with_move : List TriggerData → Move → List TriggerData

@@ -1,23 +1,25 @@
 //! A node acquires triggers that are due. Times are in ms since 1970-01-01T00:00:00Z.
-ghost use Rattle.std.specs.Prelude.{◌≡◌, ◌≤◌, ◌+◌, ◌+ℤ◌, ℤ, None, MatchOption, IfOk, IfErr, OnErr, IsTrue, option_copied, map, fold, length};
+ghost use Rattle.std.specs.Prelude.{◌≡◌, ◌≤◌, ◌+◌, ◌+ℤ◌, ℤ, None, MatchOption, IfOk, IfErr, IsTrue, option_copied, map, fold, length};
 ghost use Rattle.qz_civil.specs.Timings.{is_span};
 ghost use Rattle.qz_types.specs.Tables.{IsMoment};
-ghost use Rattle.qz_types.specs.Outcomes.{accepted, refused, IsAccepted, IsErrorOf};
+ghost use Rattle.qz_types.specs.Outcomes.{refused, IsAccepted, IsErrorOf};
 ghost use Rattle.qz_types.specs.Words.{fired_of};
 ghost use Rattle.qz_types.specs.declared.limits.TheConstants.{NUMBER_LIMIT};
 ghost use Rattle.qz_model.specs.Acquiring.{acquire_refusal, acquired_row, chosen, next_time, acquire};
 ghost use Rattle.qz_model.specs.Invariant.{TablesValid};
 ghost use Rattle.qz_model.specs.Tests.{stored_job};
 ghost use Rattle.qz_acquire.specs.Choosing.{rows_from, with_row, AreNew, taken_row};
+ghost use Rattle.qz_acquire.specs.Prepared.{committed, CanCommit};
 
+use crate::changes::Change;
 use crate::choosing::chosen;
 use crate::jobs::{is_exclusive, is_recovered};
 use qz_apply::node_refusal;
 use qz_civil::beside;
 use qz_tables::Tables;
 use qz_types::{
-    FIRED_LIMIT, FiredRow, FiredState, List, MemberRow, NUMBER_LIMIT, Refusal, Reply, StepRefused,
-    Taken, TriggerRow, TriggerState,
+    FIRED_LIMIT, FiredRow, FiredState, List, MemberRow, NUMBER_LIMIT, Refusal, StepRefused, Taken,
+    TriggerRow, TriggerState,
 };
 use std::alloc::{AllocError, Global};
 
@@ -48,35 +50,35 @@ fn acquire_refusal(tables: &Tables, max: u32) -> Option<Refusal>
     }
 }
 
-/// The member acquires triggers that are due up to `no_later + window`, up to `max`.
-pub fn acquire(
+/// Decides an Acquire of the member, which takes triggers that are due up to `no_later + window`, up to `max`. It copies
+/// what their rows and the reply need, and makes room for the rows.
+pub fn prepare_acquire(
     tables: &mut Tables,
     moment: i64,
     me: &MemberRow,
     no_later: i64,
     window: i64,
     max: u32,
-) -> Result<Reply, StepRefused>
+) -> Result<Change, StepRefused>
     requires valid { ∥ TablesValid tables.old.tables ∥₁ }
     requires moment { IsMoment tables.old.tables.horizon moment }
     requires no_later { IsTrue (is_span no_later) }
     requires window { IsTrue (is_span window) }
-    requires room { max ≤ tables.old.spare.fired }
-    ensures ok { IfOk result (λ reply. acquire tables.old.tables moment me.now no_later window max ≡ accepted tables.new.tables reply) }
+    ensures ok { IfOk result (λ change. acquire tables.old.tables moment me.now no_later window max ≡ committed tables.old.tables moment change) }
+    ensures possible { IfOk result (CanCommit tables.new) }
     ensures cause { IfErr result (IsErrorOf (acquire tables.old.tables moment me.now no_later window max)) }
-    ensures err { OnErr result (tables.new ≡ tables.old) }
+    ensures same { tables.new.tables ≡ tables.old.tables }
 {
-    if let Some(refusal) = node_refusal(tables, me) {
-        return Err(StepRefused::Refused(refusal));
-    }
-    if let Some(refusal) = acquire_refusal(tables, max) {
+    if let Some(refusal) = acquire_refused(tables, me, max) {
         return Err(StepRefused::Refused(refusal));
     }
     let rows = rows(tables, moment, me, no_later + window, max)?;
     let taken = taken_of(tables.allocator(), &rows)?;
-    acquire_each(tables, rows);
-    tables.set_last_moment(moment);
-    Ok(Reply::Acquired(taken))
+    tables.reserve(rows.len())?;
+    Ok(Change::Acquire {
+        rows: List::from_vec(rows),
+        taken,
+    })
 }
 
 // The rows of the triggers that are taken.
@@ -170,8 +172,8 @@ fn taken_of(alloc: Global, rows: &[FiredRow]) -> Result<List<Taken>, AllocError>
     Ok(taken)
 }
 
-// Puts in these rows; their triggers are acquired. It takes no memory.
-fn acquire_each(tables: &mut Tables, rows: Vec<FiredRow>)
+/// Puts in these rows, and their triggers are acquired. It takes no memory.
+pub fn acquire_each(tables: &mut Tables, rows: Vec<FiredRow>)
     requires new { AreNew tables.old.tables rows.items }
     requires numbers { tables.old.tables.next_entry + length rows.items ≤ NUMBER_LIMIT }
     requires room { length rows.items ≤ tables.old.spare.fired }

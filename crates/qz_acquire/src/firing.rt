@@ -1,20 +1,20 @@
 //! A node begins the execution of a trigger that it acquired.
-ghost use Rattle.std.specs.Prelude.{◌≡◌, true, MatchOption, Some, IfOk, IfErr, OnErr, option_copied};
+ghost use Rattle.std.specs.Prelude.{◌≡◌, true, MatchOption, Some, IfOk, IfErr, option_copied};
 ghost use Rattle.qz_types.specs.Changes.{after_fire, begun};
-ghost use Rattle.qz_types.specs.Outcomes.{accepted, refused, IsAccepted, IsErrorOf};
+ghost use Rattle.qz_types.specs.Outcomes.{refused, IsAccepted, IsErrorOf};
 ghost use Rattle.qz_types.specs.States.{is_acquired};
 ghost use Rattle.qz_types.specs.Words.{fired_of, with_trigger, with_fired};
 ghost use Rattle.qz_model.specs.Acquiring.{acquired_refusal, next_time};
 ghost use Rattle.qz_model.specs.Firing.{early, next_of, following, fired_state, fire_refusal, with_blocked, without_siblings, fire_row, fire};
 ghost use Rattle.qz_model.specs.Invariant.{TablesValid};
 ghost use Rattle.qz_model.specs.Tests.{stored_job};
+ghost use Rattle.qz_acquire.specs.Prepared.{committed, CanCommit};
 
+use crate::changes::{Beginning, Change};
 use qz_apply::{is_acquired, next_after, node_refusal, owner_refusal};
 use qz_civil::beside;
 use qz_tables::{Begin, StateChange, Tables};
-use qz_types::{
-    FiredRow, JobRow, Key, MemberRow, Refusal, Reply, StepRefused, TriggerRow, TriggerState,
-};
+use qz_types::{FiredRow, JobRow, Key, MemberRow, Refusal, StepRefused, TriggerRow, TriggerState};
 
 /// Why a Fire of the member is refused, if it is.
 pub fn fire_refused(tables: &Tables, moment: i64, me: &MemberRow, entry: u64) -> Option<Refusal>
@@ -79,18 +79,18 @@ fn next_of(tables: &Tables, key: &Key) -> Option<i64>
     }
 }
 
-/// The member begins the execution of what it acquired under this entry number. The moment is in ms since
-/// 1970-01-01T00:00:00Z.
-pub fn fire(
-    tables: &mut Tables,
+/// Decides a Fire of the member, which begins the execution of what it acquired under this entry number. It copies the
+/// key of the trigger and the job. The moment is in ms since 1970-01-01T00:00:00Z.
+pub fn prepare_fire(
+    tables: &Tables,
     moment: i64,
     me: &MemberRow,
     entry: u64,
-) -> Result<Reply, StepRefused>
-    requires valid { ∥ TablesValid tables.old.tables ∥₁ }
-    ensures ok { IfOk result (λ reply. fire tables.old.tables moment me.now entry ≡ accepted tables.new.tables reply) }
-    ensures cause { IfErr result (IsErrorOf (fire tables.old.tables moment me.now entry)) }
-    ensures err { OnErr result (tables.new ≡ tables.old) }
+) -> Result<Change, StepRefused>
+    requires valid { ∥ TablesValid tables.now.tables ∥₁ }
+    ensures ok { IfOk result (λ change. fire tables.now.tables moment me.now entry ≡ committed tables.now.tables moment change) }
+    ensures possible { IfOk result (CanCommit tables.now) }
+    ensures cause { IfErr result (IsErrorOf (fire tables.now.tables moment me.now entry)) }
 {
     if let Some(refusal) = fire_refused(tables, moment, me, entry) {
         return Err(StepRefused::Refused(refusal));
@@ -102,15 +102,13 @@ pub fn fire(
     let next = following(tables, entry, row);
     let job = job_of_row(tables, entry, row);
     let (trigger, job) = beside(row.trigger.copy()?, job.copy())?;
-    begin(tables, moment, entry, &trigger, &job, next);
-    Ok(Reply::Fired {
+    Ok(Change::Fire(Beginning {
         entry,
         scheduled,
-        fired: moment,
         next,
         trigger,
         job,
-    })
+    }))
 }
 
 // The job of an acquired row: tables that are valid have it.
@@ -148,33 +146,27 @@ fn next_time(trigger: &TriggerRow) -> i64
     trigger.next.unwrap_or(0)
 }
 
-// The execution of the row of this entry number begins, and the trigger of this key, which is the job's, has fired. If
-// executions of the job exclude each other, its other triggers are blocked, and none of them stays acquired. It takes no memory.
-fn begin(
-    tables: &mut Tables,
-    moment: i64,
-    entry: u64,
-    trigger: &Key,
-    job: &JobRow,
-    next: Option<i64>,
-)
+/// The execution begins, and its trigger has fired. If executions of the job exclude each other, its other triggers are
+/// blocked, and none of them stays acquired. The moment is in ms since 1970-01-01T00:00:00Z. It takes no memory.
+pub fn begin(tables: &mut Tables, moment: i64, one: &Beginning)
     ensures { tables.new.tables ≡ record tables.old.tables {
-      triggers = with_trigger trigger.now (after_fire next (fired_state next job.now.no_concurrent)) (with_blocked job.now.no_concurrent job.now.key tables.old.tables.triggers);
-      fired = without_siblings job.now.no_concurrent job.now.key (with_fired entry (begun moment job.now.no_concurrent job.now.requests_recovery) tables.old.tables.fired);
+      triggers = with_trigger one.now.trigger (after_fire one.now.next (fired_state one.now.next one.now.job.no_concurrent)) (with_blocked one.now.job.no_concurrent one.now.job.key tables.old.tables.triggers);
+      fired = without_siblings one.now.job.no_concurrent one.now.job.key (with_fired one.now.entry (begun moment one.now.job.no_concurrent one.now.job.requests_recovery) tables.old.tables.fired);
       last_moment = moment;
     } }
 {
-    block_siblings(tables, job);
-    tables.fire_trigger(trigger, next, fired_state(next, job.no_concurrent));
+    block_siblings(tables, &one.job);
+    let state = fired_state(one.next, one.job.no_concurrent);
+    tables.fire_trigger(&one.trigger, one.next, state);
     tables.begin_execution(
-        entry,
+        one.entry,
         Begin {
             moment,
-            no_concurrent: job.no_concurrent,
-            requests_recovery: job.requests_recovery,
+            no_concurrent: one.job.no_concurrent,
+            requests_recovery: one.job.requests_recovery,
         },
     );
-    free_siblings(tables, job);
+    free_siblings(tables, &one.job);
     tables.set_last_moment(moment);
 }
 

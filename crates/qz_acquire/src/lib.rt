@@ -1,21 +1,21 @@
 //! The commands of a node that takes triggers, applied to the tables of the trigger store: Misfires, Acquire, Release and
 //! Fire.
 //!
-//! Each is applied in three phases: what refuses it, which takes no memory; the copies that the change needs, which may
-//! take memory; and the change, which can't fail.
+//! Each is done in two steps. `prepare` decides without memory what refuses it, and then takes all memory that it needs, for
+//! copies and rows. `commit` makes the change, and can't fail.
 #![tactic(auto)]
 
-ghost use Rattle.std.specs.Prelude.{◌≡◌, IsTrue, IfOk, IfErr, OnErr, MatchOption};
+ghost use Rattle.std.specs.Prelude.{◌≡◌, Err, IsTrue, IfOk, IfErr, MatchOption};
 ghost use Rattle.qz_types.specs.Entries.{is_entry};
 ghost use Rattle.qz_types.specs.Outcomes.{accepted, refused, IsAccepted, IsErrorOf};
-ghost use Rattle.qz_types.specs.Tables.{SchedulerTables};
 ghost use Rattle.qz_model.specs.Invariant.{TablesValid};
 ghost use Rattle.qz_model.specs.Transaction.{transaction};
-ghost use Rattle.qz_tables.specs.Contents.{HasSpare};
-ghost use Rattle.qz_apply.specs.Room.{AddsUpTo, rows_added};
+ghost use Rattle.qz_apply.specs.Memory.{takes_memory};
 ghost use Rattle.qz_acquire.specs.Commands.{is_acquiring};
+ghost use Rattle.qz_acquire.specs.Prepared.{committed, CanCommit, Prepares};
 
 mod acquiring;
+mod changes;
 mod choosing;
 mod due;
 mod firing;
@@ -23,13 +23,14 @@ mod jobs;
 mod misfires;
 mod releasing;
 
-use acquiring::{acquire, acquire_refused};
-use firing::{fire, fire_refused};
-use misfires::{misfires, misfires_refused};
+use acquiring::{acquire_each, acquire_refused, prepare_acquire};
+pub use changes::{Beginning, Change, Move};
+use firing::{begin, fire_refused, prepare_fire};
+use misfires::{misfires_refused, move_each, prepare_misfires};
 use qz_apply::recorded_moment;
 use qz_tables::Tables;
 use qz_types::{Actor, Command, Entry, Refusal, Reply, StepRefused};
-use releasing::{release, release_refused};
+use releasing::{give_back, prepare_release, release_refused};
 
 /// Why the command is refused, if it is.
 pub fn refusal(tables: &Tables, entry: &Entry) -> Option<Refusal>
@@ -62,44 +63,17 @@ pub fn refusal(tables: &Tables, entry: &Entry) -> Option<Refusal>
     }
 }
 
-/// How many rows the command adds to any one kind at most.
-pub fn room(entry: &Entry) -> usize
-    requires { IsTrue (is_acquiring entry.now.command) }
-    ensures value { (T : SchedulerTables) → result ≡ rows_added T entry.now.command }
-    ensures bound { (T : SchedulerTables) → AddsUpTo result T (transaction T entry.now) }
-{
-    rows_of(&entry.command)
-}
-
-fn rows_of(command: &Command) -> usize
-    requires { IsTrue (is_acquiring command.now) }
-    ensures { (T : SchedulerTables) → result ≡ rows_added T command.now }
-{
-    match command {
-        Command::Acquire {
-            no_later: _,
-            window: _,
-            max,
-        } => *max as usize,
-        Command::Release { entry: _ } => 1,
-        Command::Fire { entry: _ } => 1,
-        Command::Misfires => 1,
-        _ => unreachable!(),
-    }
-}
-
-/// Does the command's transaction. The caller sees to it that the tables are valid, and makes the room by `Tables::reserve`
-/// before. An error changes nothing, and memory is wanted only where the command isn't refused.
-#[tactic(auto, using(crate::proofs::Facts::moment_of), unfolding(qz_types::specs::Entries::is_entry))]
-pub fn apply(tables: &mut Tables, entry: &Entry) -> Result<Reply, StepRefused>
+/// Decides the command's transaction, and takes all memory that it needs. The tables stay as they are. Memory is wanted
+/// only where the transaction would be accepted, and never for a Release.
+#[tactic(auto, using(crate::proofs::Facts::moment_of, crate::proofs::Preparing::prepared), unfolding(qz_types::specs::Entries::is_entry))]
+pub fn prepare(tables: &mut Tables, entry: &Entry) -> Result<Change, StepRefused>
     requires command { IsTrue (is_acquiring entry.now.command) }
     requires valid { ∥ TablesValid tables.old.tables ∥₁ }
     requires entry { IsTrue (is_entry entry.now) }
-    requires spare { HasSpare (rows_added tables.old.tables entry.now.command) tables.old.spare }
-    ensures ok { IfOk result (λ reply. transaction tables.old.tables entry.now ≡ accepted tables.new.tables reply) }
+    ensures ok { IfOk result (Prepares tables.new entry.now) }
     ensures cause { IfErr result (IsErrorOf (transaction tables.old.tables entry.now)) }
-    ensures err { OnErr result (tables.new ≡ tables.old) }
-    ensures valid { ∥ TablesValid tables.new.tables ∥₁ }
+    ensures same { tables.new.tables ≡ tables.old.tables }
+    ensures memory { result ≡ Err StepRefused.NoMemory → IsTrue (takes_memory entry.now.command) }
 {
     let moment = recorded_moment(tables, entry.at);
     match &entry.command {
@@ -109,20 +83,72 @@ pub fn apply(tables: &mut Tables, entry: &Entry) -> Result<Reply, StepRefused>
             max,
         } => match &entry.actor {
             Actor::Client => Err(StepRefused::Refused(Refusal::Fenced { live: None })),
-            Actor::Node(me) => acquire(tables, moment, me, *no_later, *window, *max),
+            Actor::Node(me) => prepare_acquire(tables, moment, me, *no_later, *window, *max),
         },
         Command::Misfires => match &entry.actor {
             Actor::Client => Err(StepRefused::Refused(Refusal::Fenced { live: None })),
-            Actor::Node(me) => misfires(tables, moment, me),
+            Actor::Node(me) => prepare_misfires(tables, moment, me),
         },
         Command::Release { entry: number } => match &entry.actor {
             Actor::Client => Err(StepRefused::Refused(Refusal::Fenced { live: None })),
-            Actor::Node(me) => release(tables, moment, me, *number),
+            Actor::Node(me) => prepare_release(tables, me, *number),
         },
         Command::Fire { entry: number } => match &entry.actor {
             Actor::Client => Err(StepRefused::Refused(Refusal::Fenced { live: None })),
-            Actor::Node(me) => fire(tables, moment, me, *number),
+            Actor::Node(me) => prepare_fire(tables, moment, me, *number),
         },
         _ => unreachable!(),
+    }
+}
+
+/// Does the transaction that was prepared of this entry for these tables. It takes no memory, and can't fail.
+pub fn commit(tables: &mut Tables, entry: &Entry, change: Change) -> Reply
+    requires prepared { Prepares tables.old entry.now change }
+    requires valid { ∥ TablesValid tables.old.tables ∥₁ }
+    requires entry { IsTrue (is_entry entry.now) }
+    ensures ok { transaction tables.old.tables entry.now ≡ accepted tables.new.tables result }
+    ensures valid { ∥ TablesValid tables.new.tables ∥₁ }
+{
+    let moment = recorded_moment(tables, entry.at);
+    carry_out(tables, moment, change)
+}
+
+fn carry_out(tables: &mut Tables, moment: i64, change: Change) -> Reply
+    requires { CanCommit tables.old change }
+    ensures { committed tables.old.tables moment change ≡ accepted tables.new.tables result }
+{
+    match change {
+        Change::Acquire { rows, taken } => {
+            acquire_each(tables, rows.into_vec());
+            tables.set_last_moment(moment);
+            Reply::Acquired(taken)
+        }
+        Change::Misfires { moves, rows } => {
+            move_each(tables, moves.into_vec());
+            tables.set_last_moment(moment);
+            Reply::Misfired(rows)
+        }
+        Change::Release { entry } => {
+            give_back(tables, entry);
+            tables.set_last_moment(moment);
+            Reply::Done
+        }
+        Change::Fire(one) => {
+            begin(tables, moment, &one);
+            fired(moment, one)
+        }
+    }
+}
+
+fn fired(moment: i64, one: Beginning) -> Reply
+    ensures { result ≡ Reply.Fired one.entry one.scheduled moment one.next one.trigger one.job }
+{
+    Reply::Fired {
+        entry: one.entry,
+        scheduled: one.scheduled,
+        fired: moment,
+        next: one.next,
+        trigger: one.trigger,
+        job: one.job,
     }
 }

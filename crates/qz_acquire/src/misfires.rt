@@ -1,28 +1,20 @@
 //! A node moves the triggers that are misfired. Times are in ms since 1970-01-01T00:00:00Z.
-ghost use Rattle.std.specs.Prelude.{◌≡◌, IfOk, IfErr, OnErr, map, fold, ℤ, ◌≤ℤ◌, MatchOption};
+ghost use Rattle.std.specs.Prelude.{◌≡◌, IfOk, IfErr, map, fold, ℤ, ◌≤ℤ◌, MatchOption};
 ghost use Rattle.std.specs.List.{AllByRecursion};
 ghost use Rattle.qz_civil.specs.declared.limits.TheConstants.{LAST};
 ghost use Rattle.qz_types.specs.Tables.{IsMoment};
-ghost use Rattle.qz_types.specs.Outcomes.{accepted, refused, IsAccepted, IsErrorOf};
+ghost use Rattle.qz_types.specs.Outcomes.{refused, IsAccepted, IsErrorOf};
 ghost use Rattle.qz_model.specs.Invariant.{TablesValid};
 ghost use Rattle.qz_model.specs.Misfires.{misfired_triggers, moved_row, misfires};
 ghost use Rattle.qz_acquire.specs.Moves.{with_move, AreMovable, move_for, IsMovable, IsMissed};
+ghost use Rattle.qz_acquire.specs.Prepared.{committed, CanCommit};
 
+use crate::changes::{Change, Move};
 use crate::due::{earliest, is_from, is_waiting_misfired};
 use qz_apply::{move_of, node_refusal};
-use qz_civil::Moved;
 use qz_tables::Tables;
-use qz_types::{
-    Key, List, MISFIRE_LIMIT, MemberRow, MovedRow, Refusal, Reply, StepRefused, TriggerRow,
-};
+use qz_types::{List, MISFIRE_LIMIT, MemberRow, MovedRow, Refusal, StepRefused, TriggerRow};
 use std::alloc::{AllocError, Global};
-
-/// What a misfire makes of the trigger of this key.
-#[derive(Drop)]
-pub struct Move {
-    pub key: Key,
-    pub moved: Moved,
-}
 
 /// Why a Misfires of the member is refused, if it is.
 #[tactic(auto, using(crate::proofs::Refused::of_misfires))]
@@ -32,22 +24,23 @@ pub fn misfires_refused(tables: &Tables, me: &MemberRow) -> Option<Refusal>
     node_refusal(tables, me)
 }
 
-/// The member moves the first misfired triggers, up to `MISFIRE_LIMIT`.
-pub fn misfires(tables: &mut Tables, moment: i64, me: &MemberRow) -> Result<Reply, StepRefused>
-    requires valid { ∥ TablesValid tables.old.tables ∥₁ }
-    requires moment { IsMoment tables.old.tables.horizon moment }
-    ensures ok { IfOk result (λ reply. misfires tables.old.tables moment me.now ≡ accepted tables.new.tables reply) }
-    ensures cause { IfErr result (IsErrorOf (misfires tables.old.tables moment me.now)) }
-    ensures err { OnErr result (tables.new ≡ tables.old) }
+/// Decides a Misfires of the member, which moves the first misfired triggers, up to `MISFIRE_LIMIT`. It copies their keys.
+pub fn prepare_misfires(tables: &Tables, moment: i64, me: &MemberRow) -> Result<Change, StepRefused>
+    requires valid { ∥ TablesValid tables.now.tables ∥₁ }
+    requires moment { IsMoment tables.now.tables.horizon moment }
+    ensures ok { IfOk result (λ change. misfires tables.now.tables moment me.now ≡ committed tables.now.tables moment change) }
+    ensures possible { IfOk result (CanCommit tables.now) }
+    ensures cause { IfErr result (IsErrorOf (misfires tables.now.tables moment me.now)) }
 {
     if let Some(refusal) = node_refusal(tables, me) {
         return Err(StepRefused::Refused(refusal));
     }
     let moves = moves(tables, moment)?;
     let rows = rows_of(tables.allocator(), &moves)?;
-    move_each(tables, moves);
-    tables.set_last_moment(moment);
-    Ok(Reply::Misfired(rows))
+    Ok(Change::Misfires {
+        moves: List::from_vec(moves),
+        rows,
+    })
 }
 
 // The moves of the first misfired triggers.
@@ -113,8 +106,8 @@ fn rows_of(alloc: Global, moves: &[Move]) -> Result<List<MovedRow>, AllocError>
     Ok(rows)
 }
 
-// Takes no memory.
-fn move_each(tables: &mut Tables, moves: Vec<Move>)
+/// Does these moves, one after the other. It takes no memory.
+pub fn move_each(tables: &mut Tables, moves: Vec<Move>)
     requires { AreMovable tables.old.tables.triggers moves.items }
     ensures { tables.new.tables ≡ record tables.old.tables { triggers = fold with_move tables.old.tables.triggers moves.items } }
 {

@@ -4,6 +4,4 @@ pub mod Deletions
 pub mod JobLists
 pub mod Moves
 pub mod Refused
-pub mod Rooms
 pub mod Searches
-pub mod Validity

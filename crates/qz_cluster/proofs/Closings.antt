@@ -3,7 +3,6 @@ use Rattle.std.proofs.Common.{◌≡◌, ◌⊎◌, inl, inr, Bool, true, false,
 use Rattle.std.specs.Prelude.{◌||◌, Option, Some, None}
 use Rattle.qz_civil.specs.Causes.{Rose}
 use Rattle.qz_types.specs.Entries.{EntryData, StateEntryData}
-use Rattle.qz_types.specs.Rows.{MemberData}
 use Rattle.qz_types.specs.declared.replies.Reply.{Reply}
 use Rattle.qz_steps.specs.declared.steps.StepReply.{StepReply}
 use Rattle.qz_steps.specs.declared.steps.StepReply.TheVariants as reply
@@ -67,6 +66,7 @@ refused_ready t x S S' (inr at) ready = record {
 pub step_ready : (honest : Type 0) (t : TimedStep) (r : StepReply) (S S' : ClusterState) → StepCase honest t r S S' → IsReady S → (r ≡ reply.Fault → ⊥) → IsReady S'
 step_ready honest t reply.Closed S S' case ready no_fault = stay_ready S S' case.stays.stores ready
 step_ready honest t reply.Stopped S S' case ready no_fault = stay_ready S S' case.stays.stores ready
+step_ready honest t (reply.Shown s) S S' case ready no_fault = stay_ready S S' case.stays.stores ready
 step_ready honest t (reply.Refused x) S S' (inl case) ready no_fault = stay_ready S S' case.stays.stores ready
 step_ready honest t (reply.Refused x) S S' (inr case) ready no_fault = refused_ready t x S S' case.which ready
 step_ready honest t (reply.Ok x) S S' case ready no_fault = record {

@@ -41,6 +41,7 @@ shut_counts S S' shut = (shut.triggers.later, shut.states.later)
 pub step_counts : (honest : Type 0) (t : TimedStep) (r : StepReply) (S S' : ClusterState) → StepCase honest t r S S' → NoneFalls S S'
 step_counts honest t reply.Closed S S' case = stay_counts S S' case.stays.stores
 step_counts honest t reply.Stopped S S' case = stay_counts S S' case.stays.stores
+step_counts honest t (reply.Shown s) S S' case = stay_counts S S' case.stays.stores
 step_counts honest t (reply.Refused x) S S' (inl case) = stay_counts S S' case.stays.stores
 step_counts honest t (reply.Refused x) S S' (inr case) = entry_counts _ _ (λ e s t is. is.same.later) (λ e s t is. is.same.later) _ t S S' case.which
 step_counts honest t (reply.Ok x) S S' case = (triggers_done_count _ x S.triggers S'.triggers case.triggers, states_done_count _ S.states S'.states case.states)
@@ -54,4 +55,5 @@ cut_counts honest t (ends.JournalFull need room) S S' case = entry_counts _ _ (�
 cut_counts honest t (ends.NotAStore store) S S' case = shut_counts S S' case.shut
 cut_counts honest t (ends.Damaged store at) S S' case = shut_counts S S' case.shut
 cut_counts honest t ends.NoMemory S S' (inl case) = entry_counts _ _ (λ e s t is. is.same.later) (λ e s t is. is.same.later) _ t S S' case.which
-cut_counts honest t ends.NoMemory S S' (inr case) = shut_counts S S' case.shut
+cut_counts honest t ends.NoMemory S S' (inr (inl case)) = stay_counts S S' case.stays.stores
+cut_counts honest t ends.NoMemory S S' (inr (inr case)) = shut_counts S S' case.shut

@@ -1,6 +1,6 @@
 -- What a step comes to, in one form for all steps: it is stopped, or refused before it submits anything, or submits an
 -- entry or none on each store.
-use Rattle.std.proofs.Common.{◌≡◌, ℕ, ℤ, Bool, true, false, List, Option, Some, None, refl, sym, ap, subst, ◌∙◌}
+use Rattle.std.proofs.Common.{◌≡◌, ℕ, ℤ, Bool, true, false, List, Option, Some, None, refl, ap}
 use Rattle.std.specs.Prelude.{⊤, if◌then◌else◌, is_none, Result, Ok, Err}
 use Rattle.qz_types.specs.Rows.{MemberData}
 use Rattle.qz_types.specs.Entries.{EntryData, StateEntryData}
@@ -14,8 +14,7 @@ use Rattle.qz_types.specs.declared.replies.Reply.{Reply}
 use Rattle.qz_types.specs.declared.replies.Reply.TheVariants as answer
 use Rattle.qz_types.specs.declared.replies.Refusal.{Refusal}
 use Rattle.qz_steps.specs.declared.steps.Step.{Step}
-use Rattle.qz_steps.specs.declared.steps.Step.TheVariants.{Client, Join, CheckIn, Node, Forget, Stop, Restart}
-use Rattle.qz_steps.specs.declared.steps.StepReply.{StepReply}
+use Rattle.qz_steps.specs.declared.steps.Step.TheVariants.{Client, Join, CheckIn, Node, Forget, Stop, Restart, Resume, Show}
 use Rattle.qz_steps.specs.declared.steps.StepReply.TheVariants as step_reply
 use Rattle.qz_model.specs.Transaction.{transaction}
 use Rattle.qz_model.specs.History.{replay}
@@ -24,7 +23,7 @@ use Rattle.qz_checkin.specs.Rows.{StateTables, StateOutcome, state_transaction}
 use Rattle.qz_checkin.specs.Rows as rows
 use Rattle.qz_checkin.specs.Entries.{answer_of as answer_of_states}
 use Rattle.qz_cluster.specs.Script.{StepEffect, held_after_command, entry_of, check_in_entry, forget_entry, member_refusal, done, refuse, unless, effect_of, submit, effect_of_states, submit_state, as_holder, effect_of_command, step_effect}
-use Rattle.qz_cluster.specs.Steps.{ClusterState, is_restart, is_unheld, rows_of, command_refusal, first_refusal, state_entry_of_step, entry_of_member, entry_of_step, held_after}
+use Rattle.qz_cluster.specs.Steps.{ClusterState, is_restart, is_show, is_unheld, rows_of, command_refusal, first_refusal, state_entry_of_step, entry_of_member, entry_of_step, held_after}
 
 -- At the store of triggers.
 
@@ -130,16 +129,18 @@ holder_effect : (held : List MemberData) (m : Option MemberData) (effect : StepE
 holder_effect held None effect = refl
 holder_effect held (Some me) effect = refl
 
--- Each step but a restart has this form.
-pub effect_is : (S : ClusterState) (x : Step) (at : ℤ) → is_restart x ≡ false
+-- Each step has this form but a restart and one that asks for what is stored.
+pub effect_is : (S : ClusterState) (x : Step) (at : ℤ) → is_restart x ≡ false → is_show x ≡ false
     → effect_at S x at
     ≡ plain_effect (is_unheld x S.held) (first_refusal S x at) (state_entry_of_step S x at) (entry_of_step S.held x at) (replay S.triggers.history) (rows_of S) S.held (held_after x S.held)
-effect_is S (Client c) at works = refl
-effect_is S (Join node interval) at works = refl
-effect_is S (CheckIn node interval) at works = holder_effect S.held (member_of node S.held) (submit_state (rows_of S) S.held (check_in_entry node interval at) (done S.held))
-effect_is S (Node node c) at works = node_effect S node c at (member_of node S.held)
-effect_is S (Forget node failed) at works =
+effect_is S (Client c) at works acts = refl
+effect_is S (Join node interval) at works acts = refl
+effect_is S (CheckIn node interval) at works acts = holder_effect S.held (member_of node S.held) (submit_state (rows_of S) S.held (check_in_entry node interval at) (done S.held))
+effect_is S (Node node c) at works acts = node_effect S node c at (member_of node S.held)
+effect_is S (Forget node failed) at works acts =
     holder_effect S.held (member_of node S.held)
     (unless (member_refusal (replay S.triggers.history) failed) S.held (submit_state (rows_of S) S.held (forget_entry (rows_of S) failed at) (done S.held)))
-effect_is S (Stop node) at works = holder_effect S.held (member_of node S.held) (done (without_member node S.held))
-effect_is S Restart at works = let bad : true ≡ false = works in absurd cc
+effect_is S (Stop node) at works acts = holder_effect S.held (member_of node S.held) (done (without_member node S.held))
+effect_is S Restart at works acts = let bad : true ≡ false = works in absurd cc
+effect_is S (Resume node epoch) at works acts = refl
+effect_is S (Show question) at works acts = let bad : true ≡ false = acts in absurd cc

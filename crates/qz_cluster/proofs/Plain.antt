@@ -1,24 +1,25 @@
 -- Without a fault a step is a plain scheduler's, at stores that are open.
 use Rattle.std.proofs.Common.{◌≡◌, ◌⊎◌, inl, inr, ℤ, Bool, true, false, not, List, Option, Some, None, refl, sym, ap, subst, ◌∙◌}
-use Rattle.std.specs.Prelude.{◌&&◌, ◌||◌, Ok}
+use Rattle.std.specs.Prelude.{◌&&◌, ◌||◌}
 use Rattle.qz_types.specs.Rows.{MemberData}
 use Rattle.qz_types.specs.Entries.{EntryData, StateEntryData}
 use Rattle.qz_types.specs.declared.replies.Reply.{Reply}
-use Rattle.qz_types.specs.declared.replies.Reply.TheVariants as answer
 use Rattle.qz_types.specs.declared.replies.Refusal.{Refusal}
+use Rattle.qz_steps.specs.declared.questions.Question.{Question}
 use Rattle.qz_steps.specs.declared.steps.Step.{Step}
-use Rattle.qz_steps.specs.declared.steps.Step.TheVariants.{Client, Join, CheckIn, Node, Forget, Stop, Restart}
+use Rattle.qz_steps.specs.declared.steps.Step.TheVariants.{Client, Join, CheckIn, Node, Forget, Stop, Restart, Resume, Show}
 use Rattle.qz_steps.specs.declared.steps.StepReply.{StepReply}
 use Rattle.qz_steps.specs.declared.steps.StepReply.TheVariants as reply
 use Rattle.qz_stores.specs.Stores.{Refuses, IsDecided}
-use Rattle.qz_model.specs.History.{History, with_entry, replay}
+use Rattle.qz_model.specs.History.{History, replay}
 use Rattle.qz_trigger_store.specs.Entries.{TriggerState, trigger_entry}
 use Rattle.qz_checkin.specs.Entries.{StatesState, of_states}
 use Rattle.qz_checkin.specs.History.{StateHistory}
-use Rattle.qz_cluster.specs.Script.{TimedStep, StepEffect, refuse, unless, with_optional, with_optional_state}
-use Rattle.qz_cluster.specs.Steps.{ClusterState, needs_triggers, needs_states, is_closed_for, is_restart, is_unheld, rows_of, first_refusal, state_entry_of_step, entry_of_step, held_after, Stays, StatesDone, TriggersDone, AtStates, AtTriggers, StepCase}
+use Rattle.qz_cluster.specs.Asking.{answer_to}
+use Rattle.qz_cluster.specs.Script.{TimedStep, StepEffect, refuse, with_optional, with_optional_state}
+use Rattle.qz_cluster.specs.Steps.{ClusterState, needs_triggers, needs_states, is_closed_for, is_restart, is_show, is_unheld, rows_of, first_refusal, state_entry_of_step, entry_of_step, held_after, Stays, StatesDone, TriggersDone, AtStates, AtTriggers, StepCase}
 use Rattle.qz_cluster.proofs.Closings.{IsReady}
-use Rattle.qz_cluster.proofs.Effects.{onto_triggers, onto_states, stopped, plain_effect, effect_at, effect_is, submit_accepted, submit_refused, submit_state_accepted, submit_state_refused}
+use Rattle.qz_cluster.proofs.Effects.{onto_triggers, onto_states, plain_effect, effect_at, effect_is, submit_accepted, submit_refused, submit_state_accepted, submit_state_refused}
 
 -- a step's reply, both histories and the held epochs are those of this effect
 pub record IsPlain (r : StepReply) (effect : StepEffect) (S S' : ClusterState) : Type 0 where
@@ -125,17 +126,22 @@ module _ (S S' : ClusterState) (x : Step) (at : ℤ) where
       ∙ states_done_effect S S.held (held_after x S.held y) (state_entry_of_step S x at) (entry_of_step S.held x at) (reply.Ok y) S'.states states)
       (record { reply = refl; history = triggers_done_history _ y S.triggers S'.triggers triggers; states = states_done_history _ S.states S'.states states; held = now })
 
-  plain_here : (honest : Type 0) (r : StepReply) → StepCase honest Step_at r S S' → IsReady S → (r ≡ reply.Fault → ⊥) → is_restart x ≡ false → IsPlain r Here S S'
-  plain_here honest reply.Closed case ready no_fault works = absurd (not_closed x S ready case.needs_closed)
-  plain_here honest reply.Stopped case ready no_fault works = stopped_plain case.unheld case.stays
-  plain_here honest (reply.Refused y) (inl case) ready no_fault works = first_plain y case.allowed.is_held case.refused case.stays
-  plain_here honest (reply.Refused y) (inr case) ready no_fault works = entry_plain y case.submits.allowed.is_held case.submits.unrefused case.which
-  plain_here honest (reply.Ok y) case ready no_fault works = done_plain y case.submits.allowed.is_held case.submits.unrefused case.states case.triggers case.held
-  plain_here honest reply.Fault case ready no_fault works = absurd (no_fault refl)
-  plain_here honest reply.Restarted case ready no_fault works = let bad : true ≡ false = sym case.asked ∙ works in absurd cc
+  plain_here : (honest : Type 0) (r : StepReply) → StepCase honest Step_at r S S' → IsReady S → (r ≡ reply.Fault → ⊥) → is_restart x ≡ false → is_show x ≡ false → IsPlain r Here S S'
+  plain_here honest reply.Closed case ready no_fault works acts = absurd (not_closed x S ready case.needs_closed)
+  plain_here honest reply.Stopped case ready no_fault works acts = stopped_plain case.unheld case.stays
+  plain_here honest (reply.Refused y) (inl case) ready no_fault works acts = first_plain y case.allowed.is_held case.refused case.stays
+  plain_here honest (reply.Refused y) (inr case) ready no_fault works acts = entry_plain y case.submits.allowed.is_held case.submits.unrefused case.which
+  plain_here honest (reply.Ok y) case ready no_fault works acts = done_plain y case.submits.allowed.is_held case.submits.unrefused case.states case.triggers case.held
+  plain_here honest reply.Fault case ready no_fault works acts = absurd (no_fault refl)
+  plain_here honest reply.Restarted case ready no_fault works acts = let bad : true ≡ false = sym case.asked ∙ works in absurd cc
+  plain_here honest (reply.Shown s) case ready no_fault works acts = let bad : true ≡ false = sym (ap is_show case.asked) ∙ acts in absurd cc
 
-  works_plain : (honest : Type 0) (r : StepReply) → StepCase honest Step_at r S S' → IsReady S → (r ≡ reply.Fault → ⊥) → is_restart x ≡ false → IsPlain r (effect_at S x at) S S'
-  works_plain honest r case ready no_fault works = subst (λ (e : StepEffect). IsPlain r e S S') (sym (effect_is S x at works)) (plain_here honest r case ready no_fault works)
+  works_plain : (honest : Type 0) (r : StepReply) → StepCase honest Step_at r S S' → IsReady S → (r ≡ reply.Fault → ⊥) → is_restart x ≡ false → is_show x ≡ false → IsPlain r (effect_at S x at) S S'
+  works_plain honest r case ready no_fault works acts =
+      subst (λ (e : StepEffect). IsPlain r e S S') (sym (effect_is S x at works acts)) (plain_here honest r case ready no_fault works acts)
+
+same_question : (p q : Question) → ◌≡◌ {A = Step} (Show q) (Show p) → p ≡ q
+same_question p q is = cc
 
 -- Of a restart. An open store has nothing undecided, so it finds the history that it had.
 
@@ -155,6 +161,7 @@ restart_plain honest at (reply.Refused y) S S' (inl case) ready no_fault is = le
 restart_plain honest at (reply.Refused y) S S' (inr case) ready no_fault is = let bad : true ≡ false = case.submits.allowed.works in absurd cc
 restart_plain honest at (reply.Ok y) S S' case ready no_fault is = let bad : true ≡ false = case.submits.allowed.works in absurd cc
 restart_plain honest at reply.Fault S S' case ready no_fault is = absurd (no_fault refl)
+restart_plain honest at (reply.Shown s) S S' case ready no_fault is = let bad : ◌≡◌ {A = Step} Restart (Show case.question) = case.asked in absurd cc
 restart_plain honest at reply.Restarted S S' case ready no_fault is = record {
   reply = refl;
   history = triggers_found S.triggers.history S.triggers.undecided S'.triggers.history ready.triggers_settled (case.triggers.decided is);
@@ -162,13 +169,32 @@ restart_plain honest at reply.Restarted S S' case ready no_fault is = record {
   held = case.held;
 }
 
+-- Of a step that asks for what is stored.
+show_plain : (honest : Type 0) (q : Question) (at : ℤ) (r : StepReply) (S S' : ClusterState) → StepCase honest (record { step = Show q; at = at }) r S S' → IsReady S → (r ≡ reply.Fault → ⊥)
+    → IsPlain r (effect_at S (Show q) at) S S'
+show_plain honest q at reply.Closed S S' case ready no_fault = absurd (not_closed (Show q) S ready case.needs_closed)
+show_plain honest q at reply.Stopped S S' case ready no_fault = let bad : false ≡ true = case.unheld in absurd cc
+show_plain honest q at (reply.Refused y) S S' (inl case) ready no_fault = let bad : true ≡ false = case.allowed.acts in absurd cc
+show_plain honest q at (reply.Refused y) S S' (inr case) ready no_fault = let bad : true ≡ false = case.submits.allowed.acts in absurd cc
+show_plain honest q at (reply.Ok y) S S' case ready no_fault = let bad : true ≡ false = case.submits.allowed.acts in absurd cc
+show_plain honest q at reply.Fault S S' case ready no_fault = absurd (no_fault refl)
+show_plain honest q at reply.Restarted S S' case ready no_fault = let bad : false ≡ true = case.asked in absurd cc
+show_plain honest q at (reply.Shown s) S S' case ready no_fault = record {
+  reply = ap reply.Shown (case.shown ∙ ap (answer_to (replay S.triggers.history)) (same_question case.question q case.asked));
+  history = case.stays.stores.triggers.history;
+  states = case.stays.stores.states.history;
+  held = case.stays.held;
+}
+
 -- A step without a fault has the reply of a plain scheduler, and leaves what it leaves.
 pub step_plain : (honest : Type 0) (x : Step) (at : ℤ) (r : StepReply) (S S' : ClusterState) → StepCase honest (record { step = x; at = at }) r S S' → IsReady S → (r ≡ reply.Fault → ⊥)
     → (is_restart x ≡ true → honest) → IsPlain r (effect_at S x at) S S'
-step_plain honest (Client c) at r S S' case ready no_fault is_honest = works_plain S S' (Client c) at honest r case ready no_fault refl
-step_plain honest (Join node interval) at r S S' case ready no_fault is_honest = works_plain S S' (Join node interval) at honest r case ready no_fault refl
-step_plain honest (CheckIn node interval) at r S S' case ready no_fault is_honest = works_plain S S' (CheckIn node interval) at honest r case ready no_fault refl
-step_plain honest (Node node c) at r S S' case ready no_fault is_honest = works_plain S S' (Node node c) at honest r case ready no_fault refl
-step_plain honest (Forget node failed) at r S S' case ready no_fault is_honest = works_plain S S' (Forget node failed) at honest r case ready no_fault refl
-step_plain honest (Stop node) at r S S' case ready no_fault is_honest = works_plain S S' (Stop node) at honest r case ready no_fault refl
+step_plain honest (Client c) at r S S' case ready no_fault is_honest = works_plain S S' (Client c) at honest r case ready no_fault refl refl
+step_plain honest (Join node interval) at r S S' case ready no_fault is_honest = works_plain S S' (Join node interval) at honest r case ready no_fault refl refl
+step_plain honest (CheckIn node interval) at r S S' case ready no_fault is_honest = works_plain S S' (CheckIn node interval) at honest r case ready no_fault refl refl
+step_plain honest (Node node c) at r S S' case ready no_fault is_honest = works_plain S S' (Node node c) at honest r case ready no_fault refl refl
+step_plain honest (Forget node failed) at r S S' case ready no_fault is_honest = works_plain S S' (Forget node failed) at honest r case ready no_fault refl refl
+step_plain honest (Stop node) at r S S' case ready no_fault is_honest = works_plain S S' (Stop node) at honest r case ready no_fault refl refl
+step_plain honest (Resume node epoch) at r S S' case ready no_fault is_honest = works_plain S S' (Resume node epoch) at honest r case ready no_fault refl refl
+step_plain honest (Show q) at r S S' case ready no_fault is_honest = show_plain honest q at r S S' case ready no_fault
 step_plain honest Restart at r S S' case ready no_fault is_honest = restart_plain honest at r S S' case ready no_fault (is_honest refl)

@@ -5,7 +5,8 @@ use Rattle.std.specs.declared.result.Result.{Result}
 use Rattle.qz_civil.specs.Causes.{Rose}
 use Rattle.qz_disk.specs.declared.disk.Disk.{Ghosts}
 use Rattle.qz_disk.proofs.Moments.{then_leaves}
-use Rattle.qz_steps.specs.declared.steps.Step.TheVariants.{Restart}
+use Rattle.qz_steps.specs.declared.steps.Step.{Step}
+use Rattle.qz_steps.specs.declared.steps.Step.TheVariants.{Restart, Show}
 use Rattle.qz_steps.specs.declared.steps.StepReply.{StepReply}
 use Rattle.qz_steps.specs.declared.steps.StepReply.TheVariants as reply
 use Rattle.qz_stores.specs.Stores.{EntryKind, StoreState, Shuts, Opens, IsDecided}
@@ -79,6 +80,8 @@ restarted_after honest at reply.Restarted S mid new triggers states is = record 
   are_states = is.are_states;
   held = is.held;
 }
+restarted_after honest at (reply.Shown s) S mid new triggers states is =
+    let bad : ◌≡◌ {A = Step} Restart (Show is.question) = is.asked in absurd cc
 
 pub cut_after : (honest : Type 0) (at : ℤ) (end : StepEnd) (S mid new : ClusterState) → Shuts S.triggers mid.triggers → Shuts S.states mid.states
     → EndCase honest (record { step = Restart; at = at }) end mid new → EndCase honest (record { step = Restart; at = at }) end S new
@@ -88,7 +91,8 @@ cut_after honest at (ends.NotAStore store) S mid new triggers states is =
 cut_after honest at (ends.Damaged store place) S mid new triggers states is =
     record { asked = is.asked; shut = both_again S mid new triggers states is.shut; dishonest = is.dishonest }
 cut_after honest at ends.NoMemory S mid new triggers states (inl is) = impossible is.submits.allowed.works
-cut_after honest at ends.NoMemory S mid new triggers states (inr is) = inr (record { asked = is.asked; shut = both_again S mid new triggers states is.shut })
+cut_after honest at ends.NoMemory S mid new triggers states (inr (inl is)) = impossible (sym is.takes)
+cut_after honest at ends.NoMemory S mid new triggers states (inr (inr is)) = inr (inr (record { asked = is.asked; shut = both_again S mid new triggers states is.shut }))
 
 -- Moments.
 
@@ -127,6 +131,7 @@ keeps_at honest at reply.Fault S new c d is = tt
 keeps_at honest at reply.Closed S new c d is = impossible (sym is.needs_closed)
 keeps_at honest at reply.Stopped S new c d is = impossible (sym is.unheld)
 keeps_at honest at reply.Restarted S new c d is = tt
+keeps_at honest at (reply.Shown s) S new c d is = let bad : ◌≡◌ {A = Step} Restart (Show is.question) = is.asked in absurd cc
 
 pub keeps : {D : Type 0} {g : Ghosts D} (honest : Type 0) (at : ℤ) (result : Result StepReply StepEnd) (S new : ClusterState) (c d : Cluster D g)
     → IfOk result (λ r. StepCase honest (record { step = Restart; at = at }) r S new) → IfOk result (λ r. KeepsUnlessDone r c d)

@@ -1,5 +1,5 @@
 -- A valid step submits valid entries, so it leaves sound stores where it found them.
-use Rattle.std.proofs.Common.{◌≡◌, ◌⊎◌, inl, inr, ℕ, ℤ, List, Bool, true, false, not, ◌&&◌, IsTrue, Some, None, refl, sym, ◌∙◌, subst}
+use Rattle.std.proofs.Common.{◌≡◌, ◌⊎◌, inl, inr, ℤ, List, Bool, true, false, not, ◌&&◌, IsTrue, Some, None, refl, sym, ◌∙◌, subst}
 use Rattle.std.specs.Prelude.{Option, Ok, Err}
 use Rattle.std.proofs.lemmas.Bool.{and_parts}
 use Rattle.qz_types.specs.Rows.{MemberData, is_node, is_interval}
@@ -12,7 +12,7 @@ use Rattle.qz_types.specs.declared.commands.Command.TheVariants as command
 use Rattle.qz_types.specs.declared.errors.SubmitError.TheVariants as submit
 use Rattle.qz_types.specs.declared.replies.Reply.{Reply}
 use Rattle.qz_steps.specs.declared.steps.Step.{Step}
-use Rattle.qz_steps.specs.declared.steps.Step.TheVariants.{Client, Join, CheckIn, Node, Forget, Stop, Restart}
+use Rattle.qz_steps.specs.declared.steps.Step.TheVariants.{Client, Join, CheckIn, Node, Forget, Stop, Restart, Resume, Show}
 use Rattle.qz_steps.specs.declared.steps.StepReply.{StepReply}
 use Rattle.qz_steps.specs.declared.steps.StepReply.TheVariants as reply
 use Rattle.qz_trigger_store.specs.Entries.{TriggerState}
@@ -67,6 +67,8 @@ valid_entry (CheckIn node interval) held at e valid asked = absurd cc
 valid_entry (Forget node failed) held at e valid asked = absurd cc
 valid_entry (Stop node) held at e valid asked = absurd cc
 valid_entry Restart held at e valid asked = absurd cc
+valid_entry (Resume node epoch) held at e valid asked = absurd cc
+valid_entry (Show question) held at e valid asked = absurd cc
 
 same_state_entry : (P : StateEntryData → Type 0) (e f : StateEntryData) → ◌≡◌ {A = Option StateEntryData} (Some e) (Some f) → P e → P f
 same_state_entry P e f same is = let one : e ≡ f = cc in subst P one is
@@ -80,6 +82,8 @@ valid_state_entry S (Client c) at e valid asked = absurd cc
 valid_state_entry S (Node node c) at e valid asked = absurd cc
 valid_state_entry S (Stop node) at e valid asked = absurd cc
 valid_state_entry S Restart at e valid asked = absurd cc
+valid_state_entry S (Resume node epoch) at e valid asked = absurd cc
+valid_state_entry S (Show question) at e valid asked = absurd cc
 
 none_open : (s : StatesState) → s.is_open ≡ false → s.is_open ≡ true → IsPlaced s
 none_open s shut is_open = let both_ways : false ≡ true = sym shut ∙ is_open in absurd cc
@@ -137,6 +141,7 @@ case_sound honest t reply.Fault S S' valid (inr case) sound = shut_both_sound S 
 case_sound honest t reply.Closed S S' valid case sound = stay_sound S S' case.stays.stores sound
 case_sound honest t reply.Stopped S S' valid case sound = stay_sound S S' case.stays.stores sound
 case_sound honest t reply.Restarted S S' valid case sound = (case.are_triggers.sound, case.are_states.sound)
+case_sound honest t (reply.Shown s) S S' valid case sound = stay_sound S S' case.stays.stores sound
 
 pub step_sound : (honest : Type 0) (t : TimedStep) (r : StepReply) (S S' : ClusterState) → IsStep honest t r S S' → AreBothSound S → AreBothSound S'
 step_sound honest t r S S' step sound = case_sound honest t r S S' step.valid step.case sound
@@ -148,7 +153,8 @@ end_sound honest t (ends.NotAStore store) S S' valid case sound = shut_both_soun
 end_sound honest t (ends.Damaged store at) S S' valid case sound = shut_both_sound S S' case.shut sound
 end_sound honest t ends.NoMemory S S' valid (inl case) sound =
     entry_sound _ _ (λ e s u is. states_submitted_sound e (Err submit.NoMemory) s u is) (λ e s u good is. submitted_sound e (Err submit.NoMemory) s u good is) _ t S S' valid case.which sound
-end_sound honest t ends.NoMemory S S' valid (inr case) sound = shut_both_sound S S' case.shut sound
+end_sound honest t ends.NoMemory S S' valid (inr (inl case)) sound = stay_sound S S' case.stays.stores sound
+end_sound honest t ends.NoMemory S S' valid (inr (inr case)) sound = shut_both_sound S S' case.shut sound
 
 -- also one that is cut short
 pub cut_sound : (honest : Type 0) (t : TimedStep) (e : StepEnd) (S S' : ClusterState) → IsCutShort honest t e S S' → AreBothSound S → AreBothSound S'

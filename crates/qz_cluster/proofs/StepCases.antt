@@ -30,6 +30,7 @@ declined honest t e reply.Fault S new submits asked ready way triggers held =
 declined honest t e reply.Closed S new submits asked ready way triggers held = not_closed S.states.is_open ready way.was_closed
 declined honest t e reply.Stopped S new submits asked ready way triggers held = absurd way
 declined honest t e reply.Restarted S new submits asked ready way triggers held = absurd way
+declined honest t e (reply.Shown shown) S new submits asked ready way triggers held = absurd way
 
 pub ends_at_states : (honest : Type 0) (t : TimedStep) (e : StateEntryData) (end : StepEnd) (S new : ClusterState) → Submits t S
     → state_entry_of_step S t.step t.at ≡ Some e → Unsubmitted of_states e end S.states new.states → Same S.triggers new.triggers → new.held ≡ S.held → EndCase honest t end S new
@@ -64,7 +65,7 @@ second_open false b is = cc
 -- A step of a node that checks in and joins.
 
 join_submits : (node : List ℕ) (interval at : ℤ) (S : ClusterState) → is_closed S ≡ false → Submits (record { step = Join node interval; at = at }) S
-join_submits node interval at S ready = record { allowed = record { needs_open = ready; is_held = refl; works = refl }; unrefused = refl }
+join_submits node interval at S ready = record { allowed = record { needs_open = ready; is_held = refl; works = refl; acts = refl }; unrefused = refl }
 
 pub join_declined : (honest : Type 0) (node : List ℕ) (interval at : ℤ) (result : Result StepReply StepEnd) (S new : ClusterState) → is_closed S ≡ false
     → IfOk result (λ r. Declined of_states (check_in_entry node interval at) r S.states new.states) → Same S.triggers new.triggers → new.held ≡ S.held

@@ -1,3 +1,4 @@
+pub mod Asking
 pub mod Mounting
 pub mod Restarting
 pub mod Script

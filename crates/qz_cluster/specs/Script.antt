@@ -16,7 +16,7 @@ use Rattle.qz_types.specs.Tables.{SchedulerTables}
 use Rattle.qz_types.specs.Outcomes.{Outcome, accepted, refused}
 use Rattle.qz_types.specs.Words.{member_of, put_member, without_member}
 use Rattle.qz_steps.specs.declared.steps.Step.{Step}
-use Rattle.qz_steps.specs.declared.steps.Step.TheVariants.{Client, Join, CheckIn, Node, Forget, Stop, Restart}
+use Rattle.qz_steps.specs.declared.steps.Step.TheVariants.{Client, Join, CheckIn, Node, Forget, Stop, Restart, Resume, Show}
 use Rattle.qz_steps.specs.declared.steps.StepReply.{StepReply}
 use Rattle.qz_steps.specs.declared.steps.StepReply.TheVariants as step_reply
 use Rattle.qz_model.specs.Transaction.{transaction}
@@ -25,6 +25,7 @@ use Rattle.qz_checkin.specs.Rows.{StateTables, StateOutcome, state_of, state_mom
 use Rattle.qz_checkin.specs.Rows as rows
 use Rattle.qz_checkin.specs.Lateness.{last_of, fresh_refusal}
 use Rattle.qz_checkin.specs.History.{StateHistory, new_state_history, with_state_entry, replay_states}
+use Rattle.qz_cluster.specs.Asking.{answer_to, resume_refusal, held_after_resume}
 
 -- both histories so far, and under which epoch each node that joined in this script works
 pub record ScriptState : Type 0 where
@@ -138,6 +139,9 @@ step_effect T S held (Forget node failed) at =
     as_holder held (member_of node held) (λ _. unless (member_refusal T failed) held (submit_state S held (forget_entry S failed at) (done held)))
 step_effect T S held (Stop node) at = as_holder held (member_of node held) (λ _. done (without_member node held))
 step_effect T S held Restart at = record { reply = step_reply.Restarted; entry = None; state_entry = None; held = [] }
+step_effect T S held (Resume node epoch) at = unless (resume_refusal T held node epoch) held (done (held_after_resume node epoch held))
+step_effect T S held (Show question) at =
+    record { reply = step_reply.Shown (answer_to T question); entry = None; state_entry = None; held = held }
 
 abbrev pub with_optional : Option EntryData → History → History
 with_optional None h = h

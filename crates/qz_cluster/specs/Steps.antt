@@ -11,8 +11,10 @@ use Rattle.qz_types.specs.declared.replies.Reply.{Reply}
 use Rattle.qz_types.specs.declared.replies.Reply.TheVariants as answer
 use Rattle.qz_types.specs.declared.replies.Refusal.{Refusal}
 use Rattle.qz_steps.specs.Steps.{is_step}
+use Rattle.qz_steps.specs.declared.questions.Question.{Question}
+use Rattle.qz_steps.specs.declared.questions.Shown.{Shown}
 use Rattle.qz_steps.specs.declared.steps.Step.{Step}
-use Rattle.qz_steps.specs.declared.steps.Step.TheVariants.{Client, Join, CheckIn, Node, Forget, Stop, Restart}
+use Rattle.qz_steps.specs.declared.steps.Step.TheVariants.{Client, Join, CheckIn, Node, Forget, Stop, Restart, Resume, Show}
 use Rattle.qz_steps.specs.declared.steps.StepReply.{StepReply}
 use Rattle.qz_steps.specs.declared.steps.StepReply.TheVariants as reply
 use Rattle.qz_stores.specs.Stores.{Same, Appends, Refuses, Overflows, Starves, Fails, Shuts, Opens}
@@ -24,6 +26,7 @@ use Rattle.qz_checkin.specs.History.{replay_states}
 use Rattle.qz_checkin.specs.Rows.{StateTables, state_moment}
 use Rattle.qz_checkin.specs.Lateness.{fresh_refusal}
 use Rattle.qz_checkin.specs.Opening.{IsOpened as AreOpened}
+use Rattle.qz_cluster.specs.Asking.{answer_to, has_row, resume_refusal, held_after_resume}
 use Rattle.qz_cluster.specs.Script.{TimedStep, held_after_join, held_after_command, entry_of, check_in_entry, forget_entry, member_refusal}
 use Rattle.qz_cluster.specs.declared.errors.StepEnd.{StepEnd}
 use Rattle.qz_cluster.specs.declared.errors.StepEnd.TheVariants as ends
@@ -52,6 +55,8 @@ needs_triggers (Node node c) = true
 needs_triggers (Forget node failed) = true
 needs_triggers (Stop node) = false
 needs_triggers Restart = false
+needs_triggers (Resume node epoch) = true
+needs_triggers (Show question) = true
 
 abbrev pub needs_states : Step → Bool
 needs_states (Client c) = false
@@ -61,6 +66,8 @@ needs_states (Node node c) = is_recover c
 needs_states (Forget node failed) = true
 needs_states (Stop node) = false
 needs_states Restart = false
+needs_states (Resume node epoch) = false
+needs_states (Show question) = false
 
 -- a store is closed that the step needs
 abbrev pub is_closed_for : Step → ClusterState → Bool
@@ -75,10 +82,24 @@ is_unheld (Node node c) held = is_none (member_of node held)
 is_unheld (Forget node failed) held = is_none (member_of node held)
 is_unheld (Stop node) held = is_none (member_of node held)
 is_unheld Restart held = false
+is_unheld (Resume node epoch) held = false
+is_unheld (Show question) held = false
 
 abbrev pub is_restart : Step → Bool
 is_restart Restart = true
 is_restart step = false
+
+-- the step asks for what is stored
+abbrev pub is_show : Step → Bool
+is_show (Show question) = true
+is_show step = false
+
+-- The step neither reads nor writes a disk.
+abbrev pub is_quiet : Step → Bool
+is_quiet (Stop node) = true
+is_quiet (Resume node epoch) = true
+is_quiet (Show question) = true
+is_quiet step = false
 
 -- What a step does: it may be refused before it submits anything; then it submits one entry or none on the state store,
 -- and then one or none on the trigger store.
@@ -99,6 +120,8 @@ first_refusal S (Node node c) at = command_refusal S node c at
 first_refusal S (Forget node failed) at = member_refusal (replay S.triggers.history) failed
 first_refusal S (Stop node) at = None
 first_refusal S Restart at = None
+first_refusal S (Resume node epoch) at = resume_refusal (replay S.triggers.history) S.held node epoch
+first_refusal S (Show question) at = None
 
 abbrev pub state_entry_of_step : ClusterState → Step → ℤ → Option StateEntryData
 state_entry_of_step S (Client c) at = None
@@ -108,6 +131,8 @@ state_entry_of_step S (Node node c) at = None
 state_entry_of_step S (Forget node failed) at = Some (forget_entry (rows_of S) failed at)
 state_entry_of_step S (Stop node) at = None
 state_entry_of_step S Restart at = None
+state_entry_of_step S (Resume node epoch) at = None
+state_entry_of_step S (Show question) at = None
 
 -- what a member submits
 abbrev pub entry_of_member : Option MemberData → Command → ℤ → Option EntryData
@@ -122,10 +147,13 @@ entry_of_step held (Node node c) at = entry_of_member (member_of node held) c at
 entry_of_step held (Forget node failed) at = None
 entry_of_step held (Stop node) at = None
 entry_of_step held Restart at = None
+entry_of_step held (Resume node epoch) at = None
+entry_of_step held (Show question) at = None
 
 -- Which epochs are held then.
 
--- after the step was answered so: a join gives its node a new one, and a node that left or stopped holds none
+-- after the step was answered so: a join gives its node a new one, a node that goes on has the one that it named, and a
+-- node that left or stopped holds none
 abbrev pub held_after : Step → List MemberData → Reply → List MemberData
 held_after (Client c) held r = held
 held_after (Join node interval) held r = held_after_join node held r
@@ -134,6 +162,8 @@ held_after (Node node c) held r = held_after_command node c held
 held_after (Forget node failed) held r = held
 held_after (Stop node) held r = without_member node held
 held_after Restart held r = []
+held_after (Resume node epoch) held r = held_after_resume node epoch held
+held_after (Show question) held r = held
 
 -- after its entry on the trigger store met a fault: a join that may be on the disk or not leaves its node without one
 abbrev pub held_after_fault : Step → List MemberData → List MemberData
@@ -163,11 +193,12 @@ pub record StoppedStep (t : TimedStep) (S S' : ClusterState) : Type 0 where
   pub unheld : is_unheld t.step S.held ≡ true
   pub stays : Stays S S'
 
--- the step is neither closed nor stopped, and it isn't a restart
+-- the step is neither closed nor stopped, it isn't a restart, and it asks for nothing
 pub record IsAllowed (t : TimedStep) (S : ClusterState) : Type 0 where
   pub needs_open : is_closed_for t.step S ≡ false
   pub is_held : is_unheld t.step S.held ≡ false
   pub works : is_restart t.step ≡ false
+  pub acts : is_show t.step ≡ false
 
 -- ... nor refused before it submits anything
 pub record Submits (t : TimedStep) (S : ClusterState) : Type 0 where
@@ -219,6 +250,14 @@ pub record AcceptedStep (t : TimedStep) (r : Reply) (S S' : ClusterState) : Type
   pub triggers : TriggersDone (entry_of_step S.held t.step t.at) r S.triggers S'.triggers
   pub held : S'.held ≡ held_after t.step S.held r
 
+-- The step asks for what is stored, and is answered by the tables as they are. Nothing is done.
+pub record AnsweredStep (t : TimedStep) (s : Shown) (S S' : ClusterState) : Type 0 where
+  pub needs_open : is_closed_for t.step S ≡ false
+  pub question : Question
+  pub asked : t.step ≡ Show question
+  pub shown : s ≡ answer_to (replay S.triggers.history) question
+  pub stays : Stays S S'
+
 -- An entry of it would be accepted, and the disk failed.
 pub record FailedStep (t : TimedStep) (S S' : ClusterState) : Type 0 where
   pub submits : Submits t S
@@ -253,6 +292,7 @@ StepCase honest t (reply.Refused refusal) S S' = RefusedFirst t refusal S S' ⊎
 StepCase honest t (reply.Ok r) S S' = AcceptedStep t r S S'
 StepCase honest t reply.Fault S S' = FailedStep t S S' ⊎ FailedRestart t S S'
 StepCase honest t reply.Restarted S S' = RestartedStep honest t S S'
+StepCase honest t (reply.Shown s) S S' = AnsweredStep t s S S'
 
 -- A valid step at its reading of the clock was answered so. Whether the disks are honest matters to a restart alone.
 pub record IsStep (honest : Type 0) (t : TimedStep) (r : StepReply) (S S' : ClusterState) : Type 0 where
@@ -272,6 +312,19 @@ pub record StarvedStep (t : TimedStep) (S S' : ClusterState) : Type 0 where
   pub submits : Submits t S
   pub which : AtStates (Starves of_states) t S S' ⊎ AtTriggers (Starves trigger_entry) S.held t S S'
 
+-- what the step takes memory for beside an entry: the row of a node that goes on, or a row that is shown
+abbrev pub takes_row : ClusterState → Step → Bool
+takes_row S (Resume node epoch) = true
+takes_row S (Show question) = has_row (answer_to (replay S.triggers.history) question)
+takes_row S step = false
+
+-- It has no entry and isn't refused, and there was no memory for that row. Nothing is done.
+pub record StarvedRow (t : TimedStep) (S S' : ClusterState) : Type 0 where
+  pub needs_open : is_closed_for t.step S ≡ false
+  pub unrefused : first_refusal S t.step t.at ≡ None
+  pub takes : takes_row S t.step ≡ true
+  pub stays : Stays S S'
+
 -- There was no memory for a restart.
 pub record StarvedRestart (t : TimedStep) (S S' : ClusterState) : Type 0 where
   pub asked : is_restart t.step ≡ true
@@ -287,7 +340,7 @@ abbrev pub EndCase : Type 0 → TimedStep → StepEnd → ClusterState → Clust
 EndCase honest t (ends.JournalFull need room) S S' = OverflowedStep t need room S S'
 EndCase honest t (ends.NotAStore store) S S' = LostStore honest t S S'
 EndCase honest t (ends.Damaged store at) S S' = LostStore honest t S S'
-EndCase honest t ends.NoMemory S S' = StarvedStep t S S' ⊎ StarvedRestart t S S'
+EndCase honest t ends.NoMemory S S' = StarvedStep t S S' ⊎ StarvedRow t S S' ⊎ StarvedRestart t S S'
 
 -- a valid step at its reading of the clock has no answer
 pub record IsCutShort (honest : Type 0) (t : TimedStep) (end : StepEnd) (S S' : ClusterState) : Type 0 where

@@ -53,6 +53,7 @@ KeepsUnlessDone reply.Restarted c d = ⊤
 KeepsUnlessDone (reply.Refused refusal) c d = KeepsTriggers c d
 KeepsUnlessDone reply.Closed c d = KeepsStores c d
 KeepsUnlessDone reply.Stopped c d = KeepsStores c d
+KeepsUnlessDone (reply.Shown shown) c d = KeepsStores c d
 
 -- A crash at any moment of a call leaves each store as it was before the call, or as it is after it.
 pub record EachLeavesEither {D : Type 0} {g : Ghosts D} (c d : Cluster D g) : Type 0 where

@@ -124,7 +124,8 @@ impl<D: Disk> Cluster<D> {
             | StepReply::Refused(_)
             | StepReply::Closed
             | StepReply::Stopped
-            | StepReply::Restarted => {}
+            | StepReply::Restarted
+            | StepReply::Shown(_) => {}
         }
     }
 

@@ -1,6 +1,7 @@
 //! Both stores that nodes share, and the epochs under which they work: a script's steps, one after the other.
 #![tactic(auto)]
 
+mod asking;
 mod checking_in;
 mod clusters;
 mod entries;
@@ -11,6 +12,7 @@ mod node_steps;
 mod opening;
 mod parts;
 mod restarting;
+mod resuming;
 mod steps;
 mod submitting;
 

@@ -1,9 +1,9 @@
 //! One step.
-ghost use Rattle.std.specs.Prelude.{◌≡◌, ℤ, false, IsTrue, IfOk, IfErr, OnErr};
+ghost use Rattle.std.specs.Prelude.{◌≡◌, ℤ, true, false, IsTrue, IfOk, IfErr, OnErr};
 ghost use Rattle.qz_steps.specs.Steps.{is_step};
 ghost use Rattle.qz_steps.specs.declared.steps.Step.TheVariants as step_is;
-ghost use Rattle.qz_cluster.specs.Steps.{StepCase, IsStep, IsCutShort, is_restart};
-ghost use Rattle.qz_cluster.specs.View.{view, KeepsTriggers, KeepsUnlessDone, EachLeavesEither};
+ghost use Rattle.qz_cluster.specs.Steps.{StepCase, IsStep, IsCutShort, is_restart, is_quiet};
+ghost use Rattle.qz_cluster.specs.View.{view, KeepsTriggers, KeepsStores, KeepsUnlessDone, EachLeavesEither};
 
 use crate::entries::client_entry;
 use crate::held::{epoch_of, remove};
@@ -15,14 +15,15 @@ use qz_types::{Reply, Text};
 impl<D: Disk> Cluster<D> {
     /// Does one step at this reading of the clock, in ms since 1970-01-01T00:00:00Z. The stores and their disks stay as
     /// they were, except for accepted transactions, for a fault, and at a restart. `JournalFull` is answered only where the
-    /// step's transaction would be accepted, and `NoMemory` only there or at a restart; `NotAStore` and `Damaged` only at a
-    /// restart, and only where a disk lost what was acknowledged.
+    /// step's transaction would be accepted, and `NoMemory` only there, at a restart, for a row that is shown and for a node
+    /// that goes on; `NotAStore` and `Damaged` only at a restart, and only where a disk lost what was acknowledged.
     pub fn step(&mut self, step: Step, at: i64) -> Result<StepReply, StepEnd>
         requires { IsTrue (is_step step) }
         ensures ok { IfOk result (λ r. IsStep D.honest (record { step = step; at = at }) r (view self.old) (view self.new)) }
         ensures err { IfErr result (λ e. IsCutShort D.honest (record { step = step; at = at }) e (view self.old) (view self.new)) }
         ensures keeps { IfOk result (λ r. KeepsUnlessDone r self.old self.new) }
         ensures unchanged { OnErr result (is_restart step ≡ false → KeepsTriggers self.old self.new) }
+        ensures quiet { is_quiet step ≡ true → KeepsStores self.old self.new }
         ensures any_moment { D.honest → EachLeavesEither self.old self.new }
     {
         match step {
@@ -33,6 +34,8 @@ impl<D: Disk> Cluster<D> {
             Step::Forget { node, failed } => self.forget(&node, &failed, at),
             Step::Stop { node } => Ok(self.stop(&node)),
             Step::Restart => self.restart(),
+            Step::Resume { node, epoch } => self.resume(node, epoch),
+            Step::Show(question) => self.show(&question),
         }
     }
 
@@ -40,6 +43,7 @@ impl<D: Disk> Cluster<D> {
     fn stop(&mut self, node: &Text) -> StepReply
         ensures ok { (at : ℤ) → StepCase D.honest (record { step = step_is.Stop node.now; at = at }) result (view self.old) (view self.new) }
         ensures keeps { KeepsUnlessDone result self.old self.new }
+        ensures quiet { KeepsStores self.old self.new }
         ensures any_moment { D.honest → EachLeavesEither self.old self.new }
     {
         if epoch_of(&self.held, node).is_none() {

@@ -15,6 +15,7 @@ use Rattle.qz_types.specs.States.{is_acquired}
 use Rattle.qz_types.specs.Tables.{SchedulerTables, recorded_moment}
 use Rattle.qz_types.specs.Outcomes.{accepted, refused, IsAccepted}
 use Rattle.qz_types.specs.Words.{trigger_of, fired_of, without_fired}
+use Rattle.qz_model.proofs.RowLaws.{fired_of-entry}
 use Rattle.qz_apply.proofs.Accepted.{no_refusal}
 use Rattle.qz_apply.proofs.Refused.{of_one}
 use Rattle.qz_model.specs.Completing.{with_trigger_ended, with_job_ended, with_code, without_execution, without_finished, completed, complete_refusal, complete_one, complete_row, complete}
@@ -22,7 +23,9 @@ use Rattle.qz_model.specs.Membership.{node_refusal}
 use Rattle.qz_model.specs.Tests.{is_row_of_trigger, is_row_of_job}
 use Rattle.qz_model.specs.Triggers.{without_trigger_and_orphan}
 use Rattle.qz_model.specs.Transaction.{transaction}
-use Rattle.qz_complete.specs.Ended.{is_again, unblocked_after, ended}
+use Rattle.qz_complete.specs.Ended.{unblocked_after, ended, without_row}
+use Rattle.qz_complete.specs.Prepared.{change_for, ended_row, committed}
+use Rattle.qz_complete.specs.declared.changes.Change.TheVariants.{End}
 
 -- each code is accepted
 one_accepted : (T : SchedulerTables) (m : ℤ) (f : FiredData) (c : Code) → IsAccepted (complete_one T m f c)
@@ -38,14 +41,14 @@ pub of_row : (T : SchedulerTables) (m : ℤ) (me : MemberData) (f : FiredData) (
 of_row T m me f c = of_one (complete_refusal me f) (complete_one T m f c) (one_accepted T m f c)
 
 -- an accepted Complete is that of its row
-pub completes : (T : SchedulerTables) (m : ℤ) (me : MemberData) (entry : ℕ) (c : Code) (f : FiredData) → IsAccepted (complete T m me entry c) → fired_of entry T.fired ≡ Some f → complete T m me entry c ≡ complete_one T m f c
+completes : (T : SchedulerTables) (m : ℤ) (me : MemberData) (entry : ℕ) (c : Code) (f : FiredData) → IsAccepted (complete T m me entry c) → fired_of entry T.fired ≡ Some f → complete T m me entry c ≡ complete_one T m f c
 completes T m me entry c f is stored =
     let clear : complete T m me entry c ≡ complete_row T m me (fired_of entry T.fired) c = no_refusal (node_refusal T me) (complete_row T m me (fired_of entry T.fired) c) is in
     let at : complete T m me entry c ≡ complete_row T m me (Some f) c = clear ∙ ap (λ o. complete_row T m me o c) stored in
     at ∙ no_refusal (complete_refusal me f) (complete_one T m f c) (subst IsAccepted at is)
 
 -- which it has
-pub row_of_complete : (T : SchedulerTables) (m : ℤ) (me : MemberData) (entry : ℕ) (c : Code) → IsAccepted (complete T m me entry c) → fired_of entry T.fired ≡ None → ⊥
+row_of_complete : (T : SchedulerTables) (m : ℤ) (me : MemberData) (entry : ℕ) (c : Code) → IsAccepted (complete T m me entry c) → fired_of entry T.fired ≡ None → ⊥
 row_of_complete T m me entry c is none =
     let clear : complete T m me entry c ≡ complete_row T m me (fired_of entry T.fired) c = no_refusal (node_refusal T me) (complete_row T m me (fired_of entry T.fired) c) is in
     subst IsAccepted (clear ∙ ap (λ o. complete_row T m me o c) none) is
@@ -81,10 +84,6 @@ acquired_first : (q : FiredData → Bool) (entry : ℕ) (rows : List FiredData) 
 unfolding without_acquired without_fired
 acquired_first q entry rows = filter_filter (λ f. not (is_acquired f.state && q f)) (λ f. not (entry == f.entry)) rows
 
--- the tables without the row of this entry number
-abbrev pub without_row : ℕ → SchedulerTables → SchedulerTables
-without_row entry T = record T { fired = without_fired entry T.fired }
-
 trigger_first : (T : SchedulerTables) (t : Option TriggerData) (entry : ℕ) → without_trigger_and_orphan (without_row entry T) t ≡ without_row entry (without_trigger_and_orphan T t)
 unfolding without_trigger_and_orphan
 trigger_first T None entry = refl
@@ -109,34 +108,30 @@ code_first code.SetTriggerError T f entry = trigger_ended_first T f.trigger _ en
 code_first code.SetAllJobTriggersError T f entry = job_ended_first T f.job _ entry
 
 -- the changes, one after the other, come to the end of the execution
-pub ended_is : (c : Code) (T : SchedulerTables) (f : FiredData) (entry : ℕ) → entry ≡ f.entry → ended c (without_row entry T) f ≡ completed T f c
+ended_is : (c : Code) (T : SchedulerTables) (f : FiredData) (entry : ℕ) → entry ≡ f.entry → ended c (without_row entry T) f ≡ completed T f c
 unfolding without_execution
 ended_is c T f entry number =
     ap (λ (u : SchedulerTables). without_finished c (unblocked_after u f) f.trigger) (code_first c T f entry)
     ∙ ap (λ (n : ℕ). without_finished c (unblocked_after (without_row n (with_code c T f)) f) f.trigger) number
 
--- with any code but RE_EXECUTE_JOB
-pub one_ended : (T : SchedulerTables) (m : ℤ) (f : FiredData) (c : Code) → is_again c ≡ false → complete_one T m f c ≡ accepted (record (completed T f c) { last_moment = m }) (reply.Completed f.entry)
-one_ended T m f code.Noop other = refl
-one_ended T m f code.ReExecuteJob other = absurd (cc)
-one_ended T m f code.SetTriggerComplete other = refl
-one_ended T m f code.DeleteTrigger other = refl
-one_ended T m f code.SetAllJobTriggersComplete other = refl
-one_ended T m f code.SetTriggerError other = refl
-one_ended T m f code.SetAllJobTriggersError other = refl
+-- what ends comes to that
+ended_as : (T : SchedulerTables) (m : ℤ) (f : FiredData) (entry : ℕ) (c : Code) → entry ≡ f.entry → fired_of entry T.fired ≡ Some f
+    → accepted (record (completed T f c) { last_moment = m }) (reply.Completed f.entry) ≡ committed T m (End entry c)
+ended_as T m f entry c number stored =
+    let same : completed T f c ≡ ended_row c (without_row entry T) (fired_of entry T.fired) = sym (ended_is c T f entry number) ∙ ap (ended_row c (without_row entry T)) (sym stored) in
+    ap (λ (u : SchedulerTables). accepted (record u { last_moment = m }) (reply.Completed f.entry)) same
+    ∙ ap (λ (n : ℕ). accepted (record (ended_row c (without_row entry T) (fired_of entry T.fired)) { last_moment = m }) (reply.Completed n)) (sym number)
 
--- and with that
-one_again : (T : SchedulerTables) (m : ℤ) (f : FiredData) (c : Code) → is_again c ≡ true → complete_one T m f c ≡ accepted (record T { last_moment = m }) (reply.Again f.entry)
-one_again T m f code.Noop again = absurd (cc)
-one_again T m f code.ReExecuteJob again = refl
-one_again T m f code.SetTriggerComplete again = absurd (cc)
-one_again T m f code.DeleteTrigger again = absurd (cc)
-one_again T m f code.SetAllJobTriggersComplete again = absurd (cc)
-one_again T m f code.SetTriggerError again = absurd (cc)
-one_again T m f code.SetAllJobTriggersError again = absurd (cc)
+-- an accepted Complete is what its change comes to
+one_as : (T : SchedulerTables) (m : ℤ) (f : FiredData) (entry : ℕ) (c : Code) → entry ≡ f.entry → fired_of entry T.fired ≡ Some f → complete_one T m f c ≡ committed T m (change_for entry c)
+one_as T m f entry code.Noop number stored = ended_as T m f entry code.Noop number stored
+one_as T m f entry code.ReExecuteJob number stored = ap (λ (n : ℕ). accepted (record T { last_moment = m }) (reply.Again n)) (sym number)
+one_as T m f entry code.SetTriggerComplete number stored = ended_as T m f entry code.SetTriggerComplete number stored
+one_as T m f entry code.DeleteTrigger number stored = ended_as T m f entry code.DeleteTrigger number stored
+one_as T m f entry code.SetAllJobTriggersComplete number stored = ended_as T m f entry code.SetAllJobTriggersComplete number stored
+one_as T m f entry code.SetTriggerError number stored = ended_as T m f entry code.SetTriggerError number stored
+one_as T m f entry code.SetAllJobTriggersError number stored = ended_as T m f entry code.SetAllJobTriggersError number stored
 
-pub again_is : (T : SchedulerTables) (m : ℤ) (me : MemberData) (entry : ℕ) (c : Code) → ((f : FiredData) → fired_of entry T.fired ≡ Some f → entry ≡ f.entry) → IsAccepted (complete T m me entry c) → is_again c ≡ true
-    → complete T m me entry c ≡ accepted (record T { last_moment = m }) (reply.Again entry)
-again_is T m me entry c number is again =
-    some_row T m me entry c (fired_of entry T.fired) is refl (λ f stored.
-    completes T m me entry c f is stored ∙ one_again T m f c again ∙ ap (λ (n : ℕ). accepted (record T { last_moment = m }) (reply.Again n)) (sym (number f stored)))
+pub complete_as : (T : SchedulerTables) (m : ℤ) (me : MemberData) (entry : ℕ) (c : Code) → IsAccepted (complete T m me entry c) → complete T m me entry c ≡ committed T m (change_for entry c)
+complete_as T m me entry c is =
+    some_row T m me entry c (fired_of entry T.fired) is refl (λ f stored. completes T m me entry c f is stored ∙ one_as T m f entry c (fired_of-entry entry f T.fired stored) stored)

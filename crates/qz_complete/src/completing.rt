@@ -1,13 +1,15 @@
 //! A node ends an execution.
-ghost use Rattle.std.specs.Prelude.{◌≡◌, ℤ, Err, MatchOption, Some, IfOk, IfErr, OnErr};
+ghost use Rattle.std.specs.Prelude.{◌≡◌, ℤ, Err, MatchOption, Some, IfOk, IfErr};
 ghost use Rattle.qz_types.specs.declared.commands.Code.{Code};
 ghost use Rattle.qz_types.specs.Outcomes.{accepted, refused, IsAccepted, IsErrorOf};
 ghost use Rattle.qz_types.specs.Tables.{SchedulerTables};
-ghost use Rattle.qz_types.specs.Words.{trigger_of};
+ghost use Rattle.qz_types.specs.Words.{trigger_of, fired_of};
 ghost use Rattle.qz_model.specs.Completing.{finished, with_trigger_ended, with_job_ended, with_code, without_finished, complete_refusal, complete_row, complete};
-ghost use Rattle.qz_complete.specs.Ended.{is_again, is_noop, ended};
+ghost use Rattle.qz_complete.specs.Ended.{is_again, is_noop, ended, without_row};
+ghost use Rattle.qz_complete.specs.Prepared.{change_for, ended_row, committed};
 ghost use Rattle.qz_model.specs.Triggers.{without_trigger_and_orphan};
 
+use crate::changes::Change;
 use qz_apply::{
     is_acquired, node_refusal, owner_refusal, remove_finished, remove_trigger_and_orphan, unblock,
 };
@@ -45,33 +47,59 @@ fn complete_refusal(me: &MemberRow, row: &FiredRow) -> Option<Refusal>
     }
 }
 
-/// The member ends the execution of this entry number. The moment is in ms since 1970-01-01T00:00:00Z.
-pub fn complete(
-    tables: &mut Tables,
-    moment: i64,
+/// Decides a Complete of the member. It copies nothing, so memory is never wanted.
+#[tactic(auto, using(crate::proofs::Completions::complete_as))]
+pub fn prepare_complete(
+    tables: &Tables,
     me: &MemberRow,
     entry: u64,
     code: Code,
-) -> Result<Reply, StepRefused>
-    ensures ok { IfOk result (λ reply. complete tables.old.tables moment me.now entry code ≡ accepted tables.new.tables reply) }
-    ensures cause { IfErr result (IsErrorOf (complete tables.old.tables moment me.now entry code)) }
-    ensures err { OnErr result (tables.new ≡ tables.old) }
+) -> Result<Change, StepRefused>
+    ensures ok { (m : ℤ) → IfOk result (λ change. complete tables.now.tables m me.now entry code ≡ committed tables.now.tables m change) }
+    ensures cause { (m : ℤ) → IfErr result (IsErrorOf (complete tables.now.tables m me.now entry code)) }
     ensures memory { result ≡ Err StepRefused.NoMemory → ⊥ }
 {
-    if let Some(refusal) = complete_refused(tables, me, entry) {
-        return Err(StepRefused::Refused(refusal));
+    match complete_refused(tables, me, entry) {
+        Some(refusal) => Err(StepRefused::Refused(refusal)),
+        None => Ok(change_for(entry, code)),
     }
+}
+
+fn change_for(entry: u64, code: Code) -> Change
+    ensures { result ≡ change_for entry code }
+{
     if is_again(code) {
-        tables.set_last_moment(moment);
-        return Ok(Reply::Again { entry });
+        Change::GoOn { entry }
+    } else {
+        Change::End { entry, code }
     }
+}
+
+/// Does what was prepared. The moment is in ms since 1970-01-01T00:00:00Z. It takes no memory.
+pub fn carry_out(tables: &mut Tables, moment: i64, change: &Change) -> Reply
+    ensures { committed tables.old.tables moment change.now ≡ accepted tables.new.tables result }
+{
+    match change {
+        Change::GoOn { entry } => {
+            tables.set_last_moment(moment);
+            Reply::Again { entry: *entry }
+        }
+        Change::End { entry, code } => {
+            end_row(tables, *entry, *code);
+            tables.set_last_moment(moment);
+            Reply::Completed { entry: *entry }
+        }
+    }
+}
+
+// The row of this entry number goes, if there is one, and its execution ends with this code.
+fn end_row(tables: &mut Tables, entry: u64, code: Code)
+    ensures { tables.new.tables ≡ ended_row code (without_row entry tables.old.tables) (fired_of entry tables.old.tables.fired) }
+{
     let Some(row) = tables.remove_fired(entry) else {
-        unreachable!()
+        return;
     };
     end_execution(tables, &row, code);
-    tables.set_last_moment(moment);
-    drop(row);
-    Ok(Reply::Completed { entry })
 }
 
 fn is_again(code: Code) -> bool

@@ -20,4 +20,6 @@ mod planned;
 #[cfg(test)]
 mod simple;
 #[cfg(test)]
+mod zone_rules;
+#[cfg(test)]
 mod zoned;

@@ -28,7 +28,7 @@ use Rattle.qz_job_json.specs.Members.{said_or, name_at, node_at, number_at, span
 use Rattle.qz_job_json.specs.Objects.{key_at, job_of}
 use Rattle.qz_job_json.specs.Schedules.{trigger_by_kind}
 use Rattle.qz_job_json.specs.Words.{code_of}
-use Rattle.qz_job_json.specs.Zones.{zone_of}
+use Rattle.qz_job_json.specs.Zones.{zone_given}
 
 -- What a client asks for.
 
@@ -56,7 +56,7 @@ add_calendar d =
 unfoldable pub add_zone : Data → Result Command LineFault
 add_zone d =
     or_shape (name_at (codes "name") d) >>= λ name.
-    or_shape (option_and_then zone_of (get (codes "stretches") d)) >>= λ stretches.
+    or_shape (zone_given d) >>= λ stretches.
     Ok (command.AddZone (record { name = name; stretches = stretches }))
 
 abbrev pub of_key : KeyWord → Key → Command

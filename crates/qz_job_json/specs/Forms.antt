@@ -9,6 +9,8 @@ use Rattle.qz_job_json.specs.declared.words.NodeWord.{NodeWord}
 use Rattle.qz_job_json.specs.declared.words.NodeWord.TheVariants.{Leave, Acquire, Release, Fire, Complete, Misfires, Recover}
 use Rattle.qz_job_json.specs.declared.words.StepWord.{StepWord}
 use Rattle.qz_job_json.specs.declared.words.StepWord.TheVariants.{Join, CheckIn, Forget, Stop, Restart}
+use Rattle.qz_job_json.specs.declared.words.UntimedWord.{UntimedWord}
+use Rattle.qz_job_json.specs.declared.words.UntimedWord.TheVariants.{ShowJob, ShowTrigger, ShowEntry, ShowNext, Resume}
 use Rattle.qz_job_json.specs.declared.words.Word.{Word}
 use Rattle.qz_job_json.specs.declared.words.Word.TheVariants as word
 use Rattle.qz_job_json.specs.declared.forms.KindWord.{KindWord}
@@ -18,16 +20,19 @@ use Rattle.qz_job_json.specs.declared.forms.CalendarWord.TheVariants as calendar
 use Rattle.qz_job_json.specs.declared.forms.Form.{Form}
 use Rattle.qz_job_json.specs.declared.forms.Form.TheVariants.{Line, Job, CalendarOf, TriggerOf}
 
--- the members of every line
-abbrev pub line_shared : List (List ℕ)
-line_shared = codes "do" ∷ codes "at" ∷ []
+-- the members of every line, and a reading in place of the clock's in each that takes one
+abbrev pub line_shared : Word → List (List ℕ)
+line_shared (word.Client what) = codes "do" ∷ codes "at" ∷ []
+line_shared (word.Node what) = codes "do" ∷ codes "at" ∷ []
+line_shared (word.Of what) = codes "do" ∷ codes "at" ∷ []
+line_shared (word.Untimed what) = codes "do" ∷ []
 
 -- the further ones of a client's line
 abbrev pub client_own : ClientWord → List (List ℕ)
 client_own AddJob = codes "job" ∷ codes "replace" ∷ []
 client_own AddTrigger = codes "trigger" ∷ codes "replace" ∷ []
 client_own AddCalendar = codes "calendar" ∷ codes "replace" ∷ []
-client_own AddZone = codes "name" ∷ codes "stretches" ∷ []
+client_own AddZone = codes "name" ∷ codes "stretches" ∷ codes "rule" ∷ []
 client_own (OfKey what) = codes "name" ∷ codes "group" ∷ []
 client_own (OfGroup what) = codes "group" ∷ []
 client_own (OfName what) = codes "name" ∷ []
@@ -51,10 +56,19 @@ step_own Forget = codes "node" ∷ codes "failed" ∷ []
 step_own Stop = codes "node" ∷ []
 step_own Restart = []
 
+-- and of those that take no reading of the clock
+abbrev pub untimed_own : UntimedWord → List (List ℕ)
+untimed_own ShowJob = codes "name" ∷ codes "group" ∷ []
+untimed_own ShowTrigger = codes "name" ∷ codes "group" ∷ []
+untimed_own ShowEntry = codes "entry" ∷ []
+untimed_own ShowNext = []
+untimed_own Resume = codes "node" ∷ codes "epoch" ∷ []
+
 abbrev pub line_own : Word → List (List ℕ)
 line_own (word.Client what) = client_own what
 line_own (word.Node what) = node_own what
 line_own (word.Of what) = step_own what
+line_own (word.Untimed what) = untimed_own what
 
 -- the members of a job
 abbrev pub job_members : List (List ℕ)
@@ -90,7 +104,7 @@ calendar_own calendar.Cron = codes "cron" ∷ []
 
 -- all members that an object may have
 abbrev pub members_of : Form → List (List ℕ)
-members_of (Line what) = line_shared ++ line_own what
+members_of (Line what) = line_shared what ++ line_own what
 members_of Job = job_members
 members_of (CalendarOf kind) = calendar_shared ++ calendar_own kind
 members_of (TriggerOf kind) = shared ++ own kind

@@ -17,7 +17,7 @@ use Rattle.qz_job_json.specs.Schedules.{trigger_by_kind}
 
 -- the members of a zone
 abbrev pub zone_members : List (List ℕ)
-zone_members = codes "name" ∷ codes "stretches" ∷ []
+zone_members = codes "name" ∷ codes "stretches" ∷ codes "rule" ∷ []
 
 -- the command that adds what the object is
 abbrev pub item_of : Item → Data → Result Command LineFault

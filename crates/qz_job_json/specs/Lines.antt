@@ -6,23 +6,27 @@ use Rattle.std.specs.Str.{is_utf8}
 use Rattle.serde_json.specs.Data.{Data}
 use Rattle.serde_json.specs.Read.{read}
 use Rattle.qz_types.specs.declared.limits.TheConstants.{INTERVAL_LIMIT}
+use Rattle.qz_steps.specs.declared.questions.Question.TheVariants as question
 use Rattle.qz_steps.specs.declared.steps.Step.{Step}
 use Rattle.qz_steps.specs.declared.steps.Step.TheVariants as step
 use Rattle.qz_io.specs.declared.limits.TheConstants.{LINE_LIMIT}
 use Rattle.qz_job_json.specs.declared.words.StepWord.{StepWord}
 use Rattle.qz_job_json.specs.declared.words.StepWord.TheVariants.{Join, CheckIn, Forget, Stop, Restart}
+use Rattle.qz_job_json.specs.declared.words.UntimedWord.{UntimedWord}
+use Rattle.qz_job_json.specs.declared.words.UntimedWord.TheVariants.{ShowJob, ShowTrigger, ShowEntry, ShowNext, Resume}
 use Rattle.qz_job_json.specs.declared.words.Word.{Word}
-use Rattle.qz_job_json.specs.declared.words.Word.TheVariants.{Client, Node, Of}
+use Rattle.qz_job_json.specs.declared.words.Word.TheVariants.{Client, Node, Of, Untimed}
 use Rattle.qz_job_json.specs.declared.forms.Form.TheVariants.{Line}
 use Rattle.qz_job_json.specs.declared.lines.Given.{Given}
 use Rattle.qz_job_json.specs.declared.faults.LineError.{LineError}
 use Rattle.qz_job_json.specs.declared.faults.LineError.TheVariants as error
 use Rattle.qz_job_json.specs.declared.faults.LineFault.{LineFault}
 use Rattle.qz_job_json.specs.declared.faults.LineFault.TheVariants.{TooLong, NotJson}
-use Rattle.qz_job_json.specs.Commands.{client_command, node_command}
+use Rattle.qz_job_json.specs.Commands.{entry_at, client_command, node_command}
 use Rattle.qz_job_json.specs.Faults.{◌>>=◌, or_shape}
 use Rattle.qz_job_json.specs.Forms.{members_of}
-use Rattle.qz_job_json.specs.Members.{has_only, text_at, node_at, integer_or, optional_integer_at}
+use Rattle.qz_job_json.specs.Members.{has_only, text_at, number_at, node_at, integer_or, optional_integer_at}
+use Rattle.qz_job_json.specs.Objects.{key_at}
 use Rattle.qz_job_json.specs.Words.{word_of}
 
 -- how often a node will check in, in ms
@@ -43,6 +47,14 @@ step_by_word Forget d = with_node (node_at (codes "failed") d) step.Forget d
 step_by_word Stop d = or_shape (node_at (codes "node") d) >>= λ node. Ok (step.Stop node)
 step_by_word Restart d = Ok step.Restart
 
+-- what takes no reading of the clock
+unfoldable pub untimed_step : UntimedWord → Data → Result Step LineFault
+untimed_step ShowJob d = or_shape (key_at (codes "group") (codes "name") d) >>= λ key. Ok (step.Show (question.Job key))
+untimed_step ShowTrigger d = or_shape (key_at (codes "group") (codes "name") d) >>= λ key. Ok (step.Show (question.Trigger key))
+untimed_step ShowEntry d = or_shape (entry_at d) >>= λ entry. Ok (step.Show (question.Entry entry))
+untimed_step ShowNext d = Ok (step.Show question.Next)
+untimed_step Resume d = with_node (number_at (codes "epoch") d) step.Resume d
+
 -- the step of a line by its own members
 unfoldable pub step_of : Word → Data → Result Step LineFault
 step_of (Client what) d = client_command what d >>= λ command. Ok (step.Client command)
@@ -51,10 +63,18 @@ step_of (Node what) d =
     node_command what d >>= λ command.
     Ok (step.Node node command)
 step_of (Of what) d = step_by_word what d
+step_of (Untimed what) d = untimed_step what d
 
--- the line's own reading, where each of its members is one that such a line has
+-- the reading that a line gives in place of the clock's, if it gives one; 0 in a line that takes none
+abbrev pub own_reading : Word → Data → Option (Option ℤ)
+own_reading (Client what) d = optional_integer_at (codes "at") d
+own_reading (Node what) d = optional_integer_at (codes "at") d
+own_reading (Of what) d = optional_integer_at (codes "at") d
+own_reading (Untimed what) d = Some (Some (pos 0))
+
+-- the same, where each of its members is one that such a line has
 abbrev pub reading_of : Word → Data → Option (Option ℤ)
-reading_of word d = if has_only (members_of (Line word)) d then optional_integer_at (codes "at") d else None
+reading_of word d = if has_only (members_of (Line word)) d then own_reading word d else None
 
 abbrev pub make_given : Option ℤ → Step → Given
 make_given at step = record { at = at; step = step }

@@ -12,8 +12,10 @@ use Rattle.qz_job_json.specs.declared.words.NodeWord.{NodeWord}
 use Rattle.qz_job_json.specs.declared.words.NodeWord.TheVariants.{Leave, Acquire, Release, Fire, Complete, Misfires, Recover}
 use Rattle.qz_job_json.specs.declared.words.StepWord.{StepWord}
 use Rattle.qz_job_json.specs.declared.words.StepWord.TheVariants.{Join, CheckIn, Forget, Stop, Restart}
+use Rattle.qz_job_json.specs.declared.words.UntimedWord.{UntimedWord}
+use Rattle.qz_job_json.specs.declared.words.UntimedWord.TheVariants.{ShowJob, ShowTrigger, ShowEntry, ShowNext, Resume}
 use Rattle.qz_job_json.specs.declared.words.Word.{Word}
-use Rattle.qz_job_json.specs.declared.words.Word.TheVariants.{Client, Node, Of}
+use Rattle.qz_job_json.specs.declared.words.Word.TheVariants.{Client, Node, Of, Untimed}
 
 -- what a client asks for
 unfoldable pub client_word_of : List ℕ → Option ClientWord
@@ -56,15 +58,26 @@ step_word_of text =
     else if is_text text (codes "restart") then Some Restart
     else None
 
+-- what takes no reading of the clock
+unfoldable pub untimed_word_of : List ℕ → Option UntimedWord
+untimed_word_of text =
+    if is_text text (codes "show_job") then Some ShowJob
+    else if is_text text (codes "show_trigger") then Some ShowTrigger
+    else if is_text text (codes "show_entry") then Some ShowEntry
+    else if is_text text (codes "show_next") then Some ShowNext
+    else if is_text text (codes "resume") then Some Resume
+    else None
+
 -- the first that there is
-abbrev pub word_by : Option ClientWord → Option NodeWord → Option StepWord → Option Word
-word_by (Some word) _ _ = Some (Client word)
-word_by None (Some word) _ = Some (Node word)
-word_by None None other = option_map Of other
+abbrev pub word_by : Option ClientWord → Option NodeWord → Option StepWord → Option UntimedWord → Option Word
+word_by (Some word) _ _ _ = Some (Client word)
+word_by None (Some word) _ _ = Some (Node word)
+word_by None None (Some word) _ = Some (Of word)
+word_by None None None other = option_map Untimed other
 
 -- the line that a text names
 abbrev pub word_of : List ℕ → Option Word
-word_of text = word_by (client_word_of text) (node_word_of text) (step_word_of text)
+word_of text = word_by (client_word_of text) (node_word_of text) (step_word_of text) (untimed_word_of text)
 
 -- the code that a text names
 unfoldable pub code_of : List ℕ → Option Code

@@ -1,9 +1,10 @@
--- The tables of zones. None is a value of another shape, or a table that is no zone's.
-use Rattle.std.specs.Prelude.{ℤ, pos, negsuc, List, [], ◌∷◌, Bool, if◌then◌else◌, is_none, is_some, Option, Some, None, option_and_then}
+-- The zones of lines: their tables, and their rules. None is a value of another shape, or one that gives no zone.
+use Rattle.std.specs.Prelude.{ℤ, pos, negsuc, List, [], ◌∷◌, Bool, if◌then◌else◌, is_none, is_some, Option, Some, None, option_and_then, codes}
 use Rattle.serde_json.specs.Data.{Data, Items, no_items, item}
-use Rattle.serde_json.specs.Find.{at, as_array}
+use Rattle.serde_json.specs.Find.{at, as_array, as_str, get}
 use Rattle.qz_civil.specs.declared.stretches.Stretch.{Stretch}
 use Rattle.qz_civil.specs.Zones.{bad_zone}
+use Rattle.qz_zone_rule.specs.Tables.{rule_table}
 use Rattle.qz_job_json.specs.Members.{kept, both, integer_of, integer_in}
 
 abbrev pub make_stretch : ℤ → ℤ → Stretch
@@ -33,3 +34,17 @@ is_table items = is_some (kept is_zone (stretches_of items))
 
 abbrev pub zone_of : Data → Option (List Stretch)
 zone_of d = kept is_zone (option_and_then stretches_of (as_array d))
+
+-- the zone of a rule text
+abbrev pub rule_zone_of : Data → Option (List Stretch)
+rule_zone_of d = kept is_zone (option_and_then rule_table (as_str d))
+
+-- a zone is given by its table or by its rule, and by one of them alone
+abbrev pub zone_by : Option Data → Option Data → Option (List Stretch)
+zone_by (Some table) None = zone_of table
+zone_by None (Some rule) = rule_zone_of rule
+zone_by None None = None
+zone_by (Some table) (Some rule) = None
+
+abbrev pub zone_given : Data → Option (List Stretch)
+zone_given d = zone_by (get (codes "stretches") d) (get (codes "rule") d)

@@ -14,7 +14,7 @@ use crate::members::{flag_at, integer_in, name_at};
 use crate::objects::{job_of, names_at};
 use crate::schedules::trigger_by_kind;
 use crate::words::{ClientWord, GroupWord, KeyWord, NameWord};
-use crate::zones::zone_of;
+use crate::zones::zone_given;
 use qz_civil::beside;
 use qz_steps::Step;
 use qz_types::{Command, INTERVAL_LIMIT, Key, Text, ZoneRow};
@@ -60,8 +60,7 @@ pub(crate) fn add_zone(alloc: Global, value: &Value) -> Result<Command, LineErro
     ensures valid { IfOk result (λ command. IsTrue (is_step (Step.Client command))) }
 {
     let name = name_at(value, "name").ok_or(LineFault::Shape)?;
-    let table = value.get("stretches").ok_or(LineFault::Shape)?;
-    let zone = zone_of(alloc, table)?;
+    let zone = zone_given(alloc, value)?;
     let (zone, name) = beside(zone, Text::from_str(alloc, name))?;
     let zone = ZoneRow { name, zone };
     Ok(Command::AddZone { zone })

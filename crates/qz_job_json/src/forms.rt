@@ -1,9 +1,9 @@
 //! The table of the format: which members each object has.
 ghost use Rattle.std.specs.Prelude.{◌≡◌};
-ghost use Rattle.qz_job_json.specs.Forms.{members_of, client_own, node_own, step_own, line_shared, line_own, job_members, shared, own, kind_word_of, calendar_shared, calendar_own, calendar_word_of};
+ghost use Rattle.qz_job_json.specs.Forms.{members_of, client_own, node_own, step_own, untimed_own, line_shared, line_own, job_members, shared, own, kind_word_of, calendar_shared, calendar_own, calendar_word_of};
 ghost use Rattle.qz_job_json.specs.Members.{is_among};
 
-use crate::words::{ClientWord, NodeWord, StepWord, Word};
+use crate::words::{ClientWord, NodeWord, StepWord, UntimedWord, Word};
 
 /// The kinds of triggers, by the word of the member `kind`.
 #[derive(Clone, Copy)]
@@ -119,7 +119,7 @@ fn client_has(word: ClientWord, name: &str) -> bool
         ClientWord::AddJob => matches!(name, "job" | "replace"),
         ClientWord::AddTrigger => matches!(name, "trigger" | "replace"),
         ClientWord::AddCalendar => matches!(name, "calendar" | "replace"),
-        ClientWord::AddZone => matches!(name, "name" | "stretches"),
+        ClientWord::AddZone => matches!(name, "name" | "stretches" | "rule"),
         ClientWord::OfKey(_) => matches!(name, "name" | "group"),
         ClientWord::OfGroup(_) => name == "group",
         ClientWord::OfName(_) => name == "name",
@@ -152,6 +152,18 @@ fn step_has(word: StepWord, name: &str) -> bool
     }
 }
 
+/// The same of the lines that take no reading of the clock.
+fn untimed_has(word: UntimedWord, name: &str) -> bool
+    ensures { result ≡ is_among (untimed_own word) name.now }
+{
+    match word {
+        UntimedWord::ShowJob | UntimedWord::ShowTrigger => matches!(name, "name" | "group"),
+        UntimedWord::ShowEntry => name == "entry",
+        UntimedWord::ShowNext => false,
+        UntimedWord::Resume => matches!(name, "node" | "epoch"),
+    }
+}
+
 fn line_has(word: Word, name: &str) -> bool
     ensures { result ≡ is_among (line_own word) name.now }
 {
@@ -159,14 +171,18 @@ fn line_has(word: Word, name: &str) -> bool
         Word::Client(word) => client_has(word, name),
         Word::Node(word) => node_has(word, name),
         Word::Of(word) => step_has(word, name),
+        Word::Untimed(word) => untimed_has(word, name),
     }
 }
 
-/// Whether each line has a member of this name.
-fn is_line_shared(name: &str) -> bool
-    ensures { result ≡ is_among line_shared name.now }
+/// Whether the line has a member of this name, as each line has, or each that takes a reading of the clock.
+fn is_line_shared(word: Word, name: &str) -> bool
+    ensures { result ≡ is_among (line_shared word) name.now }
 {
-    matches!(name, "do" | "at")
+    match word {
+        Word::Client(_) | Word::Node(_) | Word::Of(_) => matches!(name, "do" | "at"),
+        Word::Untimed(_) => name == "do",
+    }
 }
 
 fn job_has(name: &str) -> bool
@@ -194,7 +210,7 @@ impl Form {
         ensures { result ≡ is_among (members_of self) name.now }
     {
         match self {
-            Form::Line(word) => is_line_shared(name) || line_has(word, name),
+            Form::Line(word) => is_line_shared(word, name) || line_has(word, name),
             Form::Job => job_has(name),
             Form::CalendarOf(kind) => is_calendar_shared(name) || kind.has_own(name),
             Form::TriggerOf(kind) => is_shared(name) || kind.has_own(name),

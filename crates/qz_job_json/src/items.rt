@@ -30,8 +30,7 @@ pub enum Item {
 fn map_is_zone(map: &Map<String, Value>) -> bool
     ensures { result ≡ list_all (λ name. is_among zone_members (string_bytes name)) (keys map.now) }
 {
-    map.keys()
-        .all(|name| matches!(name.as_str(), "name" | "stretches"))
+    map.keys().all(|name| matches!(name.as_str(), "name" | "stretches" | "rule"))
 }
 
 /// Whether each member of the object is one that a zone has.

@@ -14,6 +14,7 @@ mod nodes;
 mod objects;
 mod schedules;
 mod steps;
+mod untimed;
 mod words;
 mod zones;
 

@@ -4,7 +4,7 @@ ghost use Rattle.std.specs.List.{list_all};
 ghost use Rattle.serde_json.specs.View.{view};
 ghost use Rattle.qz_steps.specs.Steps.{is_step};
 ghost use Rattle.qz_job_json.specs.Faults.{ReadsAs};
-ghost use Rattle.qz_job_json.specs.Lines.{is_blank, value_of, json_of, NeedsJson, HasNoJson, ReadsLineAs, word_in, reading_of, given_of, meaning_of, meaning_of_value};
+ghost use Rattle.qz_job_json.specs.Lines.{is_blank, value_of, json_of, NeedsJson, HasNoJson, ReadsLineAs, word_in, own_reading, reading_of, given_of, meaning_of, meaning_of_value};
 
 use crate::faults::{LineError, LineFault};
 use crate::forms::Form;
@@ -19,7 +19,8 @@ use std::alloc::Global;
 /// What a line asks for.
 #[derive(Debug, Drop)]
 pub struct Given {
-    /// The line's own reading in place of one of the clock, in ms since 1970-01-01T00:00:00Z. Any number.
+    /// The line's own reading in place of one of the clock, in ms since 1970-01-01T00:00:00Z. Any number; 0 in a line that
+    /// takes no reading.
     pub at: Option<i64>,
     pub step: Step,
 }
@@ -91,12 +92,22 @@ pub(crate) fn read_value(alloc: Global, value: &Value) -> Result<Given, LineErro
     given_of(alloc, word, value)
 }
 
-/// The line's own reading, where each of its members is one that such a line has.
+/// The reading that the line gives in place of the clock's, if it gives one; 0 in a line that takes none.
+fn own_reading(value: &Value, word: Word) -> Option<Option<i64>>
+    ensures { result ≡ own_reading word (view value.now) }
+{
+    match word {
+        Word::Client(_) | Word::Node(_) | Word::Of(_) => optional_integer_at(value, "at"),
+        Word::Untimed(_) => Some(Some(0)),
+    }
+}
+
+/// The same, where each of its members is one that such a line has.
 fn reading_of(value: &Value, word: Word) -> Option<Option<i64>>
     ensures { result ≡ reading_of word (view value.now) }
 {
     if has_only(value, Form::Line(word)) {
-        optional_integer_at(value, "at")
+        own_reading(value, word)
     } else {
         None
     }

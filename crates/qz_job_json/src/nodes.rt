@@ -46,7 +46,7 @@ fn code_at(value: &Value) -> Option<Code>
     }
 }
 
-fn entry_at(value: &Value) -> Option<u64>
+pub(crate) fn entry_at(value: &Value) -> Option<u64>
     ensures { result ≡ spec.entry_at (view value.now) }
 {
     number_at(value, "entry")

@@ -10,6 +10,7 @@ use crate::clients::client_command;
 use crate::faults::{LineError, LineFault};
 use crate::members::{integer_or, node_at};
 use crate::nodes::{node_command, node_of};
+use crate::untimed::untimed_step;
 use crate::words::{ClientWord, NodeWord, StepWord, Word};
 use qz_civil::beside;
 use qz_steps::Step;
@@ -107,5 +108,6 @@ pub(crate) fn step_of(alloc: Global, word: Word, value: &Value) -> Result<Step, 
         Word::Client(word) => client_step(alloc, word, value),
         Word::Node(word) => node_step(alloc, word, value),
         Word::Of(word) => step_by_word(alloc, word, value),
+        Word::Untimed(word) => untimed_step(alloc, word, value),
     }
 }

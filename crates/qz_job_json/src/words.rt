@@ -1,6 +1,6 @@
 //! The words of lines.
 ghost use Rattle.std.specs.Prelude.{◌≡◌};
-ghost use Rattle.qz_job_json.specs.Words.{step_word_of, client_word_of, node_word_of, word_of, code_of};
+ghost use Rattle.qz_job_json.specs.Words.{step_word_of, client_word_of, node_word_of, untimed_word_of, word_of, code_of};
 
 use qz_types::Code;
 
@@ -122,12 +122,39 @@ impl StepWord {
     }
 }
 
+/// What takes no reading of the clock: questions about the stored rows, and a node that goes on under its epoch.
+#[derive(Clone, Copy)]
+pub(crate) enum UntimedWord {
+    ShowJob,
+    ShowTrigger,
+    ShowEntry,
+    ShowNext,
+    Resume,
+}
+
+impl UntimedWord {
+    #[tactic(auto, unfolding(crate::specs::Words::untimed_word_of))]
+    fn of(text: &str) -> Option<UntimedWord>
+        ensures { result ≡ untimed_word_of text.now }
+    {
+        match text {
+            "show_job" => Some(UntimedWord::ShowJob),
+            "show_trigger" => Some(UntimedWord::ShowTrigger),
+            "show_entry" => Some(UntimedWord::ShowEntry),
+            "show_next" => Some(UntimedWord::ShowNext),
+            "resume" => Some(UntimedWord::Resume),
+            _ => None,
+        }
+    }
+}
+
 /// The lines, by the word of their member `do`.
 #[derive(Clone, Copy)]
 pub(crate) enum Word {
     Client(ClientWord),
     Node(NodeWord),
     Of(StepWord),
+    Untimed(UntimedWord),
 }
 
 impl Word {
@@ -138,9 +165,12 @@ impl Word {
         if let Some(word) = ClientWord::of(text) {
             return Some(Word::Client(word));
         }
-        match NodeWord::of(text) {
-            Some(word) => Some(Word::Node(word)),
-            None => StepWord::of(text).map(Word::Of),
+        if let Some(word) = NodeWord::of(text) {
+            return Some(Word::Node(word));
+        }
+        match StepWord::of(text) {
+            Some(word) => Some(Word::Of(word)),
+            None => UntimedWord::of(text).map(Word::Untimed),
         }
     }
 }

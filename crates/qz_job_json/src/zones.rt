@@ -1,13 +1,16 @@
-//! The tables of zones.
+//! The zones of lines: their tables, and their rules.
 ghost use Rattle.std.specs.Prelude.{◌≡◌, ◌⊎◌, true, None, Some, IfOk, IfErr};
 ghost use Rattle.serde_json.specs.View.{view, items_view};
 ghost use Rattle.qz_job_json.specs.Faults.{ReadsAs, or_shape};
 ghost use Rattle.qz_job_json.specs.Tables.{follows, all_follow};
+ghost use Rattle.qz_job_json.specs.Members.{kept};
 ghost use Rattle.qz_job_json.specs.Zones as spec;
+ghost use Rattle.qz_zone_rule.specs.Tables.{rule_table};
 
 use crate::faults::{LineError, LineFault};
 use crate::members::integer_in;
 use qz_civil::{List, STRETCH_LIMIT, Stretch, Zone, is_offset, may_begin};
+use qz_zone_rule::{RuleFault, expand};
 use serde_json::Value;
 use std::alloc::Global;
 
@@ -80,7 +83,7 @@ fn stretches_of(alloc: Global, items: &[Value]) -> Result<List<Stretch>, LineErr
 }
 
 /// The zone whose table the value is. A table that is bad is refused before memory is wanted.
-pub(crate) fn zone_of(alloc: Global, value: &Value) -> Result<Zone, LineError>
+fn zone_of(alloc: Global, value: &Value) -> Result<Zone, LineError>
     ensures value { ReadsAs result (or_shape (spec.zone_of (view value.now))) }
     ensures valid { IfOk result (λ zone. spec.is_zone zone ≡ true) }
 {
@@ -91,5 +94,48 @@ pub(crate) fn zone_of(alloc: Global, value: &Value) -> Result<Zone, LineError>
     match Zone::table(stretches_of(alloc, items.as_slice())?) {
         Ok(zone) => Ok(zone),
         Err(_) => unreachable!(),
+    }
+}
+
+/// The table of a rule text. A text of no zone is refused before memory is wanted.
+#[tactic(auto, using(crate::proofs::RuleLaws::rule_tables))]
+fn table_of_rule(alloc: Global, rule: &str) -> Result<List<Stretch>, LineError>
+    ensures { ReadsAs result (or_shape (kept spec.is_zone (rule_table rule.now))) }
+{
+    match expand(alloc, rule) {
+        Ok(stretches) => Ok(stretches),
+        Err(RuleFault::BadRule) => Err(LineError::Bad(LineFault::Shape)),
+        Err(RuleFault::Bad { .. }) => Err(LineError::Bad(LineFault::Shape)),
+        Err(RuleFault::NoMemory) => Err(LineError::NoMemory),
+    }
+}
+
+/// The zone of a rule text.
+#[tactic(auto, using(crate::proofs::RuleLaws::kept_is_zone))]
+fn rule_zone_of(alloc: Global, value: &Value) -> Result<Zone, LineError>
+    ensures value { ReadsAs result (or_shape (spec.rule_zone_of (view value.now))) }
+    ensures valid { IfOk result (λ zone. spec.is_zone zone ≡ true) }
+{
+    let rule = value.as_str().ok_or(LineFault::Shape)?;
+    match Zone::table(table_of_rule(alloc, rule)?) {
+        Ok(zone) => Ok(zone),
+        Err(_) => unreachable!(),
+    }
+}
+
+/// The zone that a line gives: by its table or by its rule, and by one of them alone.
+pub(crate) fn zone_given(alloc: Global, value: &Value) -> Result<Zone, LineError>
+    ensures value { ReadsAs result (or_shape (spec.zone_given (view value.now))) }
+    ensures valid { IfOk result (λ zone. spec.is_zone zone ≡ true) }
+{
+    match value.get("stretches") {
+        Some(table) => match value.get("rule") {
+            Some(_) => Err(LineError::Bad(LineFault::Shape)),
+            None => zone_of(alloc, table),
+        },
+        None => match value.get("rule") {
+            Some(rule) => rule_zone_of(alloc, rule),
+            None => Err(LineError::Bad(LineFault::Shape)),
+        },
     }
 }

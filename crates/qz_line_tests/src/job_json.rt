@@ -181,6 +181,35 @@ const NODE_STEPS: &[StepRow] = &[
     ),
 ];
 
+/// Lines that take no reading of the clock: 0 stands in its place.
+const UNTIMED_STEPS: &[StepRow] = &[
+    (
+        r#"{"do":"show_job","name":"a"}"#,
+        r#"Given { at: Some(0), step: Show(Job(Key { group: "DEFAULT", name: "a" })) }"#,
+    ),
+    (
+        r#"{"do":"show_trigger","name":"a","group":"g"}"#,
+        r#"Given { at: Some(0), step: Show(Trigger(Key { group: "g", name: "a" })) }"#,
+    ),
+    (
+        r#"{"do":"show_entry","entry":18446744073709551615}"#,
+        r#"Given { at: Some(0), step: Show(Entry(18446744073709551615)) }"#,
+    ),
+    (
+        r#"{"do":"show_next"}"#,
+        r#"Given { at: Some(0), step: Show(Next) }"#,
+    ),
+    (
+        r#"{"do":"resume","node":"A","epoch":0}"#,
+        r#"Given { at: Some(0), step: Resume { node: "A", epoch: 0 } }"#,
+    ),
+];
+
+#[test]
+fn lines_without_a_reading_are_steps(rt: HostRuntime) -> Result<(), AllocError> {
+    check(&rt, rt.alloc(), UNTIMED_STEPS)
+}
+
 #[test]
 fn lines_of_nodes_are_steps(rt: HostRuntime) -> Result<(), AllocError> {
     check(&rt, rt.alloc(), NODE_STEPS)
@@ -246,6 +275,27 @@ const FAULTY: &[(&str, Option<LineFault>)] = &[
     (r#"{"do":"restart","more":1}"#, Some(LineFault::Shape)),
     (r#"{"do":"restart","node":"A"}"#, Some(LineFault::Shape)),
     (r#"{"do":"stop"}"#, Some(LineFault::Shape)),
+    (r#"{"do":"show_next","at":1}"#, Some(LineFault::Shape)),
+    (r#"{"do":"show_next","node":"A"}"#, Some(LineFault::Shape)),
+    (r#"{"do":"show_entry"}"#, Some(LineFault::Shape)),
+    (r#"{"do":"show_entry","entry":-1}"#, Some(LineFault::Shape)),
+    (
+        r#"{"do":"show_job","name":"j","entry":1}"#,
+        Some(LineFault::Shape),
+    ),
+    (
+        r#"{"do":"show_calendar","name":"c"}"#,
+        Some(LineFault::Shape),
+    ),
+    (r#"{"do":"resume","node":"A"}"#, Some(LineFault::Shape)),
+    (
+        r#"{"do":"resume","node":"A","epoch":1,"at":0}"#,
+        Some(LineFault::Shape),
+    ),
+    (
+        r#"{"do":"resume","node":"","epoch":1}"#,
+        Some(LineFault::Shape),
+    ),
     (r#"{"do":"check_in","node":7}"#, Some(LineFault::Shape)),
     (
         r#"{"do":"check_in","node":"A","interval":0}"#,

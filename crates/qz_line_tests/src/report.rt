@@ -1,7 +1,7 @@
 //! Replies with their lines.
 use qz_civil::beside;
 use qz_report::{reply_line, times_line};
-use qz_steps::StepReply;
+use qz_steps::{Shown, StepReply};
 use qz_types::{JobRow, Key, List, MovedRow, NoMemory, Owner, Refusal, Reply, Taken, Text};
 use std::alloc::{AllocError, Global};
 
@@ -62,6 +62,20 @@ fn ends_have_their_lines(rt: HostRuntime) {
     assert!(rt; has_line(alloc, StepReply::Closed, "closed\n"));
     assert!(rt; has_line(alloc, StepReply::Stopped, "stopped\n"));
     assert!(rt; has_line(alloc, StepReply::Restarted, "restarted\n"));
+}
+
+fn is_shown(alloc: Global, shown: Shown, line: &str) -> bool {
+    has_line(alloc, StepReply::Shown(shown), line)
+}
+
+#[test]
+fn what_is_missing_is_told(rt: HostRuntime) {
+    let alloc = rt.alloc();
+    assert!(rt; is_shown(alloc, Shown::Job(None), "job none\n"));
+    assert!(rt; is_shown(alloc, Shown::Trigger(None), "trigger none\n"));
+    assert!(rt; is_shown(alloc, Shown::Entry(None), "entry none\n"));
+    assert!(rt; is_shown(alloc, Shown::Next(None), "next none\n"));
+    assert!(rt; is_shown(alloc, Shown::Next(Some(-1)), "next -1\n"));
 }
 
 fn is_refused(alloc: Global, refusal: Refusal, line: &str) -> bool {

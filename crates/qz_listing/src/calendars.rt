@@ -1,9 +1,10 @@
 //! Lines of zones and calendars.
 ghost use Rattle.std.specs.Prelude.{◌≡◌, ◌++◌, ◌∷◌, [], OnOk, codes, string_bytes};
+ghost use Rattle.qz_report.specs.Optional.{optional_name_text};
 ghost use Rattle.qz_listing.specs.Lines as spec;
 
 use crate::lines::Line;
-use qz_report::push_name;
+use qz_report::{push_name, push_optional_name};
 use qz_types::{CalendarKind, CalendarRow, Text, ZoneRow};
 use std::alloc::AllocError;
 use std::fmt::Write;
@@ -50,12 +51,9 @@ fn word_of(kind: &CalendarKind) -> &'static str
 
 /// The end of the line, with the calendar below.
 fn push_base(text: &mut String, base: &Option<Text>) -> Result<(), AllocError>
-    ensures { OnOk result (string_bytes text.new ≡ string_bytes text.old ++ codes " base " ++ spec.base_text base.now ++ 10 ∷ []) }
+    ensures { OnOk result (string_bytes text.new ≡ string_bytes text.old ++ codes " base " ++ optional_name_text base.now ++ 10 ∷ []) }
 {
     text.push_str(" base ")?;
-    match base {
-        Some(name) => push_name(text, name.as_str())?,
-        None => text.push_str("none")?,
-    }
+    push_optional_name(text, base)?;
     text.push('\n')
 }

@@ -4,8 +4,8 @@ ghost use Rattle.std.specs.List.{flat_map};
 ghost use Rattle.qz_listing.specs.Lines as spec;
 
 use crate::lines::Line;
-use qz_report::{Next, push_key, push_name};
-use qz_types::{FiredRow, FiredState, Key, MemberRow, StateRow, Text};
+use qz_report::{push_fired_row, push_name};
+use qz_types::{FiredRow, MemberRow, StateRow};
 use std::alloc::AllocError;
 use std::fmt::Write;
 
@@ -23,48 +23,9 @@ impl Line for FiredRow {
     ghost line = { λ f. spec.fired_line f };
 
     fn push_line(&self, text: &mut String) -> Result<(), AllocError> {
-        push_holder(text, self.entry, &self.node, self.epoch)?;
-        push_trigger(text, &self.trigger, self.state)?;
-        push_moments(text, self.scheduled, self.fired)
-    }
-}
-
-/// The entry number, and the member that has it.
-#[tactic(auto, unfolding(crate::specs::Lines::fired_holder))]
-fn push_holder(text: &mut String, entry: u64, node: &Text, epoch: u64) -> Result<(), AllocError>
-    ensures { OnOk result (string_bytes text.new ≡ string_bytes text.old ++ spec.fired_holder entry node.now epoch) }
-{
-    write!(text, "fired {entry} ")?;
-    push_name(text, node.as_str())?;
-    write!(text, " {epoch}")
-}
-
-/// The trigger, and whether its execution has begun.
-#[tactic(auto, unfolding(crate::specs::Lines::fired_trigger))]
-fn push_trigger(text: &mut String, trigger: &Key, state: FiredState) -> Result<(), AllocError>
-    ensures { OnOk result (string_bytes text.new ≡ string_bytes text.old ++ spec.fired_trigger trigger.now state) }
-{
-    text.push(' ')?;
-    push_key(text, trigger)?;
-    text.push(' ')?;
-    text.push_str(word_of(state))
-}
-
-/// For when it was acquired, and when its execution began.
-#[tactic(auto, unfolding(crate::specs::Lines::fired_moments))]
-fn push_moments(text: &mut String, scheduled: i64, fired: Option<i64>) -> Result<(), AllocError>
-    ensures { OnOk result (string_bytes text.new ≡ string_bytes text.old ++ spec.fired_moments scheduled fired) }
-{
-    let fired = Next(fired);
-    write!(text, " scheduled {scheduled} at {fired}\n")
-}
-
-fn word_of(state: FiredState) -> &'static str
-    ensures { result.now ≡ spec.fired_word state }
-{
-    match state {
-        FiredState::Acquired => "ACQUIRED",
-        FiredState::Executing => "EXECUTING",
+        text.push_str("fired ")?;
+        push_fired_row(text, self)?;
+        text.push('\n')
     }
 }
 

@@ -20,25 +20,19 @@ use Rattle.qz_stores.specs.Stores.{Appends}
 use Rattle.qz_trigger_store.specs.Entries.{trigger_entry}
 use Rattle.qz_cluster.specs.Script.{entry_of, held_after_command}
 use Rattle.qz_cluster.specs.Steps.{ClusterState}
-use Rattle.qz_open.specs.Opened.{Execution, without_entry, open_after_reply}
-use Rattle.qz_open.specs.Runs.{SparesHolders}
+use Rattle.qz_open.specs.Opened.{Execution, without_entry, without_node, open_after_reply, open_after_command}
 use Rattle.qz_open.proofs.Facts.{Ends, completes, recovers, joins, Begins}
 use Rattle.qz_open.proofs.Nodes.{text_trans, none_of_leaver, leave_reply}
 use Rattle.qz_open.proofs.Steps.{way, Stands, Holds, some_is_none, true_is_false, apart_without, left_out, entry_facts, valid_then, goes_on}
 
-spared : (held : List MemberData) (c : Command) (failed : List ℕ) → SparesHolders held c → c ≡ command.Recover failed → member_of failed held ≡ None
-spared held c failed spares is = subst (SparesHolders held) is spares
-
 module _ (S S' : ClusterState) (os : List Execution) (node : List ℕ) (c : Command) (at : ℤ) (me : MemberData) (r : Reply) (good : IsTrue (is_entry (entry_of (actor.Node me) c at)))
-    (no_join : (name : List ℕ) → c ≡ command.Join name → ⊥) (spares : SparesHolders S.held c) (on : Appends trigger_entry (entry_of (actor.Node me) c at) r S.triggers S'.triggers) (h : Holds S os) where
+    (no_join : (name : List ℕ) → c ≡ command.Join name → ⊥) (no_recovery : (name : List ℕ) → c ≡ command.Recover name → ⊥) (on : Appends trigger_entry (entry_of (actor.Node me) c at) r S.triggers S'.triggers) (h : Holds S os) where
   abbrev e : EntryData
   e = entry_of (actor.Node me) c at
 
   ends_none : (o : Execution) → ((entry : ℕ) (code : _) → c ≡ command.Complete entry code → r ≡ reply.Completed o.entry → ⊥) → (was : Stands S o) → Ends (actor.Node me) c r was.row → ⊥
   ends_none o completes_not was (completes other entry code by is replied) = completes_not entry code is (replied ∙ ap reply.Completed was.entry)
-  ends_none o completes_not was (recovers other failed by is same) =
-      let alike : member_of failed S.held ≡ member_of o.node S.held = member_of-alike failed was.row.node S.held same ∙ sym (member_of-alike o.node was.row.node S.held was.node) in
-      some_is_none (member_of o.node S.held) (was.held on.was_open) (sym alike ∙ spared S.held c failed spares is)
+  ends_none o completes_not was (recovers other failed by is same) = no_recovery failed is
   ends_none o completes_not was (joins name is same) = no_join name is
 
   stays : (o : Execution) → ((entry : ℕ) (code : _) → c ≡ command.Complete entry code → r ≡ reply.Completed o.entry → ⊥) → member_of o.node S'.held ≡ member_of o.node S.held → Stands S o → Stands S' o
@@ -126,21 +120,44 @@ holds_left S S' os node at me r good on h mine held =
     subst (λ (q : Reply). Holds S' (open_after_reply os node q)) (sym replied) (record {
       valid = valid_then S S' os e r good on h;
       stands = All-weaker (Stands S) (Stands S') os
-          (λ o was. stays S S' os node command.Leave at me r good (λ name is. absurd (cc)) tt on h o (λ entry code is done. absurd (cc))
+          (λ o was. stays S S' os node command.Leave at me r good (λ name is. absurd (cc)) (λ name is. absurd (cc)) on h o (λ entry code is done. absurd (cc))
           (ap (member_of o.node) held ∙ member_of-without_member node o.node S.held (none_left_behind S S' os node at me r good on h mine o was)) was) h.stands;
       apart = h.apart;
     })
 
+-- Whoever is recovered has no execution then.
+
+recovery_ends_own : (S : ClusterState) (me : MemberData) (failed : List ℕ) (r : Reply) (o : Execution) → same_text failed o.node ≡ false → (was : Stands S o) → Ends (actor.Node me) (command.Recover failed) r was.row → ⊥
+recovery_ends_own S me failed r o other was (completes one entry code by is replied) = absurd (cc)
+recovery_ends_own S me failed r o other was (recovers one name by is same) =
+    let recovered : command.Recover failed ≡ command.Recover name = is in
+    let one_name : name ≡ failed = cc in
+    let own : same_text failed was.row.node ≡ true = subst (λ (n : List ℕ). same_text n was.row.node ≡ true) one_name same in
+    true_is_false (same_text failed o.node) (same_text_laws.congr failed was.row.node o.node own ∙ same_text_laws.symm was.row.node o.node ∙ was.node) other
+recovery_ends_own S me failed r o other was (joins name is same) = absurd (cc)
+
+holds_recovered : (S S' : ClusterState) (os : List Execution) (failed : List ℕ) (at : ℤ) (me : MemberData) (r : Reply) → IsTrue (is_entry (entry_of (actor.Node me) (command.Recover failed) at))
+    → Appends trigger_entry (entry_of (actor.Node me) (command.Recover failed) at) r S.triggers S'.triggers → Holds S os → S'.held ≡ S.held → Holds S' (without_node failed os)
+holds_recovered S S' os failed at me r good on h held =
+    let e = entry_of (actor.Node me) (command.Recover failed) at in
+    record {
+      valid = valid_then S S' os e r good on h;
+      stands = left_out S S' (λ o. same_text failed o.node) os
+          (λ o other was. goes_on S S' os e r good on h o (recovery_ends_own S me failed r o other) (ap (member_of o.node) held) was) h.stands;
+      apart = apart_without (λ o. same_text failed o.node) os h.apart;
+    }
+
 -- by what it was replied
 holds_reply : (S S' : ClusterState) (os : List Execution) (node : List ℕ) (c : Command) (at : ℤ) (me : MemberData) (r : Reply) → IsTrue (is_entry (entry_of (actor.Node me) c at)) → ((name : List ℕ) → c ≡ command.Join name → ⊥)
-    → SparesHolders S.held c → Appends trigger_entry (entry_of (actor.Node me) c at) r S.triggers S'.triggers → Holds S os → member_of node S.held ≡ Some me → S'.held ≡ S.held → Holds S' (open_after_reply os node r)
-holds_reply S S' os node c at me (reply.Fired x scheduled fired next trigger j) good no_join spares on h mine held =
-    holds_fired S S' os node c at me (reply.Fired x scheduled fired next trigger j) good no_join spares on h mine held x scheduled fired next trigger j refl
-holds_reply S S' os node c at me (reply.Completed x) good no_join spares on h mine held = holds_completed S S' os node c at me (reply.Completed x) good no_join spares on h mine held x refl
-holds_reply S S' os node c at me r good no_join spares on h mine held = holds_else S S' os node c at me r good no_join spares on h mine held (λ x is. absurd (cc))
+    → ((name : List ℕ) → c ≡ command.Recover name → ⊥) → Appends trigger_entry (entry_of (actor.Node me) c at) r S.triggers S'.triggers → Holds S os → member_of node S.held ≡ Some me → S'.held ≡ S.held → Holds S' (open_after_reply os node r)
+holds_reply S S' os node c at me (reply.Fired x scheduled fired next trigger j) good no_join no_recovery on h mine held =
+    holds_fired S S' os node c at me (reply.Fired x scheduled fired next trigger j) good no_join no_recovery on h mine held x scheduled fired next trigger j refl
+holds_reply S S' os node c at me (reply.Completed x) good no_join no_recovery on h mine held = holds_completed S S' os node c at me (reply.Completed x) good no_join no_recovery on h mine held x refl
+holds_reply S S' os node c at me r good no_join no_recovery on h mine held = holds_else S S' os node c at me r good no_join no_recovery on h mine held (λ x is. absurd (cc))
 
 pub holds_command : (S S' : ClusterState) (os : List Execution) (node : List ℕ) (c : Command) (at : ℤ) (me : MemberData) (r : Reply) → IsTrue (is_entry (entry_of (actor.Node me) c at)) → ((name : List ℕ) → c ≡ command.Join name → ⊥)
-    → SparesHolders S.held c → Appends trigger_entry (entry_of (actor.Node me) c at) r S.triggers S'.triggers → Holds S os → member_of node S.held ≡ Some me → S'.held ≡ held_after_command node c S.held
-    → Holds S' (open_after_reply os node r)
-holds_command S S' os node command.Leave at me r good no_join spares on h mine held = holds_left S S' os node at me r good on h mine held
-holds_command S S' os node c at me r good no_join spares on h mine held = holds_reply S S' os node c at me r good no_join spares on h mine held
+    → Appends trigger_entry (entry_of (actor.Node me) c at) r S.triggers S'.triggers → Holds S os → member_of node S.held ≡ Some me → S'.held ≡ held_after_command node c S.held
+    → Holds S' (open_after_command os node c r)
+holds_command S S' os node command.Leave at me r good no_join on h mine held = holds_left S S' os node at me r good on h mine held
+holds_command S S' os node (command.Recover failed) at me r good no_join on h mine held = holds_recovered S S' os failed at me r good on h held
+holds_command S S' os node c at me r good no_join on h mine held = holds_reply S S' os node c at me r good no_join (λ name is. absurd (cc)) on h mine held

@@ -4,7 +4,7 @@ use Rattle.std.specs.Prelude.{Ok}
 use Rattle.std.specs.List.{AllByRecursion}
 use Rattle.std.proofs.lemmas.Bool.{not-true}
 use Rattle.qz_types.specs.Entries.{EntryData, is_entry}
-use Rattle.qz_types.specs.Rows.{FiredData}
+use Rattle.qz_types.specs.Rows.{MemberData, FiredData}
 use Rattle.qz_types.specs.States.{is_acquired}
 use Rattle.qz_types.specs.Tables.{SchedulerTables}
 use Rattle.qz_types.specs.Outcomes.{Outcome, accepted, refused}
@@ -22,13 +22,14 @@ use Rattle.qz_model.proofs.NamedRows.{same_text_laws}
 use Rattle.qz_model.proofs.RowPoints.{All-weaker, All-filter, count_by-left_le}
 use Rattle.qz_stores.specs.Stores.{Same, Appends}
 use Rattle.qz_trigger_store.specs.Entries.{answer_of, trigger_entry}
+use Rattle.qz_cluster.specs.Asking.{held_after_resume}
 use Rattle.qz_cluster.specs.Script.{entry_of, held_after_join}
 use Rattle.qz_cluster.specs.Steps.{ClusterState}
 use Rattle.qz_open.specs.Opened.{Execution, without_node}
 use Rattle.qz_open.proofs.Lists.{Has}
 use Rattle.qz_open.proofs.Facts.{Ends, completes, recovers, joins, ExecutionFacts}
 use Rattle.qz_open.proofs.Entries.{facts}
-use Rattle.qz_open.proofs.Held.{join-other}
+use Rattle.qz_open.proofs.Held.{join-other, resume-some}
 
 -- An open execution is a row that executes. While the store is open, its node holds an epoch; of a closed one nothing is
 -- said, since only a restart opens it again.
@@ -112,6 +113,17 @@ holds_without S S' os node same keeps h = record {
   valid = valid_as S S' same.history h.valid;
   stands = left_out S S' (λ o. same_text node o.node) os (λ o other was. stands_as S S' o same.history (still_held S S' o same (keeps o other) was) was) h.stands;
   apart = apart_without (λ o. same_text node o.node) os h.apart;
+}
+
+-- a node that held no epoch holds one, and nothing else was done
+pub holds_resumed : (S S' : ClusterState) (os : List Execution) (node : List ℕ) (epoch : ℕ) → Same S.triggers S'.triggers → member_of node S.held ≡ None
+    → S'.held ≡ held_after_resume node epoch S.held → Holds S os → Holds S' os
+holds_resumed S S' os node epoch same none held h = record {
+  valid = valid_as S S' same.history h.valid;
+  stands = All-weaker (Stands S) (Stands S') os
+      (λ o was. stands_as S S' o same.history
+      (λ now. ap (λ (l : List MemberData). is_some (member_of o.node l)) held ∙ resume-some node o.node epoch S.held none (was.held (sym same.is_open ∙ now))) was) h.stands;
+  apart = h.apart;
 }
 
 -- An entry was appended.

@@ -3,11 +3,13 @@
 use Rattle.std.specs.Prelude.{◌≡◌, ℕ, ◌≤◌, ◌==◌, Bool, true, not, List, [], ◌∷◌, filter}
 use Rattle.std.specs.List.{AllByRecursion, count_by}
 use Rattle.qz_types.specs.Words.{same_text, same_key}
+use Rattle.qz_types.specs.declared.commands.Command.{Command}
+use Rattle.qz_types.specs.declared.commands.Command.TheVariants.{Recover}
 use Rattle.qz_types.specs.declared.keys.Key.{Key}
 use Rattle.qz_types.specs.declared.replies.Reply.{Reply}
 use Rattle.qz_types.specs.declared.replies.Reply.TheVariants.{Fired, Completed}
 use Rattle.qz_steps.specs.declared.steps.Step.{Step}
-use Rattle.qz_steps.specs.declared.steps.Step.TheVariants.{Client, Join, CheckIn, Node, Forget, Stop, Restart}
+use Rattle.qz_steps.specs.declared.steps.Step.TheVariants.{Client, Join, CheckIn, Node, Forget, Stop, Restart, Resume, Show}
 use Rattle.qz_steps.specs.declared.steps.StepReply.{StepReply}
 use Rattle.qz_steps.specs.declared.steps.StepReply.TheVariants as answer
 use Rattle.qz_cluster.specs.Script.{TimedStep}
@@ -25,22 +27,30 @@ without_entry entry os = filter (λ o. not (entry == o.entry)) os
 abbrev pub without_node : List ℕ → List Execution → List Execution
 without_node node os = filter (λ o. not (same_text node o.node)) os
 
--- a node's command was replied to so: an execution of this job began, or that of this entry number ended
+-- a node was replied to so: an execution of this job began, or that of this entry number ended
 abbrev pub open_after_reply : List Execution → List ℕ → Reply → List Execution
 open_after_reply os node (Fired entry scheduled at next trigger job) =
     record { entry = entry; node = node; job = job.key; no_concurrent = job.no_concurrent } ∷ os
 open_after_reply os node (Completed entry) = without_entry entry os
 open_after_reply os node reply = os
 
--- the step was done: a node that joins or stops has none then
+-- a node's command was done: whoever is recovered has none then, whether it knows it or not
+abbrev pub open_after_command : List Execution → List ℕ → Command → Reply → List Execution
+open_after_command os node (Recover failed) reply = without_node failed os
+open_after_command os node c reply = open_after_reply os node reply
+
+-- The step was done: a node that joins or stops has none then. An execution that began before is not among these: a node
+-- that goes on has its row, and works on at it.
 abbrev pub open_after_done : List Execution → Step → Reply → List Execution
 open_after_done os (Client c) reply = os
 open_after_done os (Join node interval) reply = without_node node os
 open_after_done os (CheckIn node interval) reply = os
-open_after_done os (Node node c) reply = open_after_reply os node reply
+open_after_done os (Node node c) reply = open_after_command os node c reply
 open_after_done os (Forget node failed) reply = os
 open_after_done os (Stop node) reply = without_node node os
 open_after_done os Restart reply = os
+open_after_done os (Resume node epoch) reply = os
+open_after_done os (Show question) reply = os
 
 -- a disk failed in the step
 abbrev pub open_after_fault : List Execution → Step → List Execution

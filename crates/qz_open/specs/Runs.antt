@@ -1,15 +1,17 @@
--- Runs of a cluster: steps that were done one after another, and which recoveries are in them.
-use Rattle.std.specs.Prelude.{⊤, ◌≡◌, List, [], ◌∷◌, None}
+-- Runs of a cluster: steps that were done one after another, and whose executions the recoveries in them end.
+use Rattle.std.specs.Prelude.{⊤, ◌≡◌, false, List, [], ◌∷◌, None}
+use Rattle.std.specs.List.{AllByRecursion}
 use Rattle.qz_types.specs.Rows.{MemberData}
-use Rattle.qz_types.specs.Words.{member_of}
-use Rattle.qz_types.specs.declared.commands.Command.{Command}
+use Rattle.qz_types.specs.Words.{same_text, member_of}
 use Rattle.qz_types.specs.declared.commands.Command.TheVariants.{Recover}
 use Rattle.qz_steps.specs.declared.steps.Step.{Step}
 use Rattle.qz_steps.specs.declared.steps.Step.TheVariants.{Node}
 use Rattle.qz_steps.specs.declared.steps.StepReply.{StepReply}
+use Rattle.qz_steps.specs.declared.steps.StepReply.TheVariants as answer
 use Rattle.qz_trigger_store.specs.Opening.{IsOpened}
 use Rattle.qz_cluster.specs.Script.{TimedStep}
 use Rattle.qz_cluster.specs.Steps.{ClusterState, IsStep}
+use Rattle.qz_open.specs.Opened.{Execution, open_after}
 
 -- the trigger store was just opened, and no node holds an epoch
 pub record IsStart (S : ClusterState) : Type 0 where
@@ -22,17 +24,18 @@ StepsDone honest S [] [] [] = ⊤
 StepsDone honest S (t ∷ ts) (a ∷ answers) (S' ∷ states) = IsStep honest t a S S' × StepsDone honest S' ts answers states
 StepsDone honest S ts answers states = ⊥
 
--- the command recovers no node that holds an epoch
-abbrev pub SparesHolders : List MemberData → Command → Type 0
-SparesHolders held (Recover failed) = member_of failed held ≡ None
-SparesHolders held c = ⊤
+-- A node that is recovered while it holds no epoch has no open execution: what it had was closed when it stopped, or when
+-- the stores were opened anew. So a recovery ends open executions only of a node that still holds an epoch.
+abbrev pub SparesDone : List MemberData → List Execution → Step → Type 0
+SparesDone held os (Node node (Recover failed)) = member_of failed held ≡ None → AllByRecursion (λ o. same_text failed o.node ≡ false) os
+SparesDone held os step = ⊤
 
--- nor does the step
-abbrev pub IsSparing : List MemberData → Step → Type 0
-IsSparing held (Node node c) = SparesHolders held c
-IsSparing held step = ⊤
+-- where the step was done
+abbrev pub SparesOthers : List MemberData → List Execution → Step → StepReply → Type 0
+SparesOthers held os step (answer.Ok reply) = SparesDone held os step
+SparesOthers held os step a = ⊤
 
--- nor does any of these, at the state before it
-abbrev pub AreSparing : ClusterState → List TimedStep → List ClusterState → Type 0
-AreSparing S (t ∷ ts) (S' ∷ states) = IsSparing S.held t.step × AreSparing S' ts states
-AreSparing S ts states = ⊤
+-- so at each step, with the executions that are open before it
+abbrev pub AlwaysSparesOthers : ClusterState → List Execution → List TimedStep → List StepReply → List ClusterState → Type 0
+AlwaysSparesOthers S os (t ∷ ts) (a ∷ answers) (S' ∷ states) = SparesOthers S.held os t.step a × AlwaysSparesOthers S' (open_after os t.step a) ts answers states
+AlwaysSparesOthers S os ts answers states = ⊤

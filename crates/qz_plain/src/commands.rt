@@ -1,12 +1,13 @@
 //! Which crate applies which command.
-ghost use Rattle.std.specs.Prelude.{◌≡◌, IsTrue, IfOk, IfErr, OnErr, MatchOption};
+ghost use Rattle.std.specs.Prelude.{◌≡◌, IsTrue, Err, IfOk, IfErr, MatchOption};
 ghost use Rattle.qz_types.specs.Entries.{is_entry};
 ghost use Rattle.qz_types.specs.Outcomes.{accepted, refused, IsAccepted, IsErrorOf};
 ghost use Rattle.qz_model.specs.Invariant.{TablesValid};
 ghost use Rattle.qz_model.specs.Transaction.{transaction};
-ghost use Rattle.qz_tables.specs.Contents.{HasSpare};
-ghost use Rattle.qz_apply.specs.Room.{rows_added};
+ghost use Rattle.qz_apply.specs.Memory.{takes_memory};
+ghost use Rattle.qz_plain.specs.Prepared.{Prepares};
 
+use crate::prepared::Prepared;
 use qz_tables::Tables;
 use qz_types::{Command, Entry, Refusal, Reply, StepRefused};
 
@@ -41,69 +42,61 @@ pub fn refusal(tables: &Tables, entry: &Entry) -> Option<Refusal>
     }
 }
 
-/// How many rows more of each kind there has to be room for.
-pub fn room(tables: &Tables, entry: &Entry) -> usize
-    requires valid { ∥ TablesValid tables.now.tables ∥₁ }
-    ensures { result ≡ rows_added tables.now.tables entry.now.command }
+/// Decides the transaction, and takes all the memory that it needs. The rows and numbers stay as they are.
+pub fn prepare(tables: &mut Tables, entry: &Entry) -> Result<Prepared, StepRefused>
+    requires valid { ∥ TablesValid tables.old.tables ∥₁ }
+    requires entry { IsTrue (is_entry entry.now) }
+    ensures ok { IfOk result (Prepares tables.new entry.now) }
+    ensures cause { IfErr result (IsErrorOf (transaction tables.old.tables entry.now)) }
+    ensures memory { result ≡ Err StepRefused.NoMemory → IsTrue (takes_memory entry.now.command) }
+    ensures tables { tables.new.tables ≡ tables.old.tables }
 {
     match &entry.command {
-        Command::AddJob { .. } => qz_schedule::room(entry),
-        Command::DeleteJob { .. } => qz_schedule::room(entry),
-        Command::AddTrigger { .. } => qz_schedule::room(entry),
-        Command::DeleteTrigger { .. } => qz_schedule::room(entry),
-        Command::PauseTrigger { .. } => qz_schedule::room(entry),
-        Command::ResumeTrigger { .. } => qz_schedule::room(entry),
-        Command::PauseGroup { .. } => qz_schedule::room(entry),
-        Command::ResumeGroup { .. } => qz_schedule::room(entry),
-        Command::AddCalendar { .. } => qz_schedule::room(entry),
-        Command::DeleteCalendar { .. } => qz_schedule::room(entry),
-        Command::AddZone { .. } => qz_schedule::room(entry),
-        Command::DeleteZone { .. } => qz_schedule::room(entry),
-        Command::TriggerNow { .. } => qz_schedule::room(entry),
-        Command::Threshold { .. } => qz_schedule::room(entry),
-        Command::Join { .. } => qz_recover::room(tables, entry),
-        Command::Leave => qz_recover::room(tables, entry),
-        Command::Recover { .. } => qz_recover::room(tables, entry),
-        Command::Acquire { .. } => qz_acquire::room(entry),
-        Command::Release { .. } => qz_acquire::room(entry),
-        Command::Fire { .. } => qz_acquire::room(entry),
-        Command::Misfires => qz_acquire::room(entry),
-        Command::Complete { .. } => qz_complete::room(entry),
+        Command::AddJob { .. } => Ok(Prepared::Schedule(qz_schedule::prepare(tables, entry)?)),
+        Command::DeleteJob { .. } => Ok(Prepared::Schedule(qz_schedule::prepare(tables, entry)?)),
+        Command::AddTrigger { .. } => Ok(Prepared::Schedule(qz_schedule::prepare(tables, entry)?)),
+        Command::DeleteTrigger { .. } => Ok(Prepared::Schedule(qz_schedule::prepare(
+            tables, entry,
+        )?)),
+        Command::PauseTrigger { .. } => Ok(Prepared::Schedule(qz_schedule::prepare(
+            tables, entry,
+        )?)),
+        Command::ResumeTrigger { .. } => Ok(Prepared::Schedule(qz_schedule::prepare(
+            tables, entry,
+        )?)),
+        Command::PauseGroup { .. } => Ok(Prepared::Schedule(qz_schedule::prepare(tables, entry)?)),
+        Command::ResumeGroup { .. } => Ok(Prepared::Schedule(qz_schedule::prepare(tables, entry)?)),
+        Command::AddCalendar { .. } => Ok(Prepared::Schedule(qz_schedule::prepare(tables, entry)?)),
+        Command::DeleteCalendar { .. } => Ok(Prepared::Schedule(qz_schedule::prepare(
+            tables, entry,
+        )?)),
+        Command::AddZone { .. } => Ok(Prepared::Schedule(qz_schedule::prepare(tables, entry)?)),
+        Command::DeleteZone { .. } => Ok(Prepared::Schedule(qz_schedule::prepare(tables, entry)?)),
+        Command::TriggerNow { .. } => Ok(Prepared::Schedule(qz_schedule::prepare(tables, entry)?)),
+        Command::Threshold { .. } => Ok(Prepared::Schedule(qz_schedule::prepare(tables, entry)?)),
+        Command::Join { .. } => Ok(Prepared::Recover(qz_recover::prepare(tables, entry)?)),
+        Command::Leave => Ok(Prepared::Recover(qz_recover::prepare(tables, entry)?)),
+        Command::Recover { .. } => Ok(Prepared::Recover(qz_recover::prepare(tables, entry)?)),
+        Command::Acquire { .. } => Ok(Prepared::Acquire(qz_acquire::prepare(tables, entry)?)),
+        Command::Release { .. } => Ok(Prepared::Acquire(qz_acquire::prepare(tables, entry)?)),
+        Command::Fire { .. } => Ok(Prepared::Acquire(qz_acquire::prepare(tables, entry)?)),
+        Command::Misfires => Ok(Prepared::Acquire(qz_acquire::prepare(tables, entry)?)),
+        Command::Complete { .. } => Ok(Prepared::Complete(qz_complete::prepare(tables, entry)?)),
     }
 }
 
-/// Does the transaction. An error changes nothing.
-pub fn apply(tables: &mut Tables, entry: &Entry) -> Result<Reply, StepRefused>
+/// Does what was prepared for the entry at these tables. It takes no memory, and can't fail.
+pub fn commit(tables: &mut Tables, entry: &Entry, prepared: Prepared) -> Reply
     requires valid { ∥ TablesValid tables.old.tables ∥₁ }
     requires entry { IsTrue (is_entry entry.now) }
-    requires spare { HasSpare (rows_added tables.old.tables entry.now.command) tables.old.spare }
-    ensures ok { IfOk result (λ reply. transaction tables.old.tables entry.now ≡ accepted tables.new.tables reply) }
-    ensures cause { IfErr result (IsErrorOf (transaction tables.old.tables entry.now)) }
-    ensures err { OnErr result (tables.new ≡ tables.old) }
+    requires prepared { Prepares tables.old entry.now prepared }
+    ensures ok { transaction tables.old.tables entry.now ≡ accepted tables.new.tables result }
     ensures valid { ∥ TablesValid tables.new.tables ∥₁ }
 {
-    match &entry.command {
-        Command::AddJob { .. } => qz_schedule::apply(tables, entry),
-        Command::DeleteJob { .. } => qz_schedule::apply(tables, entry),
-        Command::AddTrigger { .. } => qz_schedule::apply(tables, entry),
-        Command::DeleteTrigger { .. } => qz_schedule::apply(tables, entry),
-        Command::PauseTrigger { .. } => qz_schedule::apply(tables, entry),
-        Command::ResumeTrigger { .. } => qz_schedule::apply(tables, entry),
-        Command::PauseGroup { .. } => qz_schedule::apply(tables, entry),
-        Command::ResumeGroup { .. } => qz_schedule::apply(tables, entry),
-        Command::AddCalendar { .. } => qz_schedule::apply(tables, entry),
-        Command::DeleteCalendar { .. } => qz_schedule::apply(tables, entry),
-        Command::AddZone { .. } => qz_schedule::apply(tables, entry),
-        Command::DeleteZone { .. } => qz_schedule::apply(tables, entry),
-        Command::TriggerNow { .. } => qz_schedule::apply(tables, entry),
-        Command::Threshold { .. } => qz_schedule::apply(tables, entry),
-        Command::Join { .. } => qz_recover::apply(tables, entry),
-        Command::Leave => qz_recover::apply(tables, entry),
-        Command::Recover { .. } => qz_recover::apply(tables, entry),
-        Command::Acquire { .. } => qz_acquire::apply(tables, entry),
-        Command::Release { .. } => qz_acquire::apply(tables, entry),
-        Command::Fire { .. } => qz_acquire::apply(tables, entry),
-        Command::Misfires => qz_acquire::apply(tables, entry),
-        Command::Complete { .. } => qz_complete::apply(tables, entry),
+    match prepared {
+        Prepared::Schedule(change) => qz_schedule::commit(tables, entry, change),
+        Prepared::Recover(change) => qz_recover::commit(tables, entry, change),
+        Prepared::Acquire(change) => qz_acquire::commit(tables, entry, change),
+        Prepared::Complete(change) => qz_complete::commit(tables, entry, change),
     }
 }

@@ -2,6 +2,10 @@
 #![tactic(auto)]
 
 mod commands;
+mod prepared;
+mod replies;
 mod stores;
 
-pub use stores::{PlainStore, Worked};
+pub use prepared::Prepared;
+pub use replies::same_reply;
+pub use stores::PlainStore;

@@ -1,24 +1,21 @@
 //! The plain store.
-ghost use Rattle.std.specs.Prelude.{◌≡◌, ◌≤ℤ◌, pos, IsTrue, IfOk, IfErr, OnOk, OnErr, MatchOption};
+ghost use Rattle.std.specs.Prelude.{◌≡◌, ◌≤ℤ◌, pos, IsTrue, Err, IfOk, IfErr, OnOk, OnErr, MatchOption};
 ghost use Rattle.qz_types.specs.Entries.{is_entry};
 ghost use Rattle.qz_types.specs.Outcomes.{accepted, refused, IsAccepted, IsErrorOf};
 ghost use Rattle.qz_types.specs.Tables.{new_tables};
 ghost use Rattle.qz_model.specs.Invariant.{TablesValid};
 ghost use Rattle.qz_model.specs.Transaction.{transaction};
-ghost use Rattle.qz_tables.specs.Contents.{HasSpare};
+ghost use Rattle.qz_apply.specs.Memory.{takes_memory};
+ghost use Rattle.qz_plain.specs.Prepared.{Prepares};
+ghost use Rattle.qz_plain.specs.Replies.{CopiesReply};
 
-use crate::commands::{apply, refusal, room};
+use crate::commands::{commit, prepare, refusal};
+use crate::prepared::Prepared;
+use crate::replies::copy_reply;
 use qz_tables::Tables;
 use qz_types::{Entry, NoMemory, Refusal, Reply, StepRefused};
 use std::alloc::Global;
 use std::marker::Model;
-
-/// The tables after a transaction, and its reply.
-#[derive(Drop)]
-pub struct Worked {
-    pub tables: PlainStore,
-    pub reply: Reply,
-}
 
 /// The trigger store as its tables alone, each in the order of its ids. The tables are always valid.
 #[derive(Drop)]
@@ -27,12 +24,12 @@ pub struct PlainStore {
 }
 
 impl Model for PlainStore {
-    ghost use Rattle.qz_types.specs.Tables.{SchedulerTables};
+    ghost use Rattle.qz_tables.specs.Contents.{TablesData};
     ghost use Rattle.qz_model.specs.Invariant.{TablesValid};
 
-    ghost Value = { SchedulerTables };
+    ghost Value = { TablesData };
 
-    ghost view = { λ a. a.tables.tables };
+    ghost view = { λ a. a.tables };
 
     ghost invariant = { λ a. ∥ TablesValid a.tables.tables ∥₁ };
 }
@@ -40,39 +37,30 @@ impl Model for PlainStore {
 impl PlainStore {
     /// A new store, without rows.
     pub fn new(alloc: Global) -> Self
-        ensures { result ≡ new_tables }
+        ensures { result.tables ≡ new_tables }
     {
         PlainStore {
             tables: Tables::new(alloc),
         }
     }
 
-    /// An equal store.
-    pub fn copy(&self) -> Result<Self, NoMemory>
-        ensures { IfOk result (λ store. store ≡ self.now) }
-    {
-        Ok(PlainStore {
-            tables: self.tables.clone_rows()?,
-        })
-    }
-
     /// The tables of a plain store are valid. It does nothing: its contract says so.
     pub fn is_valid(&self)
-        ensures { ∥ TablesValid self.now ∥₁ }
+        ensures { ∥ TablesValid self.now.tables ∥₁ }
     {
         let _ = &self.tables;
     }
 
     /// The tables, which give the rows of each kind, and the numbers.
     pub fn tables(&self) -> &Tables
-        ensures { result.now.tables ≡ self.now }
+        ensures { result.now ≡ self.now }
     {
         &self.tables
     }
 
     /// The recorded moment of the last transaction, in ms since 1970-01-01T00:00:00Z; 0 before the first.
     pub fn last_moment(&self) -> i64
-        ensures value { result ≡ self.now.last_moment }
+        ensures value { result ≡ self.now.tables.last_moment }
         ensures bound { pos 0 ≤ℤ result }
     {
         self.tables.last_moment()
@@ -80,83 +68,68 @@ impl PlainStore {
 
     /// Why a transaction is refused, or None where it is accepted.
     pub fn refusal(&self, entry: &Entry) -> Option<Refusal>
-        ensures { MatchOption result (IsAccepted (transaction self.now entry.now)) (λ x. transaction self.now entry.now ≡ refused x) }
+        ensures { MatchOption result (IsAccepted (transaction self.now.tables entry.now)) (λ x. transaction self.now.tables entry.now ≡ refused x) }
     {
         refusal(&self.tables, entry)
     }
 
     /// Does one transaction. It is refused where the transaction itself is, and memory runs out only where it isn't. An
-    /// error changes nothing.
+    /// error leaves the rows and numbers as they are.
     pub fn step(&mut self, entry: Entry) -> Result<Reply, StepRefused>
-        ensures ok { IfOk result (λ reply. transaction self.old entry ≡ accepted self.new reply) }
-        ensures cause { IfErr result (IsErrorOf (transaction self.old entry)) }
-        ensures err { OnErr result (self.new ≡ self.old) }
+        ensures ok { IfOk result (λ reply. transaction self.old.tables entry ≡ accepted self.new.tables reply) }
+        ensures cause { IfErr result (IsErrorOf (transaction self.old.tables entry)) }
+        ensures memory { result ≡ Err StepRefused.NoMemory → IsTrue (takes_memory entry.command) }
+        ensures err { OnErr result (self.new.tables ≡ self.old.tables) }
     {
         let answer = self.apply(&entry);
         drop(entry);
         answer
     }
 
-    /// The same for an entry that the caller keeps. It works on the tables as they stand, without a copy of them.
+    /// The same for an entry that the caller keeps.
     pub fn apply(&mut self, entry: &Entry) -> Result<Reply, StepRefused>
         requires { IsTrue (is_entry entry.now) }
-        ensures ok { IfOk result (λ reply. transaction self.old entry.now ≡ accepted self.new reply) }
-        ensures cause { IfErr result (IsErrorOf (transaction self.old entry.now)) }
-        ensures err { OnErr result (self.new ≡ self.old) }
-        ensures valid { ∥ TablesValid self.new ∥₁ }
+        ensures ok { IfOk result (λ reply. transaction self.old.tables entry.now ≡ accepted self.new.tables reply) }
+        ensures cause { IfErr result (IsErrorOf (transaction self.old.tables entry.now)) }
+        ensures memory { result ≡ Err StepRefused.NoMemory → IsTrue (takes_memory entry.now.command) }
+        ensures err { OnErr result (self.new.tables ≡ self.old.tables) }
+        ensures valid { ∥ TablesValid self.new.tables ∥₁ }
     {
-        accept(&self.tables, entry)?;
-        let rows = room(&self.tables, entry);
-        self.tables.reserve(rows)?;
-        apply(&mut self.tables, entry)
+        let prepared = self.prepare(entry)?;
+        Ok(self.commit(entry, prepared))
     }
 
-    /// What one transaction comes to here: the tables after it and its reply, or why it isn't done. The store stays as
-    /// it is.
-    pub fn work(&self, entry: &Entry) -> Result<Worked, StepRefused>
+    /// Decides one transaction, and takes all the memory that it needs: what is left of it is `commit`. The rows and numbers
+    /// stay as they are. It is refused where the transaction itself is, and memory runs out only where it isn't.
+    #[tactic(auto, using(crate::proofs::Preparing::accepted_before))]
+    pub fn prepare(&mut self, entry: &Entry) -> Result<Prepared, StepRefused>
         requires { IsTrue (is_entry entry.now) }
-        ensures ok { IfOk result (λ worked. transaction self.now entry.now ≡ accepted worked.tables worked.reply) }
-        ensures cause { IfErr result (IsErrorOf (transaction self.now entry.now)) }
-        ensures valid { IfOk result (λ worked. ∥ TablesValid worked.tables ∥₁) }
+        ensures ok { IfOk result (Prepares self.new entry.now) }
+        ensures accepted { OnOk result (IsAccepted (transaction self.old.tables entry.now)) }
+        ensures cause { IfErr result (IsErrorOf (transaction self.old.tables entry.now)) }
+        ensures memory { result ≡ Err StepRefused.NoMemory → IsTrue (takes_memory entry.now.command) }
+        ensures tables { self.new.tables ≡ self.old.tables }
+        ensures valid { ∥ TablesValid self.new.tables ∥₁ }
     {
-        accept(&self.tables, entry)?;
-        let mut tables = copy_with_room(&self.tables, room(&self.tables, entry))?;
-        match apply(&mut tables, entry) {
-            Ok(reply) => Ok(Worked {
-                tables: PlainStore { tables },
-                reply,
-            }),
-            Err(error) => {
-                drop(tables);
-                Err(error)
-            }
-        }
+        prepare(&mut self.tables, entry)
     }
-}
 
-// Ok where the transaction is accepted.
-fn accept(tables: &Tables, entry: &Entry) -> Result<(), StepRefused>
-    requires valid { ∥ TablesValid tables.now.tables ∥₁ }
-    ensures ok { OnOk result (IsAccepted (transaction tables.now.tables entry.now)) }
-    ensures err { IfErr result (IsErrorOf (transaction tables.now.tables entry.now)) }
-{
-    match refusal(tables, entry) {
-        Some(refusal) => Err(StepRefused::Refused(refusal)),
-        None => Ok(()),
+    /// The reply that what was prepared will give, or `None` where it has numbers alone. With `same_reply` whoever keeps a
+    /// reply and hands it on has it twice.
+    pub fn copy_reply(&self, entry: &Entry, prepared: &Prepared) -> Result<Option<Reply>, NoMemory>
+        requires { Prepares self.now entry.now prepared.now }
+        ensures { IfOk result (λ copy. CopiesReply copy (transaction self.now.tables entry.now)) }
+    {
+        copy_reply(&self.tables, entry, prepared)
     }
-}
 
-// Equal tables, with room for so many rows more of each kind.
-fn copy_with_room(tables: &Tables, rows: usize) -> Result<Tables, NoMemory>
-    ensures tables { IfOk result (λ copy. copy.tables ≡ tables.now.tables) }
-    ensures spare { IfOk result (λ copy. HasSpare rows copy.spare) }
-{
-    let mut copy = tables.clone_rows()?;
-    match copy.reserve(rows) {
-        Ok(()) => Ok(copy),
-        Err(NoMemory) => {
-            drop(copy);
-            Err(NoMemory)
-        }
+    /// Does what was prepared for this entry at this store. It takes no memory, and can't fail.
+    pub fn commit(&mut self, entry: &Entry, prepared: Prepared) -> Reply
+        requires entry { IsTrue (is_entry entry.now) }
+        requires prepared { Prepares self.old entry.now prepared }
+        ensures ok { transaction self.old.tables entry.now ≡ accepted self.new.tables result }
+        ensures valid { ∥ TablesValid self.new.tables ∥₁ }
+    {
+        commit(&mut self.tables, entry, prepared)
     }
 }

@@ -25,14 +25,18 @@ on standard output.
   {\"do\":\"fire\",\"at\":1704067200000,\"node\":\"A\",\"entry\":1}
   {\"do\":\"complete\",\"at\":1704067200000,\"node\":\"A\",\"entry\":1}
 
-Times are in milliseconds since 1970-01-01T00:00:00Z. A line may have its own clock
-reading as \"at\", as these have. A line of times is one of
+Times are in milliseconds since 1970-01-01T00:00:00Z: 1704067200000 is midnight on
+1 January 2024. A line may have its own clock reading as \"at\", as these have. A line of
+times is one of
 
-  {\"do\":\"add_zone\",\"name\":\"CET\",\"stretches\":[[0,3600],[1711846800000,7200]]}
+  {\"do\":\"add_zone\",\"name\":\"CET\",\"stretches\":[[0,3600],[1711846800000,7200],[1729990800000,3600]]}
   {\"do\":\"add_trigger\",\"trigger\":{\"name\":\"c\",\"job\":\"j\",\"start\":0,\"kind\":\"cron\",\"cron\":\"0 0 2 * * ?\",\"zone\":\"CET\"}}
 
-The stores are the files qz-triggers.store and qz-states.store; one
-program at a time may work on them. What ends a call early is told on standard error:
+A zone is a table: from when on, and how many seconds ahead of UTC. Its last line stays
+for ever, so list the changes of all years that you need. This one has those of 2024.
+
+The stores are the files qz-triggers.store and qz-states.store. One program at a time may
+work on them. Standard error says what ended a call early:
 
   status 1  bad words                  status 6   no store, or a damaged one
   status 2  a bad line                 status 7   the journal is full

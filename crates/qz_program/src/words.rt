@@ -6,7 +6,7 @@ use std::env::{Env, FillError};
 /// Bytes of a word: Linux passes no longer one.
 const WORD_LIMIT: usize = 131072;
 
-/// The words behind the program's name. One that isn't UTF-8 is read as the empty text, which no call knows.
+/// The words after the program's name. One that isn't UTF-8 is read as the empty text, which no call knows.
 pub fn read_words<R: Env>(alloc: Global, rt: &R) -> Result<Vec<Text>, NoMemory> {
     let mut buffer = vec![in alloc; 0u8; WORD_LIMIT]?;
     let mut words = Vec::new(alloc);

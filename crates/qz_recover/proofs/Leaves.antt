@@ -1,14 +1,17 @@
 -- What a leave comes to, by its refusals.
-use Rattle.std.proofs.Common.{◌≡◌, ℕ, suc, ℤ, Bool, true, false, List, [], ◌∷◌, length, nat_lt, Option, Some, None, MatchOption, refl, ap, ◌∙◌, arith}
+use Rattle.std.proofs.Common.{◌≡◌, ℕ, suc, ℤ, Bool, true, false, List, [], ◌∷◌, length, nat_lt, Option, Some, None, MatchOption, refl, ap, sym, ◌∙◌, arith}
 use Rattle.std.proofs.lemmas.Bool.Decides.{nat_tests}
-use Rattle.qz_types.specs.Rows.{MemberData, FiredData}
+use Rattle.qz_types.specs.Rows.{TriggerData, MemberData, FiredData}
 use Rattle.qz_types.specs.declared.replies.Refusal.{Refusal}
 use Rattle.qz_types.specs.declared.replies.Refusal.TheVariants.{InUse}
+use Rattle.qz_types.specs.declared.replies.Reply.TheVariants.{Done}
 use Rattle.qz_types.specs.Tables.{SchedulerTables}
-use Rattle.qz_types.specs.Outcomes.{Outcome, refused, unless, IsAccepted}
+use Rattle.qz_types.specs.Outcomes.{Outcome, accepted, refused, unless, IsAccepted}
+use Rattle.qz_types.specs.Words.{without_member}
 use Rattle.qz_model.specs.Membership.{node_refusal}
-use Rattle.qz_model.specs.Recovery.{lost_of, freed_by, unblocked_by, leave_refusal, leave}
+use Rattle.qz_model.specs.Recovery.{lost_of, rows_of_others, freed_by, unblocked_by, leave_refusal, leave}
 use Rattle.qz_model.specs.Tests.{or_refusal, refuse_if}
+use Rattle.qz_apply.proofs.Accepted.{no_refusal}
 use Rattle.qz_recover.proofs.Walk.{none_excluded}
 
 fenced_at : (x y : Option Refusal) (r : Refusal) (o : Outcome) → x ≡ Some r → unless (or_refusal x y) o ≡ refused r
@@ -42,8 +45,21 @@ none_counted [] e = refl
 none_counted (f ∷ rows) e = absurd (positive (length rows) e)
 
 -- so there is none that excluded a trigger
-pub given_back : (T : SchedulerTables) (m : ℤ) (me : MemberData) → IsAccepted (leave T m me) → unblocked_by (lost_of me T.fired) (freed_by me T.fired T.triggers) ≡ freed_by me T.fired T.triggers
+given_back : (T : SchedulerTables) (m : ℤ) (me : MemberData) → IsAccepted (leave T m me) → unblocked_by (lost_of me T.fired) (freed_by me T.fired T.triggers) ≡ freed_by me T.fired T.triggers
 unfolding leave_refusal
 given_back T m me is =
     let none : lost_of me T.fired ≡ [] = none_counted (lost_of me T.fired) (not_over (node_refusal T me) (nat_lt 0 (length (lost_of me T.fired))) (InUse (length (lost_of me T.fired))) _ is) in
     ap (λ rows. unblocked_by rows (freed_by me T.fired T.triggers)) none ∙ none_excluded (freed_by me T.fired T.triggers)
+
+-- what an accepted Leave comes to
+pub leave_accepted : (T : SchedulerTables) (m : ℤ) (me : MemberData) → IsAccepted (leave T m me)
+    → leave T m me ≡ accepted (record T {
+      triggers = unblocked_by (lost_of me T.fired) (freed_by me T.fired T.triggers);
+      fired = rows_of_others me T.fired;
+      members = without_member me.node T.members;
+      last_moment = m;
+    }) Done
+leave_accepted T m me is =
+    no_refusal (or_refusal (node_refusal T me) (leave_refusal T me)) _ is
+    ∙ ap (λ (ts : List TriggerData). accepted (record T { triggers = ts; fired = rows_of_others me T.fired; members = without_member me.node T.members; last_moment = m }) Done)
+    (sym (given_back T m me is))

@@ -1,12 +1,11 @@
 pub mod Adding
 pub mod Phases
+pub mod Commits
 pub mod Facts
 pub mod Finishing
 pub mod Joins
 pub mod Leaves
 pub mod Recovers
-pub mod RecoveryRooms
 pub mod RecoverySpecs
 pub mod RecoveryWalk
-pub mod Rooms
 pub mod Walk

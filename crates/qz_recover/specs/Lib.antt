@@ -1,3 +1,4 @@
 pub mod Commands
+pub mod Prepared
 pub mod Recovering
 pub mod Rows

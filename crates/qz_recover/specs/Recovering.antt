@@ -3,7 +3,7 @@ use Rattle.std.specs.Prelude.{ℕ, List, Bool, not, ◌&&◌, length, Option, So
 use Rattle.qz_types.specs.Rows.{JobData, MemberData, FiredData}
 use Rattle.qz_types.specs.States.{is_acquired}
 use Rattle.qz_types.specs.Tables.{SchedulerTables}
-use Rattle.qz_model.specs.Recovery.{asks, recoveries, recovered}
+use Rattle.qz_model.specs.Recovery.{asks, lost_of, recoveries, recovered}
 use Rattle.qz_model.specs.Tests.{is_of}
 
 -- the row is an execution of the member
@@ -18,6 +18,11 @@ is_recovered_by jobs member f = is_execution_of member f && asks jobs f
 abbrev pub taken_over : SchedulerTables → Option MemberData → SchedulerTables
 taken_over T None = T
 taken_over T (Some member) = recovered T member
+
+-- how many executions it has
+abbrev pub executions_of : SchedulerTables → Option MemberData → ℕ
+executions_of T None = 0
+executions_of T (Some member) = length (lost_of member T.fired)
 
 -- how many triggers are added for it
 abbrev pub triggers_for : SchedulerTables → Option MemberData → ℕ

@@ -1,6 +1,6 @@
 //! A member leaves.
-ghost use Rattle.std.specs.Prelude.{◌≡◌, ◌&&◌, not, ℤ, IfErr, IfOk, OnErr, MatchOption, length};
-ghost use Rattle.qz_types.specs.Outcomes.{accepted, refused, IsAccepted, IsErrorOf};
+ghost use Rattle.std.specs.Prelude.{◌≡◌, ◌&&◌, not, ℤ, MatchOption, length};
+ghost use Rattle.qz_types.specs.Outcomes.{accepted, refused, IsAccepted};
 ghost use Rattle.qz_types.specs.States.{is_acquired};
 ghost use Rattle.qz_model.specs.Invariant.{TablesValid};
 ghost use Rattle.qz_model.specs.Recovery.{leave, leave_refusal, lost_of};
@@ -9,7 +9,7 @@ ghost use Rattle.qz_model.specs.Tests.{is_of};
 use crate::ending::end_rows;
 use qz_apply::{is_acquired, is_of, node_refusal};
 use qz_tables::Tables;
-use qz_types::{FiredRow, MemberRow, Refusal, Reply, StepRefused};
+use qz_types::{FiredRow, MemberRow, Refusal, Reply};
 
 /// Why a Leave of the member is refused, if it is.
 #[tactic(auto, using(crate::proofs::Leaves::of_leave, crate::proofs::Leaves::fenced))]
@@ -22,22 +22,19 @@ pub fn leave_refused(tables: &Tables, me: &MemberRow) -> Option<Refusal>
     in_use(tables, me)
 }
 
-/// The member goes, and what it acquired is given back. The moment is in ms since 1970-01-01T00:00:00Z. It takes no memory.
-#[tactic(auto, using(crate::proofs::Leaves::given_back))]
-pub fn leave(tables: &mut Tables, moment: i64, me: &MemberRow) -> Result<Reply, StepRefused>
+/// The member goes, and what it acquired is given back, where nothing refuses it. The moment is in ms since
+/// 1970-01-01T00:00:00Z.
+#[tactic(auto, using(crate::proofs::Leaves::leave_accepted))]
+pub fn leave(tables: &mut Tables, moment: i64, me: &MemberRow) -> Reply
     requires valid { ∥ TablesValid tables.old.tables ∥₁ }
-    ensures ok { IfOk result (λ reply. leave tables.old.tables moment me.now ≡ accepted tables.new.tables reply) }
-    ensures cause { IfErr result (IsErrorOf (leave tables.old.tables moment me.now)) }
-    ensures err { OnErr result (tables.new ≡ tables.old) }
+    requires accepted { IsAccepted (leave tables.old.tables moment me.now) }
+    ensures { leave tables.old.tables moment me.now ≡ accepted tables.new.tables result }
 {
-    if let Some(refusal) = leave_refused(tables, me) {
-        return Err(StepRefused::Refused(refusal));
-    }
     end_rows(tables, me);
     let member = tables.remove_member(&me.node);
     drop(member);
     tables.set_last_moment(moment);
-    Ok(Reply::Done)
+    Reply::Done
 }
 
 // Executions of its own that go on keep a member from leaving.
@@ -55,8 +52,8 @@ fn in_use(tables: &Tables, me: &MemberRow) -> Option<Refusal>
     }
 }
 
-/// How many executions the member has. It looks at each fired row.
-pub fn executions_of(tables: &Tables, me: &MemberRow) -> usize
+// How many executions the member has. It looks at each fired row.
+fn executions_of(tables: &Tables, me: &MemberRow) -> usize
     ensures { result ≡ length (lost_of me.now tables.now.tables.fired) }
 {
     let mut count = 0;

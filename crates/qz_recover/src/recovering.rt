@@ -1,25 +1,20 @@
 //! A member recovers another, that failed.
-ghost use Rattle.std.specs.Prelude.{◌≡◌, ◌≤◌, ℤ, Some, None, IfOk, IfErr, OnOk, OnErr, MatchOption, option_copied};
-ghost use Rattle.qz_types.specs.Outcomes.{accepted, refused, IsAccepted, IsErrorOf};
+ghost use Rattle.std.specs.Prelude.{◌≡◌, ◌≤◌, ℤ, length, IfOk, IfSome, IsSome, MatchOption, option_copied};
+ghost use Rattle.qz_types.specs.Outcomes.{refused, IsAccepted};
 ghost use Rattle.qz_types.specs.Words.{member_of};
 ghost use Rattle.qz_model.specs.Invariant.{TablesValid};
-ghost use Rattle.qz_model.specs.Recovery.{recover, recover_member, recovered, recovery_refusal};
-ghost use Rattle.qz_apply.specs.Room.{executions_of};
-ghost use Rattle.qz_recover.specs.Recovering.{taken_over, triggers_for};
+ghost use Rattle.qz_model.specs.Recovery.{lost_of, recover, recoveries, recovered, recovery_refusal};
+ghost use Rattle.qz_recover.specs.Prepared.{IsCollected, HasRoomFor, IsChangeOf, added_by, member_in};
+ghost use Rattle.qz_recover.specs.Recovering.{executions_of, taken_over, triggers_for};
 
+use crate::changes::{Change, Recovery, RecoveryCounts};
 use crate::ending::recover_rows;
 use crate::recovery_triggers::{count_recoveries, recoveries, triggers_of_executions};
 use qz_apply::node_refusal;
+use qz_civil::List;
 use qz_tables::Tables;
-use qz_types::{MemberRow, Refusal, Reply, StepRefused, TRIGGER_LIMIT, Text};
+use qz_types::{Command, MemberRow, NoMemory, Refusal, Reply, TRIGGER_LIMIT, Text};
 use std::alloc::AllocError;
-
-/// How many executions were ended, and how many triggers were added for them.
-#[derive(Clone, Copy)]
-pub struct RecoveryCounts {
-    pub executions: u64,
-    pub triggers: u64,
-}
 
 /// Why a Recover of the member is refused, if it is.
 #[tactic(auto, using(crate::proofs::Recovers::of_recover))]
@@ -35,29 +30,65 @@ pub fn recover_refused(tables: &Tables, me: &MemberRow, node: &Text) -> Option<R
     }
 }
 
-/// The member recovers what the one of this name had, and that one goes. The moment is in ms since 1970-01-01T00:00:00Z.
-#[tactic(auto, using(crate::proofs::Recovers::recover_accepted))]
-pub fn recover(
-    tables: &mut Tables,
-    moment: i64,
-    me: &MemberRow,
-    node: &Text,
-) -> Result<Reply, StepRefused>
+/// Collects what a Recover of this node needs, where nothing refuses it, and makes room for it.
+pub fn prepare_recover(tables: &mut Tables, node: &Text) -> Result<Change, NoMemory>
     requires valid { ∥ TablesValid tables.old.tables ∥₁ }
-    requires spare { executions_of tables.old.tables (member_of node.now tables.old.tables.members) ≤ tables.old.spare.triggers }
-    ensures ok { IfOk result (λ reply. recover tables.old.tables moment me.now node.now ≡ accepted tables.new.tables reply) }
-    ensures cause { IfErr result (IsErrorOf (recover tables.old.tables moment me.now node.now)) }
-    ensures err { OnErr result (tables.new ≡ tables.old) }
+    requires member { IsSome (member_of node.now tables.old.tables.members) }
+    ensures change { IfOk result (IsChangeOf tables.old.tables (Command.Recover node.now)) }
+    ensures room { IfOk result (HasRoomFor tables.new.spare) }
+    ensures tables { tables.new.tables ≡ tables.old.tables }
+    ensures links { tables.new.links ≡ tables.old.links }
 {
-    if let Some(refusal) = recover_refused(tables, me, node) {
-        return Err(StepRefused::Refused(refusal));
+    let Some(member) = tables.get_member(node) else {
+        unreachable!()
+    };
+    let recovery = collect(tables, member)?;
+    tables.reserve(recovery.added.len())?;
+    Ok(Change::Recover(recovery))
+}
+
+/// What is collected for the recovery of the member of this name, if there is one.
+pub fn collect_former(tables: &Tables, node: &Text) -> Result<Option<Recovery>, AllocError>
+    requires { ∥ TablesValid tables.now.tables ∥₁ }
+    ensures member { IfOk result (λ former. member_of node.now tables.now.tables.members ≡ member_in former) }
+    ensures collected { IfOk result (λ former. IfSome former (IsCollected tables.now.tables)) }
+{
+    match tables.get_member(node) {
+        Some(member) => Ok(Some(collect(tables, member)?)),
+        None => Ok(None),
     }
-    let counts = take_over(tables, node)?;
+}
+
+// What is collected for the recovery of a member.
+fn collect(tables: &Tables, member: &MemberRow) -> Result<Recovery, AllocError>
+    requires { ∥ TablesValid tables.now.tables ∥₁ }
+    ensures member { IfOk result (λ r. r.member ≡ member.now) }
+    ensures collected { IfOk result (IsCollected tables.now.tables) }
+{
+    let added = recoveries(tables, member)?;
+    let ended = triggers_of_executions(tables, member)?;
+    let member = member.copy()?;
+    Ok(Recovery {
+        member,
+        added: List::from_vec(added),
+        ended: List::from_vec(ended),
+    })
+}
+
+/// The member recovers what was collected of another, and that one goes. The moment is in ms since 1970-01-01T00:00:00Z.
+pub fn recover(tables: &mut Tables, moment: i64, recovery: Recovery) -> Reply
+    requires valid { ∥ TablesValid tables.old.tables ∥₁ }
+    requires collected { IsCollected tables.old.tables recovery }
+    requires room { length recovery.added ≤ tables.old.spare.triggers }
+    ensures tables { tables.new.tables ≡ record (recovered tables.old.tables recovery.member) { last_moment = moment } }
+    ensures reply { result ≡ Reply.Recovered (length (lost_of recovery.member tables.old.tables.fired)) (length (recoveries tables.old.tables recovery.member)) }
+{
+    let counts = recover_member(tables, recovery);
     tables.set_last_moment(moment);
-    Ok(Reply::Recovered {
+    Reply::Recovered {
         executions: counts.executions,
         triggers: counts.triggers,
-    })
+    }
 }
 
 /// Why what the member had can't be recovered, if it can't: the triggers that are added for it would be too many.
@@ -75,45 +106,45 @@ pub fn recovery_refusal(tables: &Tables, member: &MemberRow) -> Option<Refusal>
     }
 }
 
-/// Recovers what the member of this name had, and it goes, if there is one. An error changes nothing.
-pub fn take_over(tables: &mut Tables, node: &Text) -> Result<RecoveryCounts, AllocError>
+/// Recovers what was collected of a member, and that one goes, if there is one.
+pub fn take_over(tables: &mut Tables, former: Option<Recovery>) -> RecoveryCounts
     requires valid { ∥ TablesValid tables.old.tables ∥₁ }
-    requires spare { executions_of tables.old.tables (member_of node.now tables.old.tables.members) ≤ tables.old.spare.triggers }
-    ensures tables { OnOk result (tables.new.tables ≡ taken_over tables.old.tables (member_of node.now tables.old.tables.members)) }
-    ensures executions { IfOk result (λ counts. counts.executions ≡ executions_of tables.old.tables (member_of node.now tables.old.tables.members)) }
-    ensures triggers { IfOk result (λ counts. counts.triggers ≡ triggers_for tables.old.tables (member_of node.now tables.old.tables.members)) }
+    requires collected { IfSome former (IsCollected tables.old.tables) }
+    requires room { added_by former ≤ tables.old.spare.triggers }
+    ensures tables { tables.new.tables ≡ taken_over tables.old.tables (member_in former) }
+    ensures executions { result.executions ≡ executions_of tables.old.tables (member_in former) }
+    ensures triggers { result.triggers ≡ triggers_for tables.old.tables (member_in former) }
     ensures members { tables.old.spare.members ≤ tables.new.spare.members }
-    ensures err { OnErr result (tables.new ≡ tables.old) }
 {
-    let Some(member) = tables.get_member(node) else {
-        return Ok(RecoveryCounts {
+    match former {
+        Some(recovery) => recover_member(tables, recovery),
+        None => RecoveryCounts {
             executions: 0,
             triggers: 0,
-        });
-    };
-    let member = member.copy()?;
-    let counts = recover_member(tables, &member);
-    drop(member);
-    counts
+        },
+    }
 }
 
-// Recovers what the member had, and it goes. An error changes nothing.
-#[tactic(auto, using(crate::proofs::RecoveryRooms::few_recoveries))]
-fn recover_member(tables: &mut Tables, member: &MemberRow) -> Result<RecoveryCounts, AllocError>
+// Recovers what was collected of a member, and that one goes.
+fn recover_member(tables: &mut Tables, recovery: Recovery) -> RecoveryCounts
     requires valid { ∥ TablesValid tables.old.tables ∥₁ }
-    requires spare { executions_of tables.old.tables (Some member.now) ≤ tables.old.spare.triggers }
-    ensures tables { OnOk result (tables.new.tables ≡ recovered tables.old.tables member.now) }
-    ensures executions { IfOk result (λ counts. counts.executions ≡ executions_of tables.old.tables (Some member.now)) }
-    ensures triggers { IfOk result (λ counts. counts.triggers ≡ triggers_for tables.old.tables (Some member.now)) }
+    requires collected { IsCollected tables.old.tables recovery }
+    requires room { length recovery.added ≤ tables.old.spare.triggers }
+    ensures tables { tables.new.tables ≡ recovered tables.old.tables recovery.member }
+    ensures executions { result.executions ≡ length (lost_of recovery.member tables.old.tables.fired) }
+    ensures triggers { result.triggers ≡ length (recoveries tables.old.tables recovery.member) }
     ensures members { tables.old.spare.members ≤ tables.new.spare.members }
-    ensures err { OnErr result (tables.new ≡ tables.old) }
 {
-    let added = recoveries(tables, member)?;
-    let ended = triggers_of_executions(tables, member)?;
+    let Recovery {
+        member,
+        added,
+        ended,
+    } = recovery;
     let counts = RecoveryCounts {
         executions: ended.len() as u64,
         triggers: added.len() as u64,
     };
-    recover_rows(tables, member, added, ended);
-    Ok(counts)
+    recover_rows(tables, &member, added.into_vec(), ended.into_vec());
+    drop(member);
+    counts
 }

@@ -12,13 +12,10 @@ use Rattle.qz_types.specs.declared.replies.Refusal.TheVariants.{Fenced, InUse, C
 use Rattle.qz_types.specs.declared.replies.Reply.{Reply}
 use Rattle.qz_types.specs.declared.replies.Reply.TheVariants.{Done, Added, Deleted, Triggered, Joined, Acquired, Fired, Completed, Again, Misfired, Recovered}
 use Rattle.qz_steps.specs.declared.steps.StepReply.{StepReply}
-use Rattle.qz_steps.specs.declared.steps.StepReply.TheVariants.{Ok, Refused, Fault, Closed, Stopped, Restarted}
+use Rattle.qz_steps.specs.declared.steps.StepReply.TheVariants.{Ok, Refused, Fault, Closed, Stopped, Restarted, Shown}
 use Rattle.qz_report.specs.Names.{escaped, key_text}
-
--- a next time, if there is one
-abbrev pub next_text : Option ℤ → List ℕ
-next_text None = codes "none"
-next_text (Some next) = signed_decimal next
+use Rattle.qz_report.specs.Optional.{next_text}
+use Rattle.qz_report.specs.Shown.{shown_text}
 
 -- an epoch, if there is one
 abbrev pub live_text : Option ℕ → List ℕ
@@ -98,6 +95,7 @@ step_text Fault = codes "fault"
 step_text Closed = codes "closed"
 step_text Stopped = codes "stopped"
 step_text Restarted = codes "restarted"
+step_text (Shown shown) = shown_text shown
 
 -- the text with its line feed
 abbrev pub reply_text : StepReply → List ℕ

@@ -1,14 +1,16 @@
 //! Reply lines.
-ghost use Rattle.std.specs.Prelude.{◌≡◌, ◌++◌, IfOk, OnOk, Some, codes, string_bytes};
+ghost use Rattle.std.specs.Prelude.{◌≡◌, ◌++◌, IfOk, OnOk, codes, string_bytes};
 ghost use Rattle.std.specs.Fmt.{signed_decimal};
 ghost use Rattle.std.specs.List.{flat_map};
-ghost use Rattle.qz_report.specs.Replies.{next_text, taken_text, all_taken_text, triggered_text, moved_text, all_moved_text, owner_text, ok_text, joined_text, recovery_text, fired_text, refusal_field, refusal_text, step_text, reply_text};
+ghost use Rattle.qz_report.specs.Optional.{next_text};
+ghost use Rattle.qz_report.specs.Replies.{taken_text, all_taken_text, triggered_text, moved_text, all_moved_text, owner_text, ok_text, joined_text, recovery_text, fired_text, refusal_field, refusal_text, step_text, reply_text};
 
 use crate::names::{push_key, push_name};
+use crate::optional::Next;
+use crate::shown::push_shown;
 use qz_steps::StepReply;
 use qz_types::{Key, MovedRow, NoMemory, Owner, Refusal, Reply, Taken, Text};
 use std::alloc::{AllocError, Global};
-use std::fmt;
 use std::fmt::Write;
 
 /// Room for most lines, so that they take memory once.
@@ -34,6 +36,7 @@ fn push_step(text: &mut String, reply: &StepReply) -> Result<(), AllocError>
         StepReply::Closed => text.push_str("closed"),
         StepReply::Stopped => text.push_str("stopped"),
         StepReply::Restarted => text.push_str("restarted"),
+        StepReply::Shown(shown) => push_shown(text, shown),
     }
 }
 
@@ -157,21 +160,6 @@ fn push_all_moved(text: &mut String, rows: &[MovedRow]) -> Result<(), AllocError
         text.push_str(" none")
     } else {
         push_each_moved(text, rows)
-    }
-}
-
-/// A next time in ms since 1970-01-01T00:00:00Z, or `none`.
-#[derive(Drop)]
-pub struct Next(pub Option<i64>);
-
-impl fmt::Display for Next {
-    ghost output = { λ next. Some (next_text next.0) };
-
-    fn fmt<W: fmt::Write>(&self, f: &mut fmt::Formatter<W>) -> fmt::Result {
-        match self.0 {
-            Some(next) => write!(f, "{next}"),
-            None => write!(f, "none"),
-        }
     }
 }
 

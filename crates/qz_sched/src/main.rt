@@ -1,4 +1,4 @@
-//! The program `qz_sched`. Its stored run is a script on a store that is there already.
+//! The program `qz_sched`. Its stored run is a script on a store that is there already, with a bad last line.
 #![tactic(auto)]
 
 use std::process::ExitCode;

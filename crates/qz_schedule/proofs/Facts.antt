@@ -1,8 +1,8 @@
 -- What valid tables say of what the commands read.
-use Rattle.std.proofs.Common.{◌≡◌, ℕ, ◌+◌, ◌++◌, ◌<◌, ◌≤◌, ◌^◌, ℤ, pos, ◌≤ℤ◌, int_le, true, subst, lit<, Option, Some, None, codes, refl, arith}
+use Rattle.std.proofs.Common.{◌≡◌, ℕ, ◌+◌, ◌++◌, ◌<◌, ◌≤◌, ◌^◌, ℤ, pos, ◌≤ℤ◌, int_le, nat_le, nat_lt, true, false, length, sym, ap, ◌∙◌, subst, lit<, Option, Some, None, IsSome, is_none, codes, refl, arith}
 use Rattle.std.proofs.Math.Logic.{∥∥₁_elim}
 use Rattle.std.proofs.Math.Bool.{Bool-set}
-use Rattle.std.proofs.lemmas.Bool.{and_from}
+use Rattle.std.proofs.lemmas.Bool.{and_from, ltb-false}
 use Rattle.std.proofs.lemmas.Bool.Decides.{nat_tests}
 use Rattle.std.proofs.lemmas.Int.{ints}
 use Rattle.std.proofs.lemmas.Fmt.{length-decimal-le}
@@ -11,14 +11,28 @@ use Rattle.qz_civil.specs.declared.limits.TheConstants.{LAST, LONGEST}
 use Rattle.qz_civil.specs.Timings.{is_name, is_span}
 use Rattle.qz_types.specs.Rows.{TriggerData, is_key, is_trigger_spec}
 use Rattle.qz_types.specs.declared.keys.Key.{Key}
-use Rattle.qz_types.specs.declared.limits.TheConstants.{NUMBER_LIMIT}
+use Rattle.qz_types.specs.declared.limits.TheConstants.{NUMBER_LIMIT, TRIGGER_LIMIT}
 use Rattle.qz_types.specs.declared.triggers.TriggerSpec.{TriggerSpec}
 use Rattle.qz_types.specs.Tables.{SchedulerTables, IsMoment, recorded_moment}
-use Rattle.qz_types.specs.Words.{trigger_of}
+use Rattle.qz_types.specs.Words.{job_of, trigger_of}
 use Rattle.qz_model.specs.Invariant.{TablesValid}
-use Rattle.qz_model.specs.Triggers.{manual_trigger, new_trigger}
+use Rattle.qz_model.specs.Triggers.{manual_trigger, new_trigger, trigger_now_refusal}
 use Rattle.qz_model.proofs.Changes.{moment_within}
 use Rattle.qz_model.proofs.KeptTriggers.{manual_absent as absent_in_valid}
+use Rattle.qz_model.proofs.Refusals.{not_refused}
+
+-- a new trigger is as it was given
+pub new_spec : (T : SchedulerTables) (s : TriggerSpec) (next : Option ℤ) → (new_trigger T s next).spec ≡ s
+unfolding new_trigger
+new_spec T s next = refl
+
+pub new_next : (T : SchedulerTables) (s : TriggerSpec) (next : Option ℤ) → (new_trigger T s next).next ≡ next
+unfolding new_trigger
+new_next T s next = refl
+
+pub manual_job : (m : ℤ) (n : ℕ) (job : Key) → (manual_trigger m n job).job ≡ job
+unfolding manual_trigger
+manual_job m n job = refl
 
 none_from : (o : Option TriggerData) → ((t : TriggerData) → o ≡ Some t → ⊥) → o ≡ None
 none_from None never = refl
@@ -27,6 +41,21 @@ none_from (Some t) never = absurd (never t refl)
 -- no trigger is named by the next entry number
 pub manual_absent : (T : SchedulerTables) (m : ℤ) (job : Key) → ∥ TablesValid T ∥₁ → T.next_entry + 1 ≤ NUMBER_LIMIT → trigger_of (manual_trigger m T.next_entry job).key T.triggers ≡ None
 manual_absent T m job valid room = none_from _ (λ t found. ∥∥₁_elim valid (λ x y. absurd x) (λ is. let none = absent_in_valid T m job is room in absurd (cc)))
+
+-- there is a number for its name
+pub manual_room : (T : SchedulerTables) (job : Key) → trigger_now_refusal T job ≡ None → T.next_entry + 1 ≤ NUMBER_LIMIT
+unfolding trigger_now_refusal
+manual_room T job clear =
+    let after_job = (not_refused (is_none (job_of job T.jobs)) _ _ clear).1 in
+    let after_limit = (not_refused (nat_le TRIGGER_LIMIT (length T.triggers)) _ _ after_job).1 in
+    ltb-false NUMBER_LIMIT (T.next_entry + 1) (not_refused (nat_lt NUMBER_LIMIT (T.next_entry + 1)) _ _ after_limit).0
+
+-- so the trigger that is added is new
+pub manual_is_new : (T : SchedulerTables) (m : ℤ) (row : TriggerData) → ∥ TablesValid T ∥₁ → trigger_now_refusal T row.spec.job ≡ None → row ≡ new_trigger T (manual_trigger m T.next_entry row.spec.job) (Some m)
+    → trigger_of row.spec.key T.triggers ≡ None
+manual_is_new T m row valid clear is =
+    let key : row.spec.key ≡ (manual_trigger m T.next_entry row.spec.job).key = ap (λ (t : TriggerData). t.spec.key) is ∙ ap (λ (s : TriggerSpec). s.key) (new_spec T (manual_trigger m T.next_entry row.spec.job) (Some m)) in
+    subst (λ k. trigger_of k T.triggers ≡ None) (sym key) (manual_absent T m row.spec.job valid (manual_room T row.spec.job clear))
 
 -- the name of a manual trigger is short enough
 manual_name : (n : ℕ) → n < 2 ^ 64 → is_name (codes "now_" ++ decimal n) ≡ true
@@ -50,7 +79,7 @@ moment_is_span T at valid = ∥∥₁_elim valid (hlevel Bool-set) (λ is.
     let last : T.horizon ≡ LAST = is.references_and_limits.limits.horizon in
     span_of (recorded_moment T at) within.low (subst (λ h. recorded_moment T at ≤ℤ h) last within.high))
 
--- a new trigger has the key that it was given
-pub new_key : (T : SchedulerTables) (s : TriggerSpec) (next : Option ℤ) → (new_trigger T s next).spec.key ≡ s.key
-unfolding new_trigger
-new_key T s next = refl
+-- a time that is there
+pub some_time : (o : Option ℤ) → is_none o ≡ false → IsSome o
+some_time None is = absurd cc
+some_time (Some t) is = refl

@@ -1,7 +1,6 @@
 mod Absent
-mod CalendarRooms
 mod ChainWalks
+mod Committed
 mod Counting
 mod Facts
-mod Rooms
 mod Steps

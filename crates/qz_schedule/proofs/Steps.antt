@@ -1,8 +1,8 @@
 -- What the changes of a command come to, one after the other.
-use Rattle.std.proofs.Common.{◌≡◌, ℕ, ℤ, pos, not, Bool, List, length, filter, Option, Some, None, unwrap_or, sym, ap, ◌∙◌, subst}
+use Rattle.std.proofs.Common.{◌≡◌, ℕ, ◌+◌, ℤ, pos, not, Bool, List, length, filter, Option, Some, None, unwrap_or, sym, ap, ◌∙◌, subst}
 use Rattle.qz_types.specs.Rows.{TriggerData}
 use Rattle.qz_types.specs.declared.keys.Key.{Key}
-use Rattle.qz_types.specs.declared.replies.Reply.TheVariants.{Added, Deleted}
+use Rattle.qz_types.specs.declared.replies.Reply.TheVariants.{Added, Deleted, Triggered}
 use Rattle.qz_types.specs.declared.triggers.TriggerSpec.{TriggerSpec}
 use Rattle.qz_types.specs.Changes.{without_acquired}
 use Rattle.qz_types.specs.Outcomes.{accepted, unless}
@@ -11,8 +11,9 @@ use Rattle.qz_types.specs.Words.{same_key, job_of, without_job, trigger_of, put_
 use Rattle.qz_model.specs.Jobs.{unknown_job, delete_job, without_orphan_of}
 use Rattle.qz_model.specs.Plan.{first_time}
 use Rattle.qz_model.specs.Tests.{is_trigger_of, is_row_of_job, is_row_of_trigger}
-use Rattle.qz_model.specs.Triggers.{new_trigger, add_trigger_refusal, without_old_orphan, with_new_trigger, add_trigger}
+use Rattle.qz_model.specs.Triggers.{new_trigger, add_trigger_refusal, without_old_orphan, with_new_trigger, add_trigger, manual_trigger, trigger_now_refusal, trigger_now}
 use Rattle.qz_apply.proofs.Accepted.{same_outcome}
+use Rattle.qz_schedule.proofs.Facts.{new_spec, new_next}
 
 -- a job goes with its triggers and their acquired rows
 pub job_deleted : (T U V W X : SchedulerTables) (m : ℤ) (key : Key) (count : ℕ) → unknown_job (job_of key T.jobs) ≡ None
@@ -63,11 +64,24 @@ trigger_is_replaced T U V W X key job t old same of found gone row put orphan =
     ∙ ap (λ (o : Option TriggerData). record T { triggers = rows; fired = without_acquired (is_row_of_trigger t.spec.key) T.fired; jobs = without_old_orphan o rows T.jobs }) (sym stored)
 
 -- the trigger is stored with its first time
-pub trigger_added : (T U X : SchedulerTables) (m : ℤ) (s given : TriggerSpec) (replace : Bool) (t : TriggerData) (next : ℤ) → add_trigger_refusal T s replace ≡ None → first_time T s ≡ Some next
-    → given ≡ s → t ≡ new_trigger T given (Some next) → U ≡ with_new_trigger T t → X ≡ record U { last_moment = m } → add_trigger T m s replace ≡ accepted X (Added next)
-trigger_added T U X m s given replace t next clear time same row stored moment =
-    let left : SchedulerTables = record (with_new_trigger T (new_trigger T s (first_time T s))) { last_moment = m } in
-    let tables : X ≡ left = moment ∙ ap (λ (u : SchedulerTables). record u { last_moment = m })
-    (stored ∙ ap (with_new_trigger T) (row ∙ ap (λ (x : TriggerSpec). new_trigger T x (Some next)) same ∙ ap (new_trigger T s) (sym time))) in
-    subst (λ x. unless x (accepted left (Added (unwrap_or (first_time T s) (pos 0)))) ≡ accepted X (Added next)) (sym clear)
-    (same_outcome X left (Added next) (Added (unwrap_or (first_time T s) (pos 0))) tables (ap (λ (o : Option ℤ). Added (unwrap_or o (pos 0))) (sym time)))
+pub trigger_added : (T U X : SchedulerTables) (m : ℤ) (replace : Bool) (row : TriggerData) (next : ℤ) → add_trigger_refusal T row.spec replace ≡ None → row ≡ new_trigger T row.spec (first_time T row.spec) → row.next ≡ Some next
+    → U ≡ with_new_trigger T row → X ≡ record U { last_moment = m } → add_trigger T m row.spec replace ≡ accepted X (Added next)
+trigger_added T U X m replace row next clear is time stored moment =
+    let left : SchedulerTables = record (with_new_trigger T (new_trigger T row.spec (first_time T row.spec))) { last_moment = m } in
+    let tables : X ≡ left = moment ∙ ap (λ (u : SchedulerTables). record u { last_moment = m }) (stored ∙ ap (with_new_trigger T) is) in
+    let first : Some next ≡ first_time T row.spec = sym time ∙ ap (λ (t : TriggerData). t.next) is ∙ new_next T row.spec (first_time T row.spec) in
+    subst (λ x. unless x (accepted left (Added (unwrap_or (first_time T row.spec) (pos 0)))) ≡ accepted X (Added next)) (sym clear)
+    (same_outcome X left (Added next) (Added (unwrap_or (first_time T row.spec) (pos 0))) tables (ap (λ (o : Option ℤ). Added (unwrap_or o (pos 0))) first))
+
+-- the manual trigger is stored, and takes a number
+pub manual_stored : (T U V W : SchedulerTables) (m : ℤ) (row : TriggerData) (key : Key) → trigger_now_refusal T row.spec.job ≡ None → row ≡ new_trigger T (manual_trigger m T.next_entry row.spec.job) (Some m) → key ≡ row.spec.key
+    → U ≡ record T { triggers = put_trigger row T.triggers } → V ≡ record U { next_entry = T.next_entry + 1 } → W ≡ record V { last_moment = m } → trigger_now T m row.spec.job ≡ accepted W (Triggered key m)
+manual_stored T U V W m row key clear is named put number moment =
+    let given : TriggerSpec = manual_trigger m T.next_entry row.spec.job in
+    let left : SchedulerTables = record T { triggers = put_trigger (new_trigger T given (Some m)) T.triggers; next_entry = T.next_entry + 1; last_moment = m } in
+    let tables : W ≡ left = moment ∙ ap (λ (v : SchedulerTables). record v { last_moment = m })
+    (number ∙ ap (λ (u : SchedulerTables). record u { next_entry = T.next_entry + 1 })
+    (put ∙ ap (λ (t : TriggerData). record T { triggers = put_trigger t T.triggers }) is)) in
+    let same : key ≡ given.key = named ∙ ap (λ (t : TriggerData). t.spec.key) is ∙ ap (λ (s : TriggerSpec). s.key) (new_spec T given (Some m)) in
+    subst (λ x. unless x (accepted left (Triggered given.key m)) ≡ accepted W (Triggered key m)) (sym clear)
+    (same_outcome W left (Triggered key m) (Triggered given.key m) tables (ap (λ (k : Key). Triggered k m) same))

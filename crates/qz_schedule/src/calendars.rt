@@ -1,6 +1,6 @@
 //! Storing a calendar, and deleting one that nothing names.
-ghost use Rattle.std.specs.Prelude.{◌≡◌, ◌≤◌, IfOk, IfErr, OnErr, option_copied};
-ghost use Rattle.qz_types.specs.Outcomes.{accepted, IsErrorOf};
+ghost use Rattle.std.specs.Prelude.{◌≡◌, ◌≤◌, Bool, None, option_copied};
+ghost use Rattle.qz_types.specs.Outcomes.{accepted};
 ghost use Rattle.qz_types.specs.Words.{calendar_of};
 ghost use Rattle.qz_model.specs.Calendars.{with_new_calendar, add_calendar_refusal, add_calendar, calendar_uses, delete_calendar_refusal, delete_calendar};
 ghost use Rattle.qz_model.specs.Invariant.{TablesValid};
@@ -9,27 +9,17 @@ use crate::chains::{makes_too_long, place_below};
 use crate::known::{is_known_calendar, is_known_zone};
 use crate::uses::{calendars_above, triggers_with_calendar, use_refusal};
 use qz_tables::Tables;
-use qz_types::{CALENDAR_LIMIT, CHAIN_LIMIT, CalendarRow, Refusal, Reply, StepRefused, Text};
+use qz_types::{CALENDAR_LIMIT, CHAIN_LIMIT, CalendarRow, Refusal, Reply, Text};
 
-/// Stores the calendar, in place of one of its name if that is asked for. Triggers keep the next times that they have.
-pub fn add_calendar(
-    tables: &mut Tables,
-    moment: i64,
-    calendar: &CalendarRow,
-    replace: bool,
-) -> Result<Reply, StepRefused>
-    requires spare { 1 ≤ tables.old.spare.calendars }
-    ensures ok { IfOk result (λ reply. add_calendar tables.old.tables moment calendar.now replace ≡ accepted tables.new.tables reply) }
-    ensures cause { IfErr result (IsErrorOf (add_calendar tables.old.tables moment calendar.now replace)) }
-    ensures err { OnErr result (tables.new ≡ tables.old) }
+/// Stores the calendar, which nothing refuses, in place of one of its name. Triggers keep the next times that they have.
+/// The moment is in ms since 1970-01-01T00:00:00Z.
+pub fn add_calendar(tables: &mut Tables, moment: i64, calendar: CalendarRow) -> Reply
+    requires { 1 ≤ tables.old.spare.calendars }
+    ensures { (replace : Bool) → add_calendar_refusal tables.old.tables calendar replace ≡ None → add_calendar tables.old.tables moment calendar replace ≡ accepted tables.new.tables result }
 {
-    if let Some(refusal) = add_calendar_refusal(tables, calendar, replace) {
-        return Err(StepRefused::Refused(refusal));
-    }
-    let calendar = calendar.copy()?;
     put_calendar(tables, calendar);
     tables.set_last_moment(moment);
-    Ok(Reply::Done)
+    Reply::Done
 }
 
 #[tactic(auto, using(qz_model::proofs::NamedRows::calendar_of_without), unfolding(qz_model::specs::Calendars::with_new_calendar))]
@@ -75,20 +65,15 @@ pub fn add_calendar_refusal(
     None
 }
 
-/// Deletes the calendar of this name.
-pub fn delete_calendar(tables: &mut Tables, moment: i64, name: &Text) -> Result<Reply, StepRefused>
-    requires valid { ∥ TablesValid tables.old.tables ∥₁ }
-    ensures ok { IfOk result (λ reply. delete_calendar tables.old.tables moment name.now ≡ accepted tables.new.tables reply) }
-    ensures cause { IfErr result (IsErrorOf (delete_calendar tables.old.tables moment name.now)) }
-    ensures err { OnErr result (tables.new ≡ tables.old) }
+/// Deletes the calendar of this name, which nothing refuses. The moment is in ms since 1970-01-01T00:00:00Z.
+pub fn delete_calendar(tables: &mut Tables, moment: i64, name: &Text) -> Reply
+    requires { delete_calendar_refusal tables.old.tables name.now ≡ None }
+    ensures { delete_calendar tables.old.tables moment name.now ≡ accepted tables.new.tables result }
 {
-    if let Some(refusal) = delete_calendar_refusal(tables, name) {
-        return Err(StepRefused::Refused(refusal));
-    }
     let removed = tables.remove_calendar(name);
     drop(removed);
     tables.set_last_moment(moment);
-    Ok(Reply::Done)
+    Reply::Done
 }
 
 /// Why the calendar isn't deleted, if it isn't.

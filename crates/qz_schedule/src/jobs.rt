@@ -1,32 +1,21 @@
 //! Adding and deleting jobs.
-ghost use Rattle.std.specs.Prelude.{◌≡◌, ◌≤◌, IfOk, IfErr, OnErr, find, option_copied};
-ghost use Rattle.qz_types.specs.Outcomes.{accepted, IsErrorOf};
+ghost use Rattle.std.specs.Prelude.{◌≡◌, ◌≤◌, Bool, None, find, option_copied};
+ghost use Rattle.qz_types.specs.Outcomes.{accepted};
 ghost use Rattle.qz_types.specs.Words.{job_of, put_job, without_job};
 ghost use Rattle.qz_model.specs.Jobs.{differ, has_other_flag, flag_refusal, add_job_refusal, add_job, unknown_job, delete_job};
 
 use qz_apply::{is_acquired, same_key};
 use qz_tables::Tables;
-use qz_types::{FiredRow, JOB_LIMIT, JobRow, Key, Refusal, Reply, StepRefused};
+use qz_types::{FiredRow, JOB_LIMIT, JobRow, Key, Refusal, Reply};
 
-/// Stores the job, in place of one of its key. The moment is in ms since 1970-01-01T00:00:00Z.
-pub fn add_job(
-    tables: &mut Tables,
-    moment: i64,
-    job: &JobRow,
-    replace: bool,
-) -> Result<Reply, StepRefused>
-    requires spare { 1 ≤ tables.old.spare.jobs }
-    ensures ok { IfOk result (λ reply. add_job tables.old.tables moment job.now replace ≡ accepted tables.new.tables reply) }
-    ensures cause { IfErr result (IsErrorOf (add_job tables.old.tables moment job.now replace)) }
-    ensures err { OnErr result (tables.new ≡ tables.old) }
+/// Stores the job, which nothing refuses, in place of one of its key. The moment is in ms since 1970-01-01T00:00:00Z.
+pub fn add_job(tables: &mut Tables, moment: i64, job: JobRow) -> Reply
+    requires { 1 ≤ tables.old.spare.jobs }
+    ensures { (replace : Bool) → add_job_refusal tables.old.tables job replace ≡ None → add_job tables.old.tables moment job replace ≡ accepted tables.new.tables result }
 {
-    if let Some(refusal) = add_job_refusal(tables, job, replace) {
-        return Err(StepRefused::Refused(refusal));
-    }
-    let job = job.copy()?;
     set_job(tables, job);
     tables.set_last_moment(moment);
-    Ok(Reply::Done)
+    Reply::Done
 }
 
 /// Why the job isn't added, if it isn't.
@@ -89,21 +78,18 @@ fn set_job(tables: &mut Tables, job: JobRow)
     tables.insert_job(job);
 }
 
-/// Deletes the job with its triggers. Its executions go on. The moment is in ms since 1970-01-01T00:00:00Z.
-pub fn delete_job(tables: &mut Tables, moment: i64, key: &Key) -> Result<Reply, StepRefused>
-    ensures ok { IfOk result (λ reply. delete_job tables.old.tables moment key.now ≡ accepted tables.new.tables reply) }
-    ensures cause { IfErr result (IsErrorOf (delete_job tables.old.tables moment key.now)) }
-    ensures err { OnErr result (tables.new ≡ tables.old) }
+/// Deletes the job, which is stored, with its triggers. Its executions go on. The moment is in ms since
+/// 1970-01-01T00:00:00Z.
+pub fn delete_job(tables: &mut Tables, moment: i64, key: &Key) -> Reply
+    requires { unknown_job (job_of key.now tables.old.tables.jobs) ≡ None }
+    ensures { delete_job tables.old.tables moment key.now ≡ accepted tables.new.tables result }
 {
-    if let Some(refusal) = delete_job_refusal(tables, key) {
-        return Err(StepRefused::Refused(refusal));
-    }
     tables.remove_acquired_of_job(key);
     let triggers = tables.remove_job_triggers(key) as u64;
     let removed = tables.remove_job(key);
     drop(removed);
     tables.set_last_moment(moment);
-    Ok(Reply::Deleted { triggers })
+    Reply::Deleted { triggers }
 }
 
 /// Why the job isn't deleted, if it isn't.

@@ -1,51 +1,56 @@
 //! Firing a job at once, by a trigger that is added for it.
-ghost use Rattle.std.specs.Prelude.{◌≡◌, ◌≤◌, ◌+◌, ◌++◌, Some, None, IsTrue, IfOk, IfErr, IfNone, OnErr, codes, decimal, option_copied};
+ghost use Rattle.std.specs.Prelude.{◌≡◌, ◌≤◌, ◌+◌, ◌++◌, Some, None, IsTrue, IfOk, codes, decimal, option_copied};
 ghost use Rattle.qz_civil.specs.Timings.{is_span};
 ghost use Rattle.qz_types.specs.declared.limits.TheConstants.{NUMBER_LIMIT};
 ghost use Rattle.qz_types.specs.Rows.{is_key};
-ghost use Rattle.qz_types.specs.Words.{trigger_of};
-ghost use Rattle.qz_types.specs.Outcomes.{accepted, IsErrorOf};
+ghost use Rattle.qz_types.specs.Outcomes.{accepted};
 ghost use Rattle.qz_model.specs.Invariant.{TablesValid};
 ghost use Rattle.qz_model.specs.Triggers.{manual_trigger, new_trigger, trigger_now_refusal, trigger_now};
 
+use crate::changes::Change;
 use crate::triggers::new_trigger;
 use qz_tables::Tables;
 use qz_types::{
-    Key, Kind, NUMBER_LIMIT, Refusal, Reply, StepRefused, TRIGGER_LIMIT, Text, Timing, TriggerRow,
-    TriggerSpec,
+    Key, Kind, NUMBER_LIMIT, Refusal, Reply, TRIGGER_LIMIT, Text, Timing, TriggerRow, TriggerSpec,
 };
 use std::alloc::{AllocError, Global};
 
-/// Adds a trigger of the job that fires once, at the moment, in ms since 1970-01-01T00:00:00Z.
-pub fn trigger_now(tables: &mut Tables, moment: i64, job: &Key) -> Result<Reply, StepRefused>
-    requires valid { ∥ TablesValid tables.old.tables ∥₁ }
+/// The row that a TriggerNow stores, and its key for the reply. The moment is in ms since 1970-01-01T00:00:00Z.
+pub fn copy_manual(tables: &Tables, moment: i64, job: &Key) -> Result<Change, AllocError>
     requires job { IsTrue (is_key job.now) }
     requires moment { IsTrue (is_span moment) }
-    requires spare { 1 ≤ tables.old.spare.triggers }
-    ensures ok { IfOk result (λ reply. trigger_now tables.old.tables moment job.now ≡ accepted tables.new.tables reply) }
-    ensures cause { IfErr result (IsErrorOf (trigger_now tables.old.tables moment job.now)) }
-    ensures err { OnErr result (tables.new ≡ tables.old) }
+    requires accepts { trigger_now_refusal tables.now.tables job.now ≡ None }
+    ensures { IfOk result (λ change. change ≡ Change.Manual (new_trigger tables.now.tables (manual_trigger moment tables.now.tables.next_entry job.now) (Some moment)) (manual_trigger moment tables.now.tables.next_entry job.now).key) }
 {
-    if let Some(refusal) = trigger_now_refusal(tables, job) {
-        return Err(StepRefused::Refused(refusal));
-    }
-    let trigger = manual_row(tables, moment, job)?;
-    let key = trigger.spec.key.copy()?;
+    let spec = manual_trigger(tables.allocator(), moment, tables.next_entry(), job)?;
+    let key = spec.key.copy()?;
+    let row = new_trigger(tables, spec, Some(moment));
+    Ok(Change::Manual { row, key })
+}
+
+/// Stores a trigger that fires its job once, at the moment, in ms since 1970-01-01T00:00:00Z. Nothing refuses it.
+pub fn trigger_now(tables: &mut Tables, moment: i64, row: TriggerRow, key: Key) -> Reply
+    requires valid { ∥ TablesValid tables.old.tables ∥₁ }
+    requires accepts { trigger_now_refusal tables.old.tables row.spec.job ≡ None }
+    requires row { row ≡ new_trigger tables.old.tables (manual_trigger moment tables.old.tables.next_entry row.spec.job) (Some moment) }
+    requires key { key ≡ row.spec.key }
+    requires spare { 1 ≤ tables.old.spare.triggers }
+    ensures { trigger_now tables.old.tables moment row.spec.job ≡ accepted tables.new.tables result }
+{
     let entry = tables.next_entry();
-    tables.insert_trigger(trigger);
+    tables.insert_trigger(row);
     tables.set_next_entry(entry + 1);
     tables.set_last_moment(moment);
-    Ok(Reply::Triggered {
+    Reply::Triggered {
         trigger: key,
         next: moment,
-    })
+    }
 }
 
 /// Why no trigger is added, if none is.
 #[tactic(auto, unfolding(qz_model::specs::Triggers::trigger_now_refusal))]
 pub fn trigger_now_refusal(tables: &Tables, job: &Key) -> Option<Refusal>
-    ensures value { result ≡ trigger_now_refusal tables.now.tables job.now }
-    ensures room { IfNone result (tables.now.tables.next_entry + 1 ≤ NUMBER_LIMIT) }
+    ensures { result ≡ trigger_now_refusal tables.now.tables job.now }
 {
     if tables.get_job(job).is_none() {
         return Some(Refusal::UnknownJob);
@@ -61,20 +66,6 @@ pub fn trigger_now_refusal(tables: &Tables, job: &Key) -> Option<Refusal>
         });
     }
     None
-}
-
-// The trigger that is added. No stored one has its key.
-fn manual_row(tables: &Tables, moment: i64, job: &Key) -> Result<TriggerRow, AllocError>
-    requires valid { ∥ TablesValid tables.now.tables ∥₁ }
-    requires room { tables.now.tables.next_entry + 1 ≤ NUMBER_LIMIT }
-    requires job { IsTrue (is_key job.now) }
-    requires moment { IsTrue (is_span moment) }
-    ensures row { IfOk result (λ row. row ≡ new_trigger tables.now.tables (manual_trigger moment tables.now.tables.next_entry job.now) (Some moment)) }
-    ensures key { IfOk result (λ row. row.spec.key ≡ (manual_trigger moment tables.now.tables.next_entry job.now).key) }
-    ensures absent { IfOk result (λ row. trigger_of row.spec.key tables.now.tables.triggers ≡ None) }
-{
-    let spec = manual_trigger(tables.allocator(), moment, tables.next_entry(), job)?;
-    Ok(new_trigger(tables, spec, Some(moment)))
 }
 
 // Fires once, at the moment.

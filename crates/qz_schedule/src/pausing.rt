@@ -1,58 +1,48 @@
 //! Pausing and resuming triggers and groups of them.
-ghost use Rattle.std.specs.Prelude.{◌≡◌, ◌≤◌, IfOk, IfErr, OnErr, option_copied};
-ghost use Rattle.qz_types.specs.Outcomes.{accepted, IsErrorOf};
-ghost use Rattle.qz_types.specs.Words.{is_paused, put_group, without_group};
+ghost use Rattle.std.specs.Prelude.{◌≡◌, ◌≤◌, None, option_copied};
+ghost use Rattle.qz_types.specs.Outcomes.{accepted};
+ghost use Rattle.qz_types.specs.Words.{trigger_of, is_paused, put_group, without_group};
 ghost use Rattle.qz_model.specs.Pausing.{pause_trigger, resume_trigger, pause_group_refusal, pause_group, resume_group};
+ghost use Rattle.qz_model.specs.Triggers.{unknown_trigger};
 
-use crate::triggers::{is_paused, unknown_trigger};
+use crate::triggers::is_paused;
 use qz_tables::{StateChange, Tables};
-use qz_types::{GROUP_LIMIT, Key, Refusal, Reply, StepRefused, Text};
+use qz_types::{GROUP_LIMIT, Key, Refusal, Reply, Text};
 
-/// Pauses the trigger of this key. If it is acquired, its fired row goes.
-pub fn pause_trigger(tables: &mut Tables, moment: i64, key: &Key) -> Result<Reply, StepRefused>
-    ensures ok { IfOk result (λ reply. pause_trigger tables.old.tables moment key.now ≡ accepted tables.new.tables reply) }
-    ensures cause { IfErr result (IsErrorOf (pause_trigger tables.old.tables moment key.now)) }
-    ensures err { OnErr result (tables.new ≡ tables.old) }
+/// Pauses the trigger of this key, which is stored. If it is acquired, its fired row goes. The moment is in ms since
+/// 1970-01-01T00:00:00Z.
+pub fn pause_trigger(tables: &mut Tables, moment: i64, key: &Key) -> Reply
+    requires { unknown_trigger (trigger_of key.now tables.old.tables.triggers) ≡ None }
+    ensures { pause_trigger tables.old.tables moment key.now ≡ accepted tables.new.tables result }
 {
-    if let Some(refusal) = unknown_trigger(tables, key) {
-        return Err(StepRefused::Refused(refusal));
-    }
     tables.change_state(key, StateChange::Pause);
     tables.remove_acquired(key);
     tables.set_last_moment(moment);
-    Ok(Reply::Done)
+    Reply::Done
 }
 
-/// Resumes the trigger of this key.
-pub fn resume_trigger(tables: &mut Tables, moment: i64, key: &Key) -> Result<Reply, StepRefused>
-    ensures ok { IfOk result (λ reply. resume_trigger tables.old.tables moment key.now ≡ accepted tables.new.tables reply) }
-    ensures cause { IfErr result (IsErrorOf (resume_trigger tables.old.tables moment key.now)) }
-    ensures err { OnErr result (tables.new ≡ tables.old) }
+/// Resumes the trigger of this key, which is stored. The moment is in ms since 1970-01-01T00:00:00Z.
+pub fn resume_trigger(tables: &mut Tables, moment: i64, key: &Key) -> Reply
+    requires { unknown_trigger (trigger_of key.now tables.old.tables.triggers) ≡ None }
+    ensures { resume_trigger tables.old.tables moment key.now ≡ accepted tables.new.tables result }
 {
-    if let Some(refusal) = unknown_trigger(tables, key) {
-        return Err(StepRefused::Refused(refusal));
-    }
     tables.change_state(key, StateChange::Resume);
     tables.set_last_moment(moment);
-    Ok(Reply::Done)
+    Reply::Done
 }
 
-/// Pauses the group, with the triggers that are stored in it now and later. The fired rows of those that are acquired go.
-pub fn pause_group(tables: &mut Tables, moment: i64, group: &Text) -> Result<Reply, StepRefused>
+/// Pauses the group, which nothing refuses, with the triggers that are stored in it now and later. The fired rows of those
+/// that are acquired go. The moment is in ms since 1970-01-01T00:00:00Z.
+pub fn pause_group(tables: &mut Tables, moment: i64, group: Text) -> Reply
+    requires accepts { pause_group_refusal tables.old.tables group ≡ None }
     requires spare { 1 ≤ tables.old.spare.paused_groups }
-    ensures ok { IfOk result (λ reply. pause_group tables.old.tables moment group.now ≡ accepted tables.new.tables reply) }
-    ensures cause { IfErr result (IsErrorOf (pause_group tables.old.tables moment group.now)) }
-    ensures err { OnErr result (tables.new ≡ tables.old) }
+    ensures { pause_group tables.old.tables moment group ≡ accepted tables.new.tables result }
 {
-    if let Some(refusal) = pause_group_refusal(tables, group) {
-        return Err(StepRefused::Refused(refusal));
-    }
-    let paused = group.clone()?;
-    put_group(tables, paused);
-    tables.change_group_states(group, StateChange::Pause);
-    tables.remove_acquired_of_group(group);
+    tables.change_group_states(&group, StateChange::Pause);
+    tables.remove_acquired_of_group(&group);
+    put_group(tables, group);
     tables.set_last_moment(moment);
-    Ok(Reply::Done)
+    Reply::Done
 }
 
 /// Why the group isn't paused, if it isn't.
@@ -78,7 +68,8 @@ fn put_group(tables: &mut Tables, group: Text)
     tables.insert_group(group);
 }
 
-/// Resumes the group. None of its triggers stays paused, whether it was paused with the group or alone.
+/// Resumes the group. None of its triggers stays paused, whether it was paused with the group or alone. The moment is in ms
+/// since 1970-01-01T00:00:00Z.
 pub fn resume_group(tables: &mut Tables, moment: i64, group: &Text) -> Reply
     ensures { resume_group tables.old.tables moment group.now ≡ accepted tables.new.tables result }
 {

@@ -1,12 +1,14 @@
 //! Adding and deleting triggers.
-ghost use Rattle.std.specs.Prelude.{◌≡◌, ◌≤◌, Some, None, IsTrue, IfOk, IfErr, OnErr, codes, option_copied};
+ghost use Rattle.std.specs.Prelude.{◌≡◌, ◌≤◌, ℤ, Bool, Some, None, IsSome, IsTrue, IfOk, IfErr, OnOk, codes, option_copied};
 ghost use Rattle.qz_types.specs.Rows.{is_trigger_spec};
 ghost use Rattle.qz_types.specs.States.{first_state};
 ghost use Rattle.qz_types.specs.Outcomes.{accepted, IsErrorOf};
 ghost use Rattle.qz_types.specs.Words.{is_paused, trigger_of};
 ghost use Rattle.qz_model.specs.Plan.{first_time};
 ghost use Rattle.qz_model.specs.Triggers.{is_reserved, naming_refusal, add_trigger_refusal, new_trigger, with_new_trigger, add_trigger, unknown_trigger, delete_trigger};
+ghost use Rattle.qz_tables.specs.Contents.{HasSpare};
 
+use crate::changes::Change;
 use crate::known::{has_known_zone, is_known_calendar};
 use qz_apply::{is_busy, next_after, remove_orphan, remove_trigger_and_orphan, same_text};
 use qz_tables::Tables;
@@ -14,29 +16,42 @@ use qz_types::{
     Key, Refusal, Reply, StepRefused, TRIGGER_LIMIT, Text, TriggerRow, TriggerSpec, TriggerState,
 };
 
-/// Stores the trigger, in place of one of its key. The moment is in ms since 1970-01-01T00:00:00Z.
-#[tactic(auto, using(crate::proofs::Steps::trigger_added))]
-pub fn add_trigger(
+/// The row that an AddTrigger stores, with room for it. The search for its first fire time is made once.
+pub fn prepare_trigger(
     tables: &mut Tables,
-    moment: i64,
     spec: &TriggerSpec,
     replace: bool,
-) -> Result<Reply, StepRefused>
-    requires spec { IsTrue (is_trigger_spec spec.now) }
-    requires spare { 1 ≤ tables.old.spare.triggers }
-    ensures ok { IfOk result (λ reply. add_trigger tables.old.tables moment spec.now replace ≡ accepted tables.new.tables reply) }
-    ensures cause { IfErr result (IsErrorOf (add_trigger tables.old.tables moment spec.now replace)) }
-    ensures err { OnErr result (tables.new ≡ tables.old) }
+) -> Result<Change, StepRefused>
+    requires { IsTrue (is_trigger_spec spec.now) }
+    ensures ok { IfOk result (λ change. change ≡ Change.Trigger (new_trigger tables.old.tables spec.now (first_time tables.old.tables spec.now))) }
+    ensures accepts { OnOk result (add_trigger_refusal tables.old.tables spec.now replace ≡ None) }
+    ensures room { OnOk result (HasSpare 1 tables.new.spare) }
+    ensures cause { IfErr result (λ error. (moment : ℤ) → IsErrorOf (add_trigger tables.old.tables moment spec.now replace) error) }
+    ensures same { tables.new.tables ≡ tables.old.tables }
+    ensures links { tables.new.links ≡ tables.old.links }
 {
     let next = match first_fire_time(tables, spec, replace) {
         Ok(next) => next,
         Err(refusal) => return Err(StepRefused::Refused(refusal)),
     };
+    tables.reserve(1)?;
     let spec = spec.copy()?;
-    let trigger = new_trigger(tables, spec, Some(next));
-    set_trigger(tables, trigger);
+    let row = new_trigger(tables, spec, Some(next));
+    Ok(Change::Trigger(row))
+}
+
+/// Stores a new trigger, which nothing refuses, in place of one of its key. The moment is in ms since
+/// 1970-01-01T00:00:00Z.
+pub fn add_trigger(tables: &mut Tables, moment: i64, row: TriggerRow) -> Reply
+    requires row { row ≡ new_trigger tables.old.tables row.spec (first_time tables.old.tables row.spec) }
+    requires time { IsSome row.next }
+    requires spare { 1 ≤ tables.old.spare.triggers }
+    ensures { (replace : Bool) → add_trigger_refusal tables.old.tables row.spec replace ≡ None → add_trigger tables.old.tables moment row.spec replace ≡ accepted tables.new.tables result }
+{
+    let Some(next) = row.next else { unreachable!() };
+    set_trigger(tables, row);
     tables.set_last_moment(moment);
-    Ok(Reply::Added { next })
+    Reply::Added { next }
 }
 
 /// Why the trigger isn't added, if it isn't.
@@ -109,18 +124,14 @@ fn set_trigger(tables: &mut Tables, trigger: TriggerRow)
     }
 }
 
-/// Deletes the trigger. The moment is in ms since 1970-01-01T00:00:00Z.
-pub fn delete_trigger(tables: &mut Tables, moment: i64, key: &Key) -> Result<Reply, StepRefused>
-    ensures ok { IfOk result (λ reply. delete_trigger tables.old.tables moment key.now ≡ accepted tables.new.tables reply) }
-    ensures cause { IfErr result (IsErrorOf (delete_trigger tables.old.tables moment key.now)) }
-    ensures err { OnErr result (tables.new ≡ tables.old) }
+/// Deletes the trigger, which is stored. The moment is in ms since 1970-01-01T00:00:00Z.
+pub fn delete_trigger(tables: &mut Tables, moment: i64, key: &Key) -> Reply
+    requires { unknown_trigger (trigger_of key.now tables.old.tables.triggers) ≡ None }
+    ensures { delete_trigger tables.old.tables moment key.now ≡ accepted tables.new.tables result }
 {
-    if let Some(refusal) = unknown_trigger(tables, key) {
-        return Err(StepRefused::Refused(refusal));
-    }
     remove_trigger_and_orphan(tables, key);
     tables.set_last_moment(moment);
-    Ok(Reply::Done)
+    Reply::Done
 }
 
 /// Why a command on the trigger of this key is refused, if it is.

@@ -1,36 +1,30 @@
 //! Storing a zone, and deleting one that nothing names.
-ghost use Rattle.std.specs.Prelude.{◌≡◌, ◌≤◌, None, IfNone, IfOk, IfErr, OnErr, option_copied};
-ghost use Rattle.qz_types.specs.Outcomes.{accepted, IsErrorOf};
-ghost use Rattle.qz_types.specs.Words.{zone_of};
+ghost use Rattle.std.specs.Prelude.{◌≡◌, ◌≤◌, None, option_copied};
+ghost use Rattle.qz_types.specs.Outcomes.{accepted};
 ghost use Rattle.qz_model.specs.Calendars.{add_zone_refusal, add_zone, zone_uses, delete_zone_refusal, delete_zone};
 ghost use Rattle.qz_model.specs.Invariant.{TablesValid};
 
 use crate::known::is_known_zone;
 use crate::uses::{calendars_in_zone, triggers_in_zone, use_refusal};
 use qz_tables::Tables;
-use qz_types::{Refusal, Reply, StepRefused, Text, ZONE_LIMIT, ZoneRow};
+use qz_types::{Refusal, Reply, Text, ZONE_LIMIT, ZoneRow};
 
-/// Stores a zone of a new name.
-pub fn add_zone(tables: &mut Tables, moment: i64, zone: &ZoneRow) -> Result<Reply, StepRefused>
+/// Stores a zone of a new name, which nothing refuses. The moment is in ms since 1970-01-01T00:00:00Z.
+#[tactic(auto, using(crate::proofs::Absent::no_zone))]
+pub fn add_zone(tables: &mut Tables, moment: i64, zone: ZoneRow) -> Reply
+    requires accepts { add_zone_refusal tables.old.tables zone ≡ None }
     requires spare { 1 ≤ tables.old.spare.zones }
-    ensures ok { IfOk result (λ reply. add_zone tables.old.tables moment zone.now ≡ accepted tables.new.tables reply) }
-    ensures cause { IfErr result (IsErrorOf (add_zone tables.old.tables moment zone.now)) }
-    ensures err { OnErr result (tables.new ≡ tables.old) }
+    ensures { add_zone tables.old.tables moment zone ≡ accepted tables.new.tables result }
 {
-    if let Some(refusal) = add_zone_refusal(tables, zone) {
-        return Err(StepRefused::Refused(refusal));
-    }
-    let zone = zone.copy()?;
     tables.insert_zone(zone);
     tables.set_last_moment(moment);
-    Ok(Reply::Done)
+    Reply::Done
 }
 
 /// Why the zone isn't stored, if it isn't.
-#[tactic(auto, using(crate::proofs::Counting::new_zone), unfolding(qz_model::specs::Calendars::add_zone_refusal))]
+#[tactic(auto, unfolding(qz_model::specs::Calendars::add_zone_refusal))]
 pub fn add_zone_refusal(tables: &Tables, zone: &ZoneRow) -> Option<Refusal>
-    ensures value { result ≡ add_zone_refusal tables.now.tables zone.now }
-    ensures absent { IfNone result (zone_of zone.now.name tables.now.tables.zones ≡ None) }
+    ensures { result ≡ add_zone_refusal tables.now.tables zone.now }
 {
     if is_known_zone(tables, &zone.name) {
         Some(Refusal::ZoneExists)
@@ -41,20 +35,15 @@ pub fn add_zone_refusal(tables: &Tables, zone: &ZoneRow) -> Option<Refusal>
     }
 }
 
-/// Deletes the zone of this name.
-pub fn delete_zone(tables: &mut Tables, moment: i64, name: &Text) -> Result<Reply, StepRefused>
-    requires valid { ∥ TablesValid tables.old.tables ∥₁ }
-    ensures ok { IfOk result (λ reply. delete_zone tables.old.tables moment name.now ≡ accepted tables.new.tables reply) }
-    ensures cause { IfErr result (IsErrorOf (delete_zone tables.old.tables moment name.now)) }
-    ensures err { OnErr result (tables.new ≡ tables.old) }
+/// Deletes the zone of this name, which nothing refuses. The moment is in ms since 1970-01-01T00:00:00Z.
+pub fn delete_zone(tables: &mut Tables, moment: i64, name: &Text) -> Reply
+    requires { delete_zone_refusal tables.old.tables name.now ≡ None }
+    ensures { delete_zone tables.old.tables moment name.now ≡ accepted tables.new.tables result }
 {
-    if let Some(refusal) = delete_zone_refusal(tables, name) {
-        return Err(StepRefused::Refused(refusal));
-    }
     let removed = tables.remove_zone(name);
     drop(removed);
     tables.set_last_moment(moment);
-    Ok(Reply::Done)
+    Reply::Done
 }
 
 /// Why the zone isn't deleted, if it isn't.

@@ -1,4 +1,5 @@
 //! Steps of a script.
+use crate::questions::{Question, Shown};
 use qz_types::{Command, Refusal, Reply, Text};
 
 /// What one script line asks for. A client's command is none that a node gives and no Join; a node's command is one
@@ -16,6 +17,10 @@ pub enum Step {
     Forget { node: Text, failed: Text },
     /// The node stops in the middle of what it does: it holds its epoch no longer.
     Stop { node: Text },
+    /// The node goes on under the epoch that it kept while another program held the stores.
+    Resume { node: Text, epoch: u64 },
+    /// What is stored is asked for. Nothing changes.
+    Show(Question),
     /// All nodes stop, and both disks restart as after a loss of power. What is on them is opened anew.
     Restart,
 }
@@ -34,4 +39,6 @@ pub enum StepReply {
     Stopped,
     /// Both stores were opened anew, and no node holds an epoch.
     Restarted,
+    /// What was asked for.
+    Shown(Shown),
 }

@@ -6,7 +6,7 @@ ghost use Rattle.qz_steps.specs.Steps.{is_step};
 use qz_cluster::{Cluster, StepEnd};
 use qz_disk::{Disk, FaultDisk, MemDisk};
 use qz_journal::{STATES, TRIGGERS, create};
-use qz_steps::{Step, StepReply};
+use qz_steps::{Question, Step, StepReply};
 use qz_types::{Command, List, Text};
 use std::alloc::{AllocError, Global};
 
@@ -19,6 +19,7 @@ enum Came {
     Closed,
     Stopped,
     Restarted,
+    Shown,
     Ended,
     Starved,
 }
@@ -31,6 +32,7 @@ fn reason(answer: &Result<StepReply, StepEnd>) -> Came {
         Ok(StepReply::Closed) => Came::Closed,
         Ok(StepReply::Stopped) => Came::Stopped,
         Ok(StepReply::Restarted) => Came::Restarted,
+        Ok(StepReply::Shown(_)) => Came::Shown,
         Err(_) => Came::Ended,
     }
 }
@@ -85,10 +87,44 @@ fn begins<D: Disk>(alloc: Global, cluster: &mut Cluster<D>) -> bool {
         && answered(cluster, fire(alloc, "A")) == Came::Refused
 }
 
+fn resume(alloc: Global, name: &str, epoch: u64) -> Result<Step, AllocError>
+    requires { IsTrue (is_node name.now) }
+    ensures { IfOk result (λ step. IsTrue (is_step step)) }
+{
+    let node = Text::from_str(alloc, name)?;
+    Ok(Step::Resume { node, epoch })
+}
+
+fn stop(alloc: Global, name: &str) -> Result<Step, AllocError>
+    requires { IsTrue (is_node name.now) }
+    ensures { IfOk result (λ step. IsTrue (is_step step)) }
+{
+    let node = Text::from_str(alloc, name)?;
+    Ok(Step::Stop { node })
+}
+
+// A node goes on under its own epoch alone, and once.
+fn goes_on<D: Disk>(alloc: Global, cluster: &mut Cluster<D>) -> bool {
+    answered(cluster, resume(alloc, "A", 1)) == Came::Refused
+        && answered(cluster, stop(alloc, "A")) == Came::Accepted
+        && answered(cluster, fire(alloc, "A")) == Came::Stopped
+        && answered(cluster, resume(alloc, "A", 2)) == Came::Refused
+        && answered(cluster, resume(alloc, "B", 1)) == Came::Refused
+        && answered(cluster, resume(alloc, "A", 1)) == Came::Accepted
+        && answered(cluster, fire(alloc, "A")) == Came::Refused
+}
+
+// A question, which an open trigger store answers.
+fn asks<D: Disk>(cluster: &mut Cluster<D>) -> Came {
+    answered(cluster, Ok(Step::Show(Question::Next)))
+}
+
 // A step whose disk fails, and one behind it.
 fn fails<D: Disk>(alloc: Global, cluster: &mut Cluster<D>) -> bool {
     answered(cluster, join(alloc, "B")) == Came::Failed
         && answered(cluster, fire(alloc, "B")) == Came::Closed
+        && answered(cluster, resume(alloc, "A", 1)) == Came::Closed
+        && asks(cluster) == Came::Closed
 }
 
 // Whether the second commit's fault closes the store.
@@ -96,9 +132,10 @@ fn is_closed_by_a_fault<D: Disk>(alloc: Global, triggers: D, states: D) -> bool 
     match Cluster::mount(alloc, triggers, states) {
         Ok(mut cluster) => {
             let begun = begins(alloc, &mut cluster) && !cluster.closed();
+            let again = goes_on(alloc, &mut cluster) && asks(&mut cluster) == Came::Shown;
             let failed = fails(alloc, &mut cluster) && cluster.closed();
             drop(cluster.into_disks());
-            begun && failed
+            begun && again && failed
         }
         Err(error) => {
             drop(error);

@@ -1,4 +1,4 @@
-pub mod ChainSteps
 pub mod ChainLaws
+pub mod NextLaws
 pub mod SaidLaws
 pub mod RunLaws

@@ -1,12 +1,14 @@
 -- What is said to the lines of an input. Times are in ms.
-use Rattle.std.specs.Prelude.{◌≡◌, ◌⊎◌, ◌≤◌, ℕ, ℤ, List, [], ◌∷◌, ◌++◌, length, not, is_none, codes, if◌then◌else◌, Option, Some, None, Result, Ok}
+use Rattle.std.specs.Prelude.{◌≡◌, ◌⊎◌, ◌≤◌, ℕ, ℤ, List, [], ◌∷◌, ◌++◌, length, not, pos, if◌then◌else◌, Option, Some, None, Result, Ok}
 use Rattle.qz_civil.specs.declared.limits.TheConstants.{LAST}
-use Rattle.qz_civil.specs.declared.timings.Kind.{Kind}
-use Rattle.qz_civil.specs.declared.timings.Kind.TheVariants.{Simple, Cron, Interval, Daily}
 use Rattle.qz_civil.specs.Least.{IsLeast, IsNext}
+use Rattle.qz_types.specs.declared.commands.Actor.TheVariants.{Client}
+use Rattle.qz_types.specs.declared.commands.Command.{Command}
+use Rattle.qz_types.specs.declared.commands.Command.TheVariants as command
+use Rattle.qz_types.specs.Entries.{EntryData}
+use Rattle.qz_types.specs.Outcomes.{Outcome, accepted, refused}
 use Rattle.qz_types.specs.declared.replies.Refusal.{Refusal}
 use Rattle.qz_types.specs.declared.replies.Refusal.TheVariants.{UnknownCalendar, UnknownZone}
-use Rattle.qz_types.specs.declared.replies.Reply.TheVariants.{Done}
 use Rattle.qz_steps.specs.declared.steps.StepReply.TheVariants as reply
 use Rattle.qz_types.specs.declared.triggers.TriggerSpec.{TriggerSpec}
 use Rattle.qz_job_json.specs.declared.asked.Asked.{Asked}
@@ -16,26 +18,29 @@ use Rattle.qz_job_json.specs.Asked.{asked_meaning}
 use Rattle.qz_report.specs.Replies.{reply_text}
 use Rattle.qz_report.specs.Times.{times_text}
 use Rattle.qz_plan.specs.FireTimes.{IsFireTime}
+use Rattle.qz_model.specs.Plan.{stretches_for, zone_named_by, zoned_chain, is_known_zone_name, is_known_calendar}
+use Rattle.qz_model.specs.Transaction.{transaction}
 use Rattle.qz_times.specs.declared.queries.Query.{Query}
-use Rattle.qz_times.specs.Known.{Known, known_zone, zone_or_utc, is_known_calendar, zoned_chain, zone_refusal, with_zone, calendar_refusal, with_calendar}
+use Rattle.qz_times.specs.Known.{Known}
 
 -- what a line means; proofs see this word closed
 unfoldable pub line_meaning : List ℕ → Result (Option Asked) LineFault
 line_meaning line = asked_meaning line
 
--- what is said to a line that stores something
-abbrev pub stored_text : Option Refusal → List ℕ
-stored_text None = reply_text (reply.Ok Done)
-stored_text (Some refusal) = reply_text (reply.Refused refusal)
+-- a client's command as an entry of the trigger store; nothing that is said depends on its moment
+abbrev pub entry_of : Command → EntryData
+entry_of command = record { at = pos 0; actor = Client; seat = 0; command = command }
+
+-- what is said to a command that comes to this, and what is known then
+abbrev pub Obeyed : Outcome → Known → List ℕ → Known → Type 0
+Obeyed (accepted next done) known text known' = (text ≡ reply_text (reply.Ok done)) × (known' ≡ next)
+Obeyed (refused refusal) known text known' = (text ≡ reply_text (reply.Refused refusal)) × (known' ≡ known)
 
 -- The fire times of a trigger.
 
--- the zone that a kind names
-abbrev pub zone_name : Kind → List ℕ
-zone_name (Simple interval count) = codes "UTC"
-zone_name (Cron fields zone) = zone
-zone_name (Interval unit every zone) = zone
-zone_name (Daily unit every from to days zone) = zone
+-- it fires at t, in its zone and with its chain of calendars
+abbrev pub Fires : Known → TriggerSpec → ℤ → Type 0
+Fires known spec t = IsFireTime spec.timing (stretches_for known.zones (zone_named_by spec.timing.kind)) (zoned_chain known spec.calendar) t
 
 -- each time is the next one after the one before, and the first the next one after `after`
 abbrev pub IsChain : (ℤ → Type 0) → ℤ → List ℤ → ℤ → Type 0
@@ -53,16 +58,14 @@ pub record AreFirst (P : ℤ → Type 0) (after : ℤ) (count : ℕ) (times : Li
 abbrev pub trigger_refusal : Known → TriggerSpec → Option Refusal
 trigger_refusal known spec =
     if not (is_known_calendar known.calendars spec.calendar) then Some UnknownCalendar
-    else (if is_none (known_zone known.zones (zone_name spec.timing.kind)) then Some UnknownZone
+    else (if not (is_known_zone_name known.zones (zone_named_by spec.timing.kind)) then Some UnknownZone
     else None)
 
--- a trigger is told its first times in its zone, with its chain of calendars, unless it is refused
+-- a trigger is told its first times, unless it is refused
 abbrev pub IsToldUnless : Option Refusal → Known → Query → TriggerSpec → List ℕ → Type 0
 IsToldUnless (Some refusal) known q spec text = text ≡ reply_text (reply.Refused refusal)
 IsToldUnless None known q spec text =
-    (times : List ℤ)
-    × AreFirst (IsFireTime spec.timing (zone_or_utc known.zones (zone_name spec.timing.kind)) (zoned_chain known spec.calendar)) q.after q.count times
-    × (text ≡ times_text spec.key times)
+    (times : List ℤ) × AreFirst (Fires known spec) q.after q.count times × (text ≡ times_text spec.key times)
 
 -- what a trigger is told
 abbrev pub IsTold : Known → Query → TriggerSpec → List ℕ → Type 0
@@ -72,10 +75,9 @@ IsTold known q spec text = IsToldUnless (trigger_refusal known spec) known q spe
 abbrev pub Said : Query → Known → Option Asked → List ℕ → Known → Type 0
 Said q known None text known' = (text ≡ []) × (known' ≡ known)
 Said q known (Some (AddZone zone)) text known' =
-    (text ≡ stored_text (zone_refusal known zone)) × (known' ≡ with_zone (zone_refusal known zone) known zone)
+    Obeyed (transaction known (entry_of (command.AddZone zone))) known text known'
 Said q known (Some (AddCalendar calendar replace)) text known' =
-    (text ≡ stored_text (calendar_refusal known calendar replace))
-    × (known' ≡ with_calendar (calendar_refusal known calendar replace) known calendar)
+    Obeyed (transaction known (entry_of (command.AddCalendar calendar replace))) known text known'
 Said q known (Some (AddTrigger spec)) text known' = IsTold known q spec text × (known' ≡ known)
 
 -- what is said to a line that is right

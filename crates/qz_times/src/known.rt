@@ -1,21 +1,14 @@
-//! Zones and calendars that lines have stored.
+//! What lines have stored.
 ghost use Rattle.std.specs.Prelude.{◌≡◌};
 ghost use Rattle.qz_times.specs.Known.{kept, nothing};
 
-use qz_civil::Text;
-use qz_types::{CalendarRow, ZoneRow};
+use qz_plain::PlainStore;
 use std::alloc::Global;
-use std::collections::BTreeMap;
 
-pub(crate) type Zones = BTreeMap<Text, ZoneRow>;
-
-pub(crate) type Calendars = BTreeMap<Text, CalendarRow>;
-
-/// What lines have stored, by names.
+/// What lines have stored: tables of the trigger store, of which only zones and calendars have rows.
 #[derive(Drop)]
 pub(crate) struct Known {
-    pub(crate) zones: Zones,
-    pub(crate) calendars: Calendars,
+    pub(crate) store: PlainStore,
 }
 
 impl Known {
@@ -24,8 +17,7 @@ impl Known {
         ensures { kept result ≡ nothing }
     {
         Known {
-            zones: Zones::new(alloc),
-            calendars: Calendars::new(alloc),
+            store: PlainStore::new(alloc),
         }
     }
 }

@@ -2,15 +2,14 @@
 #![tactic(auto)]
 
 mod answers;
-mod calendars;
-mod chains;
 mod ends;
 mod known;
+mod obeying;
 mod queries;
+mod reply_lines;
 mod runs;
 mod said;
 mod telling;
-mod zones;
 
 pub use ends::TimesEnd;
 pub use queries::Query;

@@ -1,29 +1,30 @@
 //! What is said to what a line asks for.
-ghost use Rattle.std.specs.Prelude.{◌≡◌, pos, negsuc, ◌≤ℤ◌, Some, None, IsTrue, IfOk, is_some, option_map, unwrap_or, codes};
-ghost use Rattle.qz_civil.specs.Timings.{is_timing};
-ghost use Rattle.qz_civil.specs.Zones.{fixed_offset};
+ghost use Rattle.std.specs.Prelude.{◌≡◌, negsuc, ◌≤ℤ◌, Some, None, IsTrue, IfOk, option_copied};
+ghost use Rattle.qz_civil.specs.Least.{IsNext};
 ghost use Rattle.qz_types.specs.Rows.{is_trigger_spec};
+ghost use Rattle.qz_civil.specs.declared.limits.TheConstants.{LAST};
+ghost use Rattle.qz_model.specs.Plan.{is_utc, is_known_zone, is_known_zone_name, is_known_calendar, zone_named_by};
 ghost use Rattle.qz_job_json.specs.Asked.{is_asked};
 ghost use Rattle.qz_steps.specs.declared.steps.StepReply.TheVariants as reply;
 ghost use Rattle.qz_report.specs.Replies.{reply_text};
-ghost use Rattle.qz_plan.specs.FireTimes.{IsFireTime};
-ghost use Rattle.qz_times.specs.Known.{kept, known_zone, zone_or_utc};
-ghost use Rattle.qz_times.specs.Said.{AreFirst, IsTold, IsToldUnless, Said, stored_text, trigger_refusal, zone_name};
+ghost use Rattle.qz_times.specs.Known.{kept};
+ghost use Rattle.qz_times.specs.Said.{AreFirst, Fires, IsTold, IsToldUnless, Said, trigger_refusal};
 
-use crate::calendars::{add_calendar, is_known_calendar};
-use crate::chains::zoned_chain;
-use crate::known::{Known, Zones};
+use crate::known::Known;
+use crate::obeying::obey;
 use crate::queries::Query;
-use crate::zones::{add_zone, is_known_zone, zone_or_utc};
-use qz_calendar::Chain;
-use qz_civil::{Kind, LAST, NoMemory, Text, Timing, Zone};
+use crate::reply_lines::line_of;
+use qz_apply::{next_after, same_text};
+use qz_civil::{Kind, LAST, NoMemory, Text};
 use qz_job_json::Asked;
-use qz_report::{reply_line, times_line};
+use qz_report::times_line;
 use qz_steps::StepReply;
-use qz_types::{Refusal, Reply, TriggerSpec};
+use qz_tables::Tables;
+use qz_types::{Command, Refusal, TriggerSpec};
 use std::alloc::Global;
 
 /// Says what a line asks for. Where there is no memory, what is known is not to be used further.
+#[tactic(auto, unfolding(qz_types::specs::Entries::is_entry))]
 pub(crate) fn say(
     alloc: Global,
     asked: Asked,
@@ -36,28 +37,12 @@ pub(crate) fn say(
     ensures { IfOk result (λ text. Said query (kept known.old) (Some asked) text (kept known.new)) }
 {
     match asked {
-        Asked::AddZone { zone } => stored_line(alloc, add_zone(known, zone)?),
+        Asked::AddZone { zone } => obey(alloc, known, Command::AddZone { zone }),
         Asked::AddCalendar { calendar, replace } => {
-            stored_line(alloc, add_calendar(known, calendar, replace)?)
+            obey(alloc, known, Command::AddCalendar { calendar, replace })
         }
         Asked::AddTrigger { spec } => tell(alloc, known, &spec, query),
     }
-}
-
-// The reply to a line that stores something.
-fn stored_line(alloc: Global, refusal: Option<Refusal>) -> Result<Text, NoMemory>
-    ensures { IfOk result (λ text. text ≡ stored_text refusal) }
-{
-    match refusal {
-        None => reply_line(alloc, &StepReply::Ok(Reply::Done)),
-        Some(refusal) => refused(alloc, refusal),
-    }
-}
-
-fn refused(alloc: Global, refusal: Refusal) -> Result<Text, NoMemory>
-    ensures { IfOk result (λ text. text ≡ reply_text (reply.Refused refusal)) }
-{
-    reply_line(alloc, &StepReply::Refused(refusal))
 }
 
 // The line of a trigger.
@@ -67,54 +52,56 @@ fn tell(alloc: Global, known: &Known, spec: &TriggerSpec, query: Query) -> Resul
     requires high { query.after ≤ℤ LAST }
     ensures { IfOk result (IsTold (kept known.now) query spec.now) }
 {
-    match trigger_refusal(known, spec) {
+    match trigger_refusal(known.store.tables(), spec) {
         Some(refusal) => refused(alloc, refusal),
         None => tell_times(alloc, known, spec, query),
     }
 }
 
-// Why a trigger isn't told its times.
-fn trigger_refusal(known: &Known, spec: &TriggerSpec) -> Option<Refusal>
-    ensures { result ≡ trigger_refusal (kept known.now) spec.now }
+fn refused(alloc: Global, refusal: Refusal) -> Result<Text, NoMemory>
+    ensures { IfOk result (λ text. text ≡ reply_text (reply.Refused refusal)) }
 {
-    if !is_known_calendar(&known.calendars, spec.calendar.as_ref()) {
+    line_of(alloc, StepReply::Refused(refusal))
+}
+
+// Why a trigger isn't told its times.
+fn trigger_refusal(tables: &Tables, spec: &TriggerSpec) -> Option<Refusal>
+    ensures { result ≡ trigger_refusal tables.now.tables spec.now }
+{
+    if !is_known_calendar(tables, spec.calendar.as_ref()) {
         Some(Refusal::UnknownCalendar)
-    } else if !is_known_zone_of(&known.zones, &spec.timing.kind) {
+    } else if !has_known_zone(tables, &spec.timing.kind) {
         Some(Refusal::UnknownZone)
     } else {
         None
     }
 }
 
-// The zone that a kind names; one without a zone is timed in UTC.
-fn zone_name(kind: &Kind) -> Option<&Text>
-    ensures { unwrap_or (option_map (λ name. name.now) result) (codes "UTC") ≡ zone_name kind.now }
+fn is_known_calendar(tables: &Tables, name: Option<&Text>) -> bool
+    ensures { result ≡ is_known_calendar tables.now.tables.calendars (option_copied name.entry) }
+{
+    match name {
+        None => true,
+        Some(name) => tables.get_calendar(name).is_some(),
+    }
+}
+
+#[tactic(auto, unfolding(qz_model::specs::Plan::is_known_zone, qz_model::specs::Plan::is_utc))]
+fn is_known_zone(tables: &Tables, name: &Text) -> bool
+    ensures { result ≡ is_known_zone tables.now.tables.zones name.now }
+{
+    same_text(name.as_str(), "UTC") || tables.get_zone(name).is_some()
+}
+
+// Whether the zone is known in which the kind reads local times, if it reads any.
+fn has_known_zone(tables: &Tables, kind: &Kind) -> bool
+    ensures { result ≡ is_known_zone_name tables.now.tables.zones (zone_named_by kind.now) }
 {
     match kind {
-        Kind::Simple { .. } => None,
-        Kind::Cron { zone, .. } => Some(zone),
-        Kind::Interval { zone, .. } => Some(zone),
-        Kind::Daily { zone, .. } => Some(zone),
-    }
-}
-
-fn is_known_zone_of(zones: &Zones, kind: &Kind) -> bool
-    ensures { result ≡ is_some (known_zone zones.now.entries (zone_name kind.now)) }
-{
-    match zone_name(kind) {
-        Some(name) => is_known_zone(zones, name),
-        None => true,
-    }
-}
-
-// The zone of a kind. `utc` is the zone of Coordinated Universal Time.
-fn zone_of<'a>(zones: &'a Zones, kind: &Kind, utc: &'a Zone) -> &'a Zone
-    requires { utc.now ≡ fixed_offset (pos 0) }
-    ensures { result.now ≡ zone_or_utc zones.now.entries (zone_name kind.now) }
-{
-    match zone_name(kind) {
-        Some(name) => zone_or_utc(zones, name, utc),
-        None => utc,
+        Kind::Simple { .. } => true,
+        Kind::Cron { zone, .. } => is_known_zone(tables, zone),
+        Kind::Interval { zone, .. } => is_known_zone(tables, zone),
+        Kind::Daily { zone, .. } => is_known_zone(tables, zone),
     }
 }
 
@@ -130,34 +117,40 @@ fn tell_times(
     requires high { query.after ≤ℤ LAST }
     ensures { IfOk result (IsToldUnless None (kept known.now) query spec.now) }
 {
-    let utc = Zone::utc();
-    let zone = zone_of(&known.zones, &spec.timing.kind, &utc);
-    let chain = zoned_chain(known, spec.calendar.as_ref(), &utc);
-    let times = first_times(alloc, &spec.timing, zone, &chain, query)?;
+    let times = first_times(alloc, known, spec, query)?;
     times_line(alloc, &spec.key, &times)
 }
 
 // The first fire times of a trigger.
 fn first_times(
     alloc: Global,
-    timing: &Timing,
-    zone: &Zone,
-    chain: &Chain<'_>,
+    known: &Known,
+    spec: &TriggerSpec,
     query: Query,
 ) -> Result<Vec<i64>, NoMemory>
-    requires timing { IsTrue (is_timing timing.now) }
+    requires spec { IsTrue (is_trigger_spec spec.now) }
     requires low { negsuc 0 ≤ℤ query.after }
     requires high { query.after ≤ℤ LAST }
-    ensures { IfOk result (λ times. AreFirst (IsFireTime timing.now zone.now chain.now) query.after query.count times.items) }
+    ensures { IfOk result (λ times. AreFirst (Fires (kept known.now) spec.now) query.after query.count times.items) }
 {
     let mut times = Vec::new(alloc);
     let mut last = query.after;
     for _place in 0..query.count {
-        let Some(next) = qz_plan::after(timing, zone, chain, last) else {
+        let Some(next) = next_time(known, spec, last) else {
             return Ok(times);
         };
         times.push(next)?;
         last = next;
     }
     Ok(times)
+}
+
+// The least fire time after `after`, which is a timestamp or -1.
+fn next_time(known: &Known, spec: &TriggerSpec, after: i64) -> Option<i64>
+    requires spec { IsTrue (is_trigger_spec spec.now) }
+    requires low { negsuc 0 ≤ℤ after }
+    requires high { after ≤ℤ LAST }
+    ensures { IsNext LAST (Fires (kept known.now) spec.now) after result }
+{
+    next_after(known.store.tables(), spec, after)
 }

@@ -111,7 +111,7 @@ module _ (honest : Type 0) (c : Command) (s t : TriggerState) (valid : IsOfClien
   needs_open u = rw opened refl
 
   submits_at : (u : StatesState) → cluster.Submits (first_step c) (beside u s)
-  submits_at u = record { allowed = record { needs_open = needs_open u; is_held = refl; works = refl }; unrefused = refl }
+  submits_at u = record { allowed = record { needs_open = needs_open u; is_held = refl; works = refl; acts = refl }; unrefused = refl }
 
   pub answered_ok : (answer : Result Reply SubmitError) → Submits trigger_entry (entry_of actor.Client c FIRST_MOMENT) answer s t
       → OnOk (after_answer answer) ((u : StatesState) → (r : StepReply) × IsStep honest (first_step c) r (beside u s) (beside u t))

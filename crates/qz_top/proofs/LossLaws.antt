@@ -91,6 +91,7 @@ case_lawful honest t reply.Fault S S' valid (inl case) lawful = same_lawful _ _ 
 case_lawful honest t reply.Fault S S' valid (inr case) lawful = same_lawful _ _ case.shut.triggers.history lawful
 case_lawful honest t reply.Closed S S' valid case lawful = same_lawful _ _ case.stays.stores.triggers.history lawful
 case_lawful honest t reply.Stopped S S' valid case lawful = same_lawful _ _ case.stays.stores.triggers.history lawful
+case_lawful honest t (reply.Shown s) S S' valid case lawful = same_lawful _ _ case.stays.stores.triggers.history lawful
 case_lawful honest t reply.Restarted S S' valid case lawful = opened_lawful S'.triggers case.are_triggers
 
 run_lawful : (honest : Type 0) (S : ClusterState) (ts : List TimedStep) (rs : List StepReply) (states : List ClusterState) → StepsDone honest S ts rs states
@@ -113,7 +114,8 @@ cut_keeps honest t (ends.JournalFull need room) S S' case = entry_keeps _ _ (λ 
 cut_keeps honest t (ends.NotAStore store) S S' case = case.shut.triggers.history
 cut_keeps honest t (ends.Damaged store at) S S' case = case.shut.triggers.history
 cut_keeps honest t ends.NoMemory S S' (inl case) = entry_keeps _ _ (λ e s u is. is.same.history) _ t S S' case.which
-cut_keeps honest t ends.NoMemory S S' (inr case) = case.shut.triggers.history
+cut_keeps honest t ends.NoMemory S S' (inr (inl case)) = case.stays.stores.triggers.history
+cut_keeps honest t ends.NoMemory S S' (inr (inr case)) = case.shut.triggers.history
 
 short_keeps : (honest : Type 0) (e : StepEnd) (left : Option (List ℕ)) (lines : List (List ℕ)) (more : List ℤ) (last after : RunState) → EndsShort honest e left lines more last after
     → after.cluster.triggers.history ≡ last.cluster.triggers.history

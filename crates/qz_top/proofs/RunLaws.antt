@@ -26,6 +26,7 @@ fault_is (reply.Refused x) is = absurd cc
 fault_is reply.Closed is = absurd cc
 fault_is reply.Stopped is = absurd cc
 fault_is reply.Restarted is = absurd cc
+fault_is (reply.Shown s) is = absurd cc
 
 -- The counts of faults.
 

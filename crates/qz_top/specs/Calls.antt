@@ -17,7 +17,7 @@ use Rattle.qz_cluster.specs.Mounting.{DisksAfter, RefusedBy}
 use Rattle.qz_cluster.specs.Steps.{ClusterState, is_restart}
 use Rattle.qz_cluster.specs.Script.{ScriptState, TimedStep, new_script, step_replies}
 use Rattle.qz_open.specs.Opened.{AreAlwaysAlone}
-use Rattle.qz_open.specs.Runs.{AreSparing}
+use Rattle.qz_open.specs.Runs.{AlwaysSparesOthers}
 use Rattle.qz_top.specs.Lines.{steps_of}
 use Rattle.qz_top.specs.Lists.{WritesText, lines_of}
 use Rattle.qz_top.specs.Loads.{Loads}
@@ -58,9 +58,10 @@ pub record RanInMemory (s : Status) (trail : List ClusterState)
   pub trail_is : trail ≡ end.trail
   -- in each of these states lost executions are recovered once
   pub recovered : AllByRecursion RecoversLosses trail
-  -- no job with `no_concurrent` has two open executions, unless a step recovers a node that still holds an epoch
-  pub alone : AreSparing (new_cluster triggers_faults states_faults) (steps_of lines readings) run.steps.states
-      → AreAlwaysAlone [] (steps_of lines readings) replies
+  -- no job with `no_concurrent` has two open executions; a recovery ends those of the node that failed
+  pub alone : AreAlwaysAlone [] (steps_of lines readings) replies
+  -- and such a node has none, unless it still holds an epoch
+  pub spared : AlwaysSparesOthers (new_cluster triggers_faults states_faults) [] (steps_of lines readings) replies run.steps.states
   pub no_fault : s ≡ status.DiskFault → ⊥
 
 -- A script on new stores in memory was run, or there was no memory for the stores.
@@ -104,9 +105,11 @@ pub record RanOnDisk {D : Type 0} {g : Ghosts D} (triggers states : D) (e : Ende
   -- in each of them lost executions are recovered once
   pub recovered : AllByRecursion RecoversLosses (trail_of e.trail)
   pub recovered_end : RecoversLosses end.cluster
-  -- no job with `no_concurrent` has two open executions, unless a step recovers a node that still holds an epoch. At first
-  -- none is open, since no node holds an epoch
-  pub alone : AreSparing opened (steps_of lines readings) run.steps.states → AreAlwaysAlone [] (steps_of lines readings) replies
+  -- no job with `no_concurrent` has two open executions; a recovery ends those of the node that failed. At first none is
+  -- open, since no node holds an epoch
+  pub alone : AreAlwaysAlone [] (steps_of lines readings) replies
+  -- and a node that is recovered has none, unless it still holds an epoch
+  pub spared : AlwaysSparesOthers opened [] (steps_of lines readings) replies run.steps.states
   -- without a fault the replies are those of a plain scheduler that goes on from the opened histories, and so are those
   -- before the first fault; restarts are so on honest disks
   pub plain : AllByRecursion (IsOnHonest g.honest) (steps_of lines readings) → AllByRecursion IsNoFault replies

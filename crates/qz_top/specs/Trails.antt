@@ -26,6 +26,7 @@ is_fault reply.Fault = true
 is_fault reply.Closed = false
 is_fault reply.Stopped = false
 is_fault reply.Restarted = false
+is_fault (reply.Shown shown) = false
 
 abbrev pub IsNoFault : StepReply → Type 0
 IsNoFault r = is_fault r ≡ false

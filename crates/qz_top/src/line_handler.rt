@@ -181,7 +181,8 @@ fn is_fault(reply: &StepReply) -> bool
         | StepReply::Refused(_)
         | StepReply::Closed
         | StepReply::Stopped
-        | StepReply::Restarted => false,
+        | StepReply::Restarted
+        | StepReply::Shown(_) => false,
     }
 }
 

@@ -113,7 +113,41 @@ const CLIENT: &str = r#"{"do":"add_zone","name":"CET","stretches":[[0,3600]]}
 const CLIENT_REPLIES: &str = "ok\nok\nok\nok next 1704153600000\nok next 1704067200000
 ok\nok\nok\nok\nok\nok\nrefused 3\n";
 
-const SCRIPTS: [Row; 8] = [
+/// What is stored is told as it is then: before an execution, while it goes on, and once its job is deleted.
+const SHOWN: &str = r#"{"do":"show_next"}
+{"do":"add_job","at":1704067200000,"job":{"name":"a b","class":"ok","data":"x y/%","requests_recovery":true}}
+{"do":"add_trigger","at":1704067200000,"trigger":{"name":"t1","job":"a b","start":1704067200000,"kind":"cron","cron":"0 0 12 ? * MON-FRI"}}
+{"do":"show_next"}
+{"do":"join","at":1704067200000,"node":"A"}
+{"do":"acquire","at":1704067200000,"node":"A","no_later":1704110400000}
+{"do":"show_entry","entry":1}
+{"do":"show_next"}
+{"do":"fire","at":1704110400000,"node":"A","entry":1}
+{"do":"show_entry","entry":1}
+{"do":"show_trigger","name":"t1"}
+{"do":"show_job","name":"a b"}
+{"do":"delete_job","at":1704110400000,"name":"a b"}
+{"do":"show_entry","entry":1}
+{"do":"show_job","name":"a b"}
+{"do":"show_trigger","name":"t1"}
+{"do":"show_entry","entry":2}
+{"do":"add_job","at":1704110400000,"job":{"name":"j","class":"ok"}}
+{"do":"show_job","name":"j"}
+"#;
+
+const SHOWN_REPLIES: &str = "next none\nok\nok next 1704110400000\nnext 1704110400000
+joined 1 executions 0 triggers 0\nacquired 1 DEFAULT/t1 1704110400000
+entry 1 A 1 DEFAULT/t1 ACQUIRED scheduled 1704110400000 at none job DEFAULT/a%20b ok data x%20y%2F%25
+next none\nfired 1 scheduled 1704110400000 at 1704110400000 next 1704196800000
+entry 1 A 1 DEFAULT/t1 EXECUTING scheduled 1704110400000 at 1704110400000 job DEFAULT/a%20b ok data x%20y%2F%25
+trigger DEFAULT/t1 job DEFAULT/a%20b WAITING next 1704196800000 prev 1704110400000 times 1 priority 5 start 1704067200000 cron misfire 0 calendar none zone UTC
+job DEFAULT/a%20b ok durable 0 no_concurrent 0 requests_recovery 1 data x%20y%2F%25
+deleted 1
+entry 1 A 1 DEFAULT/t1 EXECUTING scheduled 1704110400000 at 1704110400000 job DEFAULT/a%20b none
+job none\ntrigger none\nentry none\nok
+job DEFAULT/j ok durable 0 no_concurrent 0 requests_recovery 0 data %\n";
+
+const SCRIPTS: [Row; 9] = [
     (NOON, NOON_REPLIES, "", Status::Ok),
     (ENDLESS, ENDLESS_REPLIES, "", Status::Ok),
     (PAUSED, PAUSED_REPLIES, "", Status::Ok),
@@ -127,6 +161,7 @@ const SCRIPTS: [Row; 8] = [
     (EXCLUSIVE, EXCLUSIVE_REPLIES, "", Status::Ok),
     (AGAIN, AGAIN_REPLIES, "", Status::Ok),
     (CLIENT, CLIENT_REPLIES, "", Status::Ok),
+    (SHOWN, SHOWN_REPLIES, "", Status::Ok),
 ];
 
 #[test]

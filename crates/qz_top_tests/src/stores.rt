@@ -53,6 +53,45 @@ fn new_stores_are_empty(rt: HostRuntime) {
     assert!(rt; answers(alloc, made(alloc), &["list"], "", &wanted));
 }
 
+/// A node begins an execution in one call, and goes on with it in a later one.
+const BEGINS: &str = r#"{"do":"add_job","at":1704067200000,"job":{"name":"j","class":"ok"}}
+{"do":"add_trigger","at":1704067200000,"trigger":{"name":"t","job":"j","start":1704067200000,"kind":"simple"}}
+{"do":"join","at":1704067200000,"node":"A"}
+{"do":"acquire","at":1704067200000,"node":"A","no_later":1704067200000}
+{"do":"fire","at":1704067200000,"node":"A","entry":1}
+"#;
+
+const BEGINS_REPLIES: &str = "ok\nok next 1704067200000\njoined 1 executions 0 triggers 0
+acquired 1 DEFAULT/t 1704067200000\nfired 1 scheduled 1704067200000 at 1704067200000 next none\n";
+
+const GOES_ON: &str = r#"{"do":"resume","node":"A","epoch":2}
+{"do":"resume","node":"B","epoch":1}
+{"do":"complete","at":1704067200000,"node":"A","entry":1}
+{"do":"resume","node":"A","epoch":1}
+{"do":"resume","node":"A","epoch":1}
+{"do":"complete","at":1704067200005,"node":"A","entry":1}
+{"do":"leave","at":1704067200006,"node":"A"}
+{"do":"resume","node":"A","epoch":1}
+"#;
+
+const GOES_ON_REPLIES: &str = "refused 1 live 1\nrefused 1 live none\nstopped\nok\nrefused 1 live 1
+completed 1\nok\nrefused 1 live none\n";
+
+#[test]
+fn a_node_goes_on_in_a_later_call(rt: HostRuntime) {
+    let alloc = rt.alloc();
+    let begins = Wanted {
+        replies: BEGINS_REPLIES,
+        ..DONE
+    };
+    let goes_on = Wanted {
+        replies: GOES_ON_REPLIES,
+        ..DONE
+    };
+    let disks = left(alloc, made(alloc), &["script"], BEGINS, &begins);
+    assert!(rt; answers(alloc, disks, &["script"], GOES_ON, &goes_on));
+}
+
 // The disks of stores that took three entries.
 fn filled(alloc: Global) -> Option<(MemDisk, MemDisk)> {
     left(alloc, made(alloc), &["script"], THREE, &THREE_DONE)

@@ -8,7 +8,7 @@ use Rattle.qz_journal.specs.Commits.{IsFull, need_of, room_of}
 use Rattle.qz_journal.specs.declared.errors.AppendError.{AppendError}
 use Rattle.qz_journal.specs.declared.errors.AppendError.TheVariants as journal
 use Rattle.qz_types.specs.Entries.{EntryData}
-use Rattle.qz_types.specs.Outcomes.{accepted}
+use Rattle.qz_types.specs.Outcomes.{Outcome, accepted, refused, IsAccepted}
 use Rattle.qz_types.specs.Tables.{SchedulerTables}
 use Rattle.qz_types.specs.declared.errors.SubmitError.{SubmitError}
 use Rattle.qz_types.specs.declared.errors.SubmitError.TheVariants as submit
@@ -38,14 +38,22 @@ appends T U s t e r b tables is record_is is_open room history gate payloads sta
   later = later;
 }
 
+pub passes : (o : Outcome) → IsAccepted o → IsOk (answer_of o)
+passes (accepted U r) is = refl
+passes (refused x) is = absurd is
+
+-- what is accepted passes
+pub passes_at : (T : SchedulerTables) (s : TriggerState) (e : EntryData) → T ≡ replay s.history → IsAccepted (transaction T e) → IsOk (trigger_entry.answer s.history e)
+passes_at T s e tables is = passes (transaction (replay s.history) e) (subst (λ (U : SchedulerTables). IsAccepted (transaction U e)) tables is)
+
 -- the disk failed
-pub fails : (T U : SchedulerTables) (s t : TriggerState) (e : EntryData) (r : Reply) (b : List ℕ) (y : SubmitError) → T ≡ replay s.history → transaction T e ≡ accepted U r → b ≡ record_of e → s.is_open ≡ true
+pub fails : (T : SchedulerTables) (s t : TriggerState) (e : EntryData) (b : List ℕ) (y : SubmitError) → T ≡ replay s.history → IsAccepted (transaction T e) → b ≡ record_of e → s.is_open ≡ true
     → HasRoom (length b) s → t.history ≡ s.history → t.gate ≡ s.gate → t.payloads ≡ s.payloads → t.is_open ≡ false → t.undecided ≡ Some e → Rose s.faults t.faults → s.faults ≤ t.faults → y ≡ submit.Fault
     → Submits trigger_entry e (Err y) s t
-fails T U s t e r b y tables is record_is is_open room history gate payloads shut undecided rose later error =
+fails T s t e b y tables is record_is is_open room history gate payloads shut undecided rose later error =
     let failed : Fails trigger_entry e s t = record {
       was_open = is_open;
-      passes = subst (λ (x : Result Reply _). IsOk x) (sym (answered T U s e r tables is)) refl;
+      passes = passes_at T s e tables is;
       room = subst (λ (x : List ℕ). HasRoom (length x) s) record_is room;
       history = history;
       gate = gate;

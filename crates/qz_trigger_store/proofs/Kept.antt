@@ -4,7 +4,7 @@ use Rattle.std.proofs.Math.Logic.{∥∥₁_elim}
 use Rattle.std.proofs.Props.{props}
 use Rattle.std.specs.List.{AllByRecursion, AllByRecursion-prop}
 use Rattle.qz_disk.specs.declared.disk.Disk.{Ghosts}
-use Rattle.qz_types.specs.Entries.{EntryData, is_entry}
+use Rattle.qz_types.specs.Entries.{is_entry}
 use Rattle.qz_types.specs.Tables.{new_tables}
 use Rattle.qz_model.specs.History.{replay}
 use Rattle.qz_model.specs.Invariant.{TablesValid}

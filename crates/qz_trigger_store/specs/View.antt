@@ -26,7 +26,7 @@ replies_of s = s.accepted.replies.items
 
 -- the tables that they leave
 abbrev pub tables_of : {D : Type 0} {g : Ghosts D} → TriggerStore D g → SchedulerTables
-tables_of s = s.tables
+tables_of s = s.tables.tables
 
 -- the disk that it is on
 abbrev pub disk_of : {D : Type 0} {g : Ghosts D} → TriggerStore D g → D
@@ -55,8 +55,8 @@ IsOfEither s t bytes = MayBe s.history s.undecided bytes ⊎ MayBe t.history t.u
 abbrev pub LeavesEither : {D : Type 0} {g : Ghosts D} → TriggerStore D g → TriggerStore D g → Type 0
 LeavesEither s t = LeavesOnly (disk_state s) (disk_state t) (IsOfEither (view s) (view t))
 
--- Nothing of the store, of what it keeps and of its disk has changed.
+-- Nothing of the store, of what it keeps and of its disk has changed, whatever room it has.
 abbrev pub IsAsBefore : {D : Type 0} {g : Ghosts D} → TriggerStore D g → TriggerStore D g → Type 0
 IsAsBefore s t =
-    (t.journal ≡ s.journal) × (t.count ≡ s.count) × (t.tables ≡ s.tables) × (found_of t ≡ found_of s) × (added_of t ≡ added_of s)
+    (t.journal ≡ s.journal) × (t.count ≡ s.count) × (tables_of t ≡ tables_of s) × (found_of t ≡ found_of s) × (added_of t ≡ added_of s)
     × (moments_of t ≡ moments_of s) × (replies_of t ≡ replies_of s) × (t.is_open ≡ s.is_open) × (t.undecided ≡ s.undecided)

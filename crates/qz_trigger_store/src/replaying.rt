@@ -24,8 +24,8 @@ pub struct Reread {
     pub(crate) entries: EntryLog,
     pub(crate) tables: PlainStore,
     ghost legal: { IsLegalFrom new_tables entries.items } by { IsLegalFrom-prop new_tables entries.items },
-    ghost replayed: { tables ≡ replay_from new_tables entries.items },
-    ghost valid: { ∥ TablesValid tables ∥₁ },
+    ghost replayed: { tables.tables ≡ replay_from new_tables entries.items },
+    ghost valid: { ∥ TablesValid tables.tables ∥₁ },
 }
 
 // Why a payload wasn't taken into a history.
@@ -38,10 +38,10 @@ enum TakeError {
 // The entry of a payload, at the tables before it; it leaves those after it.
 fn take(alloc: Global, tables: &mut PlainStore, payload: &[u8]) -> Result<Entry, TakeError>
     ensures is_record { IfOk result (IsRecord payload.now) }
-    ensures accepted { IfOk result (λ entry. IsAccepted (transaction tables.old entry)) }
-    ensures tables { IfOk result (λ entry. tables.new ≡ tables_left tables.old (transaction tables.old entry)) }
-    ensures valid { OnOk result ∥ TablesValid tables.new ∥₁ }
-    ensures unfit { result ≡ Err TakeError.Unfit → IsUnfit tables.old payload.now }
+    ensures accepted { IfOk result (λ entry. IsAccepted (transaction tables.old.tables entry)) }
+    ensures tables { IfOk result (λ entry. tables.new.tables ≡ tables_left tables.old.tables (transaction tables.old.tables entry)) }
+    ensures valid { OnOk result ∥ TablesValid tables.new.tables ∥₁ }
+    ensures unfit { result ≡ Err TakeError.Unfit → IsUnfit tables.old.tables payload.now }
 {
     let entry = match get_command(alloc, payload) {
         Ok(entry) => entry,

@@ -3,12 +3,13 @@ ghost use Rattle.std.specs.Prelude.{◌≡◌, ◌≢◌, ◌++◌, ◌∷◌, �
 ghost use Rattle.qz_codec.specs.Layout.{record_of};
 ghost use Rattle.qz_codec.specs.Values.{IsEntry};
 ghost use Rattle.qz_journal.specs.Layout.{IsPayload};
-ghost use Rattle.qz_model.specs.Invariant.{TablesValid};
-ghost use Rattle.qz_types.specs.Outcomes.{accepted};
+ghost use Rattle.qz_types.specs.Outcomes.{IsAccepted};
 ghost use Rattle.qz_types.specs.Tables.{recorded_moment};
 ghost use Rattle.qz_model.specs.Transaction.{transaction};
 ghost use Rattle.qz_schedule_law.specs.Following.{FollowsSchedules};
 ghost use Rattle.qz_types.specs.Entries.{is_entry};
+ghost use Rattle.qz_plain.specs.Prepared.{Prepares};
+ghost use Rattle.qz_plain.specs.Replies.{CopiesReply};
 ghost use Rattle.qz_trigger_store.specs.Accepted.{HasRoomForOne};
 ghost use Rattle.qz_trigger_store.specs.Entries.{trigger_entry, IsUnwritten};
 ghost use Rattle.qz_stores.specs.Stores.{HasRoom, Submits};
@@ -19,24 +20,24 @@ use qz_civil::List;
 use qz_codec::put_command;
 use qz_disk::Disk;
 use qz_journal::{JournalFull, fits};
-use qz_plain::Worked;
+use qz_plain::{Prepared, same_reply};
 use qz_types::{Entry, NoMemory, Reply, SubmitError};
 use std::mem;
 
-// An accepted entry's record, and what it comes to.
+// All that an accepted entry needs, so that nothing but the disk can fail.
 #[derive(Drop)]
-struct Prepared {
+struct Ready {
     record: List<u8>,
-    worked: Worked,
-    // the reply once more, to be kept
-    reply: Reply,
+    prepared: Prepared,
+    // the reply once more, to be kept, if it takes memory
+    copy: Option<Reply>,
 }
 
-// The same, without what it comes to.
+// The same, without the change of the tables.
 #[derive(Drop)]
 struct Recorded {
     record: List<u8>,
-    reply: Reply,
+    copy: Option<Reply>,
 }
 
 impl<D: Disk> TriggerStore<D> {
@@ -57,7 +58,7 @@ impl<D: Disk> TriggerStore<D> {
         ensures schedules { FollowsSchedules (view self.new).history }
     {
         match self.prepare(&entry) {
-            Ok(prepared) => self.commit(entry, prepared),
+            Ok(ready) => self.commit(entry, ready),
             Err(error) => {
                 drop(entry);
                 Err(error)
@@ -84,15 +85,15 @@ impl<D: Disk> TriggerStore<D> {
 
     // All that is decided without the disk, and all memory.
     #[tactic(auto, using(crate::proofs::Refused::error_is, crate::proofs::Refused::unwritten_is))]
-    fn prepare(&mut self, entry: &Entry) -> Result<Prepared, SubmitError>
+    fn prepare(&mut self, entry: &Entry) -> Result<Ready, SubmitError>
         requires { IsTrue (is_entry entry.now) }
         ensures open { OnOk result (self.old.is_open ≡ true) }
-        ensures accepted { IfOk result (λ p. transaction (tables_of self.old) entry.now ≡ accepted p.worked.tables p.worked.reply) }
-        ensures valid { IfOk result (λ p. ∥ TablesValid p.worked.tables ∥₁) }
-        ensures reply { IfOk result (λ p. p.reply ≡ p.worked.reply) }
-        ensures record { IfOk result (λ p. (p.record ≡ record_of entry.now) × IsPayload p.record) }
+        ensures prepared { IfOk result (λ r. Prepares self.new.tables entry.now r.prepared) }
+        ensures accepted { OnOk result (IsAccepted (transaction (tables_of self.old) entry.now)) }
+        ensures copy { IfOk result (λ r. CopiesReply r.copy (transaction (tables_of self.old) entry.now)) }
+        ensures record { IfOk result (λ r. (r.record ≡ record_of entry.now) × IsPayload r.record) }
         ensures recorded { OnOk result (IsEntry entry.now) }
-        ensures fits { IfOk result (λ p. HasRoom (length p.record) (view self.old)) }
+        ensures fits { IfOk result (λ r. HasRoom (length r.record) (view self.old)) }
         ensures room { OnOk result (HasRoomForOne self.new.accepted) }
         ensures err { IfErr result (λ e. Submits trigger_entry entry.now (Err e) (view self.old) (view self.old)) }
         ensures same { IsAsBefore self.old self.new }
@@ -101,35 +102,37 @@ impl<D: Disk> TriggerStore<D> {
             let at = self.journal.gate();
             return Err(SubmitError::Closed { at });
         }
-        let worked = self.tables.work(entry)?;
-        match self.record(entry, &worked.reply) {
-            Ok(Recorded { record, reply }) => Ok(Prepared {
+        let prepared = self.tables.prepare(entry)?;
+        match self.record(entry, &prepared) {
+            Ok(Recorded { record, copy }) => Ok(Ready {
                 record,
-                worked,
-                reply,
+                prepared,
+                copy,
             }),
             Err(error) => {
-                drop(worked);
+                drop(prepared);
                 Err(error)
             }
         }
     }
 
     // The record of an entry that would be accepted, its reply once more, and room for both.
-    fn record(&mut self, entry: &Entry, reply: &Reply) -> Result<Recorded, SubmitError>
+    fn record(&mut self, entry: &Entry, prepared: &Prepared) -> Result<Recorded, SubmitError>
+        requires { Prepares self.old.tables entry.now prepared.now }
         ensures record { IfOk result (λ r. (r.record ≡ record_of entry.now) × IsPayload r.record) }
-        ensures reply { IfOk result (λ r. r.reply ≡ reply.now) }
+        ensures copy { IfOk result (λ r. CopiesReply r.copy (transaction (tables_of self.old) entry.now)) }
         ensures recorded { OnOk result (IsEntry entry.now) }
         ensures fits { IfOk result (λ r. HasRoom (length r.record) (view self.old)) }
         ensures room { OnOk result (HasRoomForOne self.new.accepted) }
         ensures err { IfErr result (IsUnwritten (length (record_of entry.now)) (view self.old)) }
+        ensures tables { self.new.tables ≡ self.old.tables }
         ensures same { IsAsBefore self.old self.new }
     {
         let record = put_command(self.alloc, entry)?;
         self.find_room(record.len() as u32)?;
-        let reply = copy_reply(reply)?;
+        let copy = self.tables.copy_reply(entry, prepared)?;
         self.reserve()?;
-        Ok(Recorded { record, reply })
+        Ok(Recorded { record, copy })
     }
 
     // Whether a record of this length has room on the disk.
@@ -146,20 +149,21 @@ impl<D: Disk> TriggerStore<D> {
     // Takes the memory for what is kept of one entry more.
     fn reserve(&mut self) -> Result<(), NoMemory>
         ensures room { OnOk result (HasRoomForOne self.new.accepted) }
+        ensures tables { self.new.tables ≡ self.old.tables }
         ensures same { IsAsBefore self.old self.new }
     {
         self.accepted.reserve()
     }
 
-    // Puts a record on the disk, and then all in place.
-    fn commit(&mut self, entry: Entry, prepared: Prepared) -> Result<Reply, SubmitError>
+    // Puts a record on the disk, and then does the transaction.
+    fn commit(&mut self, entry: Entry, ready: Ready) -> Result<Reply, SubmitError>
         requires open { self.old.is_open ≡ true }
-        requires accepted { transaction (tables_of self.old) entry ≡ accepted prepared.worked.tables prepared.worked.reply }
-        requires valid { ∥ TablesValid prepared.worked.tables ∥₁ }
-        requires reply { prepared.reply ≡ prepared.worked.reply }
-        requires record { (prepared.record ≡ record_of entry) × IsPayload prepared.record }
+        requires prepared { Prepares self.old.tables entry ready.prepared }
+        requires accepted { IsAccepted (transaction (tables_of self.old) entry) }
+        requires copy { CopiesReply ready.copy (transaction (tables_of self.old) entry) }
+        requires record { (ready.record ≡ record_of entry) × IsPayload ready.record }
         requires recorded { IsEntry entry }
-        requires fits { HasRoom (length prepared.record) (view self.old) }
+        requires fits { HasRoom (length ready.record) (view self.old) }
         requires room { HasRoomForOne self.old.accepted }
         ensures one { Submits trigger_entry entry result (view self.old) (view self.new) }
         ensures only_fault { IfErr result (λ e. e ≡ SubmitError.Fault) }
@@ -169,33 +173,27 @@ impl<D: Disk> TriggerStore<D> {
         ensures replies { IfOk result (λ reply. replies_of self.new ≡ replies_of self.old ++ reply ∷ []) }
         ensures any_moment { D.honest → LeavesEither self.old self.new }
     {
-        match self.journal.append(prepared.record.as_slice()) {
+        match self.journal.append(ready.record.as_slice()) {
             Ok(()) => {
-                let Prepared {
+                let Ready {
                     record: _,
-                    worked,
-                    reply: kept,
-                } = prepared;
-                let Worked { tables, reply } = worked;
+                    prepared,
+                    copy,
+                } = ready;
+                let reply = self.tables.commit(&entry, prepared);
+                let kept = same_reply(copy, &reply);
                 self.accepted
-                    .push_reserved(entry, tables.last_moment(), kept);
-                self.tables = tables;
+                    .push_reserved(entry, self.tables.last_moment(), kept);
                 self.count = self.journal.count();
                 Ok(reply)
             }
             // A fault: the journal is open, and the record has room.
             Err(_) => {
-                drop(prepared);
+                drop(ready);
                 Err(close(&mut self.is_open, &mut self.undecided, entry))
             }
         }
     }
-}
-
-fn copy_reply(reply: &Reply) -> Result<Reply, NoMemory>
-    ensures { IfOk result (λ copy. copy ≡ reply.now) }
-{
-    Ok(reply.clone()?)
 }
 
 // Closes a store at a fault, which leaves it unknown whether the disk has the entry.

@@ -361,6 +361,7 @@ const FAULTS: &[(&str, &str)] = &[
     ),
     (r#"{"do":"add_zone""#, "NotJson"),
     (r#"{"do":"restart"}"#, "NotHere"),
+    (r#"{"do":"show_next"}"#, "NotHere"),
     (r#"{"do":"join","node":"A"}"#, "NotHere"),
     (r#"{"do":"join","more":1}"#, "Shape"),
     (

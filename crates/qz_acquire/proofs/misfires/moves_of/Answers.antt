@@ -5,7 +5,7 @@ use Rattle.qz_types.specs.Changes.{moved_trigger}
 use Rattle.qz_types.specs.Rows.{is_trigger}
 use Rattle.qz_model.specs.Misfires.{move_of}
 use Rattle.qz_acquire.specs.Moves.{move_for, IsMovable}
-use Rattle.qz_acquire.specs.declared.misfires.Move.{Move}
+use Rattle.qz_acquire.specs.declared.changes.Move.{Move}
 use Rattle.qz_acquire.proofs.Missed.{fits, same_move, one_more, all_taken}
 use Rattle.qz_acquire.proofs.misfires.moves_of.Goals as goal
 

@@ -1,5 +1,8 @@
-use Rattle.qz_open.proofs.Runs.{always_alone}
+use Rattle.qz_open.proofs.Runs.{always_alone, always_spares}
 use Rattle.qz_open.proofs.laws.open_executions_are_alone.Goals as goal
 
-pub returns : goal.returns
-returns c S ts answers states start done spares = always_alone ⊥ S ts answers states start done spares
+pub returns-clause-alone : goal.returns-clause-alone
+returns-clause-alone c S ts answers states start done = always_alone ⊥ S ts answers states start done
+
+pub returns-clause-spared : goal.returns-clause-spared
+returns-clause-spared c S ts answers states start done = always_spares ⊥ S ts answers states start done

@@ -8,7 +8,7 @@ loop-place-preserved c =
     let fits : FitsSigned w64 c.in-Some.next = search rules in
     let next = to_z-of_z w64 c.in-Some.next fits in
     let kept = c.loop-place.invariant in
-    let least = rw c.in-Some.is at c.after.ensures.least in
+    let least = rw c.in-Some.is at c.next_time.ensures in
     let items = rw next at c.in_ok-push.ensures.items in
     rw next (record {
       low = omega (arith, ints, kept.low, least.later);

@@ -1,7 +1,7 @@
 use Rattle.std.proofs.Common.{◌≡◌, negsuc, ◌≤ℤ◌, length}
 use Rattle.qz_civil.specs.declared.limits.TheConstants.{LAST}
-use Rattle.qz_plan.specs.FireTimes.{IsFireTime}
-use Rattle.qz_times.specs.Said.{IsChain}
+use Rattle.qz_times.specs.Known.{kept}
+use Rattle.qz_times.specs.Said.{Fires, IsChain}
 use Rattle.qz_times.proofs.telling.first_times.Given as goal
 
 abbrev pub invariant-loop-place : goal.invariant-loop-place
@@ -9,5 +9,5 @@ invariant-loop-place l = record {
   low : negsuc 0 ≤ℤ l.last;
   high : l.last ≤ℤ LAST;
   many : length l.times.items ≡ l._place;
-  chain : IsChain (IsFireTime l.timing l.zone l.chain) l.fn.query.after l.times.items l.last;
+  chain : IsChain (Fires (kept l.known) l.spec) l.fn.query.after l.times.items l.last;
 }

@@ -3,7 +3,7 @@ use Rattle.qz_trigger_store.proofs.Appending.{may_be}
 use Rattle.qz_checkin.proofs.Appending.{may_be as states_may_be}
 use Rattle.qz_cluster.specs.View.{view as cluster_view}
 use Rattle.qz_top.specs.Seen.{view, states_in}
-use Rattle.qz_top.proofs.AloneLaws.{alone_from_start}
+use Rattle.qz_top.proofs.AloneLaws.{alone_from_start, spares_from_start}
 use Rattle.qz_top.proofs.LoadLaws.{run_with}
 use Rattle.qz_top.proofs.LossLaws.{recovered_opened, recovered_at_end}
 use Rattle.qz_top.proofs.MomentLaws.{begun_so, all_kept, opened_by_reads}
@@ -35,6 +35,7 @@ returns-clause-done g c triggers states begins =
       recovered = rw end.trail (recovered_opened _ _ _ _ _ _ _ _ _ opened.0 ran.3);
       recovered_end = recovered_at_end _ _ _ _ _ _ _ _ _ opened.0 ran.3;
       alone = alone_from_start _ _ _ _ _ _ _ _ _ _ (record { opened = opened.0; held = begins.nothing_held }) whole;
+      spared = spares_from_start _ _ _ _ _ _ _ _ _ _ (record { opened = opened.0; held = begins.nothing_held }) whole;
       plain = plain_opened _ _ _ _ _ _ _ _ _ opened.0 opened.1 ran.3;
       plain_first = plain_first _ _ _ _ _ _ _ _ _ opened.0 opened.1 ran.3;
       faults = (ap g.D.Disk.faults end.disks.0, ap g.D.Disk.faults end.disks.1);

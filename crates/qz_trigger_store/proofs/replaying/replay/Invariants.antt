@@ -10,7 +10,7 @@ use Rattle.qz_trigger_store.proofs.replaying.replay.Given as goal
 abbrev pub invariant-loop-payload : goal.invariant-loop-payload
 invariant-loop-payload l = record {
   replayed : AreReplayed (take l.payload-index l.payloads) l.entries.items;
-  tables_are : l.tables ≡ replay_from new_tables l.entries.items;
-  valid : ∥ TablesValid l.tables ∥₁;
+  tables_are : l.tables.tables ≡ replay_from new_tables l.entries.items;
+  valid : ∥ TablesValid l.tables.tables ∥₁;
   gate_is : l.gate ≡ end_of (take l.payload-index l.payloads);
 }

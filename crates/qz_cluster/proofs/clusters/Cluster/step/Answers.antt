@@ -19,3 +19,19 @@ returns-in-Restart-clause-ok g c = rw c.in-Restart.is (steps_of g.D.Disk.honest 
 
 pub returns-in-Restart-clause-err : goal.returns-in-Restart-clause-err
 returns-in-Restart-clause-err g c = rw c.in-Restart.is (cuts_of g.D.Disk.honest _ c.restart.result _ _ refl (c.restart.ensures.err c.args.at))
+
+pub returns-in-Resume-clause-ok : goal.returns-in-Resume-clause-ok
+returns-in-Resume-clause-ok g c =
+    rw c.in-Resume.is (steps_of g.D.Disk.honest _ c.resume.result _ _ (rw c.in-Resume.is at c.requires) (c.resume.ensures.ok c.args.at))
+
+pub returns-in-Resume-clause-err : goal.returns-in-Resume-clause-err
+returns-in-Resume-clause-err g c =
+    rw c.in-Resume.is (cuts_of g.D.Disk.honest _ c.resume.result _ _ (rw c.in-Resume.is at c.requires) (c.resume.ensures.err c.args.at))
+
+pub returns-in-Show-clause-ok : goal.returns-in-Show-clause-ok
+returns-in-Show-clause-ok g c =
+    rw c.in-Show.is (steps_of g.D.Disk.honest _ c.show.result _ _ (rw c.in-Show.is at c.requires) (c.show.ensures.ok c.args.at))
+
+pub returns-in-Show-clause-err : goal.returns-in-Show-clause-err
+returns-in-Show-clause-err g c =
+    rw c.in-Show.is (cuts_of g.D.Disk.honest _ c.show.result _ _ (rw c.in-Show.is at c.requires) (c.show.ensures.err c.args.at))

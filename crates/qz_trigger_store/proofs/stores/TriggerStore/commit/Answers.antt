@@ -21,12 +21,12 @@ invariant_of-self-clause-counted g c =
 pub invariant_of-self-clause-legal : goal.invariant_of-self-clause-legal
 invariant_of-self-clause-legal g c =
     let s = c.args.self.now in
-    Appending.legal_with s.tables s.found.items s.accepted.entries.items _ c.args.entry _ _ c.push_reserved.ensures.entries s.replayed s.legal c.requires.accepted
+    Appending.legal_with s.tables.tables s.found.items s.accepted.entries.items _ c.args.entry _ _ c.push_reserved.ensures.entries s.replayed s.legal c.commit-reply.ensures.ok
 
 pub invariant_of-self-clause-replayed : goal.invariant_of-self-clause-replayed
 invariant_of-self-clause-replayed g c =
     let s = c.args.self.now in
-    Appending.replayed_with s.tables s.found.items s.accepted.entries.items _ c.args.entry _ _ c.push_reserved.ensures.entries s.replayed c.requires.accepted
+    Appending.replayed_with s.tables.tables s.found.items s.accepted.entries.items _ c.args.entry _ _ c.push_reserved.ensures.entries s.replayed c.commit-reply.ensures.ok
 
 pub invariant_of-self-clause-recorded : goal.invariant_of-self-clause-recorded
 invariant_of-self-clause-recorded g c =
@@ -37,16 +37,16 @@ pub invariant_of-self-clause-moments : goal.invariant_of-self-clause-moments
 invariant_of-self-clause-moments g c =
     let s = c.args.self.now in
     let same : to_z w64 (of_z w64 c.last_moment.result) ≡ c.last_moment.result = grind (arith, common_steps, to_z-of_z) in
-    Appending.moments_with s.tables s.found.items s.accepted.entries.items _ c.args.entry s.accepted.moments.items _ c.last_moment.result c.push_reserved.ensures.entries s.replayed
+    Appending.moments_with s.tables.tables s.found.items s.accepted.entries.items _ c.args.entry s.accepted.moments.items _ c.last_moment.result c.push_reserved.ensures.entries s.replayed
     (c.push_reserved.ensures.moments ∙ ap (λ (m : ℤ). s.accepted.moments.items ++ m ∷ []) same)
-    (c.last_moment.ensures.value ∙ last_moment-accepted s.tables _ c.args.entry _ c.requires.accepted) s.moments
+    (c.last_moment.ensures.value ∙ last_moment-accepted s.tables.tables _ c.args.entry _ c.commit-reply.ensures.ok) s.moments
 
 pub invariant_of-self-clause-replies : goal.invariant_of-self-clause-replies
 invariant_of-self-clause-replies g c =
     let s = c.args.self.now in
-    Appending.replies_with s.tables s.found.items s.accepted.entries.items _ c.args.entry s.accepted.replies.items _ c.args.prepared.worked.tables c.args.prepared.worked.reply
-    c.push_reserved.ensures.entries s.replayed c.requires.accepted
-    (c.push_reserved.ensures.replies ∙ ap (λ (r : Reply). s.accepted.replies.items ++ r ∷ []) c.requires.reply) s.replies
+    Appending.replies_with s.tables.tables s.found.items s.accepted.entries.items _ c.args.entry s.accepted.replies.items _ c.commit-reply.new.self.tables c.commit-reply.result
+    c.push_reserved.ensures.entries s.replayed c.commit-reply.ensures.ok
+    (c.push_reserved.ensures.replies ∙ ap (λ (r : Reply). s.accepted.replies.items ++ r ∷ []) c.same_reply-kept.ensures) s.replies
 
 pub invariant_of-self-clause-stands : goal.invariant_of-self-clause-stands
 invariant_of-self-clause-stands g c honest now =
@@ -66,7 +66,7 @@ returns-in-Ok-clause-moments g c =
     let s = c.args.self.now in
     let same : to_z w64 (of_z w64 c.last_moment.result) ≡ c.last_moment.result = grind (arith, common_steps, to_z-of_z) in
     c.push_reserved.ensures.moments
-    ∙ ap (λ (m : ℤ). s.accepted.moments.items ++ m ∷ []) (same ∙ c.last_moment.ensures.value ∙ last_moment-accepted s.tables _ c.args.entry _ c.requires.accepted)
+    ∙ ap (λ (m : ℤ). s.accepted.moments.items ++ m ∷ []) (same ∙ c.last_moment.ensures.value ∙ last_moment-accepted s.tables.tables _ c.args.entry _ c.commit-reply.ensures.ok)
 
 pub returns-in-Ok-clause-any_moment : goal.returns-in-Ok-clause-any_moment
 returns-in-Ok-clause-any_moment g c honest =
@@ -79,7 +79,7 @@ pub returns-in-Ok-clause-one : goal.returns-in-Ok-clause-one
 returns-in-Ok-clause-one g c =
     let s = c.args.self.now in
     let ok = c.in-Ok.ensures.ok in
-    Committing.appends s.tables c.args.prepared.worked.tables (view s) _ c.args.entry c.args.prepared.worked.reply c.as_slice.result.now s.replayed c.requires.accepted
+    Committing.appends s.tables.tables c.commit-reply.new.self.tables (view s) _ c.args.entry c.commit-reply.result c.as_slice.result.now s.replayed c.commit-reply.ensures.ok
     (c.as_slice.ensures ∙ c.requires.record.0) c.requires.open
     (subst (λ (b : List ℕ). HasRoom (length b) (view s)) (sym c.as_slice.ensures) c.requires.fits)
     (ap history_of (Appending.more s.found.items s.accepted.entries.items _ c.args.entry c.push_reserved.ensures.entries)) ok.1 ok.2 c.requires.open (s.settled c.requires.open) c.append.ensures.later
@@ -91,7 +91,7 @@ returns-in-Err-clause-one g c =
     let s = c.args.self.now in
     let room : HasRoom (length c.as_slice.result.now) (view s) = subst (λ (b : List ℕ). HasRoom (length b) (view s)) (sym c.as_slice.ensures) c.requires.fits in
     let failed = Committing.fault_only c.in-Err.field-0 c.append.result s.journal.closed s.journal.gate s.journal.count (length c.as_slice.result.now) c.in-Err.is (s.ready c.requires.open) room c.append.ensures.closed c.append.ensures.full in
-    Committing.fails s.tables c.args.prepared.worked.tables (view s) _ c.args.entry c.args.prepared.worked.reply c.as_slice.result.now c.close.result s.replayed c.requires.accepted
+    Committing.fails s.tables.tables (view s) _ c.args.entry c.as_slice.result.now c.close.result s.replayed c.requires.accepted
     (c.as_slice.ensures ∙ c.requires.record.0) c.requires.open room refl c.in-Err.ensures.same_place.0 c.in-Err.ensures.same_place.1 c.close.ensures.closed c.close.ensures.undecided
     (c.append.ensures.fault failed).0 c.append.ensures.later c.close.ensures.fault
 

@@ -21,7 +21,7 @@ pub returns-in-Ok-replay-clause-opened : goal.returns-in-Ok-replay-clause-opened
 returns-in-Ok-replay-clause-opened g c =
     let es = c.in-Ok-replay.replayed.entries.items in
     let same : c.begin.result.found.items ++ c.begin.result.accepted.entries.items ≡ es = none_more c.begin.result.found.items _ c.begin.ensures.opened.2 ∙ c.begin.ensures.found in
-    opened_on (view c.begin.result) c.in-Ok.payloads es c.in-Ok-replay.replayed.tables (ap history_of same)
+    opened_on (view c.begin.result) c.in-Ok.payloads es c.in-Ok-replay.replayed.tables.tables (ap history_of same)
     (ap (λ j. j.gate) c.begin.ensures.journal ∙ c.in-Ok.ensures.ground.2) (ap (λ j. j.count) c.begin.ensures.journal ∙ c.in-Ok.ensures.ground.3)
     c.begin.ensures.opened.0 c.begin.ensures.opened.1 c.in-Ok-replay.ensures.replayed c.in-Ok-replay.replayed.replayed c.in-Ok-replay.replayed.valid
 

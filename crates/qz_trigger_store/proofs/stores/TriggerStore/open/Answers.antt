@@ -36,7 +36,7 @@ pub returns-clause-opened : goal.returns-clause-opened
 returns-clause-opened g c =
     let es = c.args.reread.entries.items in
     let read = c.requires.read in
-    opened_on _ read.payloads es c.args.reread.tables (ap history_of (none_more es c.new.result.entries.items c.new.ensures.0)) read.gate read.count refl refl read.replayed
+    opened_on _ read.payloads es c.args.reread.tables.tables (ap history_of (none_more es c.new.result.entries.items c.new.ensures.0)) read.gate read.count refl refl read.replayed
     c.args.reread.replayed c.args.reread.valid
 
 pub returns-clause-opens : goal.returns-clause-opens
@@ -50,7 +50,7 @@ returns-clause-opens g c =
       undecided = refl;
       decided = λ honest.
           subst (λ (l : List EntryData). IsDecided trigger_entry (history_of old) s.undecided (history_of l)) (sym (none_more es c.new.result.entries.items c.new.ensures.0))
-          (decided old es s.undecided s.tables disk.content s.recorded ∣ c.requires.read.replayed.valid ∣₁ s.passed (c.requires.read.held honest) (s.images honest disk.content (g.met.D.Disk.lawful honest s.journal.disk).content));
+          (decided old es s.undecided s.tables.tables disk.content s.recorded ∣ c.requires.read.replayed.valid ∣₁ s.passed (c.requires.read.held honest) (s.images honest disk.content (g.met.D.Disk.lawful honest s.journal.disk).content));
       later = omega arith;
     }
 

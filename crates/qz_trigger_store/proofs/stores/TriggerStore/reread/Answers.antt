@@ -14,7 +14,7 @@ returns-clause-decided g c honest =
     let es = s.found.items ++ s.accepted.entries.items in
     let disk = g.D.Disk.state s.journal.disk in
     let holds = held_now s.journal.kind _ c.in_ok-payloads.payloads disk.content s.kind (c.in_ok-payloads.ensures.reads honest).content (c.in_ok-payloads.ensures.stands honest) in
-    replay_decided es s.undecided s.tables s.replayed s.legal s.recorded s.passed c.in_ok-payloads.payloads disk.content holds c.replay.result
+    replay_decided es s.undecided s.tables.tables s.replayed s.legal s.recorded s.passed c.in_ok-payloads.payloads disk.content holds c.replay.result
     (s.images honest disk.content (g.met.D.Disk.lawful honest s.journal.disk).content) c.replay.ensures.replayed
 
 pub returns-clause-stands : goal.returns-clause-stands
@@ -23,7 +23,7 @@ returns-clause-stands g c honest =
     let es = s.found.items ++ s.accepted.entries.items in
     let disk = g.D.Disk.state s.journal.disk in
     let holds = held_now s.journal.kind _ c.in_ok-payloads.payloads disk.content s.kind (c.in_ok-payloads.ensures.reads honest).content (c.in_ok-payloads.ensures.stands honest) in
-    replay_stands es s.undecided s.tables s.replayed s.legal s.recorded s.passed c.in_ok-payloads.payloads disk.content holds c.replay.result c.replay.ensures.replayed
+    replay_stands es s.undecided s.tables.tables s.replayed s.legal s.recorded s.passed c.in_ok-payloads.payloads disk.content holds c.replay.result c.replay.ensures.replayed
 
 pub returns-clause-refused : goal.returns-clause-refused
 returns-clause-refused g c honest =
@@ -31,7 +31,7 @@ returns-clause-refused g c honest =
     let es = s.found.items ++ s.accepted.entries.items in
     let disk = g.D.Disk.state s.journal.disk in
     let holds = held_now s.journal.kind _ c.in_ok-payloads.payloads disk.content s.kind (c.in_ok-payloads.ensures.reads honest).content (c.in_ok-payloads.ensures.stands honest) in
-    replay_starved es s.undecided s.tables s.replayed s.legal s.recorded s.passed c.in_ok-payloads.payloads disk.content holds c.replay.result
+    replay_starved es s.undecided s.tables.tables s.replayed s.legal s.recorded s.passed c.in_ok-payloads.payloads disk.content holds c.replay.result
     (s.images honest disk.content (g.met.D.Disk.lawful honest s.journal.disk).content) c.replay.ensures.stopped
 
 pub returns-clause-any_moment : goal.returns-clause-any_moment

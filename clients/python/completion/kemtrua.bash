@@ -1,0 +1,57 @@
+# Completion of the commands kemtrua, kemtrua-hub and kemtrua-node for bash.
+
+_kemtrua_options() {
+    COMPREPLY=($(compgen -W "$1" -- "$2"))
+}
+
+_kemtrua() {
+    local word=${COMP_WORDS[COMP_CWORD]} before=${COMP_WORDS[COMP_CWORD - 1]} command="" place
+    local commands="add add-job add-trigger add-zone check list show pause resume now delete"
+    local top="--hub --folder --program --certificate --key --authority --help --version"
+    for ((place = 1; place < COMP_CWORD; place++)); do
+        case ${COMP_WORDS[place]} in
+            --hub | --folder | --program | --certificate | --key | --authority) ((place++)) ;;
+            -*) ;;
+            *) command=${COMP_WORDS[place]}; break ;;
+        esac
+    done
+    case $before in
+        --folder) COMPREPLY=($(compgen -d -- "$word")); return ;;
+        --program | --certificate | --key | --authority) COMPREPLY=($(compgen -f -- "$word")); return ;;
+        --hub) _kemtrua_options "unix: tls:" "$word"; return ;;
+    esac
+    case $command in
+        "") _kemtrua_options "$commands $top" "$word" ;;
+        add | check)
+            if [[ $word == -* ]]; then _kemtrua_options "--replace --help" "$word"; else COMPREPLY=($(compgen -f -- "$word")); fi ;;
+        add-job) _kemtrua_options "--data --durable --exclusive --recover --replace --help" "$word" ;;
+        add-trigger) _kemtrua_options "--cron --every --at --count --zone --start --end --calendar --priority --misfire --replace --help" "$word" ;;
+        add-zone) [[ -r /usr/share/zoneinfo/tzdata.zi ]] && _kemtrua_options "$(awk '$1 == "Z" { print $2 }' /usr/share/zoneinfo/tzdata.zi)" "$word" ;;
+        list) _kemtrua_options "all jobs triggers nodes running --raw --help" "$word" ;;
+        show) [[ $before == show ]] && _kemtrua_options "job trigger entry next" "$word" ;;
+        pause | resume) [[ $before == "$command" ]] && _kemtrua_options "trigger group" "$word" ;;
+        delete) [[ $before == delete ]] && _kemtrua_options "job trigger calendar zone" "$word" ;;
+    esac
+}
+
+_kemtrua_hub() {
+    local word=${COMP_WORDS[COMP_CWORD]}
+    if [[ $word == -* ]]; then
+        _kemtrua_options "--listen --make --program --operator --certificate --key --authority --log --help --version" "$word"
+    else
+        COMPREPLY=($(compgen -f -- "$word"))
+    fi
+}
+
+_kemtrua_node() {
+    local word=${COMP_WORDS[COMP_CWORD]}
+    if [[ $word == -* ]]; then
+        _kemtrua_options "--name --check --log --help --version" "$word"
+    else
+        COMPREPLY=($(compgen -f -X '!*.toml' -- "$word") $(compgen -d -- "$word"))
+    fi
+}
+
+complete -o filenames -F _kemtrua kemtrua
+complete -o filenames -F _kemtrua_hub kemtrua-hub
+complete -o filenames -F _kemtrua_node kemtrua-node

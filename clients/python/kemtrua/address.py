@@ -1,0 +1,135 @@
+"""Where a hub listens: `unix:/run/kemtrua/hub.sock`, or `tls:HOST:PORT` with client certificates alone."""
+from __future__ import annotations
+
+import errno
+import fcntl
+import os
+import socket
+import ssl
+import stat
+from dataclasses import dataclass
+from typing import IO
+
+from .errors import BadSettings
+
+DEFAULT = "unix:/run/kemtrua/hub.sock"
+LONGEST_PATH = 107  # bytes: Linux's own limit
+
+
+@dataclass(frozen=True)
+class Address:
+    """A Unix socket's path, or a host and a port."""
+
+    path: str = ""
+    host: str = ""
+    port: int = 0
+
+    @classmethod
+    def parse(cls, text: str) -> Address:
+        kind, _, rest = text.partition(":")
+        if text.startswith("/"):
+            kind, rest = "unix", text
+        if kind == "unix" and rest:
+            if len(os.fsencode(rest)) > LONGEST_PATH:
+                raise BadSettings(f"{text}: the path of a socket has at most {LONGEST_PATH} bytes")
+            return cls(path=rest)
+        host, _, port = rest.rpartition(":")
+        if kind == "tls" and host and port.isdigit() and 0 <= int(port) <= 65535:
+            return cls(host=host.strip("[]"), port=int(port))
+        raise BadSettings(f"{text!r} is no address: write unix:/PATH, or tls:HOST:PORT")
+
+    def __str__(self) -> str:
+        return f"unix:{self.path}" if self.path else f"tls:{self.host}:{self.port}"
+
+
+@dataclass(frozen=True)
+class Tls:
+    """Files in PEM: one's own certificate and key, and the authority whose certificates are trusted."""
+
+    certificate: str
+    key: str
+    authority: str
+
+    def context(self, *, server: bool) -> ssl.SSLContext:
+        context = ssl.SSLContext(ssl.PROTOCOL_TLS_SERVER if server else ssl.PROTOCOL_TLS_CLIENT)
+        context.minimum_version = ssl.TLSVersion.TLSv1_2
+        context.verify_mode = ssl.CERT_REQUIRED
+        for name, load in (("authority", lambda: context.load_verify_locations(self.authority)),
+                           ("certificate", lambda: context.load_cert_chain(self.certificate, self.key))):
+            try:
+                load()
+            except (OSError, ssl.SSLError) as error:
+                files = self.authority if name == "authority" else f"{self.certificate} or {self.key}"
+                raise BadSettings(f"the {name} can't be read ({files}): {error}") from None
+        return context
+
+
+def common_name(certificate: dict[str, object]) -> str:
+    """The common name of a peer's certificate, or the empty text."""
+    for part in certificate.get("subject", ()):  # type: ignore[attr-defined]
+        for name, value in part:
+            if name == "commonName":
+                return str(value)
+    return ""
+
+
+def listen_at(path: str) -> tuple[socket.socket, IO[str]]:
+    """A Unix socket at this path, for the owner and the group, and the lock that keeps others off it while it is open.
+
+    A socket that a killed hub left is removed. One that somebody listens at isn't, nor is a file of another kind.
+    """
+    try:
+        lock = open(f"{path}.lock", "w")
+    except OSError as error:
+        raise BadSettings(f"{path}.lock can't be made: {error.strerror}") from None
+    try:
+        fcntl.flock(lock, fcntl.LOCK_EX | fcntl.LOCK_NB)
+        _remove_stale(path)
+        made = socket.socket(socket.AF_UNIX, socket.SOCK_STREAM)
+        before = os.umask(0o117)
+        try:
+            made.bind(path)
+        finally:
+            os.umask(before)
+    except BlockingIOError:
+        lock.close()
+        raise BadSettings(f"another hub listens at {path}: end it first, or choose another address") from None
+    except OSError as error:
+        lock.close()
+        raise BadSettings(f"no socket can be made at {path}: {error.strerror}") from None
+    except BadSettings:
+        lock.close()
+        raise
+    return made, lock
+
+
+def _remove_stale(path: str) -> None:
+    try:
+        mode = os.lstat(path).st_mode
+    except FileNotFoundError:
+        return
+    if not stat.S_ISSOCK(mode):
+        raise BadSettings(f"{path} is there already, and is no socket: remove it, or choose another address")
+    with socket.socket(socket.AF_UNIX, socket.SOCK_STREAM) as probe:
+        probe.settimeout(2)
+        try:
+            probe.connect(path)
+        except OSError as error:
+            if error.errno not in (errno.ECONNREFUSED, errno.ENOENT):
+                raise
+            os.unlink(path)
+            return
+    raise BadSettings(f"somebody listens at {path} already: end that first, or choose another address")
+
+
+def keep_alive(sock: socket.socket | None) -> None:
+    """Lets a TCP connection whose other side is gone without a word break within about 30 seconds. None is one that broke already."""
+    if sock is None or sock.family not in (socket.AF_INET, socket.AF_INET6):
+        return
+    for level, option, value in ((socket.SOL_SOCKET, socket.SO_KEEPALIVE, 1), (socket.IPPROTO_TCP, socket.TCP_KEEPIDLE, 15),
+                                 (socket.IPPROTO_TCP, socket.TCP_KEEPINTVL, 5), (socket.IPPROTO_TCP, socket.TCP_KEEPCNT, 3),
+                                 (socket.IPPROTO_TCP, socket.TCP_USER_TIMEOUT, 30000), (socket.IPPROTO_TCP, socket.TCP_NODELAY, 1)):
+        try:
+            sock.setsockopt(level, option, value)
+        except OSError:
+            return  # (it broke already, and whoever reads it will see so)

@@ -1,0 +1,1 @@
+"""The commands `kemtrua-hub`, `kemtrua-node` and `kemtrua`."""

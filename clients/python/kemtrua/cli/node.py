@@ -1,0 +1,71 @@
+"""`kemtrua-node`: runs jobs that are commands."""
+from __future__ import annotations
+
+import signal
+import sys
+from collections.abc import Callable
+
+from ..connection import Connection
+from ..errors import BadSettings
+from ..guard import Guard
+from ..node import Node
+from ..notify import notify
+from ..scheduler import Scheduler
+from ..settings import NodeSettings, read_node
+from ..store import Store
+from . import common
+
+DESCRIPTION = """\
+Runs what is due. A settings file maps classes of jobs to commands; see "Run it for a team".
+
+SIGTERM has the node finish what runs, and leave. A second one ends what runs, which other nodes then recover.
+
+Exit status: 0 after SIGTERM, 1 for an error, that of qz_sched where the node has a store of its own and this ended."""
+
+
+def connector(settings: NodeSettings) -> Callable[[], Scheduler]:
+    """What gives the node whom to ask."""
+    if settings.store is not None:
+        store = Store(settings.store, settings.program)
+        return lambda: store
+    address = settings.address
+    assert address is not None
+    if not address.path and settings.tls is None:
+        raise BadSettings(f"{address} wants TLS: the settings have no table [tls]")
+    return lambda: Connection(address, settings.tls)
+
+
+def run(settings: NodeSettings) -> None:
+    guard = Guard()
+    jobs = {name: it.command.job(guard, it.retry, it.ends_when_cut_off) for name, it in settings.classes.items()}
+    node = Node(settings.name, connector(settings), jobs, check_in=settings.check_in, work=settings.work, finish_within=settings.finish_within)
+    for number in (signal.SIGTERM, signal.SIGINT):
+        signal.signal(number, lambda *_: node.stop())
+    notify("READY=1")
+    try:
+        node.run()
+    finally:
+        guard.end()
+
+
+def main(words: list[str] | None = None) -> int:
+    parser = common.parser("kemtrua-node", DESCRIPTION)
+    parser.add_argument("settings", help="the settings file, in TOML")
+    parser.add_argument("--name", help="the node's name (that of the settings, or else the host's)")
+    parser.add_argument("--check", action="store_true", help="only look at the settings")
+    common.add_log_level(parser)
+    given = parser.parse_args(words)
+    common.log_to_stderr(given.log)
+
+    def work() -> None:
+        settings = read_node(given.settings, given.name)
+        if given.check:
+            print(f"{given.settings}: node {settings.name}, classes {', '.join(settings.classes) or 'none'}")
+        else:
+            run(settings)
+
+    return common.ended("kemtrua-node", work)
+
+
+if __name__ == "__main__":
+    sys.exit(main())

@@ -1,0 +1,79 @@
+"""Prints rows and replies for people, with times by the local clock."""
+from __future__ import annotations
+
+from collections.abc import Iterable, Sequence
+
+from .. import clock, replies, rows
+from ..ledger import DEFAULT_INTERVAL
+from ..patience import MARGIN
+
+
+def table(head: Sequence[str], body: Iterable[Sequence[object]]) -> str:
+    """Columns, each as wide as its widest cell."""
+    cells = [list(head), *([str(cell) for cell in line] for line in body)]
+    widths = [max(len(line[column]) for line in cells) for column in range(len(head))]
+    return "\n".join("  ".join(cell.ljust(width) for cell, width in zip(line, widths)).rstrip() for line in cells)
+
+
+def plain(key: object) -> str:
+    """A key without the group that is meant where none is named."""
+    return str(key).removeprefix("DEFAULT/")
+
+
+def jobs(found: Iterable[rows.JobRow]) -> str:
+    return table(["JOB", "CLASS", "DURABLE", "EXCLUSIVE", "RECOVERS"],
+                 [[plain(row.key), row.klass, *("yes" if flag else "no" for flag in (row.durable, row.no_concurrent, row.requests_recovery))] for row in found])
+
+
+def triggers(found: Iterable[rows.TriggerRow]) -> str:
+    return table(["TRIGGER", "JOB", "STATE", "NEXT", "LAST", "FIRED", "KIND"],
+                 [[plain(row.key), plain(row.job), row.state, clock.local(row.next), clock.local(row.prev), row.times, row.kind] for row in found])
+
+
+def nodes(found: Sequence[rows.Row]) -> str:
+    members = {row.node: row.epoch for row in found if isinstance(row, rows.MemberRow)}
+    seen = {row.node: row for row in found if isinstance(row, rows.CheckInRow)}
+    busy = [row.node for row in found if isinstance(row, rows.EntryRow) and row.executes]
+    lines = []
+    for node in sorted({*members, *seen}):
+        row = seen.get(node)
+        late = row is not None and row.last + row.interval + MARGIN < clock.now()
+        state = ("late" if late else "lives") if node in members else "gone"
+        interval = (row.interval if row else DEFAULT_INTERVAL) // 1000
+        lines.append([node, members.get(node, "-"), state, clock.local(row.last if row else None), f"{interval} s", busy.count(node)])
+    return table(["NODE", "EPOCH", "STATE", "LAST CHECK-IN", "EACH", "RUNS"], lines)
+
+
+def entries(found: Iterable[rows.EntryRow]) -> str:
+    return table(["ENTRY", "NODE", "TRIGGER", "STATE", "FOR", "BEGAN"],
+                 [[row.entry, row.node, plain(row.trigger), row.state, clock.local(row.scheduled), clock.local(row.at)] for row in found])
+
+
+def others(found: Iterable[rows.OtherRow]) -> str:
+    return "\n".join(" ".join([row.word, *row.rest]) for row in found)
+
+
+def shown(reply: object) -> str:
+    """A row that was asked for, member by member."""
+    if isinstance(reply, replies.Next):
+        return f"next {clock.local(reply.time)} ({reply.time})" if reply.time is not None else "nothing waits"
+    if isinstance(reply, replies.Nothing):
+        return f"no such {reply.what}"
+    times = {"next", "prev", "start", "scheduled", "at"}
+    lines = []
+    for name, value in vars(reply).items():
+        if value is not None:
+            text = f"{clock.local(value)} ({value})" if name in times and value is not None else value
+            lines.append(f"{'class' if name == 'klass' else name:18} {text}")
+    return "\n".join(lines)
+
+
+def answer(reply: object) -> str:
+    """What came of a step."""
+    if isinstance(reply, replies.Done):
+        return "ok" if reply.next is None else f"ok, next {clock.local(reply.next)}"
+    if isinstance(reply, replies.Triggered):
+        return f"ok, as trigger {reply.trigger}"
+    if isinstance(reply, replies.Deleted):
+        return f"ok, with {reply.triggers} triggers"
+    return str(reply)

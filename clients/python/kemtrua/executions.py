@@ -1,0 +1,161 @@
+"""What runs on a node: each execution in a thread of its own, until its completion is answered."""
+from __future__ import annotations
+
+import logging
+import threading
+from collections.abc import Callable, Mapping
+from concurrent.futures import ThreadPoolExecutor
+from dataclasses import replace
+
+from . import clock
+from .errors import Refused, Unanswered
+from .jobs import Code, Context, Job
+from .membership import Fenced, GivenUp, Membership
+from .replies import Again, Reply
+from .rows import EntryRow
+
+log = logging.getLogger("kemtrua.node")
+
+NO_JOB = Code.SET_ALL_JOB_TRIGGERS_ERROR  # what counts where the node has no job of a class
+
+
+class Execution:
+    """One of them. It is lost once others make up for it: then its result is dropped."""
+
+    def __init__(self, context: Context, job: Job | None):
+        self.context, self.job = context, job
+        self.lost = False
+
+
+class Executions:
+    """Begins executions, and completes them. `changed` is called when one has ended, and `failed` with what nobody foresaw."""
+
+    def __init__(self, jobs: Mapping[str, Job], members: Membership, workers: int, changed: Callable[[], None], failed: Callable[[BaseException], None]):
+        self._jobs, self._members = jobs, members
+        self._changed, self._failed = changed, failed
+        self._pool = ThreadPoolExecutor(workers, "job")
+        self._running: dict[int, Execution] = {}
+        self._lost: set[Execution] = set()  # they still end, and take a thread till then
+        self._lock = threading.Lock()  # of these two
+        self._finishing, self._abandoned = threading.Event(), threading.Event()
+
+    def __len__(self) -> int:
+        return len(self._running) + len(self._lost)
+
+    def __contains__(self, entry: int) -> bool:
+        return entry in self._running
+
+    def begin(self, row: EntryRow) -> None:
+        """Runs the job of an execution that has begun at the store."""
+        if row.klass is None:
+            log.warning("entry %d: its job isn't stored any more, so there is nothing to run", row.entry)
+            context = Context(row.node, row.epoch, row.entry, row.trigger, row.job or row.trigger, "", "", row.scheduled, row.at or 0)
+            job: Job | None = Job(lambda _: Code.NOOP)
+        else:
+            context = Context.of_row(row)
+            job = self._jobs.get(row.klass)
+        log.info("entry %d fired %s of job %s, class %s, for %d, %d ms late", row.entry, row.trigger, context.job, context.klass, row.scheduled,
+                 context.fired - row.scheduled)
+        execution = self._running[row.entry] = Execution(context, job)
+        self._pool.submit(self._execute, execution)
+
+    def finish(self) -> None:
+        """From now on nobody waits for a retry: a job that asks for one runs at once, and once more at most."""
+        self._finishing.set()
+
+    def drop(self) -> None:
+        """Others make up for what runs here: it is ended, and its results are dropped."""
+        with self._lock:
+            lost = list(self._running.values())
+            self._running.clear()
+            self._lost.update(lost)
+            for execution in lost:
+                execution.lost = True
+        for execution in lost:
+            execution.context.stop.set()
+        log.warning("%d executions are ended here, since others make up for them", len(lost))
+
+    def abandon(self) -> None:
+        """Ends what runs, and completes none of it: others will recover it."""
+        self._finishing.set()
+        self._abandoned.set()
+        for execution in list(self._running.values()):
+            execution.context.stop.set()
+
+    def end_cut_off(self) -> None:
+        """Ends what wants to be where others may take this node for failed."""
+        for execution in list(self._running.values()):
+            if execution.job is not None and execution.job.ends_when_cut_off:
+                log.warning("entry %d is ended: this node can't say that it lives", execution.context.entry)
+                execution.context.stop.set()
+
+    def wait(self) -> None:
+        """Waits until all have ended."""
+        self._pool.shutdown()
+
+    def _execute(self, execution: Execution) -> None:
+        entry, again = execution.context.entry, 0
+        try:
+            while not execution.lost:
+                code = self._counted(execution, again)
+                if execution.lost or self._abandoned.is_set() or not isinstance(self._complete(execution, code), Again):
+                    break
+                again += 1
+                self._wait_for_retry(execution)
+                execution.context = replace(execution.context, refires=again)
+        except (Fenced, GivenUp):
+            pass  # (the scheduler loop meets it, too)
+        except BaseException as error:
+            self._failed(error)
+        finally:
+            self._leave(execution)
+            self._changed()
+
+    def _leave(self, execution: Execution) -> None:
+        """An execution has ended. One that was abandoned stays counted, since it is open at the store."""
+        with self._lock:
+            if execution.lost:
+                self._lost.discard(execution)
+                log.warning("entry %d ended, and its result is dropped", execution.context.entry)
+            elif not self._abandoned.is_set():
+                self._running.pop(execution.context.entry, None)
+
+    def _counted(self, execution: Execution, again: int) -> Code:
+        """Runs the job once, and gives what its answer counts as."""
+        context, job = execution.context, execution.job
+        if job is None:
+            log.error("entry %d: no job of the class %r here; all triggers of %s get the state ERROR", context.entry, context.klass, context.job)
+            return NO_JOB
+        try:
+            code = job.run(context) or Code.NOOP
+        except Exception:
+            log.exception("entry %d: the job failed", context.entry)
+            code = job.fails
+        if code is Code.RE_EXECUTE_JOB and (again >= job.retry.times or again and self._finishing.is_set()):
+            log.error("entry %d: it was executed %d times, and isn't again; it counts as %s", context.entry, again + 1, job.retry.then.value)
+            return job.retry.then
+        return code
+
+    def _wait_for_retry(self, execution: Execution) -> None:
+        seconds = execution.job.retry.after if execution.job is not None else 0.0
+        log.info("entry %d is executed again in %g seconds", execution.context.entry, seconds)
+        until = clock.uptime() + seconds
+        while (left := until - clock.uptime()) > 0 and not self._finishing.is_set() and not execution.context.stop.is_set():
+            self._finishing.wait(min(left, 1.0))
+
+    def _complete(self, execution: Execution, code: Code) -> Reply | None:
+        """The reply to the completion; None where it was done and the reply was lost, or where the store refuses it."""
+        entry = execution.context.entry
+        while not execution.lost:
+            try:
+                reply = self._members.ask("complete", entry=entry, code=code.value)
+                log.info("entry %d completed with %s: %s", entry, code.value, type(reply).__name__)
+                return reply
+            except Refused as refused:
+                log.warning("entry %d isn't completed: %s", entry, refused)
+                return None
+            except Unanswered:
+                if not isinstance(self._members.look("show_entry", entry=entry), EntryRow):
+                    log.info("entry %d completed with %s, whose answer was lost", entry, code.value)
+                    return None
+        return None

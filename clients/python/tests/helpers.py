@@ -1,0 +1,100 @@
+"""What several tests use: the stand-in of the program, and hubs as processes."""
+from __future__ import annotations
+
+import os
+import signal
+import subprocess
+import sys
+import tempfile
+import time
+import unittest
+from collections.abc import Callable
+
+from kemtrua import Address, Connection, Store, Tls
+from kemtrua.errors import KemtruaError
+
+ROOT = os.path.dirname(os.path.dirname(os.path.abspath(__file__)))
+PROGRAM = os.environ.get("KEMTRUA_PROGRAM") or os.path.join(ROOT, "tests", "stand_in.py")
+IS_STAND_IN = "KEMTRUA_PROGRAM" not in os.environ
+ENVIRONMENT = {**os.environ, "PYTHONPATH": ROOT}
+
+
+def job(name: str = "j", klass: str = "ok", **more: object) -> dict[str, object]:
+    return {"name": name, "class": klass, **more}
+
+
+def once(name: str = "t", of: str = "j", start: int | None = None, **more: object) -> dict[str, object]:
+    """A trigger that fires once, now or at a moment, and is never misfired."""
+    return {"name": name, "job": of, "kind": "simple", "start": now() if start is None else start, "misfire": -1, **more}
+
+
+def now() -> int:
+    return time.time_ns() // 1_000_000
+
+
+def wait_until(holds: Callable[[], object], seconds: float = 20.0) -> None:
+    until = time.monotonic() + seconds
+    while not holds():
+        if time.monotonic() > until:
+            raise AssertionError(f"it didn't come within {seconds} seconds")
+        time.sleep(0.02)
+
+
+class WithFolder(unittest.TestCase):
+    """A test with a folder of its own."""
+
+    def setUp(self) -> None:
+        made = tempfile.TemporaryDirectory(prefix="kemtrua-")
+        self.addCleanup(made.cleanup)
+        self.folder = made.name
+
+    def store(self, fault: str = "") -> Store:
+        """A new store in the folder. `fault` is one that the stand-in is to make."""
+        os.environ["STAND_IN"] = fault
+        self.addCleanup(os.environ.pop, "STAND_IN", None)
+        store = Store(self.folder, PROGRAM, make=True)
+        self.addCleanup(store.close)
+        return store
+
+    def hub(self, *words: str, make: bool = True, listen: str = "", fault: str = "") -> HubProcess:
+        hub = HubProcess(self.folder, listen or f"unix:{self.folder}/hub.sock", *(["--make"] if make else []), *words, fault=fault)
+        self.addCleanup(hub.kill)
+        return hub
+
+
+class HubProcess:
+    """A hub as a process of its own."""
+
+    def __init__(self, folder: str, listen: str, *words: str, tls: Tls | None = None, fault: str = ""):
+        self.listen, self.tls = listen, tls
+        self.process = subprocess.Popen([sys.executable, "-m", "kemtrua.cli.hub", folder, "--program", PROGRAM, "--listen", listen, *words],
+                                        env={**ENVIRONMENT, "STAND_IN": fault}, stderr=subprocess.PIPE, text=True)
+
+    @property
+    def address(self) -> Address:
+        return Address.parse(self.listen)
+
+    def connect(self, tls: Tls | None = None) -> Connection:
+        """A connection, once the hub listens."""
+        until = time.monotonic() + 20
+        while True:
+            try:
+                return Connection(self.address, tls or self.tls)
+            except KemtruaError:
+                if time.monotonic() > until or self.process.poll() is not None:
+                    raise
+                time.sleep(0.05)
+
+    def kill(self) -> None:
+        if self.process.poll() is None:
+            self.process.kill()
+        self.process.wait()
+        if self.process.stderr is not None:
+            self.process.stderr.close()
+
+    def ended(self, number: int | None = signal.SIGTERM) -> tuple[int, str]:
+        """Its exit status and its log, once it ended, after a signal if one is given."""
+        if number is not None:
+            self.process.send_signal(number)
+        _, said = self.process.communicate(timeout=60)
+        return self.process.returncode, said

@@ -1,4 +1,0 @@
-use Rattle.qz_times.proofs.chains.+length_to.Given as goal
-
-abbrev pub decreases-length_to : goal.decreases-length_to
-decreases-length_to l = l.limit

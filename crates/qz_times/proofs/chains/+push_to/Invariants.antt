@@ -1,4 +1,0 @@
-use Rattle.qz_times.proofs.chains.+push_to.Given as goal
-
-abbrev pub decreases-push_to : goal.decreases-push_to
-decreases-push_to l = l.limit
