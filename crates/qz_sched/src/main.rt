@@ -1,4 +1,5 @@
-//! The program `qz_sched`. Its stored run is a script on a store that is there already, with a bad last line.
+//! The program `qz_sched`. Its stored run has the six lines of the documents as a script on stores that are there already, the
+//! one of triggers with a job, and a bad line after them.
 #![tactic(auto)]
 
 use std::process::ExitCode;

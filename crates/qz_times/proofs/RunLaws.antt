@@ -1,5 +1,5 @@
 -- Lines that were answered, and how they end.
-use Rattle.std.proofs.Common.{◌≡◌, ◌≤◌, ◌<◌, ℕ, List, [], ◌∷◌, ◌++◌, length, true, take, Option, None, refl, sym, ap, ◌∙◌, subst, arith, append_assoc}
+use Rattle.std.proofs.Common.{◌≡◌, ◌⊎◌, inl, inr, ◌≤◌, ◌<◌, ℕ, List, [], ◌∷◌, ◌++◌, length, true, take, Option, None, refl, sym, ap, ◌∙◌, subst, arith, append_assoc}
 use Rattle.std.specs.Prelude.{Ok, Err, nat_lt}
 use Rattle.std.specs.Io.KnownBytes.{Consumes, Appends}
 use Rattle.std.proofs.KnownBytes.{Appends-nil, Appends-trans}
@@ -14,13 +14,14 @@ use Rattle.qz_io.specs.Around.{output_alone}
 use Rattle.qz_io.specs.Handlers.{AllHandled, HandlesLines}
 use Rattle.qz_io.specs.LineStates.{LineState}
 use Rattle.qz_io.specs.Lines.{lines_of}
-use Rattle.qz_io.specs.Outside.{Outside}
+use Rattle.qz_io.specs.Outside.{Outside, IsHandedOn}
 use Rattle.qz_job_json.specs.declared.faults.LineFault.TheVariants as fault
 use Rattle.qz_times.specs.declared.answers.Answering.{Answering}
 use Rattle.qz_times.specs.declared.ends.LineEnd.{LineEnd}
 use Rattle.qz_times.specs.declared.ends.LineEnd.TheVariants as ends
 use Rattle.qz_times.specs.declared.ends.TimesEnd.{TimesEnd}
 use Rattle.qz_times.specs.declared.ends.TimesEnd.TheVariants as times
+use Rattle.qz_times.specs.declared.queries.Query.{Query}
 use Rattle.qz_times.specs.Runs.{IsRun}
 use Rattle.qz_times.specs.Known.{kept, nothing}
 use Rattle.qz_times.specs.Said.{line_meaning, AllSaid}
@@ -234,11 +235,85 @@ module _ {K : Type 0} (k : sink.Ghosts K) where
         };
       }
 
+  -- a run after which the output was flushed
+  pub IsRun-kept : (e : LinesEnd LineEnd) (q : Query) (i j : Option (List ℕ)) (a b c : K) → IsRun (end_of e) q (at i a) (at j b) → Appends (k.held b) (k.held c) [] → IsRun (end_of e) q (at i a) (at j c)
+  IsRun-kept (lines_end.Refused number (ends.Bad f)) q i j a b c run kept = record {
+    lines = run.lines;
+    text = run.text;
+    known = run.known;
+    said = run.said;
+    ends = record { number_is = run.ends.number_is; bad = run.ends.bad; written = wrote_nothing (k.held a) (k.held b) (k.held c) _ run.ends.written kept };
+  }
+  IsRun-kept (lines_end.Refused number ends.WriteFault) q i j a b c run kept = record {
+    lines = run.lines;
+    text = run.text;
+    known = run.known;
+    said = run.said;
+    ends = record {
+      last = run.ends.last;
+      one = run.ends.one;
+      its = run.ends.its;
+      after = run.ends.after;
+      said = run.ends.said;
+      begins = run.ends.begins;
+      count = run.ends.count;
+      written = wrote_nothing (k.held a) (k.held b) (k.held c) _ run.ends.written kept;
+    };
+  }
+  IsRun-kept (lines_end.Refused number ends.NoMemory) q i j a b c run kept = record {
+    lines = run.lines;
+    text = run.text;
+    known = run.known;
+    said = run.said;
+    ends = record { begins = run.ends.begins; written = wrote_nothing (k.held a) (k.held b) (k.held c) _ run.ends.written kept };
+  }
+  IsRun-kept (lines_end.TooLong number) q i j a b c run kept = record {
+    lines = run.lines;
+    text = run.text;
+    known = run.known;
+    said = run.said;
+    ends = record { number_is = run.ends.number_is; bad = run.ends.bad; written = wrote_nothing (k.held a) (k.held b) (k.held c) _ run.ends.written kept };
+  }
+  IsRun-kept lines_end.TooMany q i j a b c run kept = record {
+    lines = run.lines;
+    text = run.text;
+    known = run.known;
+    said = run.said;
+    ends = record { full = run.ends.full; more = run.ends.more; written = wrote_nothing (k.held a) (k.held b) (k.held c) _ run.ends.written kept };
+  }
+  IsRun-kept lines_end.ReadFault q i j a b c run kept = record {
+    lines = run.lines;
+    text = run.text;
+    known = run.known;
+    said = run.said;
+    ends = record { part = run.ends.part; taken = run.ends.taken; no_feed = run.ends.no_feed; written = wrote_nothing (k.held a) (k.held b) (k.held c) _ run.ends.written kept };
+  }
+  IsRun-kept lines_end.NoMemory q i j a b c run kept = record {
+    lines = run.lines;
+    text = run.text;
+    known = run.known;
+    said = run.said;
+    ends = record { begins = run.ends.begins; written = wrote_nothing (k.held a) (k.held b) (k.held c) _ run.ends.written kept };
+  }
+
   -- the count of faults of the output while lines are answered
   pub faults_later : (i j : Option (List ℕ)) (a b : State) → HandlesLines (Answers k) (Ok tt) i j a b → k.faults a.out ≤ k.faults b.out
   faults_later i j a b lines =
       let answered = all_answered lines.lines a lines.state lines.handled in
       subst (λ s. k.faults a.out ≤ k.faults s.out) (sym lines.ends.state_is) answered.later
+
+  later_to : (a s b : State) → b ≡ s → k.faults a.out ≤ k.faults s.out → k.faults a.out ≤ k.faults b.out
+  later_to a s b same later = subst (λ (x : State). k.faults a.out ≤ k.faults x.out) (sym same) later
+
+  pub stopped_later : (e : LinesEnd LineEnd) (i j : Option (List ℕ)) (a b : State) → HandlesLines (Answers k) (Err e) i j a b → k.faults a.out ≤ k.faults b.out
+  stopped_later (lines_end.Refused number e) i j a b lines = omega (arith, (all_answered lines.lines a lines.state lines.handled).later, lines.ends.refused.later)
+  stopped_later (lines_end.TooLong number) i j a b lines = later_to a lines.state b lines.ends.state_is (all_answered lines.lines a lines.state lines.handled).later
+  stopped_later lines_end.TooMany i j a b lines = later_to a lines.state b lines.ends.state_is (all_answered lines.lines a lines.state lines.handled).later
+  stopped_later lines_end.ReadFault i j a b lines = later_to a lines.state b lines.ends.state_is (all_answered lines.lines a lines.state lines.handled).later
+  stopped_later lines_end.NoMemory i j a b lines = later_to a lines.state b lines.ends.state_is (all_answered lines.lines a lines.state lines.handled).later
+
+  pub then_rose : (x y z : ℕ) → Rose x y → y ≤ z → Rose x z
+  then_rose x y z rose later = omega (arith, rose, later)
 
   rose_later : (x y z : ℕ) → x ≤ y → Rose y z → Rose x z
   rose_later x y z later rose = omega (arith, later, rose)
@@ -262,3 +337,27 @@ module _ {K : Type 0} (k : sink.Ghosts K) where
   finish_rose times.TooManyLines i j a b old new n lines finishes is = absurd cc
   finish_rose times.ReadFault i j a b old new n lines finishes is = absurd cc
   finish_rose times.NoMemory i j a b old new n lines finishes is = absurd cc
+
+  -- what was handed on at the end
+
+  abbrev HandsOn : K → K → Type 0
+  HandsOn old new = IsHandedOn (k.held new) (k.handed new) ⊎ Rose (k.faults old) (k.faults new)
+
+  handed_later : (a b c : K) → k.faults a ≤ k.faults b → HandsOn b c → HandsOn a c
+  handed_later a b c later (inl handed) = inl handed
+  handed_later a b c later (inr rose) = inr (rose_later _ _ _ later rose)
+
+  pub stopped_handed : (e : LinesEnd LineEnd) (i j : Option (List ℕ)) (a b : State) (out : K) → HandlesLines (Answers k) (Err e) i j a b → HandsOn b.out out → HandsOn a.out out
+  stopped_handed e i j a b out lines handed = handed_later a.out b.out out (stopped_later e i j a b lines) handed
+
+  finish_hands : (e : TimesEnd) (b c : K) → Finishes e (output_alone k b) (output_alone k c) (k.faults b) (k.faults c) → HandsOn b c
+  finish_hands times.Done b c finishes = inl finishes.1
+  finish_hands times.WriteFault b c finishes = inr finishes.1
+  finish_hands (times.Bad number f) b c finishes = absurd finishes
+  finish_hands times.TooManyLines b c finishes = absurd finishes
+  finish_hands times.ReadFault b c finishes = absurd finishes
+  finish_hands times.NoMemory b c finishes = absurd finishes
+
+  pub finish_handed : (e : TimesEnd) (i j : Option (List ℕ)) (a b : State) (out : K) → HandlesLines (Answers k) (Ok tt) i j a b → Finishes e (output_alone k b.out) (output_alone k out) (k.faults b.out) (k.faults out)
+      → HandsOn a.out out
+  finish_handed e i j a b out lines finishes = handed_later a.out b.out out (faults_later i j a b lines) (finish_hands e b.out out finishes)

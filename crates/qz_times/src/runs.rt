@@ -1,7 +1,9 @@
 //! `times` on an input.
-ghost use Rattle.std.specs.Prelude.{◌≡◌, negsuc, ◌≤ℤ◌};
+ghost use Rattle.std.specs.Prelude.{◌≡◌, ◌⊎◌, ◌≤◌, [], negsuc, ◌≤ℤ◌};
+ghost use Rattle.std.specs.Io.KnownBytes.{Appends};
 ghost use Rattle.qz_civil.specs.Causes.{Rose};
 ghost use Rattle.qz_io.specs.Around.{without_clock, output_alone};
+ghost use Rattle.qz_io.specs.Outside.{IsHandedOn};
 ghost use Rattle.qz_times.specs.Answers.{Finishes, end_at, end_of};
 ghost use Rattle.qz_times.specs.Runs.{IsRun};
 
@@ -15,7 +17,8 @@ use qz_job_json::LineFault;
 use std::alloc::Global;
 
 /// Answers the lines of the input one by one: `ok` or a refusal to a zone or a calendar, and to a trigger its first fire times
-/// or a refusal. Each answer is written before the next line is looked at, and the output is flushed after the last one.
+/// or a refusal. Each answer is written before the next line is looked at. The output is flushed at the end, also where that
+/// is an early one.
 pub fn run_times<S: Source, K: Sink>(
     alloc: Global,
     input: &mut S,
@@ -27,6 +30,8 @@ pub fn run_times<S: Source, K: Sink>(
     ensures run { IsRun result query (without_clock S.Source K.Sink input.old out.old) (without_clock S.Source K.Sink input.new out.new) }
     ensures read { result ≡ TimesEnd.ReadFault → Rose (S.faults input.old) (S.faults input.new) }
     ensures write { result ≡ TimesEnd.WriteFault → Rose (K.faults out.old) (K.faults out.new) }
+    // All that `out` holds was handed on, or it failed.
+    ensures handed { IsHandedOn (K.held out.new) (K.handed out.new) ⊎ Rose (K.faults out.old) (K.faults out.new) }
 {
     let mut answering = Answering {
         alloc,
@@ -37,8 +42,20 @@ pub fn run_times<S: Source, K: Sink>(
     drop(answering);
     match ended {
         Ok(()) => finish(out),
-        Err(end) => end_of(end),
+        Err(end) => {
+            hand_on(out);
+            end_of(end)
+        }
     }
+}
+
+/// Hands on what the output holds where the lines ended early. That this fails is passed over: another cause was met first.
+fn hand_on<K: Sink>(out: &mut K)
+    ensures kept { Appends (K.held out.old) (K.held out.new) [] }
+    ensures handed { IsHandedOn (K.held out.new) (K.handed out.new) ⊎ Rose (K.faults out.old) (K.faults out.new) }
+    ensures later { K.faults out.old ≤ K.faults out.new }
+{
+    let _ = out.flush();
 }
 
 /// All lines were answered: hands on what the output holds.

@@ -16,12 +16,13 @@ use Rattle.qz_top.specs.Asked.{RanScript, UsesJobs, DidAsAsked}
 use Rattle.qz_top.specs.Calls.{OwnDone, refusal_of}
 use Rattle.qz_top.specs.Causes.{FaultCounts, DiskFailed, HasCause}
 use Rattle.qz_top.specs.Making.{IsInit}
-use Rattle.qz_top.specs.NodeRuns.{seen_after, EndsWork, RanNodes}
+use Rattle.qz_top.specs.NodeRuns.{RanNodes}
 use Rattle.qz_top.specs.Runs.{IsOfScript}
 use Rattle.qz_top.specs.Times.{IsOfTimes}
 use Rattle.qz_top.specs.declared.statuses.Status.{Status}
 use Rattle.qz_top.specs.declared.statuses.Status.TheVariants as status
 use Rattle.qz_top.specs.declared.ended.Ended.{Ended}
+use Rattle.qz_top.proofs.NodeRunLaws.{told_no_words}
 
 pub done_at : {D : Type 0} {g : Ghosts D} (jobs jobs' : List JobMeaning) (triggers states : D) (e : Ended D g) (old new : Outside) (v w : Result Wish WordFault) → v ≡ w
     → DidAsAsked v jobs jobs' triggers states e old new → DidAsAsked w jobs jobs' triggers states e old new
@@ -70,7 +71,7 @@ script_words triggers states e old new fault (inr none) is = not_of_opening none
 
 pub run_words : {D : Type 0} {g : Ghosts D} (p : Plan) (jobs jobs' : List JobMeaning) (triggers states : D) (e : Ended D g) (old new : Outside) (fault : WordFault)
     → RanNodes p jobs jobs' triggers states e old new → e.status ≡ status.BadWords fault → ⊥
-run_words p jobs jobs' triggers states e old new fault (inl ran) is = subst (λ (s : Status). EndsWork p s ran.end (seen_after ran.opened ran.end ran.worked.added ran.worked.rows)) is ran.worked.ends
+run_words p jobs jobs' triggers states e old new fault (inl ran) is = told_no_words p ran.work e.status fault jobs jobs' ran.opened ran.end ran.told is ran.worked
 run_words p jobs jobs' triggers states e old new fault (inr none) is = not_of_opening none.0.store none.0.error fault (sym none.0.status_is ∙ is)
 
 pub times_words : (s : Status) (fault : WordFault) → IsOfTimes s → s ≡ status.BadWords fault → ⊥

@@ -39,13 +39,14 @@ use Rattle.qz_open.specs.Runs.{StepsDone}
 use Rattle.qz_run_stores.specs.Ways.{first_entries, HasOnTheWay, KeepsTriggers}
 use Rattle.qz_top.specs.Clients.{IsOfClient}
 use Rattle.qz_top.specs.Generating.{first_step, Filled, StepEnded, FilledPart, FillEnded, after_answer, beside, summary_line_of, plan_of, Generated, Generates}
-use Rattle.qz_top.specs.NodeRuns.{EndsWork, IsOfNodes, WritesRun, seen_after}
+use Rattle.qz_top.specs.NodeRuns.{IsOfNodes, WritesRun}
 use Rattle.qz_top.specs.declared.ended.Ended.{Ended}
 use Rattle.qz_top.specs.declared.gen_on_disk.Workload.{Workload}
 use Rattle.qz_top.specs.declared.statuses.Status.{Status}
 use Rattle.qz_top.specs.declared.statuses.Status.TheVariants as status
 use Rattle.qz_top.proofs.AskedLaws.{not_of_opening}
 use Rattle.qz_top.proofs.LoadLaws.{cut_no_fault, cut_no_words}
+use Rattle.qz_top.proofs.NodeRunLaws.{told_no_words}
 use Rattle.qz_top.proofs.RunLaws.{OneRose, run_counts, then_rose}
 use Rattle.qz_top.proofs.TrailLaws.{last_of-append, StepsDone-append}
 
@@ -265,5 +266,5 @@ gen_words {g = g} w jobs jobs' triggers states e old new fault (inl ran) is = di
   did (inl had) = let exists : status.BadWords fault ≡ status.Exists = sym is ∙ had.exists in cc
   did (inr (inl part)) =
       fill_no_words g.honest fault (generated w.seed w.jobs) ran.opened ran.end (subst (λ (s : Status). FillEnded g.honest s (generated w.seed w.jobs) ran.opened ran.end) is part.ended)
-  did (inr (inr whole)) = subst (λ (s : Status). EndsWork (plan_of w.days) s ran.end (seen_after whole.between ran.end whole.worked.added whole.worked.rows)) is whole.worked.ends
+  did (inr (inr whole)) = told_no_words (plan_of w.days) whole.work e.status fault jobs jobs' whole.between ran.end whole.told is whole.worked
 gen_words w jobs jobs' triggers states e old new fault (inr none) is = not_of_opening none.0.store none.0.error fault (sym none.0.status_is ∙ is)

@@ -1,8 +1,10 @@
 pub mod AloneLaws
 pub mod AskedLaws
 pub mod ClientLaws
+pub mod Courses
 pub mod EndLaws
 pub mod GeneratingLaws
+pub mod HandingLaws
 pub mod LineLaws
 pub mod LoadLaws
 pub mod LossLaws

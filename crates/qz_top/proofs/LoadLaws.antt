@@ -33,6 +33,11 @@ pub run_with : {honest : Type 0} {before after : RunState} {old new : Outside} {
 run_with {honest = honest} {before = before} {after = after} {old = old} {new = new} {lines = lines} {readings = readings} {replies = replies} s t same run =
     subst (λ (x : Status). IsRun honest x before after old new lines readings replies) (sym same) run
 
+-- the same load
+pub loads_with : {honest : Type 0} {before after : RunState} {old new : Outside} (s t : Status) → t ≡ s → Loads honest s before after old new → Loads honest t before after old new
+loads_with {honest = honest} {before = before} {after = after} {old = old} {new = new} s t same loads =
+    subst (λ (x : Status). Loads honest x before after old new) (sym same) loads
+
 -- Statuses that no command ends with.
 
 pub cut_no_fault : (end : StepEnd) → status.DiskFault ≡ cut_status end → ⊥

@@ -23,7 +23,7 @@ use Rattle.qz_trigger_store.specs.Opening.{IsOpened}
 use Rattle.qz_trigger_store.proofs.Replays.{All-pushed}
 use Rattle.qz_checkin.specs.Entries.{StatesState}
 use Rattle.qz_cluster.specs.Script.{TimedStep}
-use Rattle.qz_cluster.specs.Steps.{ClusterState, TriggersDone, AtStates, AtTriggers, StepCase, EndCase}
+use Rattle.qz_cluster.specs.Steps.{ClusterState, TriggersDone, AtStates, AtTriggers, StepCase, IsStep, EndCase}
 use Rattle.qz_cluster.specs.declared.errors.StepEnd.{StepEnd}
 use Rattle.qz_cluster.specs.declared.errors.StepEnd.TheVariants as ends
 use Rattle.qz_cluster.proofs.Sound.{valid_entry}
@@ -31,10 +31,12 @@ use Rattle.qz_open.specs.Runs.{StepsDone}
 use Rattle.qz_top.specs.Calls.{RecoversLosses, begun}
 use Rattle.qz_top.specs.LineOutcomes.{step_at}
 use Rattle.qz_top.specs.Runs.{EndsShort, EndsRun, IsRun}
-use Rattle.qz_top.specs.Trails.{last_of, RunState, new_cluster}
+use Rattle.qz_top.specs.Trails.{last_of, is_fault, RunState, new_cluster}
 use Rattle.qz_top.specs.declared.statuses.Status.{Status}
 use Rattle.qz_top.specs.declared.statuses.Status.TheVariants as status
+use Rattle.qz_top.proofs.Courses.{CourseEnd, Course}
 use Rattle.qz_top.proofs.OpenedLaws.{end_trail}
+use Rattle.qz_top.proofs.RunLaws.{fault_is}
 use Rattle.qz_codec.proofs.ValidEntries.{entries_valid}
 
 -- The history begins with a new store, and each of its entries is valid and was accepted.
@@ -125,21 +127,21 @@ same_history : (last after : RunState) → after ≡ last → after.cluster.trig
 same_history last after same = ap (λ (r : RunState). r.cluster.triggers.history) same
 
 end_keeps : (honest : Type 0) (s : Status) (left : Option (List ℕ)) (lines : List (List ℕ)) (more : List ℤ) (last after : RunState) → EndsRun honest s left lines more last after
-    → last.is_own ≡ false → after.cluster.triggers.history ≡ last.cluster.triggers.history
-end_keeps honest (status.NotAStore store) left lines more last after end not_own = short_keeps honest _ left lines more last after end
-end_keeps honest (status.Damaged store at) left lines more last after end not_own = short_keeps honest _ left lines more last after end
-end_keeps honest (status.JournalFull need room) left lines more last after end not_own = short_keeps honest _ left lines more last after end
-end_keeps honest status.NoMemory left lines more last after (inl nothing) not_own = ap (λ (S : ClusterState). S.triggers.history) (nothing.stays not_own)
-end_keeps honest status.NoMemory left lines more last after (inr short) not_own = short_keeps honest _ left lines more last after short
-end_keeps honest status.Ok left lines more last after end not_own = same_history last after end
-end_keeps honest (status.BadWords fault) left lines more last after end not_own = same_history last after end
-end_keeps honest (status.BadLine line kind) left lines more last after end not_own = same_history last after end
-end_keeps honest status.ReadFault left lines more last after end not_own = same_history last after end
-end_keeps honest status.WriteFault left lines more last after end not_own = same_history last after end
-end_keeps honest status.DiskFault left lines more last after end not_own = same_history last after end
-end_keeps honest status.Exists left lines more last after end not_own = same_history last after end
-end_keeps honest (status.Budget firings) left lines more last after end not_own = same_history last after end
-end_keeps honest (status.TooMany count) left lines more last after end not_own = same_history last after end
+    → after.cluster.triggers.history ≡ last.cluster.triggers.history
+end_keeps honest (status.NotAStore store) left lines more last after end = short_keeps honest _ left lines more last after end
+end_keeps honest (status.Damaged store at) left lines more last after end = short_keeps honest _ left lines more last after end
+end_keeps honest (status.JournalFull need room) left lines more last after end = short_keeps honest _ left lines more last after end
+end_keeps honest status.NoMemory left lines more last after (inl nothing) = nothing.history
+end_keeps honest status.NoMemory left lines more last after (inr short) = short_keeps honest _ left lines more last after short
+end_keeps honest status.Ok left lines more last after end = same_history last after end
+end_keeps honest (status.BadWords fault) left lines more last after end = same_history last after end
+end_keeps honest (status.BadLine line kind) left lines more last after end = same_history last after end
+end_keeps honest status.ReadFault left lines more last after end = same_history last after end
+end_keeps honest status.WriteFault left lines more last after end = same_history last after end
+end_keeps honest status.DiskFault left lines more last after end = same_history last after end
+end_keeps honest status.Exists left lines more last after end = same_history last after end
+end_keeps honest (status.Budget firings) left lines more last after end = same_history last after end
+end_keeps honest (status.TooMany count) left lines more last after end = same_history last after end
 
 -- Runs.
 
@@ -153,9 +155,9 @@ module _ (honest : Type 0) (s : Status) (is_own : Bool) (S : ClusterState) (afte
       subst (AllByRecursion RecoversLosses) (sym (end_trail honest s old.left lines run.clocked.more run.last after run.end ∙ run.steps.trail))
       (All-weaker HasLawful RecoversLosses (S ∷ run.steps.states) recovers (first, states_lawful))
 
-  last_recovers : is_own ≡ false → RecoversLosses after.cluster
-  last_recovers not_own =
-      recovers after.cluster (same_lawful _ _ (end_keeps honest s old.left lines run.clocked.more run.last after run.end (run.steps.own ∙ not_own))
+  last_recovers : RecoversLosses after.cluster
+  last_recovers =
+      recovers after.cluster (same_lawful _ _ (end_keeps honest s old.left lines run.clocked.more run.last after run.end)
       (subst HasLawful (sym run.steps.last) (last_lawful S run.steps.states first states_lawful)))
 
 -- on opened stores
@@ -165,10 +167,40 @@ module _ (honest : Type 0) (s : Status) (S : ClusterState) (after : RunState) (o
   recovered_opened = trail_recovers honest s false S after old new lines readings replies (opened_lawful S.triggers opened) run
 
   pub recovered_at_end : RecoversLosses after.cluster
-  recovered_at_end = last_recovers honest s false S after old new lines readings replies (opened_lawful S.triggers opened) run refl
+  recovered_at_end = last_recovers honest s false S after old new lines readings replies (opened_lawful S.triggers opened) run
 
 -- on new stores
-pub recovered_new : (m n : ℕ) (s : Status) (after : RunState) (old new : Outside) (lines : List (List ℕ)) (readings : List ℤ) (replies : List StepReply)
-    → IsRun ⊤ s (begun true (new_cluster m n)) after old new lines readings replies → AllByRecursion RecoversLosses after.trail
-recovered_new m n s after old new lines readings replies run =
-    trail_recovers ⊤ s true (new_cluster m n) after old new lines readings replies (record { begins = refl; valid = tt; legal = tt }) run
+module _ (m n : ℕ) (s : Status) (after : RunState) (old new : Outside) (lines : List (List ℕ)) (readings : List ℤ) (replies : List StepReply)
+    (run : IsRun ⊤ s (begun true (new_cluster m n)) after old new lines readings replies) where
+  pub recovered_new : AllByRecursion RecoversLosses after.trail
+  recovered_new = trail_recovers ⊤ s true (new_cluster m n) after old new lines readings replies (record { begins = refl; valid = tt; legal = tt }) run
+
+  pub recovered_new_end : RecoversLosses after.cluster
+  recovered_new_end = last_recovers ⊤ s true (new_cluster m n) after old new lines readings replies (record { begins = refl; valid = tt; legal = tt }) run
+
+-- A step in which a disk failed leaves the history of triggers.
+pub fault_keeps : (honest : Type 0) (t : TimedStep) (S S' : ClusterState) → StepCase honest t reply.Fault S S' → S'.triggers.history ≡ S.triggers.history
+fault_keeps honest t S S' (inl case) = entry_keeps _ _ (λ e s u is. is.history) _ t S S' case.which
+fault_keeps honest t S S' (inr case) = case.shut.triggers.history
+
+pub fault_step_keeps : (honest : Type 0) (t : TimedStep) (r : StepReply) (S S' : ClusterState) → is_fault r ≡ true → IsStep honest t r S S' → S'.triggers.history ≡ S.triggers.history
+fault_step_keeps honest t r S S' is step = fault_keeps honest t S S' (subst (λ (x : StepReply). StepCase honest t x S S') (fault_is r is) step.case)
+
+-- A load: its states, and the one at the end.
+module _ (honest : Type 0) (S : ClusterState) (after : RunState) (opened : IsOpened S.triggers) (course : Course honest (begun false S) after) where
+  states_lawful_in : AllByRecursion HasLawful course.ran.states
+  states_lawful_in = run_lawful honest S _ course.replies course.ran.states course.ran.done (opened_lawful S.triggers opened)
+
+  pub recovered_in : AllByRecursion RecoversLosses after.trail
+  recovered_in =
+      subst (AllByRecursion RecoversLosses) (sym (course.trail ∙ course.ran.trail))
+      (All-weaker HasLawful RecoversLosses (S ∷ course.ran.states) recovers (opened_lawful S.triggers opened, states_lawful_in))
+
+  ends_with : HasLawful course.last.cluster
+  ends_with = subst HasLawful (sym course.ran.last) (last_lawful S course.ran.states (opened_lawful S.triggers opened) states_lawful_in)
+
+  pub recovered_in_end : RecoversLosses after.cluster
+  recovered_in_end = recovers after.cluster (left_lawful course.end) where
+    left_lawful : CourseEnd honest course.last after → HasLawful after.cluster
+    left_lawful (inl same) = subst HasLawful (sym same) ends_with
+    left_lawful (inr cut) = same_lawful _ _ (cut_keeps honest cut.step cut.stop course.last.cluster after.cluster cut.is.case) ends_with

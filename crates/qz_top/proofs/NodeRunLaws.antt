@@ -34,7 +34,8 @@ use Rattle.qz_run_stores.specs.View.{Origin, origin, triggers_of, states_of, ent
 use Rattle.qz_run_stores.specs.Ways.{HasOnTheWay, HasRowsOnTheWay, KeepsTriggers, KeepsStates}
 use Rattle.qz_run_stores.specs.declared.stores.RunStores.{RunStores}
 use Rattle.qz_cluster.specs.Steps.{ClusterState}
-use Rattle.qz_top.specs.NodeRuns.{both, WentOn, seen_after, WasStopped, EndsWork, CalledJobs, Worked, status_of, text_since, run_text, WritesRun, IsKeptOnTheWay}
+use Rattle.qz_words.specs.declared.wishes.WordFault.{WordFault}
+use Rattle.qz_top.specs.NodeRuns.{both, WentOn, seen_after, WasStopped, EndsWork, CalledJobs, Worked, IsToldAs, status_of, text_since, run_text, WritesRun, IsKeptOnTheWay}
 use Rattle.qz_top.specs.declared.statuses.Status.{Status}
 use Rattle.qz_top.specs.declared.statuses.Status.TheVariants as status
 
@@ -70,7 +71,7 @@ ends_by p (Ok true) E s ends stopped = (refl, ends)
 ends_by p (Err (declined.TooMany count)) E s ends stopped = stopped
 ends_by p (Err (declined.JournalFull need room)) E s ends stopped = stopped
 ends_by p (Err declined.Fault) E s ends stopped = stopped
-ends_by p (Err declined.NoMemory) E s ends stopped = tt
+ends_by p (Err declined.NoMemory) E s ends stopped = stopped
 
 called_by : (p : Plan) (end : Result Bool Declined) (log : List Event) (jobs jobs' : List JobMeaning) → OnOk end (Ran log jobs jobs') → OnErr end (RanOrMore log jobs jobs')
     → CalledJobs (status_of p end) log jobs jobs'
@@ -126,49 +127,6 @@ module _ {D : Type 0} {g : Ghosts D} where
   pub states_went_to : (x : RunStores D g) (b : TriggerStore D g) (c u : StateStore D g) → origin x ≡ record { triggers = b; states = c } → StatesWent (origin x).states u → StatesWent c u
   states_went_to x b c u from went = subst (λ (o : Origin g). StatesWent o.states u) from went
 
--- The status may also tell that the output failed or memory ran out.
-
-more_of : (s : Status) (log : List Event) (jobs jobs' : List JobMeaning) → CalledJobs s log jobs jobs' → RanOrMore log jobs jobs'
-more_of status.Ok log jobs jobs' ran = inl ran
-more_of (status.Budget firings) log jobs jobs' ran = inl ran
-more_of (status.BadWords fault) log jobs jobs' ran = ran
-more_of (status.BadLine line kind) log jobs jobs' ran = ran
-more_of status.ReadFault log jobs jobs' ran = ran
-more_of status.WriteFault log jobs jobs' ran = ran
-more_of status.DiskFault log jobs jobs' ran = ran
-more_of (status.NotAStore store) log jobs jobs' ran = ran
-more_of (status.Damaged store at) log jobs jobs' ran = ran
-more_of (status.JournalFull need room) log jobs jobs' ran = ran
-more_of status.NoMemory log jobs jobs' ran = ran
-more_of status.Exists log jobs jobs' ran = ran
-more_of (status.TooMany count) log jobs jobs' ran = ran
-
--- the status is this one, or it tells of the output or of memory
-abbrev pub IsToldAs : Status → Status → Type 0
-IsToldAs s' s = (s' ≡ s) ⊎ (s' ≡ status.WriteFault) ⊎ (s' ≡ status.NoMemory)
-
-ends_told : (p : Plan) (s s' : Status) (E : ClusterState) (r : RunState) → IsToldAs s' s → EndsWork p s E r → EndsWork p s' E r
-ends_told p s s' E r (inl same) ends = subst (λ (x : Status). EndsWork p x E r) (sym same) ends
-ends_told p s s' E r (inr (inl same)) ends = subst (λ (x : Status). EndsWork p x E r) (sym same) tt
-ends_told p s s' E r (inr (inr same)) ends = subst (λ (x : Status). EndsWork p x E r) (sym same) tt
-
-called_told : (s s' : Status) (log : List Event) (jobs jobs' : List JobMeaning) → IsToldAs s' s → CalledJobs s log jobs jobs' → CalledJobs s' log jobs jobs'
-called_told s s' log jobs jobs' (inl same) ran = subst (λ (x : Status). CalledJobs x log jobs jobs') (sym same) ran
-called_told s s' log jobs jobs' (inr (inl same)) ran = subst (λ (x : Status). CalledJobs x log jobs jobs') (sym same) (more_of s log jobs jobs' ran)
-called_told s s' log jobs jobs' (inr (inr same)) ran = subst (λ (x : Status). CalledJobs x log jobs jobs') (sym same) (more_of s log jobs jobs' ran)
-
-pub told : (p : Plan) (s s' : Status) (jobs jobs' : List JobMeaning) (begun end : ClusterState) → IsToldAs s' s → Worked p s jobs jobs' begun end → Worked p s' jobs jobs' begun end
-told p s s' jobs jobs' begun end is w = record {
-  added = w.added;
-  rows = w.rows;
-  went_on = w.went_on;
-  asked = w.asked;
-  lawful = w.lawful;
-  lawful_rows = w.lawful_rows;
-  ends = ends_told p s s' end _ is w.ends;
-  called = called_told s s' _ jobs jobs' is w.called;
-}
-
 module _ {D : Type 0} {g : Ghosts D} where
   -- What was added is what the store has accepted since it was opened, and its text is that of the run.
 
@@ -202,18 +160,28 @@ node_disk_rose p jobs jobs' begun end m n worked opened states_opened went state
 
 pub told_disk_rose : (p : Plan) (s s' : Status) (jobs jobs' : List JobMeaning) (begun end : ClusterState) (m n : ℕ) → IsToldAs s' s → s' ≡ status.DiskFault → Worked p s jobs jobs' begun end → begun.triggers.is_open ≡ true → begun.states.is_open ≡ true
     → Went begun.triggers end.triggers → Went begun.states end.states → m ≤ begun.triggers.faults → n ≤ begun.states.faults → Rose m end.triggers.faults ⊎ Rose n end.states.faults
-told_disk_rose p s s' jobs jobs' begun end m n is fault worked = node_disk_rose p jobs jobs' begun end m n (subst (λ (x : Status). Worked p x jobs jobs' begun end) fault (told p s s' jobs jobs' begun end is worked))
+told_disk_rose p s s' jobs jobs' begun end m n (inl same) fault worked = node_disk_rose p jobs jobs' begun end m n (subst (λ (x : Status). Worked p x jobs jobs' begun end) (sym same ∙ fault) worked)
+told_disk_rose p s s' jobs jobs' begun end m n (inr (inl same)) fault worked = let bad : status.WriteFault ≡ status.DiskFault = sym same ∙ fault in absurd cc
+told_disk_rose p s s' jobs jobs' begun end m n (inr (inr same)) fault worked = let bad : status.NoMemory ≡ status.DiskFault = sym same ∙ fault in absurd cc
 
--- the nodes' work with what was written of it, by the status that tells of both
-pub told_run : (p : Plan) (s s' r : Status) (jobs jobs' : List JobMeaning) (begun end : ClusterState) (k : History) (es : List EntryData) (old new : Outside) → IsToldAs s' s → r ≡ s' → (w : Worked p s jobs jobs' begun end)
-    → k ≡ begun.triggers.history → es ≡ w.added → WritesRun s' (text_since k (replay end.triggers.history) es) old new → (v : Worked p r jobs jobs' begun end) × WritesRun r (run_text begun end v.added) old new
-unfolding told
-told_run p s s' r jobs jobs' begun end k es old new is same w from all written =
-    subst (λ (x : Status). (v : Worked p x jobs jobs' begun end) × WritesRun x (run_text begun end v.added) old new) (sym same) (
-      told p s s' jobs jobs' begun end is w,
-      subst (λ (xs : List EntryData). WritesRun s' (text_since begun.triggers.history (replay end.triggers.history) xs) old new) all
-          (subst (λ (h : History). WritesRun s' (text_since h (replay end.triggers.history) es) old new) from written),
-    )
+-- under another name of the status
+pub told_again : (s s' r : Status) → r ≡ s' → IsToldAs s' s → IsToldAs r s
+told_again s s' r same is = subst (λ (x : Status). IsToldAs x s) (sym same) is
+
+-- no nodes' work ends with bad words
+pub told_no_words : (p : Plan) (s s' : Status) (fault : WordFault) (jobs jobs' : List JobMeaning) (begun end : ClusterState) → IsToldAs s' s → s' ≡ status.BadWords fault → Worked p s jobs jobs' begun end → ⊥
+told_no_words p s s' fault jobs jobs' begun end (inl same) is worked =
+    subst (λ (x : Status). EndsWork p x end (seen_after begun end worked.added worked.rows)) (sym same ∙ is) worked.ends
+told_no_words p s s' fault jobs jobs' begun end (inr (inl same)) is worked = let bad : status.WriteFault ≡ status.BadWords fault = sym same ∙ is in cc
+told_no_words p s s' fault jobs jobs' begun end (inr (inr same)) is worked = let bad : status.NoMemory ≡ status.BadWords fault = sym same ∙ is in cc
+
+-- what was written of the nodes' work, by the status that tells of both
+pub told_text : (s' r : Status) (begun end : ClusterState) (k : History) (es added : List EntryData) (old new : Outside) → r ≡ s'
+    → k ≡ begun.triggers.history → es ≡ added → WritesRun s' (text_since k (replay end.triggers.history) es) old new → WritesRun r (run_text begun end added) old new
+told_text s' r begun end k es added old new same from all written =
+    subst (λ (x : Status). WritesRun x (run_text begun end added) old new) (sym same)
+    (subst (λ (xs : List EntryData). WritesRun s' (text_since begun.triggers.history (replay end.triggers.history) xs) old new) all
+    (subst (λ (h : History). WritesRun s' (text_since h (replay end.triggers.history) es) old new) from written))
 
 -- What a crash on the way leaves.
 module _ {D : Type 0} {g : Ghosts D} where

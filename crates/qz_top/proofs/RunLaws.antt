@@ -19,7 +19,7 @@ use Rattle.qz_top.specs.Trails.{last_of, is_fault, IsNoFault}
 no_fault_is : (r : StepReply) → is_fault r ≡ false → r ≡ reply.Fault → ⊥
 no_fault_is r sound is = let bad : true ≡ false = sym (ap is_fault is) ∙ sound in cc
 
-fault_is : (r : StepReply) → is_fault r ≡ true → r ≡ reply.Fault
+pub fault_is : (r : StepReply) → is_fault r ≡ true → r ≡ reply.Fault
 fault_is reply.Fault is = refl
 fault_is (reply.Ok x) is = absurd cc
 fault_is (reply.Refused x) is = absurd cc

@@ -1,5 +1,5 @@
 -- How a script stops before the end of its input.
-use Rattle.std.proofs.Common.{◌≡◌, inl, inr, ℕ, ℤ, List, [], ◌∷◌, ◌++◌, Option, refl, sym, ap, subst}
+use Rattle.std.proofs.Common.{◌≡◌, ◌≤◌, inl, inr, ℕ, ℤ, List, [], ◌∷◌, ◌++◌, Option, refl, sym, ap, subst, arith}
 use Rattle.std.specs.Prelude.{Err}
 use Rattle.std.specs.Io.KnownBytes.{Consumes, Appends}
 use Rattle.qz_civil.specs.Causes.{Rose}
@@ -18,13 +18,14 @@ use Rattle.qz_cluster.specs.declared.errors.StepEnd.{StepEnd}
 use Rattle.qz_cluster.specs.declared.errors.StepEnd.TheVariants as step
 use Rattle.qz_job_json.specs.declared.faults.LineFault.TheVariants as line_fault
 use Rattle.qz_top.specs.declared.statuses.BadKind.TheVariants as bad
+use Rattle.qz_top.specs.declared.statuses.Status.{Status}
 use Rattle.qz_top.specs.declared.statuses.Status.TheVariants as status
 use Rattle.qz_top.specs.declared.line_handler.LineEnd.{LineEnd}
 use Rattle.qz_top.specs.declared.line_handler.LineEnd.TheVariants as ends
 use Rattle.qz_top.specs.Handling.{Does}
 use Rattle.qz_top.specs.Moments.{Shows}
 use Rattle.qz_top.specs.Seen.{view}
-use Rattle.qz_top.specs.Runs.{Reads, ReadFirst, TellsClosed, Writes, HandsOn, IsShort, IsOfScript, EndsShort, EndsRun}
+use Rattle.qz_top.specs.Runs.{Reads, ReadFirst, TellsClosed, WrotePart, Writes, HandsOn, IsShort, IsOfScript, EndsShort, EndsRun}
 use Rattle.qz_top.specs.Statuses.{cut_status, status_at, status_of}
 use Rattle.qz_top.specs.Trails.{texts, RunState}
 use Rattle.qz_top.specs.LineOutcomes.{taken_reading, LineDone}
@@ -90,6 +91,51 @@ cut_hands_on (step.JournalFull need room) o = tt
 cut_hands_on (step.NotAStore store) o = tt
 cut_hands_on (step.Damaged store at) o = tt
 cut_hands_on step.NoMemory o = tt
+
+-- What is said of the last flush: after an early end nothing here.
+
+refused_hands_on : (number : ℕ) (e : LineEnd) (o : Outside) → HandsOn (status_at number e) o
+refused_hands_on number (ends.Bad kind) o = tt
+refused_hands_on number ends.WriteFault o = tt
+refused_hands_on number ends.Unanswered o = tt
+refused_hands_on number ends.NoMemory o = tt
+refused_hands_on number (ends.CutShort end) o = cut_hands_on end o
+
+stopped_hands_on : (e : LinesEnd LineEnd) (o : Outside) → HandsOn (status_of e) o
+stopped_hands_on (lines_end.Refused number e) o = refused_hands_on number e o
+stopped_hands_on (lines_end.TooLong number) o = tt
+stopped_hands_on lines_end.TooMany o = tt
+stopped_hands_on lines_end.ReadFault o = tt
+stopped_hands_on lines_end.NoMemory o = tt
+
+-- What was written stays, where nothing more was.
+
+part_kept : (x y z : Option (List ℕ)) (replies : List StepReply) → WrotePart x y replies → Appends y z [] → WrotePart x z replies
+part_kept x y z replies wrote kept = record {
+  kept = wrote.kept;
+  last = wrote.last;
+  cut = wrote.cut;
+  one = wrote.one;
+  part = wrote.part;
+  rest = wrote.rest;
+  text = wrote.text;
+  written = wrote_nothing x y z _ wrote.written kept;
+}
+
+writes_kept : (s : Status) (x y z : Option (List ℕ)) (replies : List StepReply) → Writes s x y replies → Appends y z [] → Writes s x z replies
+writes_kept status.WriteFault x y z replies wrote kept = part_kept x y z replies wrote kept
+writes_kept status.NoMemory x y z replies wrote kept = part_kept x y z replies wrote kept
+writes_kept status.Ok x y z replies wrote kept = wrote_nothing x y z _ wrote kept
+writes_kept (status.BadWords fault) x y z replies wrote kept = wrote_nothing x y z _ wrote kept
+writes_kept (status.BadLine line kind) x y z replies wrote kept = wrote_nothing x y z _ wrote kept
+writes_kept status.ReadFault x y z replies wrote kept = wrote_nothing x y z _ wrote kept
+writes_kept status.DiskFault x y z replies wrote kept = wrote_nothing x y z _ wrote kept
+writes_kept (status.NotAStore store) x y z replies wrote kept = wrote_nothing x y z _ wrote kept
+writes_kept (status.Damaged store at) x y z replies wrote kept = wrote_nothing x y z _ wrote kept
+writes_kept (status.JournalFull need room) x y z replies wrote kept = wrote_nothing x y z _ wrote kept
+writes_kept (status.Budget firings) x y z replies wrote kept = wrote_nothing x y z _ wrote kept
+writes_kept status.Exists x y z replies wrote kept = wrote_nothing x y z _ wrote kept
+writes_kept (status.TooMany count) x y z replies wrote kept = wrote_nothing x y z _ wrote kept
 
 module _ {D K C : Type 0} (g : Ghosts D) (k : sink.Ghosts K) (c : clock.Ghosts C) where
   -- The handler refused the next line.
@@ -199,7 +245,7 @@ module _ {D K C : Type 0} (g : Ghosts D) (k : sink.Ghosts K) (c : clock.Ghosts C
   )
 
   -- The lines ended before the input's end.
-  pub IsRun-stopped : (e : LinesEnd LineEnd) (i j : Option (List ℕ)) (a b : State g k c) → HandlesLines (Does {g = g} k c) (Err e) i j a b
+  IsRun-stopped : (e : LinesEnd LineEnd) (i j : Option (List ℕ)) (a b : State g k c) → HandlesLines (Does {g = g} k c) (Err e) i j a b
       → SomeRun g k c (status_of e) (view a.handler) (view b.handler) (around g k c i a.out a.rest) (around g k c j b.out b.rest)
   IsRun-stopped (lines_end.Refused number e) i j a b lines =
       refused_run e number i j lines.lines lines.ends.line a lines.state b (all_ran g k c lines.lines a lines.state lines.handled) lines.ends.next lines.ends.number_is lines.ends.refused.done
@@ -298,3 +344,36 @@ module _ {D K C : Type 0} (g : Ghosts D) (k : sink.Ghosts K) (c : clock.Ghosts C
   stopped_shown lines_end.TooMany i j a b lines = shown_to g k c lines.lines a lines.state b lines.ends.state_is lines.handled
   stopped_shown lines_end.ReadFault i j a b lines = shown_to g k c lines.lines a lines.state b lines.ends.state_is lines.handled
   stopped_shown lines_end.NoMemory i j a b lines = shown_to g k c lines.lines a lines.state b lines.ends.state_is lines.handled
+
+  -- the output's count of faults never falls
+  pub stopped_later : (e : LinesEnd LineEnd) (i j : Option (List ℕ)) (a b : State g k c) → HandlesLines (Does {g = g} k c) (Err e) i j a b → k.faults a.out ≤ k.faults b.out
+  stopped_later (lines_end.Refused number e) i j a b lines = let all = all_ran g k c lines.lines a lines.state lines.handled in omega (arith, all.later, lines.ends.refused.later)
+  stopped_later (lines_end.TooLong number) i j a b lines = (ran_to g k c lines.lines a lines.state b lines.ends.state_is lines.handled).later
+  stopped_later lines_end.TooMany i j a b lines = (ran_to g k c lines.lines a lines.state b lines.ends.state_is lines.handled).later
+  stopped_later lines_end.ReadFault i j a b lines = (ran_to g k c lines.lines a lines.state b lines.ends.state_is lines.handled).later
+  stopped_later lines_end.NoMemory i j a b lines = (ran_to g k c lines.lines a lines.state b lines.ends.state_is lines.handled).later
+
+  -- After the lines ended early the output was flushed, if it could be.
+  IsRun-flushed : (e : LinesEnd LineEnd) (i j : Option (List ℕ)) (a b : State g k c) (out : K) → SomeRun g k c (status_of e) (view a.handler) (view b.handler) (around g k c i a.out a.rest) (around g k c j b.out b.rest)
+      → Appends (k.held b.out) (k.held out) [] → SomeRun g k c (status_of e) (view a.handler) (view b.handler) (around g k c i a.out a.rest) (around g k c j out b.rest)
+  IsRun-flushed e i j a b out (lines, readings, replies, run) kept = (
+    lines,
+    readings,
+    replies,
+    record {
+      called = run.called;
+      good = run.good;
+      last = run.last;
+      steps = run.steps;
+      clocked = run.clocked;
+      end = run.end;
+      closed = run.closed;
+      reads = run.reads;
+      writes = writes_kept (status_of e) _ _ _ replies run.writes kept;
+      hands_on = stopped_hands_on e _;
+    },
+  )
+
+  pub IsRun-cut : (e : LinesEnd LineEnd) (i j : Option (List ℕ)) (a b : State g k c) (out : K) → HandlesLines (Does {g = g} k c) (Err e) i j a b → Appends (k.held b.out) (k.held out) []
+      → SomeRun g k c (status_of e) (view a.handler) (view b.handler) (around g k c i a.out a.rest) (around g k c j out b.rest)
+  IsRun-cut e i j a b out lines kept = IsRun-flushed e i j a b out (IsRun-stopped e i j a b lines) kept

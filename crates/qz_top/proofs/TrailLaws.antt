@@ -91,4 +91,4 @@ new_state S history states_history opened states_opened held =
     }
 
 pub NothingDone-none : (R : RunState) → NothingDone R R
-NothingDone-none R = record { trail = refl; own = refl; stays = λ not_own. refl }
+NothingDone-none R = record { history = refl; trail = refl; own = refl; stays = λ not_own. refl }

@@ -20,7 +20,7 @@ use Rattle.qz_open.specs.Opened.{AreAlwaysAlone}
 use Rattle.qz_open.specs.Runs.{AlwaysSparesOthers}
 use Rattle.qz_top.specs.Lines.{steps_of}
 use Rattle.qz_top.specs.Lists.{WritesText, lines_of}
-use Rattle.qz_top.specs.Loads.{Loads}
+use Rattle.qz_top.specs.Loads.{AloneInLoad, Loads}
 use Rattle.qz_top.specs.Moments.{HasTriggers, HasStates, BeginsWithReads, EachIsKept}
 use Rattle.qz_top.specs.Runs.{IsRun}
 use Rattle.qz_top.specs.Seen.{states_in}
@@ -56,8 +56,9 @@ pub record RanInMemory (s : Status) (trail : List ClusterState)
   pub run : IsRun ⊤ s (begun true (new_cluster triggers_faults states_faults)) end old new lines readings replies
   pub plain : replies ≡ step_replies (new_script) (steps_of lines readings)
   pub trail_is : trail ≡ end.trail
-  -- in each of these states lost executions are recovered once
+  -- in each of these states, and in the one at the end, lost executions are recovered once
   pub recovered : AllByRecursion RecoversLosses trail
+  pub recovered_end : RecoversLosses end.cluster
   -- no job with `no_concurrent` has two open executions; a recovery ends those of the node that failed
   pub alone : AreAlwaysAlone [] (steps_of lines readings) replies
   -- and such a node has none, unless it still holds an epoch
@@ -131,12 +132,19 @@ pub record LoadedOnDisk {D : Type 0} {g : Ghosts D} (triggers states : D) (e : E
   -- the histories that the bytes represent were opened: they begin with new stores, and they are legal
   pub opened : ClusterState
   pub are_opened : IsOpened opened.triggers × AreOpened opened.states
+  pub nothing_held : opened.held ≡ []
   pub stand : g.honest → Stands (g.state triggers).content opened.triggers.history × StatesStand (g.state states).content opened.states.history
   -- the commands as steps of a client, and the states that they went through
   pub end : RunState
   pub loads : Loads g.honest e.status (begun false opened) end old new
   pub trail_is : trail_of e.trail ≡ end.trail
   pub on_disk : states_in e.trail.on_disk.value ≡ end.trail
+  -- these states, the one at the end, and open executions are as in a script
+  pub sound : AllByRecursion HasSoundStores (trail_of e.trail)
+  pub sound_end : HasSoundStores end.cluster
+  pub recovered : AllByRecursion RecoversLosses (trail_of e.trail)
+  pub recovered_end : RecoversLosses end.cluster
+  pub alone : AloneInLoad loads
   pub faults : (g.faults e.triggers ≡ end.cluster.triggers.faults) × (g.faults e.states ≡ end.cluster.states.faults)
   -- a crash at the end and at each moment before it, as in a script
   pub images : g.honest → (b : List ℕ) → ((g.state e.triggers).IsImage b → HasTriggers b end.cluster) × ((g.state e.states).IsImage b → HasStates b end.cluster)
@@ -150,6 +158,8 @@ pub record ListedOnDisk {D : Type 0} {g : Ghosts D} (triggers states : D) (e : E
   pub are_opened : IsOpened opened.triggers × AreOpened opened.states
   pub stand : g.honest → Stands (g.state triggers).content opened.triggers.history × StatesStand (g.state states).content opened.states.history
   pub written : WritesText e.status (lines_of opened) old new
+  -- the one state that was shown is the opened one
+  pub trail_is : trail_of e.trail ≡ opened ∷ []
   -- the disks were only read
   pub reads : g.honest → OnlyReads (g.state triggers) (g.state e.triggers) × OnlyReads (g.state states) (g.state e.states)
 

@@ -29,7 +29,7 @@ use Rattle.qz_open.specs.Runs.{StepsDone}
 use Rattle.qz_schedule_law.specs.Following.{FollowsSchedules}
 use Rattle.qz_top.specs.Calls.{NotOpened, trail_of}
 use Rattle.qz_top.specs.Moments.{HasTriggers, HasStates}
-use Rattle.qz_top.specs.NodeRuns.{Worked, WritesRun, IsKeptOnTheWay}
+use Rattle.qz_top.specs.NodeRuns.{IsToldAs, Worked, WritesRun, IsKeptOnTheWay}
 use Rattle.qz_top.specs.Statuses.{cut_status}
 use Rattle.qz_top.specs.Trails.{last_of}
 use Rattle.qz_top.specs.declared.ended.Ended.{Ended}
@@ -118,14 +118,16 @@ pub record NotFilled (honest : Type 0) (w : Workload) (s : Status) (jobs jobs' :
   pub not_called : jobs' ≡ jobs
   pub untouched : new ≡ old
 
--- It was empty, all of the commands were done, and then the nodes of the plan worked. The summary line was written, which
+-- It was empty, all of the commands were done, and then the nodes of the plan worked, which ended so. The summary line was written, which
 -- counts all that was added since the opening.
 pub record RanGenerated (honest : Type 0) (w : Workload) (s : Status) (jobs jobs' : List JobMeaning) (opened end : ClusterState) (old new : Outside) : Type 0 where
   pub none : opened.triggers.history.entries ≡ []
   pub between : ClusterState
   pub filled : Filled honest (generated w.seed w.jobs) opened between
   pub is_open : is_closed between ≡ false
-  pub worked : Worked (plan_of w.days) s jobs jobs' between end
+  pub work : Status
+  pub told : IsToldAs s work
+  pub worked : Worked (plan_of w.days) work jobs jobs' between end
   pub written : WritesRun s (summary_line_of end.triggers.history) old new
 
 abbrev pub Generated : Type 0 → Workload → Status → List JobMeaning → List JobMeaning → ClusterState → ClusterState → Outside → Outside → Type 0

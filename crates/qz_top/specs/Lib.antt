@@ -4,6 +4,7 @@ pub mod Causes
 pub mod Clients
 pub mod Generating
 pub mod Handling
+pub mod HandingOn
 pub mod LineOutcomes
 pub mod Lines
 pub mod Lists

@@ -54,8 +54,9 @@ pub record DidStep (honest : Type 0) (given : Given) (at : ℤ) (before after : 
   pub reply : StepReply
   pub steps : RanSteps honest (step_at given at ∷ []) (reply ∷ []) before after
 
--- Nothing was done but, where the disks are the call's own, a step that they failed in.
+-- Nothing was done but, where the disks are the call's own, a step that they failed in. The history of triggers stays then, too.
 pub record NothingDone (before after : RunState) : Type 0 where
+  pub history : after.cluster.triggers.history ≡ before.cluster.triggers.history
   pub trail : after.trail ≡ before.trail
   pub own : after.is_own ≡ before.is_own
   pub stays : before.is_own ≡ false → after.cluster ≡ before.cluster

@@ -66,15 +66,14 @@ WasStopped p why end s =
     Stopped p (λ n at command w. DeclinesEntry end.triggers (entry_of (replay end.triggers.history) at n command) w)
     (λ n at command w. HasDeclined end.states (node_name n) at command w) why s
 
--- How a run ends, by the status of its call; the status may also tell that the output failed or memory ran out.
+-- How the nodes' work ends, by its status.
 abbrev pub EndsWork : Plan → Status → ClusterState → RunState → Type 0
 EndsWork p status.Ok end s = Ends p false s
 EndsWork p (status.Budget firings) end s = (firings ≡ p.budget) × Ends p true s
 EndsWork p (status.TooMany count) end s = WasStopped p (declined.TooMany count) end s
 EndsWork p (status.JournalFull need room) end s = WasStopped p (declined.JournalFull need room) end s
 EndsWork p status.DiskFault end s = WasStopped p declined.Fault end s
-EndsWork p status.WriteFault end s = ⊤
-EndsWork p status.NoMemory end s = ⊤
+EndsWork p status.NoMemory end s = WasStopped p declined.NoMemory end s
 EndsWork p other end s = ⊥
 
 -- The jobs were called for the Completes: where the run came to its end once for each, and else maybe once more.
@@ -94,6 +93,10 @@ pub record Worked (p : Plan) (s : Status) (jobs jobs' : List JobMeaning) (begun 
   pub lawful_rows : LawfulStates p (seen_after begun end added rows)
   pub ends : EndsWork p s end (seen_after begun end added rows)
   pub called : CalledJobs s (seen_after begun end added rows).log jobs jobs'
+
+-- The status of a call is that of its nodes' work, or it tells that the output failed or memory ran out as the lines were written.
+abbrev pub IsToldAs : Status → Status → Type 0
+IsToldAs told work = (told ≡ work) ⊎ (told ≡ status.WriteFault) ⊎ (told ≡ status.NoMemory)
 
 -- the status of a run whose nodes' work ended so
 abbrev pub status_of : Plan → Result Bool Declined → Status
@@ -151,9 +154,11 @@ pub record RanNodesOnDisk {D : Type 0} {g : Ghosts D} (p : Plan) (jobs jobs' : L
   pub opened : ClusterState
   pub are_opened : IsOpened opened.triggers × AreOpened opened.states
   pub stand : g.honest → Stands (g.state triggers).content opened.triggers.history × StatesStand (g.state states).content opened.states.history
-  -- the nodes' work, and what was written of it
+  -- the nodes' work, how that ended, and what was written of it
   pub end : ClusterState
-  pub worked : Worked p e.status jobs jobs' opened end
+  pub work : Status
+  pub told : IsToldAs e.status work
+  pub worked : Worked p work jobs jobs' opened end
   pub written : WritesRun e.status (run_text opened end worked.added) old new
   -- at the end both histories are legal, and triggers that weren't disturbed have fired for the first times of their schedules
   pub legal : IsLegal end.triggers.history × AreLegal end.states.history

@@ -1,5 +1,5 @@
 -- The exit status of the program, and the text on standard error, for each status.
-use Rattle.std.specs.Prelude.{◌≡◌, ◌⊎◌, ℕ, ◌+◌, Bool, true, false, List, [], ◌++◌, codes, Option}
+use Rattle.std.specs.Prelude.{◌≡◌, ◌⊎◌, ℕ, ◌+◌, Bool, true, false, List, [], ◌++◌, codes}
 use Rattle.std.specs.Io.KnownBytes.{Appends}
 use Rattle.qz_civil.specs.Causes.{Rose}
 use Rattle.std.specs.Fmt.{decimal}
@@ -8,6 +8,7 @@ use Rattle.qz_io.specs.declared.limits.TheConstants.{LINE_COUNT_LIMIT}
 use Rattle.qz_io.specs.declared.handlers.LinesEnd.{LinesEnd}
 use Rattle.qz_io.specs.declared.handlers.LinesEnd.TheVariants as lines
 use Rattle.qz_io.specs.Outside.{Outside, IsHandedOn}
+use Rattle.qz_io.specs.declared.traits.Sink as sink
 use Rattle.qz_cluster.specs.declared.errors.StepEnd.{StepEnd}
 use Rattle.qz_cluster.specs.declared.errors.StepEnd.TheVariants as step
 use Rattle.qz_types.specs.declared.stores.Store.{Store}
@@ -91,9 +92,15 @@ status_of lines.TooMany = status.BadLine (LINE_COUNT_LIMIT + 1) TooManyLines
 status_of lines.ReadFault = status.ReadFault
 status_of lines.NoMemory = status.NoMemory
 
--- the text was written, or the output failed
-abbrev pub Reported : List ℕ → Option (List ℕ) → Option (List ℕ) → ℕ → ℕ → Type 0
-Reported text old new faults faults_now = Appends old new text ⊎ Rose faults faults_now
+-- the text was written and handed on, or the output failed
+abbrev pub WritesLine : {E : Type 0} → sink.Ghosts E → List ℕ → E → E → Type 0
+WritesLine e text old new =
+    (Appends (e.held old) (e.held new) text × IsHandedOn (e.held new) (e.handed new)) ⊎ Rose (e.faults old) (e.faults new)
+
+-- The line of the status was written and handed on, or the output failed. Where all went well, nothing was done.
+abbrev pub Reported : {E : Type 0} → sink.Ghosts E → Status → E → E → Type 0
+Reported e status.Ok old new = new ≡ old
+Reported e s old new = WritesLine e (error_text s) old new
 
 -- nothing more was written, and all that the output holds was handed on
 abbrev pub Flushed : Outside → Outside → Type 0

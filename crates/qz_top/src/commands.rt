@@ -4,8 +4,9 @@ ghost use Rattle.qz_io.specs.Around.{outside};
 ghost use Rattle.qz_top.specs.Asked.{DidAsAsked, UsesJobs};
 ghost use Rattle.qz_top.specs.Causes.{counts, HasCause};
 ghost use Rattle.qz_top.specs.Calls.{trail_of};
+ghost use Rattle.qz_top.specs.HandingOn.{HandsOnWritten};
 ghost use Rattle.qz_top.specs.Schedules.{FollowSchedules};
-ghost use Rattle.qz_top.specs.Statuses.{error_text, Reported};
+ghost use Rattle.qz_top.specs.Statuses.{Reported};
 ghost use Rattle.qz_words.specs.Wishes.{wish_of};
 
 use crate::ended::{Ended, ran_no_script};
@@ -41,7 +42,7 @@ use std::alloc::Global;
 ///   lets 4 nodes work on them for DAYS days from 2024-01-01T00:00:00Z on, and writes the line that sums up all of it.
 /// - `times AFTER COUNT` writes for each trigger of `input` its first fire times. The two disks aren't touched.
 ///
-/// The disks come back in every case.
+/// What was written is handed on at every end. The disks come back in every case.
 pub fn command<S: Source, K: Sink, E: Sink, D: Disk, C: Clock>(
     alloc: Global,
     words: &[Text],
@@ -61,8 +62,10 @@ pub fn command<S: Source, K: Sink, E: Sink, D: Disk, C: Clock>(
     ensures cause { HasCause result.status (wish_of words.now) (counts S.Source K.Sink D.Disk input.old out.old triggers states) (counts S.Source K.Sink D.Disk input.new out.new result.triggers result.states) }
     // In each state that it showed, triggers that weren't disturbed have fired for the first times of their schedules.
     ensures schedules { FollowSchedules (trail_of result.trail) }
-    // The line on `err` was written, or `err` failed.
-    ensures reported { Reported (error_text result.status) (E.held err.old) (E.held err.new) (E.faults err.old) (E.faults err.new) }
+    // However the call ended, all that it wrote on `out` was handed on, or `out` failed.
+    ensures handed { HandsOnWritten K.Sink out.old out.new }
+    // The line on `err` was written and handed on, or `err` failed.
+    ensures reported { Reported E.Sink result.status err.old err.new }
 {
     let ended = work(alloc, words, input, out, triggers, states, clock, jobs);
     report(ended.status, err);
@@ -83,6 +86,7 @@ fn work<S: Source, K: Sink, D: Disk, C: Clock>(
     ensures done { DidAsAsked (wish_of words.now) (map means jobs.old.items) (map means jobs.new.items) triggers states result (outside S.Source K.Sink C.Clock input.old out.old clock.old) (outside S.Source K.Sink C.Clock input.new out.new clock.new) }
     ensures jobs { UsesJobs (wish_of words.now) (map means jobs.old.items) (map means jobs.new.items) }
     ensures cause { HasCause result.status (wish_of words.now) (counts S.Source K.Sink D.Disk input.old out.old triggers states) (counts S.Source K.Sink D.Disk input.new out.new result.triggers result.states) }
+    ensures handed { HandsOnWritten K.Sink out.old out.new }
 {
     match read_words(words) {
         Err(fault) => ran_no_script(alloc, Status::BadWords { fault }, triggers, states),

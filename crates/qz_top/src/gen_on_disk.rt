@@ -10,8 +10,10 @@ ghost use Rattle.qz_run_stores.specs.Ways.{KeepsTriggers, KeepsStates};
 ghost use Rattle.qz_trigger_store.specs.View.{view, found_of};
 ghost use Rattle.qz_checkin.specs.View.{view as states_view};
 ghost use Rattle.qz_top.specs.Generating.{GeneratedOnDisk, Generates, Generated, RanGenerated, plan_of, summary_line_of};
+ghost use Rattle.qz_top.specs.HandingOn.{HandsOnWritten};
 ghost use Rattle.qz_top.specs.Moments.{BeginsOn};
-ghost use Rattle.qz_top.specs.NodeRuns.{both, Worked, WritesRun};
+ghost use Rattle.qz_top.specs.NodeRuns.{both, IsToldAs, Worked, WritesRun};
+ghost use Rattle.qz_top.specs.declared.statuses.Status.{Status as WorkStatus};
 
 use crate::Status;
 use crate::ended::{Ended, ran_no_script};
@@ -54,6 +56,7 @@ pub(crate) fn gen_on_disk<K: Sink, D: Disk>(
     ensures disk { result.status ≡ Status.DiskFault → Rose (D.faults triggers) (D.faults result.triggers) ⊎ Rose (D.faults states) (D.faults result.states) }
     ensures read { result.status ≢ Status.ReadFault }
     ensures write { result.status ≡ Status.WriteFault → Rose (K.faults out.old) (K.faults out.new) }
+    ensures handed { HandsOnWritten K.Sink out.old out.new }
 {
     match open_run(alloc, triggers, states) {
         Ok(run) => gen_opened(workload, out, run, jobs),
@@ -77,6 +80,7 @@ fn gen_opened<K: Sink, D: Disk>(
         → result.status ≡ Status.DiskFault → Rose (D.faults triggers) (D.faults result.triggers) ⊎ Rose (D.faults states) (D.faults result.states) }
     ensures read { result.status ≢ Status.ReadFault }
     ensures write { result.status ≡ Status.WriteFault → Rose (K.faults out.old) (K.faults out.new) }
+    ensures handed { HandsOnWritten K.Sink out.old out.new }
 {
     let Run {
         alloc,
@@ -111,6 +115,7 @@ fn generate<K: Sink, D: Disk>(
     ensures any_moment { ∥ KeepsTriggers triggers result.triggers ∥₁ × ∥ KeepsStates states result.states ∥₁ }
     ensures read { result.status ≢ Status.ReadFault }
     ensures write { result.status ≡ Status.WriteFault → Rose (K.faults out.old) (K.faults out.new) }
+    ensures handed { HandsOnWritten K.Sink out.old out.new }
 {
     if triggers.history_len() > 0 {
         return Left {
@@ -141,12 +146,13 @@ fn work_and_sum<K: Sink, D: Disk>(
 ) -> Left<D>
     requires some { 1 ≤ days }
     requires few { days ≤ 28 }
-    ensures worked { Worked (plan_of days) result.status (map means jobs.old.items) (map means jobs.new.items) (both triggers states) (both result.triggers result.states) }
+    ensures worked { (work : WorkStatus) × IsToldAs result.status work × Worked (plan_of days) work (map means jobs.old.items) (map means jobs.new.items) (both triggers states) (both result.triggers result.states) }
     ensures written { found_of triggers ≡ [] → WritesRun result.status (summary_line_of (view result.triggers).history) (output_alone K.Sink out.old) (output_alone K.Sink out.new) }
     ensures went { TriggersWent triggers result.triggers × StatesWent states result.states }
     ensures disk { is_closed (both triggers states) ≡ false → result.status ≡ Status.DiskFault → Rose (view triggers).faults (view result.triggers).faults ⊎ Rose (states_view states).faults (states_view result.states).faults }
     ensures read { result.status ≢ Status.ReadFault }
     ensures write { result.status ≡ Status.WriteFault → Rose (K.faults out.old) (K.faults out.new) }
+    ensures handed { HandsOnWritten K.Sink out.old out.new }
 {
     let plan = plan_of(days);
     let Left {

@@ -5,6 +5,7 @@ ghost use Rattle.qz_io.specs.Around.{outside};
 ghost use Rattle.qz_journal.specs.Layout.{Holds};
 ghost use Rattle.qz_cluster.specs.View.{view as cluster_view};
 ghost use Rattle.qz_top.specs.Calls.{begun, trail_of, OwnDone};
+ghost use Rattle.qz_top.specs.HandingOn.{HandsOnWritten};
 ghost use Rattle.qz_top.specs.Seen.{view, states_in};
 ghost use Rattle.qz_top.specs.Trails.{new_cluster};
 
@@ -39,6 +40,7 @@ pub(crate) fn own_script<S: Source, K: Sink, D: Disk, C: Clock>(
     ensures disks { (result.triggers ≡ triggers) × (result.states ≡ states) }
     ensures read { result.status ≡ Status.ReadFault → Rose (S.faults input.old) (S.faults input.new) }
     ensures write { result.status ≡ Status.WriteFault → Rose (K.faults out.old) (K.faults out.new) }
+    ensures handed { HandsOnWritten K.Sink out.old out.new }
 {
     let own = script_in_memory(alloc, input, out, clock);
     Ended {
@@ -62,6 +64,7 @@ fn script_in_memory<S: Source, K: Sink, C: Clock>(
     ensures done { OwnDone result.status (states_in result.trail.value) (outside S.Source K.Sink C.Clock input.old out.old clock.old) (outside S.Source K.Sink C.Clock input.new out.new clock.new) }
     ensures read { result.status ≡ Status.ReadFault → Rose (S.faults input.old) (S.faults input.new) }
     ensures write { result.status ≡ Status.WriteFault → Rose (K.faults out.old) (K.faults out.new) }
+    ensures handed { HandsOnWritten K.Sink out.old out.new }
 {
     let Some(mut run) = new_run(alloc) else {
         return OwnEnded {

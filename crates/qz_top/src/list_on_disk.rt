@@ -5,6 +5,7 @@ ghost use Rattle.qz_io.specs.Around.{output_alone};
 ghost use Rattle.qz_cluster.specs.View.{view as cluster_view};
 ghost use Rattle.qz_top.specs.Asked.{RanList};
 ghost use Rattle.qz_top.specs.Calls.{ListedOnDisk};
+ghost use Rattle.qz_top.specs.HandingOn.{HandsOnWritten};
 ghost use Rattle.qz_top.specs.Lists.{WritesText, lines_of};
 ghost use Rattle.qz_top.specs.Moments.{BeginsOn};
 
@@ -29,6 +30,7 @@ pub(crate) fn list_on_disk<K: Sink, D: Disk>(
     ensures disk { result.status ≡ Status.DiskFault → Rose (D.faults triggers) (D.faults result.triggers) ⊎ Rose (D.faults states) (D.faults result.states) }
     ensures read { result.status ≢ Status.ReadFault }
     ensures write { result.status ≡ Status.WriteFault → Rose (K.faults out.old) (K.faults out.new) }
+    ensures handed { HandsOnWritten K.Sink out.old out.new }
 {
     match open_run(alloc, triggers, states) {
         Ok(run) => list_opened(out, run),
@@ -42,6 +44,7 @@ fn list_opened<K: Sink, D: Disk>(out: &mut K, run: Run<D>) -> Ended<D>
         → ListedOnDisk triggers states result (output_alone K.Sink out.old) (output_alone K.Sink out.new) }
     ensures other { (result.status ≢ Status.ReadFault) × (result.status ≢ Status.DiskFault) }
     ensures write { result.status ≡ Status.WriteFault → Rose (K.faults out.old) (K.faults out.new) }
+    ensures handed { HandsOnWritten K.Sink out.old out.new }
 {
     let status = list(out, &run);
     run.end(status)
@@ -51,6 +54,7 @@ fn list_opened<K: Sink, D: Disk>(out: &mut K, run: Run<D>) -> Ended<D>
 fn list<K: Sink, D: Disk>(out: &mut K, run: &Run<D>) -> Status
     ensures written { WritesText result (lines_of (cluster_view run.now.cluster)) (output_alone K.Sink out.old) (output_alone K.Sink out.new) }
     ensures write { result ≡ Status.WriteFault → Rose (K.faults out.old) (K.faults out.new) }
+    ensures handed { HandsOnWritten K.Sink out.old out.new }
 {
     match list_lines(run.alloc, run.cluster.tables(), run.cluster.rows()) {
         Ok(text) => write_text(out, text.as_str()),

@@ -5,6 +5,7 @@ ghost use Rattle.qz_document.specs.Items.{are_valid};
 ghost use Rattle.qz_io.specs.Around.{outside, without_input};
 ghost use Rattle.qz_top.specs.Asked.{RanLoad};
 ghost use Rattle.qz_top.specs.Calls.{LoadedOnDisk};
+ghost use Rattle.qz_top.specs.HandingOn.{HandsOnAll, HandsOnWritten};
 ghost use Rattle.qz_top.specs.Loads.{Loads, DidDocument};
 ghost use Rattle.qz_top.specs.Moments.{BeginsOn, Shows};
 ghost use Rattle.qz_top.specs.Seen.{view};
@@ -16,6 +17,7 @@ use crate::loading::do_commands;
 use crate::opening::open_run;
 use crate::runs::Run;
 use crate::scripts::{finish, status_at};
+use crate::writing::hand_on;
 use qz_disk::Disk;
 use qz_document::Document;
 use qz_io::{Clock, Sink, Source};
@@ -34,6 +36,7 @@ pub(crate) fn load_on_disk<S: Source, K: Sink, D: Disk, C: Clock>(
     ensures disk { result.status ≡ Status.DiskFault → Rose (D.faults triggers) (D.faults result.triggers) ⊎ Rose (D.faults states) (D.faults result.states) }
     ensures read { result.status ≡ Status.ReadFault → Rose (S.faults input.old) (S.faults input.new) }
     ensures write { result.status ≡ Status.WriteFault → Rose (K.faults out.old) (K.faults out.new) }
+    ensures handed { HandsOnWritten K.Sink out.old out.new }
 {
     match open_run(alloc, triggers, states) {
         Ok(run) => load_opened(input, out, run, clock),
@@ -54,6 +57,7 @@ fn load_opened<S: Source, K: Sink, D: Disk, C: Clock>(
         → result.status ≡ Status.DiskFault → Rose (D.faults triggers) (D.faults result.triggers) ⊎ Rose (D.faults states) (D.faults result.states) }
     ensures read { result.status ≡ Status.ReadFault → Rose (S.faults input.old) (S.faults input.new) }
     ensures write { result.status ≡ Status.WriteFault → Rose (K.faults out.old) (K.faults out.new) }
+    ensures handed { HandsOnWritten K.Sink out.old out.new }
 {
     let status = load(input, out, &mut run, clock);
     run.end(status)
@@ -70,6 +74,7 @@ fn load<S: Source, K: Sink, D: Disk, C: Clock>(
     ensures shows { Shows ⊥ run.old run.new }
     ensures read { result ≡ Status.ReadFault → Rose (S.faults input.old) (S.faults input.new) }
     ensures write { result ≡ Status.WriteFault → Rose (K.faults out.old) (K.faults out.new) }
+    ensures handed { HandsOnWritten K.Sink out.old out.new }
 {
     match document_of(run.alloc, input) {
         Ok(document) => do_document(document, out, run, clock),
@@ -89,10 +94,14 @@ fn do_document<K: Sink, D: Disk, C: Clock>(
     ensures shows { Shows ⊥ run.old run.new }
     ensures other { result ≢ Status.ReadFault }
     ensures write { result ≡ Status.WriteFault → Rose (K.faults out.old) (K.faults out.new) }
+    ensures handed { HandsOnAll K.Sink out.old out.new }
 {
     let Document { at, commands } = document;
     match do_commands(run.alloc, at, commands, run, out, clock) {
         Ok(()) => finish(out, run.cluster.closed()),
-        Err(end) => status_at(0, end),
+        Err(end) => {
+            hand_on(out);
+            status_at(0, end)
+        }
     }
 }

@@ -3,10 +3,12 @@ ghost use Rattle.std.specs.Prelude.{◌≡◌, ◌⊎◌, ◌≤◌, [], Err};
 ghost use Rattle.qz_civil.specs.Causes.{Rose};
 ghost use Rattle.qz_io.specs.Around.{output_alone};
 ghost use Rattle.qz_top.specs.Calls.{trail_of};
+ghost use Rattle.qz_top.specs.HandingOn.{HandsOnAll, HandsOnWritten};
 ghost use Rattle.qz_top.specs.Making.{Makes, IsInit, SaysMade, unmade_status};
 
 use crate::Status;
 use crate::ended::{Ended, ran_no_script};
+use crate::writing::hand_on;
 use qz_disk::Disk;
 use qz_io::{Sink, write_all};
 use qz_journal::{CreateError, STATES, TRIGGERS, create};
@@ -32,6 +34,7 @@ pub(crate) fn make_stores<K: Sink, D: Disk>(
     ensures written { SaysMade result.status (output_alone K.Sink out.old) (output_alone K.Sink out.new) }
     ensures trail { trail_of result.trail ≡ [] }
     ensures write { result.status ≡ Status.WriteFault → Rose (K.faults out.old) (K.faults out.new) }
+    ensures handed { HandsOnWritten K.Sink out.old out.new }
 {
     let status = init(out, &mut triggers, &mut states);
     ran_no_script(alloc, status, triggers, states)
@@ -42,6 +45,7 @@ fn init<K: Sink, D: Disk>(out: &mut K, triggers: &mut D, states: &mut D) -> Stat
     ensures made { IsInit D.Disk result triggers.old triggers.new states.old states.new }
     ensures written { SaysMade result (output_alone K.Sink out.old) (output_alone K.Sink out.new) }
     ensures write { result ≡ Status.WriteFault → Rose (K.faults out.old) (K.faults out.new) }
+    ensures handed { HandsOnWritten K.Sink out.old out.new }
 {
     let first = match make(triggers, TRIGGERS) {
         Ok(first) => first,
@@ -84,8 +88,10 @@ fn say_made<K: Sink>(out: &mut K) -> Status
     ensures status { (result ≡ Status.Ok) ⊎ (result ≡ Status.WriteFault) }
     ensures written { SaysMade result (output_alone K.Sink out.old) (output_alone K.Sink out.new) }
     ensures write { result ≡ Status.WriteFault → Rose (K.faults out.old) (K.faults out.new) }
+    ensures handed { HandsOnAll K.Sink out.old out.new }
 {
     if write_all(out, b"created\n").is_err() {
+        hand_on(out);
         return Status::WriteFault;
     }
     match out.flush() {

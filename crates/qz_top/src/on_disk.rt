@@ -4,6 +4,7 @@ ghost use Rattle.qz_civil.specs.Causes.{Rose};
 ghost use Rattle.qz_io.specs.Around.{outside};
 ghost use Rattle.qz_top.specs.Asked.{RanScript};
 ghost use Rattle.qz_top.specs.Calls.{RanOnDisk};
+ghost use Rattle.qz_top.specs.HandingOn.{HandsOnWritten};
 ghost use Rattle.qz_top.specs.Moments.{BeginsOn};
 
 use crate::Status;
@@ -28,6 +29,7 @@ pub(crate) fn script_on_disk<S: Source, K: Sink, D: Disk, C: Clock>(
     ensures disk { result.status ≡ Status.DiskFault → Rose (D.faults triggers) (D.faults result.triggers) ⊎ Rose (D.faults states) (D.faults result.states) }
     ensures read { result.status ≡ Status.ReadFault → Rose (S.faults input.old) (S.faults input.new) }
     ensures write { result.status ≡ Status.WriteFault → Rose (K.faults out.old) (K.faults out.new) }
+    ensures handed { HandsOnWritten K.Sink out.old out.new }
 {
     match open_run(alloc, triggers, states) {
         Ok(run) => run_opened(input, out, run, clock),
@@ -48,6 +50,7 @@ fn run_opened<S: Source, K: Sink, D: Disk, C: Clock>(
         → result.status ≡ Status.DiskFault → Rose (D.faults triggers) (D.faults result.triggers) ⊎ Rose (D.faults states) (D.faults result.states) }
     ensures read { result.status ≡ Status.ReadFault → Rose (S.faults input.old) (S.faults input.new) }
     ensures write { result.status ≡ Status.WriteFault → Rose (K.faults out.old) (K.faults out.new) }
+    ensures handed { HandsOnWritten K.Sink out.old out.new }
 {
     let status = run_lines(input, out, &mut run, clock);
     run.end(status)

@@ -3,18 +3,29 @@ ghost use Rattle.std.specs.Prelude.{◌≡◌, ◌++◌, codes, OnOk};
 ghost use Rattle.std.specs.Fmt.{decimal};
 ghost use Rattle.std.specs.Io.KnownBytes.{Appends};
 ghost use Rattle.qz_civil.specs.Causes.{HasCause};
-ghost use Rattle.qz_top.specs.Statuses.{kind_text, store_text, error_text, Reported};
+ghost use Rattle.qz_top.specs.Statuses.{kind_text, store_text, error_text, Reported, WritesLine};
 
 use crate::{BadKind, Status};
 use itoa::Buffer;
 use qz_io::{Failed, Sink, write_all};
 use qz_types::Store;
 
-/// Writes the line of a status, and nothing for `Ok`. Takes no memory. That the writing failed is passed over.
+/// Writes the line of a status and hands it on; nothing for `Ok`. Takes no memory. That `err` failed is passed over.
 pub fn report<E: Sink>(status: Status, err: &mut E)
-    ensures { Reported (error_text status) (E.held err.old) (E.held err.new) (E.faults err.old) (E.faults err.new) }
+    ensures { Reported E.Sink status err.old err.new }
+{
+    match status {
+        Status::Ok => {}
+        other => write_line(other, err),
+    }
+}
+
+// Writes the line of a status and hands on what `err` holds.
+fn write_line<E: Sink>(status: Status, err: &mut E)
+    ensures { WritesLine E.Sink (error_text status) err.old err.new }
 {
     let _ = write_error(status, err);
+    let _ = err.flush();
 }
 
 fn write_error<E: Sink>(status: Status, err: &mut E) -> Result<(), Failed>

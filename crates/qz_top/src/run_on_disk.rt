@@ -4,6 +4,7 @@ ghost use Rattle.qz_civil.specs.Causes.{Rose};
 ghost use Rattle.qz_io.specs.Around.{output_alone};
 ghost use Rattle.qz_run.specs.Working.{IsPlan};
 ghost use Rattle.qz_run_stores.specs.Going.{TriggersWent, StatesWent};
+ghost use Rattle.qz_top.specs.HandingOn.{HandsOnWritten};
 ghost use Rattle.qz_top.specs.Moments.{BeginsOn};
 ghost use Rattle.qz_top.specs.NodeRuns.{both, status_of, IsOfNodes, Worked, RanNodesOnDisk, RanNodes};
 
@@ -44,6 +45,7 @@ pub(crate) fn run_on_disk<K: Sink, D: Disk>(
     ensures disk { result.status ≡ Status.DiskFault → Rose (D.faults triggers) (D.faults result.triggers) ⊎ Rose (D.faults states) (D.faults result.states) }
     ensures read { result.status ≢ Status.ReadFault }
     ensures write { result.status ≡ Status.WriteFault → Rose (K.faults out.old) (K.faults out.new) }
+    ensures handed { HandsOnWritten K.Sink out.old out.new }
 {
     match open_run(alloc, triggers, states) {
         Ok(run) => run_opened(plan, out, run, jobs),
@@ -60,6 +62,7 @@ fn run_opened<K: Sink, D: Disk>(plan: Plan, out: &mut K, run: Run<D>, jobs: &mut
         → result.status ≡ Status.DiskFault → Rose (D.faults triggers) (D.faults result.triggers) ⊎ Rose (D.faults states) (D.faults result.states) }
     ensures read { result.status ≢ Status.ReadFault }
     ensures write { result.status ≡ Status.WriteFault → Rose (K.faults out.old) (K.faults out.new) }
+    ensures handed { HandsOnWritten K.Sink out.old out.new }
 {
     let Run {
         alloc,

@@ -3,6 +3,7 @@ ghost use Rattle.std.specs.Prelude.{◌≡◌, ℕ, ℤ, List};
 ghost use Rattle.qz_civil.specs.Causes.{Rose};
 ghost use Rattle.qz_io.specs.Around.{outside, output_alone};
 ghost use Rattle.qz_steps.specs.declared.steps.StepReply.{StepReply};
+ghost use Rattle.qz_top.specs.HandingOn.{HandsOnAll};
 ghost use Rattle.qz_top.specs.Moments.{Shows};
 ghost use Rattle.qz_top.specs.Runs.{IsOfScript, IsRun};
 ghost use Rattle.qz_top.specs.Seen.{view};
@@ -10,13 +11,14 @@ ghost use Rattle.qz_top.specs.Statuses.{cut_status, status_at, status_of, Finish
 
 use crate::line_handler::LineEnd;
 use crate::runs::Run;
+use crate::writing::hand_on;
 use crate::{BadKind, Status};
 use qz_cluster::StepEnd;
 use qz_disk::Disk;
 use qz_io::{Clock, LINE_COUNT_LIMIT, LinesEnd, Sink, Source, handle_lines};
 
 /// Runs the lines of the input: each line's step is done and its reply written before the next line is looked at.
-/// After the last line the output is flushed.
+/// At the end the output is flushed, also where that is an early one.
 pub(crate) fn run_lines<S: Source, K: Sink, D: Disk, C: Clock>(
     input: &mut S,
     out: &mut K,
@@ -29,17 +31,22 @@ pub(crate) fn run_lines<S: Source, K: Sink, D: Disk, C: Clock>(
     ensures shows { Shows ⊥ run.old run.new }
     ensures read { result ≡ Status.ReadFault → Rose (S.faults input.old) (S.faults input.new) }
     ensures write { result ≡ Status.WriteFault → Rose (K.faults out.old) (K.faults out.new) }
+    ensures handed { HandsOnAll K.Sink out.old out.new }
 {
     let alloc = run.alloc;
     match handle_lines(alloc, input, run, out, clock) {
         Ok(()) => finish(out, run.cluster.closed()),
-        Err(end) => status_of(end),
+        Err(end) => {
+            hand_on(out);
+            status_of(end)
+        }
     }
 }
 
 /// All lines were done: hands on what the output holds, and answers whether a store is closed.
 pub(crate) fn finish<K: Sink>(out: &mut K, closed: bool) -> Status
-    ensures { Finishes result closed (output_alone K.Sink out.old) (output_alone K.Sink out.new) (K.faults out.old) (K.faults out.new) }
+    ensures finishes { Finishes result closed (output_alone K.Sink out.old) (output_alone K.Sink out.new) (K.faults out.old) (K.faults out.new) }
+    ensures handed { HandsOnAll K.Sink out.old out.new }
 {
     match out.flush() {
         Ok(()) if closed => Status::DiskFault,

@@ -6,6 +6,7 @@ ghost use Rattle.qz_model.specs.History.{replay};
 ghost use Rattle.qz_report.specs.Summaries as summaries;
 ghost use Rattle.qz_trigger_store.specs.Entries.{history_of};
 ghost use Rattle.qz_trigger_store.specs.View.{view, found_of, added_of, replies_of};
+ghost use Rattle.qz_top.specs.HandingOn.{HandsOnAll, HandsOnWritten};
 ghost use Rattle.qz_top.specs.NodeRuns.{IsOfNodes, WritesRun, lines_since, text_since};
 
 use crate::Status;
@@ -30,6 +31,7 @@ pub(crate) fn tell_run<K: Sink, D: Disk>(
     ensures written { WritesRun result (text_since (history_of (found_of triggers.now)) (replay (view triggers.now).history) (added_of triggers.now)) (output_alone K.Sink out.old) (output_alone K.Sink out.new) }
     ensures status { (result ≡ status) ⊎ (result ≡ Status.WriteFault) ⊎ (result ≡ Status.NoMemory) }
     ensures write { result ≡ Status.WriteFault → Rose (K.faults out.old) (K.faults out.new) }
+    ensures handed { HandsOnWritten K.Sink out.old out.new }
 {
     match text_of(alloc, triggers) {
         Ok(text) => tell(out, text.as_str(), status),
@@ -49,6 +51,7 @@ pub(crate) fn tell_summary<K: Sink, D: Disk>(
     ensures written { WritesRun result (summaries.summary_text (summaries.summary_of (added_of triggers.now) (replies_of triggers.now) (replay (view triggers.now).history))) (output_alone K.Sink out.old) (output_alone K.Sink out.new) }
     ensures status { (result ≡ status) ⊎ (result ≡ Status.WriteFault) ⊎ (result ≡ Status.NoMemory) }
     ensures write { result ≡ Status.WriteFault → Rose (K.faults out.old) (K.faults out.new) }
+    ensures handed { HandsOnWritten K.Sink out.old out.new }
 {
     match summary_line(alloc, &summary_of(triggers)) {
         Ok(text) => tell(out, text.as_str(), status),
@@ -63,6 +66,7 @@ fn tell<K: Sink>(out: &mut K, text: &str, status: Status) -> Status
     ensures written { WritesRun result text.now (output_alone K.Sink out.old) (output_alone K.Sink out.new) }
     ensures status { (result ≡ status) ⊎ (result ≡ Status.WriteFault) }
     ensures write { result ≡ Status.WriteFault → Rose (K.faults out.old) (K.faults out.new) }
+    ensures handed { HandsOnAll K.Sink out.old out.new }
 {
     match write_text(out, text) {
         Status::WriteFault => Status::WriteFault,

@@ -3,6 +3,7 @@ ghost use Rattle.std.specs.Prelude.{◌≡◌, [], negsuc, ◌≤ℤ◌};
 ghost use Rattle.qz_civil.specs.Causes.{Rose};
 ghost use Rattle.qz_io.specs.Around.{without_clock};
 ghost use Rattle.qz_top.specs.Calls.{trail_of};
+ghost use Rattle.qz_top.specs.HandingOn.{HandsOnAll, HandsOnWritten};
 ghost use Rattle.qz_top.specs.Times.{IsOfTimes, TimesDone, status_of};
 
 use crate::ended::{Ended, ran_no_script};
@@ -31,6 +32,7 @@ pub(crate) fn tell_times<S: Source, K: Sink, D: Disk>(
     ensures trail { trail_of result.trail ≡ [] }
     ensures read { result.status ≡ Status.ReadFault → Rose (S.faults input.old) (S.faults input.new) }
     ensures write { result.status ≡ Status.WriteFault → Rose (K.faults out.old) (K.faults out.new) }
+    ensures handed { HandsOnWritten K.Sink out.old out.new }
 {
     let status = times(alloc, input, out, query);
     ran_no_script(alloc, status, triggers, states)
@@ -44,6 +46,7 @@ fn times<S: Source, K: Sink>(alloc: Global, input: &mut S, out: &mut K, query: Q
     ensures called { IsOfTimes result }
     ensures read { result ≡ Status.ReadFault → Rose (S.faults input.old) (S.faults input.new) }
     ensures write { result ≡ Status.WriteFault → Rose (K.faults out.old) (K.faults out.new) }
+    ensures handed { HandsOnAll K.Sink out.old out.new }
 {
     status_of(run_times(alloc, input, out, query))
 }

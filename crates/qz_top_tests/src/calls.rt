@@ -110,9 +110,13 @@ pub struct Wanted<'a> {
 }
 
 impl<D: Disk> Called<D> {
+    // Whether all that was written was handed on: both sinks keep what they hold until a flush.
+    fn is_handed_on(&self) -> bool {
+        self.out.handed() == self.out.bytes() && self.err.handed() == self.err.bytes()
+    }
+
     pub fn is(&self, wanted: &Wanted) -> bool {
-        let is_handed = wanted.status != Status::Ok || self.out.handed() == self.out.bytes();
-        is_handed
+        self.is_handed_on()
             && self.out.bytes() == wanted.replies.as_bytes()
             && self.err.bytes() == wanted.error.as_bytes()
             && self.ended.status == wanted.status
@@ -120,7 +124,8 @@ impl<D: Disk> Called<D> {
 
     /// Whether the call is as wanted, where only the end of what it writes is wanted.
     pub fn ends_as(&self, wanted: &Wanted) -> bool {
-        self.out.bytes().ends_with(wanted.replies.as_bytes())
+        self.is_handed_on()
+            && self.out.bytes().ends_with(wanted.replies.as_bytes())
             && self.err.bytes() == wanted.error.as_bytes()
             && self.ended.status == wanted.status
     }

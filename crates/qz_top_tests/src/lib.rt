@@ -4,6 +4,8 @@
 #[cfg(test)]
 mod calls;
 #[cfg(test)]
+mod error_texts;
+#[cfg(test)]
 mod generated;
 #[cfg(test)]
 mod loads;

@@ -113,6 +113,24 @@ const CLIENT: &str = r#"{"do":"add_zone","name":"CET","stretches":[[0,3600]]}
 const CLIENT_REPLIES: &str = "ok\nok\nok\nok next 1704153600000\nok next 1704067200000
 ok\nok\nok\nok\nok\nok\nrefused 3\n";
 
+/// What is added in the place of a job or a calendar is what counts then, and a job goes with its triggers.
+const REPLACED: &str = r#"{"do":"add_job","job":{"name":"j","class":"ok","durable":true}}
+{"do":"add_job","job":{"name":"j","class":"fail","durable":true,"data":"x"},"replace":true}
+{"do":"show_job","name":"j"}
+{"do":"add_calendar","calendar":{"name":"h","kind":"holiday","dates":["2024-01-01"]}}
+{"do":"add_calendar","calendar":{"name":"h","kind":"holiday","dates":["2024-01-01","2024-01-02"]},"replace":true}
+{"do":"add_trigger","trigger":{"name":"t","job":"j","start":1704067200000,"kind":"interval","unit":"DAY","every":1,"calendar":"h"}}
+{"do":"add_trigger","trigger":{"name":"u","job":"j","start":1704067200000,"kind":"simple"}}
+{"do":"delete_job","name":"j"}
+{"do":"show_job","name":"j"}
+{"do":"show_trigger","name":"t"}
+{"do":"show_next"}
+"#;
+
+const REPLACED_REPLIES: &str =
+    "ok\nok\njob DEFAULT/j fail durable 1 no_concurrent 0 requests_recovery 0 data x
+ok\nok\nok next 1704240000000\nok next 1704067200000\ndeleted 2\njob none\ntrigger none\nnext none\n";
+
 /// What is stored is told as it is then: before an execution, while it goes on, and once its job is deleted.
 const SHOWN: &str = r#"{"do":"show_next"}
 {"do":"add_job","at":1704067200000,"job":{"name":"a b","class":"ok","data":"x y/%","requests_recovery":true}}
@@ -147,7 +165,7 @@ entry 1 A 1 DEFAULT/t1 EXECUTING scheduled 1704110400000 at 1704110400000 job DE
 job none\ntrigger none\nentry none\nok
 job DEFAULT/j ok durable 0 no_concurrent 0 requests_recovery 0 data %\n";
 
-const SCRIPTS: [Row; 9] = [
+const SCRIPTS: [Row; 10] = [
     (NOON, NOON_REPLIES, "", Status::Ok),
     (ENDLESS, ENDLESS_REPLIES, "", Status::Ok),
     (PAUSED, PAUSED_REPLIES, "", Status::Ok),
@@ -161,6 +179,7 @@ const SCRIPTS: [Row; 9] = [
     (EXCLUSIVE, EXCLUSIVE_REPLIES, "", Status::Ok),
     (AGAIN, AGAIN_REPLIES, "", Status::Ok),
     (CLIENT, CLIENT_REPLIES, "", Status::Ok),
+    (REPLACED, REPLACED_REPLIES, "", Status::Ok),
     (SHOWN, SHOWN_REPLIES, "", Status::Ok),
 ];
 

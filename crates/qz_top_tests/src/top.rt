@@ -110,7 +110,7 @@ fn ends<S: Source, K: Sink>(
         &mut clock,
         &mut jobs,
     );
-    let is_right = ended.status == status && err.bytes() == error.as_bytes();
+    let is_right = ended.status == status && err.handed() == error.as_bytes();
     drop((ended, err));
     Ok(is_right)
 }
@@ -127,12 +127,12 @@ fn keeps_what_was_answered(alloc: Global) -> Result<bool, AllocError> {
         "qz: read fault\n",
         Status::ReadFault,
     );
-    let is_kept = out.bytes() == SIX_REPLIES.as_bytes();
+    let is_kept = out.bytes() == SIX_REPLIES.as_bytes() && out.handed() == SIX_REPLIES.as_bytes();
     drop((input, out));
     Ok(is_right? && is_kept)
 }
 
-// Whether a failing output holds the replies before.
+// Whether a failing output holds the replies before, and they were handed on.
 fn holds_the_replies_before(alloc: Global) -> Result<bool, AllocError> {
     let (script, failing) = (bytes_of(alloc, SIX)?, numbers(alloc, &[2])?);
     let mut input = MemSource::new(script);
@@ -144,7 +144,24 @@ fn holds_the_replies_before(alloc: Global) -> Result<bool, AllocError> {
         "qz: write fault\n",
         Status::WriteFault,
     );
-    let is_kept = out.bytes() == b"ok\n".as_slice();
+    let is_kept = out.bytes() == b"ok\n".as_slice() && out.handed() == b"ok\n".as_slice();
+    drop((input, out));
+    Ok(is_right? && is_kept)
+}
+
+// Whether a bad line is told as such where the flush after it fails.
+fn tells_the_first_cause(alloc: Global) -> Result<bool, AllocError> {
+    let (script, failing) = (bytes_of(alloc, UNENDED)?, numbers(alloc, &[2])?);
+    let mut input = MemSource::new(script);
+    let mut out = FaultSink::new(alloc, failing);
+    let is_right = ends(
+        alloc,
+        &mut input,
+        &mut out,
+        "qz: line 2: not JSON\n",
+        NOT_JSON,
+    );
+    let is_kept = out.bytes() == JOINED.as_bytes() && out.handed().is_empty();
     drop((input, out));
     Ok(is_right? && is_kept)
 }
@@ -153,6 +170,7 @@ fn holds_the_replies_before(alloc: Global) -> Result<bool, AllocError> {
 fn faults_keep_what_was_answered(rt: HostRuntime) {
     assert!(rt; keeps_what_was_answered(rt.alloc()) == Ok(true));
     assert!(rt; holds_the_replies_before(rt.alloc()) == Ok(true));
+    assert!(rt; tells_the_first_cause(rt.alloc()) == Ok(true));
 }
 
 const BAD_WORDS: Status = Status::BadWords {
@@ -175,16 +193,26 @@ const WEEKDAYS_OF_2023: &str =
 const WITHOUT_DAYS: &str =
     r#"{"do":"add_trigger","trigger":{"name":"c","job":"j","start":0,"kind":"cron","cron":"0 0 12 ? * ?"}}"#;
 
+const BAD_SECOND: &str =
+    r#"{"do":"add_trigger","trigger":{"name":"c","job":"j","start":0,"kind":"cron","cron":"0 0 12 ? * MON-FRI"}}
+{"#;
+
 const NO_DAYS: Status = Status::BadLine {
     line: 1,
     fault: BadKind::Cron(CronError::NoDays),
 };
 
 /// Of each cron text the fire time behind 2024-01-05T12:00:00Z.
-const FIRE_TIMES: [Row; 3] = [
+const FIRE_TIMES: [Row; 4] = [
     (WEEKDAYS, "times DEFAULT/c 1704715200000\n", "", Status::Ok),
     (WEEKDAYS_OF_2023, "times DEFAULT/c none\n", "", Status::Ok),
     (WITHOUT_DAYS, "", "qz: line 1: bad cron 5\n", NO_DAYS),
+    (
+        BAD_SECOND,
+        "times DEFAULT/c 1704715200000\n",
+        "qz: line 2: not JSON\n",
+        NOT_JSON,
+    ),
 ];
 
 #[test]

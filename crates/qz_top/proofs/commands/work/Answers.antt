@@ -1,4 +1,4 @@
-use Rattle.std.proofs.Common.{◌≡◌, refl, w64, to_z, of_z, arith}
+use Rattle.std.proofs.Common.{◌≡◌, inr, refl, w64, to_z, of_z, arith}
 use Rattle.std.proofs.lemmas.Grind.{common_steps}
 use Rattle.std.proofs.lemmas.Int.{to_z-of_z}
 use Rattle.qz_top.proofs.AskedLaws.{done_at, uses_at, caused_at, run_words, own_words, own_disk, script_words, times_words, times_disk, init_words, init_read, init_disk}
@@ -132,3 +132,30 @@ returns-in-Ok-Gen-clause-jobs g c = uses_at _ _ _ _ (rw c.in-Ok-Gen.field-0-is a
 
 pub returns-in-Ok-Run-clause-jobs : goal.returns-in-Ok-Run-clause-jobs
 returns-in-Ok-Run-clause-jobs g c = uses_at _ _ _ _ (rw c.in-Ok-Run.field-0-is at c.in-Ok-Run.ensures.value) tt
+
+pub returns-in-Err-clause-handed : goal.returns-in-Err-clause-handed
+returns-in-Err-clause-handed g c = inr refl
+
+pub returns-in-Ok-Own-clause-handed : goal.returns-in-Ok-Own-clause-handed
+returns-in-Ok-Own-clause-handed g c = c.own_script.ensures.handed
+
+pub returns-in-Ok-Init-clause-handed : goal.returns-in-Ok-Init-clause-handed
+returns-in-Ok-Init-clause-handed g c = c.make_stores.ensures.handed
+
+pub returns-in-Ok-Script-clause-handed : goal.returns-in-Ok-Script-clause-handed
+returns-in-Ok-Script-clause-handed g c = c.script_on_disk.ensures.handed
+
+pub returns-in-Ok-Times-clause-handed : goal.returns-in-Ok-Times-clause-handed
+returns-in-Ok-Times-clause-handed g c = c.tell_times.ensures.handed
+
+pub returns-in-Ok-Load-clause-handed : goal.returns-in-Ok-Load-clause-handed
+returns-in-Ok-Load-clause-handed g c = c.load_on_disk.ensures.handed
+
+pub returns-in-Ok-List-clause-handed : goal.returns-in-Ok-List-clause-handed
+returns-in-Ok-List-clause-handed g c = c.list_on_disk.ensures.handed
+
+pub returns-in-Ok-Run-clause-handed : goal.returns-in-Ok-Run-clause-handed
+returns-in-Ok-Run-clause-handed g c = c.run_on_disk.ensures.handed
+
+pub returns-in-Ok-Gen-clause-handed : goal.returns-in-Ok-Gen-clause-handed
+returns-in-Ok-Gen-clause-handed g c = c.gen_on_disk.ensures.handed

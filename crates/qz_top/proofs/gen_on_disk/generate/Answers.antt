@@ -28,7 +28,9 @@ returns-in-Ok-clause-did g c =
       between = both filled c.args.states;
       filled = fill.filled (states_view c.args.states);
       is_open = none_closed (view filled).is_open (states_view c.args.states).is_open fill.open opened.1;
-      worked = work.worked;
+      work = work.worked.0;
+      told = work.worked.1;
+      worked = work.worked.2;
       written = work.written (fill.found ∙ none_found (found_of triggers) (added_of triggers) none);
     }))
 

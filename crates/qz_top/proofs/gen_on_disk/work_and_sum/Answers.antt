@@ -2,11 +2,11 @@ use Rattle.std.proofs.Common.{◌∙◌, arith}
 use Rattle.qz_cluster.specs.Steps.{ClusterState}
 use Rattle.qz_top.specs.NodeRuns.{both}
 use Rattle.qz_top.proofs.GeneratingLaws.{both_open, told_whole}
-use Rattle.qz_top.proofs.NodeRunLaws.{told, told_disk_rose}
+use Rattle.qz_top.proofs.NodeRunLaws.{told_disk_rose}
 use Rattle.qz_top.proofs.gen_on_disk.work_and_sum.Goals as goal
 
 pub returns-clause-worked : goal.returns-clause-worked
-returns-clause-worked g c = told _ _ _ _ _ _ _ c.tell_summary-status.ensures.status (rw c.plan_of-plan.ensures.value at c.work_on-status.ensures.worked)
+returns-clause-worked g c = (c.work_on-status.result.status, c.tell_summary-status.ensures.status, rw c.plan_of-plan.ensures.value at c.work_on-status.ensures.worked)
 
 pub returns-clause-written : goal.returns-clause-written
 returns-clause-written g c none = told_whole c.work_on-status.result.triggers _ _ _ (c.work_on-status.ensures.triggers.found ∙ none) c.tell_summary-status.ensures.written

@@ -2,7 +2,7 @@ use Rattle.std.proofs.Common.{inl, ap}
 use Rattle.qz_cluster.specs.View.{view as cluster_view}
 use Rattle.qz_top.specs.Seen.{view, states_in}
 use Rattle.qz_top.proofs.AloneLaws.{alone_new, spares_new}
-use Rattle.qz_top.proofs.LossLaws.{recovered_new}
+use Rattle.qz_top.proofs.LossLaws.{recovered_new, recovered_new_end}
 use Rattle.qz_top.proofs.OpenedLaws.{plain_of, no_disk_fault}
 use Rattle.qz_top.proofs.in_memory.script_in_memory.Goals as goal
 
@@ -20,6 +20,7 @@ returns-clause-done g c =
       plain = plain_of _ _ _ _ _ _ _ _ _ ran.3;
       trail_is = ap states_in c.of-trail.ensures;
       recovered = rw c.of-trail.ensures (recovered_new _ _ _ _ _ _ _ _ _ ran.3);
+      recovered_end = recovered_new_end _ _ _ _ _ _ _ _ _ ran.3;
       alone = alone_new _ _ _ _ _ _ _ _ _ ran.3;
       spared = spares_new _ _ _ _ _ _ _ _ _ ran.3;
       no_fault = no_disk_fault _ _ _ _ _ _ _ _ _ ran.3;

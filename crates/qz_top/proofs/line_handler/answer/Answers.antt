@@ -5,6 +5,7 @@ use Rattle.qz_top.specs.Seen.{states_of}
 use Rattle.qz_top.specs.Trails.{is_fault}
 use Rattle.qz_top.proofs.MomentLaws.{Shows-one, Shows-kept, Shows-cut}
 use Rattle.qz_top.proofs.TrailLaws.{RanSteps-one}
+use Rattle.qz_top.proofs.LossLaws.{fault_step_keeps}
 use Rattle.qz_top.proofs.ShownLaws.{shown-push}
 use Rattle.qz_top.proofs.line_handler.answer.Goals as goal
 use Rattle.qz_top.proofs.line_handler.answer.Goals.{else-run-via-then-run+else-is_fault, else-run-via-else-run}
@@ -25,6 +26,17 @@ returns-else-run-clause-shows g c =
 
 pub returns-then-is_err-clause-shows : goal.returns-then-is_err-clause-shows
 returns-then-is_err-clause-shows g c = Shows-kept _ _ c.reserve.ensures.items refl refl
+
+-- the disks are the call's own, and one failed
+pub returns-then-is_fault-clause-err : goal.returns-then-is_fault-clause-err
+returns-then-is_fault-clause-err g c =
+    let same : to_z w64 (of_z w64 c.args.at) ≡ c.args.at = grind (arith, common_steps, to_z-of_z) in
+    record {
+      history = fault_step_keeps _ _ _ _ _ (sym c.is_fault.ensures ∙ c.if-is_fault.true) c.in-Ok.ensures.ok;
+      trail = ap states_of c.reserve.ensures.items;
+      own = refl;
+      stays = λ not_own. let bad : true ≡ false = sym c.if-run.true ∙ not_own in absurd cc;
+    }
 
 pub returns-then-is_fault-clause-shows : goal.returns-then-is_fault-clause-shows
 returns-then-is_fault-clause-shows g c = Shows-cut _ _ c.reserve.ensures.items refl c.in-Ok.ensures.any_moment

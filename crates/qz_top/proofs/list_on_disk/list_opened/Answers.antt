@@ -1,4 +1,7 @@
+use Rattle.std.proofs.Common.{ap, ◌∙◌, ◌∷◌, []}
 use Rattle.qz_cluster.specs.View.{view as cluster_view}
+use Rattle.qz_cluster.specs.declared.clusters.Cluster.{Cluster}
+use Rattle.qz_top.specs.Seen.{states_of}
 use Rattle.qz_top.proofs.list_on_disk.list_opened.Goals as goal
 
 pub returns-clause-done : goal.returns-clause-done
@@ -9,5 +12,6 @@ returns-clause-done g c triggers states begins =
       are_opened = begins.are_opened;
       stand = begins.stand;
       written = rw end.status c.list-status.ensures.written;
+      trail_is = end.trail ∙ ap states_of begins.trail ∙ ap (λ (x : Cluster _ _). cluster_view x ∷ []) begins.shown;
       reads = λ honest. rw (end.disks.0, end.disks.1) (begins.reads honest);
     }

@@ -1,9 +1,11 @@
-use Rattle.std.proofs.Common.{ap}
+use Rattle.std.proofs.Common.{ap, refl}
 use Rattle.qz_trigger_store.proofs.Appending.{may_be}
 use Rattle.qz_checkin.proofs.Appending.{may_be as states_may_be}
 use Rattle.qz_cluster.specs.View.{view as cluster_view}
 use Rattle.qz_top.specs.Seen.{view, states_in}
-use Rattle.qz_top.proofs.LoadLaws.{load_rose}
+use Rattle.qz_top.proofs.Courses.{load_course, load_alone, sound_in, sound_in_end}
+use Rattle.qz_top.proofs.LoadLaws.{load_rose, loads_with}
+use Rattle.qz_top.proofs.LossLaws.{recovered_in, recovered_in_end}
 use Rattle.qz_top.proofs.MomentLaws.{begun_so, all_kept, opened_by_reads}
 use Rattle.qz_top.proofs.load_on_disk.load_opened.Goals as goal
 
@@ -12,14 +14,23 @@ returns-clause-done g c triggers states begins =
     let loads = rw (begun_so triggers states c.args.run begins) at c.load-status.ensures.loads in
     let end = c.end.ensures in
     let cluster = c.load-status.new.run.cluster in
+    let opened = begins.are_opened in
+    let loads_now = loads_with _ _ end.status loads in
+    let course = load_course _ _ refl _ _ _ _ loads in
     record {
       opened = cluster_view c.args.run.cluster;
       are_opened = begins.are_opened;
+      nothing_held = begins.nothing_held;
       stand = begins.stand;
       end = view c.load-status.new.run;
-      loads = rw end.status loads;
+      loads = loads_now;
       trail_is = end.trail;
       on_disk = ap states_in end.shown;
+      sound = rw end.trail (sound_in _ _ _ opened.0 opened.1 course);
+      sound_end = sound_in_end _ _ _ opened.0 opened.1 course;
+      recovered = rw end.trail (recovered_in _ _ _ opened.0 course);
+      recovered_end = recovered_in_end _ _ _ opened.0 course;
+      alone = load_alone _ _ (record { opened = opened.0; held = begins.nothing_held }) _ _ _ _ loads_now;
       faults = (ap g.D.Disk.faults end.disks.0, ap g.D.Disk.faults end.disks.1);
       images = λ honest b. (λ is. may_be _ _ b (cluster.triggers.images honest b (rw end.disks.0 at is)), λ is. states_may_be _ _ b (cluster.states.images honest b (rw end.disks.1 at is)));
       opening = λ honest. rw end.shown (opened_by_reads (g.met.D.Disk.lawful honest) honest triggers states _ _ begins c.load-status.ensures.shows);

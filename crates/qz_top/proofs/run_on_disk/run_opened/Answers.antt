@@ -3,7 +3,7 @@ use Rattle.qz_trigger_store.specs.View.{added_of}
 use Rattle.qz_trigger_store.proofs.Appending.{may_be}
 use Rattle.qz_checkin.proofs.Appending.{may_be as states_may_be}
 use Rattle.qz_top.specs.NodeRuns.{both}
-use Rattle.qz_top.proofs.NodeRunLaws.{told_run, kept_on_the_way, added_is, history_is, told_disk_rose}
+use Rattle.qz_top.proofs.NodeRunLaws.{told_again, told_text, kept_on_the_way, added_is, history_is, told_disk_rose}
 use Rattle.qz_trigger_store.proofs.Kept.{schedules_kept}
 use Rattle.qz_top.proofs.run_on_disk.run_opened.Goals as goal
 
@@ -22,14 +22,15 @@ returns-clause-done g c triggers states begins =
     let worked = rw (stores.0, stores.1) at work.worked in
     let added : added_of left.triggers ≡ worked.added = added_is cluster.triggers left.triggers worked.added begins.nothing_added went worked.went_on.entries in
     let history = history_is cluster.triggers left.triggers begins.nothing_added went in
-    let run = told_run _ _ _ _ _ _ (both cluster.triggers cluster.states) (both left.triggers left.states) _ _ _ _ tell.status end.status worked history added tell.written in
     record {
       opened = both cluster.triggers cluster.states;
       are_opened = begins.are_opened;
       stand = begins.stand;
       end = both left.triggers left.states;
-      worked = run.0;
-      written = run.1;
+      work = left.status;
+      told = told_again _ _ _ end.status tell.status;
+      worked = worked;
+      written = told_text _ _ (both cluster.triggers cluster.states) (both left.triggers left.states) _ _ _ _ _ end.status history added tell.written;
       legal = (left.triggers.legal, left.states.legal);
       schedules = schedules_kept left.triggers;
       no_trail = end.trail;
