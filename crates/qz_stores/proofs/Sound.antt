@@ -1,5 +1,5 @@
 -- What submitting an entry leaves of a store is sound, where the store was.
-use Rattle.std.proofs.Common.{◌≡◌, ℕ, List, [], ◌∷◌, ◌++◌, length, length-append, true, false, refl, sym, ◌∙◌, ap, subst, arith}
+use Rattle.std.proofs.Common.{◌≡◌, ℕ, List, [], ◌∷◌, ◌++◌, length, length-append, true, false, refl, sym, ◌∙◌, subst, arith}
 use Rattle.std.proofs.Math.Logic.{∥∥₁_map}
 use Rattle.std.specs.Prelude.{Result, Ok, Err, IsOk, None}
 use Rattle.std.specs.List.{AllByRecursion}
@@ -10,7 +10,7 @@ use Rattle.qz_journal.specs.Layout.{end_of}
 use Rattle.qz_journal.specs.View.{version}
 use Rattle.qz_journal.proofs.Stands.{end_of-push}
 use Rattle.qz_stores.specs.Stores.{StoreState, Same, Appends, Submits, Shuts, Opens}
-use Rattle.qz_stores.specs.Kinds.{StoreKind, IsLawful, IsLegal, replay, history_of, with_entry, entry_kind}
+use Rattle.qz_stores.specs.Kinds.{StoreKind, IsLawful, StaysValid, IsLegal, replay, history_of, with_entry, entry_kind}
 use Rattle.qz_stores.specs.Bytes.{Encode, BeginsNew, IsPlaced}
 use Rattle.qz_stores.specs.Opening.{IsSound, IsOpened, AreReplayed}
 use Rattle.qz_stores.proofs.Appending.{begins_new}
@@ -52,8 +52,8 @@ module _ {H S E R : Type 0} (k : StoreKind H S E R) where
   accepted_by a r is = subst IsOk (sym is) refl
 
   module _ (lawful : IsLawful k) where
-    appended_sound : (e : E) (r : R) (s t : StoreState H E) → k.IsProper e → Appends (entry_kind k) e r s t → IsSound k s → IsSound k t
-    appended_sound e r s t proper appends sound =
+    appended_sound : StaysValid k → (e : E) (r : R) (s t : StoreState H E) → k.IsProper e → Appends (entry_kind k) e r s t → IsSound k s → IsSound k t
+    appended_sound stays e r s t proper appends sound =
         let h = s.history in
         let n = k.base_count h in
         let B = k.base h in
@@ -73,23 +73,23 @@ module _ {H S E R : Type 0} (k : StoreKind H S E R) where
         record {
           begins = subst (BeginsNew k version) (sym appends.history) begins;
           legal = subst (IsLegal k) (sym appends.history) legal;
-          state = subst (λ (g : H). ∥ k.IsValid (replay k g) ∥₁) (sym appends.history) (∥∥₁_map sound.state (λ valid. subst k.IsValid (sym state) (lawful.stays_valid (replay k h) e proper valid)));
+          state = subst (λ (g : H). ∥ k.IsValid (replay k g) ∥₁) (sym appends.history) (∥∥₁_map sound.state (λ valid. subst k.IsValid (sym state) (stays (replay k h) e proper valid)));
           placed = λ _. record {
             payloads = placed.payloads ++ k.record_of e ∷ [];
             encode = subst (λ (g : H). Encode k (placed.payloads ++ k.record_of e ∷ []) (k.entries g)) (sym appends.history)
-            (subst (Encode k (placed.payloads ++ k.record_of e ∷ [])) (sym list) (Encode-pushed k placed.payloads es (k.record_of e) e placed.encode refl));
+                (subst (Encode k (placed.payloads ++ k.record_of e ∷ [])) (sym list) (Encode-pushed k placed.payloads es (k.record_of e) e placed.encode refl));
             gate = omega (arith, appends.gate, placed.gate, end_of-push placed.payloads (k.record_of e));
             count = omega (arith, appends.payloads, placed.count, length-append placed.payloads (k.record_of e ∷ []));
           };
         }
 
-    pub submitted_sound : (e : E) (x : Result R SubmitError) (s t : StoreState H E) → k.IsProper e → Submits (entry_kind k) e x s t → IsSound k s → IsSound k t
-    submitted_sound e (Ok r) s t proper is sound = appended_sound e r s t proper is sound
-    submitted_sound e (Err (submit.Closed at)) s t proper is sound = same_sound s t is.0.same sound
-    submitted_sound e (Err (submit.Refused x)) s t proper is sound = same_sound s t is.same sound
-    submitted_sound e (Err (submit.JournalFull need room)) s t proper is sound = same_sound s t is.same sound
-    submitted_sound e (Err submit.NoMemory) s t proper is sound = same_sound s t is.same sound
-    submitted_sound e (Err submit.Fault) s t proper is sound = sound_as s t is.history (none_open t is.is_open) sound
+    pub submitted_sound : StaysValid k → (e : E) (x : Result R SubmitError) (s t : StoreState H E) → k.IsProper e → Submits (entry_kind k) e x s t → IsSound k s → IsSound k t
+    submitted_sound stays e (Ok r) s t proper is sound = appended_sound stays e r s t proper is sound
+    submitted_sound stays e (Err (submit.Closed at)) s t proper is sound = same_sound s t is.0.same sound
+    submitted_sound stays e (Err (submit.Refused x)) s t proper is sound = same_sound s t is.same sound
+    submitted_sound stays e (Err (submit.JournalFull need room)) s t proper is sound = same_sound s t is.same sound
+    submitted_sound stays e (Err submit.NoMemory) s t proper is sound = same_sound s t is.same sound
+    submitted_sound stays e (Err submit.Fault) s t proper is sound = sound_as s t is.history (none_open t is.is_open) sound
 
     -- a store that was just opened, on these payloads
     pub opened_on : (s : StoreState H E) (payloads : List (List ℕ)) (es : List E) (T : S) → s.history ≡ history_of k es → s.gate ≡ end_of payloads → s.payloads ≡ length payloads

@@ -1,6 +1,6 @@
 -- What a kind of store is: its entries and their records, its states, and its histories. Whatever is said of stores is
 -- said of all kinds at once, and a store of triggers or of states is one of these.
-use Rattle.std.specs.Prelude.{◌≡◌, ℕ, List, [], ◌∷◌, ◌++◌, length, Option, Some, None, IsOk, Ok, Err}
+use Rattle.std.specs.Prelude.{◌≡◌, ℕ, List, [], ◌∷◌, ◌++◌, length, Option, Some, None, IsOk, Err}
 use Rattle.std.specs.declared.result.Result.{Result}
 use Rattle.qz_types.specs.declared.replies.Refusal.{Refusal}
 use Rattle.qz_types.specs.declared.errors.StepRefused.{StepRefused}
@@ -81,8 +81,6 @@ pub record IsLawful {H S E R : Type 0} (k : StoreKind H S E R) : Type 0 where
   pub lists_once : (es fs : List E) → IsProp (es ≡ fs)
   -- the version that is written is that of the journal
   pub new_is : k.new_state ≡ k.empty version
-  -- an accepted entry leaves a valid state
-  pub stays_valid : (T : S) (e : E) → k.IsProper e → k.IsValid T → k.IsValid (k.after T e)
   -- entries are replayed one by one
   pub replay_none : (T : S) → k.replay_from T [] ≡ T
   pub replay_more : (T : S) (es : List E) (e : E) → k.replay_from T (es ++ e ∷ []) ≡ k.after (k.replay_from T es) e
@@ -95,3 +93,7 @@ pub record IsLawful {H S E R : Type 0} (k : StoreKind H S E R) : Type 0 where
   pub base_count_is : (n : ℕ) (T : S) (es : List E) → k.base_count (k.history n T es) ≡ n
   pub base_is : (n : ℕ) (T : S) (es : List E) → k.base (k.history n T es) ≡ T
   pub entries_are : (n : ℕ) (T : S) (es : List E) → k.entries (k.history n T es) ≡ es
+
+-- An entry leaves a valid state.
+abbrev pub StaysValid : {H S E R : Type 0} → StoreKind H S E R → Type 0
+StaysValid {S = S} {E = E} k = (T : S) (e : E) → k.IsProper e → k.IsValid T → k.IsValid (k.after T e)

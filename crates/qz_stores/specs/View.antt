@@ -17,6 +17,10 @@ found_of s = s.found.items
 abbrev pub added_of : {D K E R C : Type 0} {g : Ghosts D} {k : Kinds K E R C} → Store D K E R C g k → List E
 added_of s = s.added.items
 
+-- what it keeps in memory
+abbrev pub kept_of : {D K E R C : Type 0} {g : Ghosts D} {k : Kinds K E R C} → Store D K E R C g k → K
+kept_of s = s.state
+
 -- the state that they leave
 abbrev pub state_of : {D K E R C : Type 0} {g : Ghosts D} {k : Kinds K E R C} → Store D K E R C g k → k.State
 state_of {k = k} s = k.state s.state

@@ -24,6 +24,7 @@ pub enum TakeError {
 /// it, and takes all the memory that it needs; `commit` changes the state, and can't fail.
 pub trait Kind: Drop {
     type Entry: Drop;
+
     type Reply: Drop;
     /// What is ready before the state is changed.
     type Change: Drop;

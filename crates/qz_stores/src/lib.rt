@@ -3,7 +3,6 @@
 
 mod gates;
 mod kinds;
-mod logs;
 mod mounting;
 mod parts;
 mod replaying;
@@ -13,7 +12,6 @@ mod stores;
 mod submitting;
 
 pub use kinds::{Kind, TakeError};
-pub use logs::Log;
 pub use rereads::Reread;
 pub use stores::Store;
 pub use submitting::Ready;

@@ -1,19 +1,20 @@
 //! Opening what is on a disk.
-ghost use Rattle.std.specs.Prelude.{◌≡◌, ◌⊎◌, ◌++◌, ◌^◌, ◌<◌, ◌≤◌, [], length, None, true, IfOk, IfErr, MatchResult};
+ghost use Rattle.std.specs.Prelude.{◌≡◌, ◌⊎◌, ◌^◌, ◌<◌, ◌≤◌, [], length, None, true, IfOk, IfErr, MatchResult};
 ghost use Rattle.std.specs.List.{AllByRecursion};
 ghost use Rattle.qz_civil.specs.Causes.{Rose};
 ghost use Rattle.qz_journal.specs.Layout.{end_of};
 ghost use Rattle.qz_journal.specs.Through.{OnlyReads, OnlyReadsUnless};
 ghost use Rattle.qz_journal.specs.View.{disk_of as journal_disk, kind_of, count_of, closed_at};
 ghost use Rattle.qz_stores.specs.Bytes.{HoldEntries, Stands, IsHistory};
-ghost use Rattle.qz_stores.specs.Opening.{AreReplayed, IsOpened, IsRefused, IsFirstBad};
+ghost use Rattle.qz_stores.specs.Opening.{IsOpened, IsRefused, IsFirstBad};
 ghost use Rattle.qz_stores.specs.View.{view, added_of, disk_state};
 
 use crate::replaying::replay;
-use crate::{Kind, Log, Reread, Store};
+use crate::{Kind, Reread, Store};
 use qz_civil::List;
 use qz_disk::Disk;
 use qz_journal::{Journal, MountError};
+use qz_logs::Log;
 use std::alloc::Global;
 
 impl<D: Disk, K: Kind> Store<D, K> {

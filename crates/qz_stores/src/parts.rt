@@ -1,7 +1,7 @@
 //! What a store shows of itself.
 ghost use Rattle.std.specs.Prelude.{◌≡◌, ◌++◌, length, not};
 ghost use Rattle.qz_stores.specs.Kinds.{replay};
-ghost use Rattle.qz_stores.specs.View.{view, found_of, added_of, state_of, disk_of};
+ghost use Rattle.qz_stores.specs.View.{view, found_of, added_of, kept_of, disk_of};
 
 use crate::{Kind, Store};
 use qz_disk::Disk;
@@ -23,7 +23,7 @@ impl<D: Disk, K: Kind> Store<D, K> {
 
     /// The state that the history leaves.
     pub fn state(&self) -> &K
-        ensures kept { result.now ≡ self.now.state }
+        ensures kept { result.now ≡ kept_of self.now }
         ensures value { K.state result.now ≡ replay K.kind (view self.now).history }
     {
         &self.state

@@ -1,12 +1,13 @@
 //! The payloads of a journal, read as a history.
-ghost use Rattle.std.specs.Prelude.{◌≡◌, ◌+◌, ◌^◌, ◌<◌, IfOk, IfErr, OnOk, Err};
+ghost use Rattle.std.specs.Prelude.{◌^◌, ◌<◌, IfOk, IfErr};
 ghost use Rattle.qz_journal.specs.Layout.{end_of};
 ghost use Rattle.qz_stores.specs.Opening.{IsStopped, AreReplayed};
 
 use crate::gates::{first_gate, gate_after};
-use crate::{Kind, Log, Reread, TakeError};
+use crate::{Kind, Reread, TakeError};
 use qz_civil::List;
 use qz_journal::MountError;
+use qz_logs::Log;
 use std::alloc::Global;
 
 /// The history whose records these payloads are. `Damaged` has the offset of the gate of the first one that is unfit.

@@ -1,7 +1,8 @@
 //! A history that was read from a disk.
-ghost use Rattle.std.specs.Prelude.{◌≡◌, length};
+ghost use Rattle.std.specs.Prelude.{◌≡◌};
 
-use crate::{Kind, Log};
+use crate::Kind;
+use qz_logs::Log;
 
 /// A history that was read from a disk, from a new store on, and the state that it leaves.
 #[derive(Drop)]

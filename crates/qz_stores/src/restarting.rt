@@ -11,10 +11,11 @@ ghost use Rattle.qz_stores.specs.Restarting.{read_of, IsReread};
 ghost use Rattle.qz_stores.specs.View.{view, found_of, added_of, disk_of, disk_state, LeavesEither};
 
 use crate::replaying::replay;
-use crate::{Kind, Log, Reread, Store};
+use crate::{Kind, Reread, Store};
 use qz_civil::Failed;
 use qz_disk::Disk;
 use qz_journal::MountError;
+use qz_logs::Log;
 use std::mem;
 
 impl<D: Disk, K: Kind> Store<D, K> {

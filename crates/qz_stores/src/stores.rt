@@ -6,9 +6,10 @@ ghost use Rattle.qz_journal.specs.View.{disk_of, kind_of, count_of, closed_at};
 ghost use Rattle.qz_stores.specs.Bytes.{HoldEntries, MayHold, MayFollow};
 ghost use Rattle.qz_stores.specs.Facts.{HoldEntries-prop, MayHold-prop};
 
-use crate::{Kind, Log};
+use crate::Kind;
 use qz_disk::Disk;
 use qz_journal::Journal;
+use qz_logs::Log;
 use std::alloc::Global;
 
 /// A store on a disk. Its history is a list of entries, each of which was accepted at the state that those before it

@@ -1,14 +1,15 @@
 //! One entry more.
-ghost use Rattle.std.specs.Prelude.{◌≡◌, ◌≢◌, ◌++◌, ◌∷◌, [], length, IsOk, IfOk, OnOk, OnErr, IfErr, Err, Some, true, false};
+ghost use Rattle.std.specs.Prelude.{◌≡◌, ◌≢◌, ◌++◌, ◌∷◌, [], length, IsOk, IfOk, OnOk, OnErr, IfErr, Ok, Err, Some, true, false};
 ghost use Rattle.qz_journal.specs.Layout.{IsPayload};
 ghost use Rattle.qz_stores.specs.Stores.{HasRoom, IsUnwritten, Appends, Submits};
 ghost use Rattle.qz_stores.specs.Kinds.{IsAccepted, entry_kind};
-ghost use Rattle.qz_stores.specs.View.{view, found_of, added_of, state_of, IsAsBefore, LeavesEither};
+ghost use Rattle.qz_stores.specs.View.{view, found_of, added_of, kept_of, state_of, IsAsBefore, LeavesEither};
 
-use crate::{Kind, Log, Store};
+use crate::{Kind, Store};
 use qz_civil::List;
 use qz_disk::Disk;
 use qz_journal::{JournalFull, fits};
+use qz_logs::Log;
 use qz_types::SubmitError;
 use std::mem;
 
@@ -68,7 +69,7 @@ impl<D: Disk, K: Kind> Store<D, K> {
     pub fn prepare(&mut self, entry: &K::Entry) -> Result<Ready<K::Change>, SubmitError>
         requires { K.kind.IsProper entry.now }
         ensures open { OnOk result (self.old.is_open ≡ true) }
-        ensures ready { IfOk result (λ r. K.Prepares self.new.state entry.now r.change) }
+        ensures ready { IfOk result (λ r. K.Prepares (kept_of self.new) entry.now r.change) }
         ensures accepted { OnOk result (IsAccepted K.kind (state_of self.old) entry.now) }
         ensures record { IfOk result (λ r. (r.record ≡ K.kind.record_of entry.now) × IsPayload r.record) }
         ensures recorded { OnOk result (K.kind.IsEntry entry.now) }
@@ -122,13 +123,14 @@ impl<D: Disk, K: Kind> Store<D, K> {
     ) -> Result<(K::Entry, K::Reply), SubmitError>
         requires proper { K.kind.IsProper entry }
         requires open { self.old.is_open ≡ true }
-        requires ready { K.Prepares self.old.state entry ready.change }
+        requires ready { K.Prepares (kept_of self.old) entry ready.change }
         requires accepted { IsAccepted K.kind (state_of self.old) entry }
         requires record { (ready.record ≡ K.kind.record_of entry) × IsPayload ready.record }
         requires recorded { K.kind.IsEntry entry }
         requires fits { HasRoom (length ready.record) (view self.old) }
         ensures ok { IfOk result (λ r. (r.0 ≡ entry) × Appends (entry_kind K.kind) entry r.1 (view self.old) (view self.new)) }
         ensures err { IfErr result (λ e. (e ≡ SubmitError.Fault) × Submits (entry_kind K.kind) entry (Err e) (view self.old) (view self.new)) }
+        ensures answered { IfOk result (λ r. K.kind.answer (state_of self.old) entry ≡ Ok r.1) }
         ensures state { OnOk result (state_of self.new ≡ K.kind.after (state_of self.old) entry) }
         ensures found { found_of self.new ≡ found_of self.old }
         ensures entries { OnOk result (added_of self.new ≡ added_of self.old ++ entry ∷ []) }

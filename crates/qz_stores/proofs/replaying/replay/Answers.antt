@@ -1,4 +1,4 @@
-use Rattle.std.proofs.Common.{◌≡◌, ◌∙◌, ◌+◌, ◌<◌, List, ℕ, Err, length, get_or, refl, sym, ap, subst, arith}
+use Rattle.std.proofs.Common.{◌≡◌, ◌∙◌, ◌+◌, ◌<◌, List, ℕ, Err, length, get_or, sym, ap, subst, arith}
 use Rattle.qz_journal.specs.Commits.{need_of}
 use Rattle.qz_stores.specs.Bytes.{IsRecord}
 use Rattle.qz_stores.proofs.Blocks.{gate_fits, taken_gate}
@@ -34,10 +34,11 @@ loop-payload-preserved g c =
     let here = subst (λ (l : List (List ℕ)). p ≡ get_or l w.payload-index p) c.as_slice-payload-items.ensures c.payload-item.is in
     let more = c.and-entries.ensures in
     let is = subst (λ (x : List ℕ). IsRecord k x c.in-Ok.entry) c.as_slice.ensures c.in-Ok.ensures.is_record in
+    let gate_now : c.gate_after-gate.result ≡ w.gate + need_of (length p) = c.gate_after-gate.ensures ∙ ap (λ (x : List ℕ). w.gate + need_of (length x)) c.as_slice-in-loop-payload.ensures in
     record {
       replayed = taken_more k lawful c.args.payloads.now w.payload-index p _ w.entries.items _ c.in-Ok.entry below here more w.invariant.state_is is c.in-Ok.ensures.accepted w.invariant.replayed;
       state_is = grown k lawful _ _ w.entries.items _ c.in-Ok.entry more w.invariant.state_is c.in-Ok.ensures.state;
-      gate_is = c.gate_after-gate.ensures ∙ ap (λ (x : List ℕ). w.gate + need_of (length x)) c.as_slice-in-loop-payload.ensures ∙ taken_gate c.args.payloads.now w.payload-index p w.gate below here w.invariant.gate_is;
+      gate_is = gate_now ∙ taken_gate c.args.payloads.now w.payload-index p w.gate below here w.invariant.gate_is;
     }
 
 pub returns-in-Err-Unfit-clause-stopped : goal.returns-in-Err-Unfit-clause-stopped

@@ -1,4 +1,4 @@
-use Rattle.std.proofs.Common.{◌≡◌, ◌∙◌, ◌+◌, ℕ, List, ◌++◌, length, refl, sym, ap, subst}
+use Rattle.std.proofs.Common.{◌∙◌, ◌+◌, ℕ, List, ◌++◌, length, refl, sym, ap, subst}
 use Rattle.qz_stores.specs.Stores.{HasRoom}
 use Rattle.qz_stores.specs.Kinds.{history_of}
 use Rattle.qz_stores.specs.View.{view}

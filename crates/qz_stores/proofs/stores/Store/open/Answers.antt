@@ -1,6 +1,5 @@
 use Rattle.std.proofs.Common.{◌∙◌, ◌++◌, List, length, refl, sym, ap, subst, arith}
 use Rattle.std.specs.List.{AllByRecursion}
-use Rattle.std.proofs.Math.Logic.{∥∥₁_map}
 use Rattle.qz_stores.specs.Stores.{IsDecided}
 use Rattle.qz_stores.specs.Kinds.{history_of, entry_kind}
 use Rattle.qz_stores.specs.Bytes.{HoldEntries, Stands}
