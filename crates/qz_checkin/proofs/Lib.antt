@@ -1,10 +1,8 @@
 pub mod Appending
-pub mod Committing
-pub mod Decided
 pub mod Histories
+pub mod Kept
 pub mod Looking
-pub mod Once
+pub mod Outcomes
 pub mod Refused
-pub mod Replays
 pub mod RowEdits
 pub mod Sound

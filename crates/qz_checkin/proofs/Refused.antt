@@ -1,5 +1,5 @@
 -- What an error before any device call says of the store.
-use Rattle.std.proofs.Common.{◌≡◌, ℕ, ℤ, List, length, true, false, refl, sym, ◌∙◌, ap, subst, arith}
+use Rattle.std.proofs.Common.{◌≡◌, ℕ, ℤ, List, true, false, refl, sym, ◌∙◌, ap, subst, arith}
 use Rattle.std.specs.Prelude.{⊤, IsOk, Ok, Err, Option, Some, None}
 use Rattle.qz_types.specs.Entries.{StateEntryData}
 use Rattle.qz_types.specs.declared.errors.SubmitError.{SubmitError}
@@ -11,7 +11,7 @@ use Rattle.qz_checkin.specs.Rows.{StateTables, state_of, StateOutcome, accepted,
 use Rattle.qz_checkin.specs.Valid.{IsRefusalOf}
 use Rattle.qz_checkin.specs.History.{replay_states}
 use Rattle.qz_checkin.proofs.RowEdits.{check_in_refused, forget_refused}
-use Rattle.qz_checkin.specs.Entries.{StatesState, answer_of, of_states, state_record_of, IsUnwritten, IsDecision}
+use Rattle.qz_checkin.specs.Entries.{StatesState, answer_of, of_states, IsDecision}
 
 pub same_itself : (s : StatesState) → Same s s
 same_itself s = record { history = refl; gate = refl; payloads = refl; is_open = refl; undecided = refl; later = omega arith }
@@ -26,14 +26,6 @@ passes_at T s e tables is = subst (λ (U : StateTables). IsOk (answer_of (state_
 -- the rows refuse it
 pub refused_is : (T : StateTables) (s : StatesState) (e : StateEntryData) (x : Refusal) → T ≡ replay_states s.history → s.is_open ≡ true → state_transaction T e ≡ refused x → Submits of_states e (Err (submit.Refused x)) s s
 refused_is T s e x tables is_open is = record { was_open = is_open; refused_as = ap answer_of (ap (λ (U : StateTables). state_transaction U e) (sym tables) ∙ is); same = same_itself s }
-
--- its record has no room, or there is no memory for it
-pub unwritten_is : (s : StatesState) (e : StateEntryData) (y : SubmitError) → s.is_open ≡ true → IsOk (of_states.answer s.history e) → IsUnwritten (length (state_record_of e)) s y → Submits of_states e (Err y) s s
-unwritten_is s e (submit.JournalFull need room) is_open is unwritten = record { was_open = is_open; passes = is; full = unwritten; same = same_itself s }
-unwritten_is s e submit.NoMemory is_open is unwritten = record { was_open = is_open; passes = is; same = same_itself s }
-unwritten_is s e (submit.Refused x) is_open is unwritten = absurd unwritten
-unwritten_is s e (submit.Closed at) is_open is unwritten = absurd unwritten
-unwritten_is s e submit.Fault is_open is unwritten = absurd unwritten
 
 -- of a closed store
 pub closed_is : (s : StatesState) (e : StateEntryData) (at : ℕ) → s.is_open ≡ false → at ≡ s.gate → Submits of_states e (Err (submit.Closed at)) s s

@@ -7,7 +7,7 @@ use Rattle.qz_codec.specs.Layout.{recorded}
 use Rattle.qz_codec.specs.States.{state_entry}
 use Rattle.qz_types.specs.declared.errors.SubmitError.{SubmitError}
 use Rattle.qz_types.specs.declared.errors.SubmitError.TheVariants as submit
-use Rattle.qz_stores.specs.Stores.{EntryKind, StoreState, LacksRoom}
+use Rattle.qz_stores.specs.Stores.{EntryKind, StoreState}
 use Rattle.qz_checkin.specs.Rows.{StateOutcome, accepted, refused, state_transaction}
 use Rattle.qz_checkin.specs.History.{StateHistory, with_state_entry, replay_states}
 
@@ -31,15 +31,6 @@ of_states = record {
 -- a state store at one moment
 abbrev pub StatesState : Type 0
 StatesState = StoreState StateHistory StateEntryData
-
--- Why a record of this length isn't written: it has no room, so many bytes are needed and so many are left; or there is
--- no memory for it.
-abbrev pub IsUnwritten : ℕ → StatesState → SubmitError → Type 0
-IsUnwritten length s (submit.JournalFull need room) = LacksRoom length need room s
-IsUnwritten length s submit.NoMemory = ⊤
-IsUnwritten length s (submit.Refused refusal) = ⊥
-IsUnwritten length s (submit.Closed at) = ⊥
-IsUnwritten length s submit.Fault = ⊥
 
 -- What is decided without memory: an open store accepts what isn't refused.
 abbrev pub IsDecision : StatesState → Option Refusal → Result ⊤ SubmitError → Type 0

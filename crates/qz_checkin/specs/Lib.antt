@@ -1,9 +1,10 @@
 pub mod Bytes
 pub mod Entries
-pub mod Facts
 pub mod History
 pub mod InMemory
+pub mod Kinds
 pub mod Lateness
+pub mod Laws
 pub mod Opening
 pub mod Rows
 pub mod Valid

@@ -1,21 +1,19 @@
 //! The state store: when each node last checked in, and which nodes are taken for failed.
 #![tactic(auto)]
 
+mod kinds;
 mod lateness;
 mod laws;
 mod mounting;
 mod parts;
-mod replaying;
-mod rereads;
 mod restarting;
 mod rows;
-mod state_log;
 mod stores;
 mod submitting;
 mod transactions;
 
+pub use kinds::Reread;
 pub use laws::submitting_keeps_stores_sound;
 pub use qz_journal::MountError;
 pub use qz_types::SubmitError;
-pub use rereads::Reread;
 pub use stores::StateStore;

@@ -1,20 +1,16 @@
 //! Opening what is on a disk.
-ghost use Rattle.std.specs.Prelude.{◌≡◌, ◌⊎◌, ◌^◌, ◌<◌, ◌≤◌, length, None, true, IfOk, IfErr, MatchResult};
+ghost use Rattle.std.specs.Prelude.{◌≡◌, ◌⊎◌, ◌≤◌, IfOk, IfErr, MatchResult};
 ghost use Rattle.qz_civil.specs.Causes.{Rose};
-ghost use Rattle.qz_journal.specs.Layout.{end_of};
-ghost use Rattle.qz_journal.specs.declared.layout.TheConstants.{STATES as OF_STATES};
 ghost use Rattle.qz_journal.specs.Through.{OnlyReads, OnlyReadsUnless};
-ghost use Rattle.qz_journal.specs.View.{disk_of as journal_disk, kind_of, count_of, closed_at};
 ghost use Rattle.qz_checkin.specs.History.{StateHistory};
-ghost use Rattle.qz_checkin.specs.Bytes.{HoldEntries, Stands, IsHistory};
-ghost use Rattle.qz_checkin.specs.Opening.{IsOpened, IsRefused, IsFirstBad};
-ghost use Rattle.qz_checkin.specs.View.{view, entries_of, disk_state};
+ghost use Rattle.qz_checkin.specs.Bytes.{Stands, IsHistory};
+ghost use Rattle.qz_checkin.specs.Opening.{IsOpened, IsRefused};
+ghost use Rattle.qz_checkin.specs.View.{view, disk_state};
 
-use crate::replaying::replay;
-use crate::{Reread, StateStore};
-use qz_civil::List;
+use crate::StateStore;
 use qz_disk::Disk;
-use qz_journal::{Journal, MountError, STATES};
+use qz_journal::MountError;
+use qz_stores::Store;
 use std::alloc::Global;
 
 impl<D: Disk> StateStore<D> {
@@ -35,52 +31,9 @@ impl<D: Disk> StateStore<D> {
         ensures fault { IfErr result (λ e. (D.faults disk ≤ D.faults e.1)
             × (e.0 ≡ MountError.Fault → Rose (D.faults disk) (D.faults e.1))) }
     {
-        match Journal::mount_or_salvage(alloc, disk, STATES) {
-            Ok((journal, payloads)) => match replay(alloc, &payloads) {
-                Ok(found) => Ok(begin(alloc, journal, found)),
-                Err(error) => Err((error, journal.into_disk())),
-            },
-            Err((MountError::Damaged { at }, payloads, disk)) => {
-                Err((first_bad(alloc, &payloads, at), disk))
-            }
-            Err((error, _payloads, disk)) => Err((error, disk)),
+        match Store::mount(alloc, disk) {
+            Ok(store) => Ok(StateStore { store }),
+            Err(refused) => Err(refused),
         }
-    }
-}
-
-// An open store on a journal that holds the records of these entries.
-fn begin<D: Disk>(alloc: Global, journal: Journal<D>, found: Reread) -> StateStore<D>
-    requires kind { kind_of journal ≡ OF_STATES }
-    requires open { closed_at journal ≡ None }
-    requires counted { count_of journal ≡ length found.entries.items }
-    requires stands { D.honest → HoldEntries (D.state (journal_disk journal)).content found.entries.items }
-    ensures journal { result.journal ≡ journal }
-    ensures found { entries_of result ≡ found.entries.items }
-    ensures opened { (result.is_open ≡ true) × (result.undecided ≡ None) }
-{
-    let Reread {
-        entries,
-        rows,
-        count,
-    } = found;
-    StateStore {
-        alloc,
-        journal,
-        rows,
-        entries,
-        count,
-        is_open: true,
-        undecided: None,
-    }
-}
-
-// The first bad place of a journal that is damaged after these payloads, at this offset.
-fn first_bad(alloc: Global, payloads: &List<List<u8>>, at: u64) -> MountError
-    requires offsets { end_of payloads.now < 2 ^ 64 }
-    ensures { IsFirstBad payloads.now at result }
-{
-    match replay(alloc, payloads) {
-        Ok(_) => MountError::Damaged { at },
-        Err(error) => error,
     }
 }

@@ -1,20 +1,18 @@
 //! A restart, in three calls.
-ghost use Rattle.std.specs.Prelude.{◌≡◌, ◌⊎◌, Err, None, IfOk, IfErr, OnOk};
+ghost use Rattle.std.specs.Prelude.{◌≡◌, ◌⊎◌, Err, IfOk, IfErr, OnOk};
 ghost use Rattle.qz_civil.specs.Causes.{Rose, HasCause};
 ghost use Rattle.qz_journal.specs.Through.{OnlyReads};
-ghost use Rattle.qz_stores.specs.Stores.{Shuts, Opens};
+ghost use Rattle.qz_stores.specs.Stores.{Shuts, IsDecided, Opens};
+ghost use Rattle.qz_stores.specs.Restarting.{read_of, IsReread};
 ghost use Rattle.qz_checkin.specs.Entries.{of_states};
 ghost use Rattle.qz_checkin.specs.Bytes.{history_of, Stands};
 ghost use Rattle.qz_checkin.specs.Opening.{IsOpened};
-ghost use Rattle.qz_checkin.specs.View.{view, disk_of, disk_state, IsReread, LeavesEither};
+ghost use Rattle.qz_checkin.specs.View.{view, entries_of, disk_of, disk_state, LeavesEither};
 
-use crate::replaying::replay;
 use crate::{Reread, StateStore};
 use qz_civil::Failed;
 use qz_disk::Disk;
 use qz_journal::MountError;
-use qz_types::StateEntry;
-use std::mem;
 
 impl<D: Disk> StateStore<D> {
     /// A crash of the disk. The store is closed until `open`, so that several disks can crash before anything on them is
@@ -24,8 +22,7 @@ impl<D: Disk> StateStore<D> {
         ensures cause { HasCause (view self.old).faults (view self.new).faults result }
         ensures any_moment { D.honest → LeavesEither self.old self.new }
     {
-        self.is_open = false;
-        self.journal.crash()
+        self.store.crash()
     }
 
     /// Reads what is on the disk, as `mount` does. The store is closed until `open`, with its history and its undecided
@@ -34,46 +31,29 @@ impl<D: Disk> StateStore<D> {
     /// payload before it is unfit too.
     pub fn reread(&mut self) -> Result<Reread, MountError>
         ensures shut { Shuts (view self.old) (view self.new) }
-        ensures found { IfOk result (IsReread self.new) }
+        ensures kept { entries_of self.new ≡ entries_of self.old }
+        ensures read { IfOk result (λ reread. IsReread (read_of reread) self.new.store) }
+        ensures decided { D.honest → IfOk result (λ reread. IsDecided of_states (view self.old).history (view self.old).undecided (history_of (read_of reread))) }
+        ensures stands { D.honest → IfOk result (λ reread. Stands (disk_state self.old).content (history_of (read_of reread))) }
         // An honest disk has the history, or that with the undecided entry, so it or memory fails.
         ensures refused { D.honest → IfErr result (λ e. (e ≡ MountError.Fault) ⊎ (e ≡ MountError.NoMemory)) }
         ensures fault { result ≡ Err MountError.Fault → Rose (view self.old).faults (view self.new).faults }
         ensures reads { D.honest → OnOk result (OnlyReads (disk_state self.old) (disk_state self.new)) }
         ensures any_moment { D.honest → LeavesEither self.old self.new }
     {
-        self.is_open = false;
-        let payloads = self.journal.remount(self.alloc)?;
-        // The payloads end at the gate, so their offsets fit.
-        let _ = self.journal.gate();
-        replay(self.alloc, &payloads)
+        self.store.reread()
     }
 
     /// Opens the store with what was read. It makes no device call, takes no memory, and can't fail.
-    pub fn open(&mut self, found: Reread)
-        requires { IsReread self.old found }
+    pub fn open(&mut self, reread: Reread)
+        requires { IsReread (read_of reread) self.old.store }
         ensures opens { Opens of_states D.honest (view self.old) (view self.new) }
         ensures opened { IsOpened (view self.new) }
-        ensures history { (view self.new).history ≡ history_of found.entries.items }
+        ensures history { (view self.new).history ≡ history_of (read_of reread) }
         ensures stands { D.honest → Stands (disk_state self.new).content (view self.new).history }
         ensures disk { disk_of self.new ≡ disk_of self.old }
         ensures any_moment { D.honest → LeavesEither self.old self.new }
     {
-        let Reread {
-            entries,
-            rows,
-            count,
-        } = found;
-        self.entries = entries;
-        self.rows = rows;
-        self.count = count;
-        settle(&mut self.undecided);
-        self.is_open = true;
+        self.store.open(reread)
     }
-}
-
-// No entry is undecided any more.
-fn settle(undecided: &mut Option<StateEntry>)
-    ensures { undecided.new ≡ None }
-{
-    drop(mem::replace(undecided, None));
 }

@@ -5,7 +5,7 @@ use qz_types::StateRow;
 
 /// A row for each node that checks in, in the order of the names, and the recorded moment of the last transaction.
 #[derive(Drop)]
-pub(crate) struct States {
+pub struct States {
     pub(crate) rows: Vec<StateRow>,
     /// In ms since 1970-01-01T00:00:00Z.
     pub(crate) last_moment: i64,

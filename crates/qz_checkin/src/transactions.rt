@@ -2,7 +2,7 @@
 ghost use Rattle.std.specs.Prelude.{◌≡◌, ◌<◌, IsSome, IfSome, IfOk, option_copied, vec_len, vec_capacity};
 ghost use Rattle.qz_civil.specs.declared.limits.TheConstants.{LAST as THE_LAST};
 ghost use Rattle.qz_types.specs.Tables.{IsMoment};
-ghost use Rattle.qz_checkin.specs.Rows.{new_state_tables, state_of, without_state, check_in_refusal, forget_refusal, state_moment, IsAccepted, accepted, state_transaction};
+ghost use Rattle.qz_checkin.specs.Rows.{state_of, without_state, check_in_refusal, forget_refusal, state_moment, IsAccepted, accepted, state_transaction};
 ghost use Rattle.qz_checkin.specs.Valid.{HasMoment, node_of, row_by, edited, IsOfNode, IsRefusalOf};
 ghost use Rattle.qz_checkin.specs.InMemory.{tables_in, HasRoomFor};
 
@@ -10,21 +10,10 @@ use crate::rows::States;
 use qz_types::{
     LAST, NoMemory, Refusal, STATE_LIMIT, StateCommand, StateEntry, StateRow, Text, find, insert,
 };
-use std::alloc::Global;
 use std::cmp::Ordering;
 
-#[tactic(auto, using(crate::proofs::RowEdits::valid_new, crate::proofs::RowEdits::check_in_refused, crate::proofs::RowEdits::forget_refused))]
+#[tactic(auto, using(crate::proofs::RowEdits::check_in_refused, crate::proofs::RowEdits::forget_refused))]
 impl States {
-    /// No rows.
-    pub(crate) fn new(alloc: Global) -> States
-        ensures { tables_in result ≡ new_state_tables }
-    {
-        States {
-            rows: Vec::new(alloc),
-            last_moment: 0,
-        }
-    }
-
     /// The moment at which a transaction with this reading of the clock is recorded. Both are in ms since
     /// 1970-01-01T00:00:00Z.
     #[tactic(auto, unfolding(crate::specs::Rows::state_moment))]
@@ -45,7 +34,7 @@ impl States {
     }
 
     /// Why an entry is refused, or None where it is accepted.
-    pub(crate) fn refusal(&self, entry: &StateEntry) -> Option<Refusal>
+    pub(crate) fn decide(&self, entry: &StateEntry) -> Option<Refusal>
         ensures { IsRefusalOf (tables_in self.now) entry.now result }
     {
         match &entry.command {
@@ -78,7 +67,7 @@ impl States {
     }
 
     /// The row that an entry puts in, and room for it: all memory that the entry needs.
-    pub(crate) fn prepare(&mut self, entry: &StateEntry) -> Result<Option<StateRow>, NoMemory>
+    pub(crate) fn make_row(&mut self, entry: &StateEntry) -> Result<Option<StateRow>, NoMemory>
         ensures row { IfOk result (λ row. row ≡ row_by (state_moment (tables_in self.old) entry.now.at) entry.now.command) }
         ensures room { IfOk result (λ row. HasRoomFor row self.new) }
         ensures same { tables_in self.new ≡ tables_in self.old }

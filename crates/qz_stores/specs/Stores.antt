@@ -1,5 +1,5 @@
 -- One store in a run, whatever its entries are, and what one call of it makes of it.
-use Rattle.std.specs.Prelude.{◌≡◌, ◌⊎◌, ℕ, ◌+◌, ◌≤◌, Bool, true, false, List, Option, Some, None, IsOk, Ok, Err}
+use Rattle.std.specs.Prelude.{⊤, ◌≡◌, ◌⊎◌, ℕ, ◌+◌, ◌≤◌, Bool, true, false, List, Option, Some, None, IsOk, Ok, Err}
 use Rattle.std.specs.declared.result.Result.{Result}
 use Rattle.qz_civil.specs.Causes.{Rose}
 use Rattle.qz_types.specs.declared.replies.Refusal.{Refusal}
@@ -125,3 +125,12 @@ pub record Opens {H E R : Type 0} (kind : EntryKind H E R) (honest : Type 0) (s 
   pub undecided : t.undecided ≡ None
   pub decided : honest → IsDecided kind s.history s.undecided t.history
   pub later : s.faults ≤ t.faults
+
+-- Why a record of this length isn't written: it has no room, so many bytes are needed and so many are left; or there is
+-- no memory for it.
+abbrev pub IsUnwritten : {H E : Type 0} → ℕ → StoreState H E → SubmitError → Type 0
+IsUnwritten length s (submit.JournalFull need room) = LacksRoom length need room s
+IsUnwritten length s submit.NoMemory = ⊤
+IsUnwritten length s (submit.Refused refusal) = ⊥
+IsUnwritten length s (submit.Closed at) = ⊥
+IsUnwritten length s submit.Fault = ⊥

@@ -1,2 +1,17 @@
-//! A store over a journal, whatever its entries are: its state, and what one call makes of it, as definitions in `specs/`.
+//! A store over a journal, whatever its entries are: its state, what one call makes of it, and the store itself.
 #![tactic(auto)]
+
+mod gates;
+mod kinds;
+mod mounting;
+mod parts;
+mod replaying;
+mod rereads;
+mod restarting;
+mod stores;
+mod submitting;
+
+pub use kinds::{Kind, TakeError};
+pub use rereads::Reread;
+pub use stores::Store;
+pub use submitting::Ready;

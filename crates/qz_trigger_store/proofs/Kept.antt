@@ -1,12 +1,14 @@
 -- What holds of each trigger store.
-use Rattle.std.proofs.Common.{◌≡◌, ◌++◌, true, IsTrue, length, sym, ◌∙◌, subst}
+use Rattle.std.proofs.Common.{◌≡◌, List, [], ◌∷◌, ◌++◌, refl, true, IsTrue, length, sym, ◌∙◌, subst}
 use Rattle.std.proofs.Math.Logic.{∥∥₁_elim}
 use Rattle.std.proofs.Props.{props}
 use Rattle.std.specs.List.{AllByRecursion, AllByRecursion-prop}
 use Rattle.qz_disk.specs.declared.disk.Disk.{Ghosts}
-use Rattle.qz_types.specs.Entries.{is_entry}
-use Rattle.qz_types.specs.Tables.{new_tables}
-use Rattle.qz_model.specs.History.{replay}
+use Rattle.qz_types.specs.Entries.{EntryData, is_entry}
+use Rattle.qz_types.specs.Outcomes.{Outcome, accepted, refused, IsAccepted}
+use Rattle.qz_types.specs.Tables.{SchedulerTables, new_tables}
+use Rattle.qz_model.specs.History.{tables_left, IsLegalFrom, replay}
+use Rattle.qz_model.specs.Transaction.{transaction}
 use Rattle.qz_model.specs.Invariant.{TablesValid}
 use Rattle.qz_model.proofs.Histories.{valid-replay}
 use Rattle.qz_model.proofs.Kept.{valid-new_tables}
@@ -16,21 +18,33 @@ use Rattle.qz_schedule_law.proofs.Following.{follows}
 use Rattle.qz_trigger_store.specs.View.{view, found_of, added_of, tables_of}
 use Rattle.qz_trigger_store.specs.declared.stores.TriggerStore.{TriggerStore}
 
+IsAccepted-prop : (o : Outcome) → IsProp (IsAccepted o)
+IsAccepted-prop (accepted T r) p q = refl
+IsAccepted-prop (refused x) p q = absurd p
+
+pub IsLegalFrom-prop : (T : SchedulerTables) (es : List EntryData) → IsProp (IsLegalFrom T es)
+IsLegalFrom-prop T [] p q = refl
+IsLegalFrom-prop T (e ∷ es) p q = λ i. (IsAccepted-prop (transaction T e) p.0 q.0 i, IsLegalFrom-prop (tables_left T (transaction T e)) es p.1 q.1 i)
+
 module _ {D : Type 0} {g : Ghosts D} (s : TriggerStore D g) where
+  -- its history is legal
+  pub legal : IsLegalFrom new_tables (found_of s ++ added_of s)
+  legal = ∥∥₁_elim s.store.legal (IsLegalFrom-prop new_tables (found_of s ++ added_of s)) (λ l. l)
+
   each_valid : AllByRecursion (λ e. IsTrue (is_entry e)) (found_of s ++ added_of s)
-  each_valid = ∥∥₁_elim s.recorded (AllByRecursion-prop (λ e. IsTrue (is_entry e)) (λ e. hlevel props) (found_of s ++ added_of s)) (entries_valid (found_of s ++ added_of s))
+  each_valid = ∥∥₁_elim s.store.recorded (AllByRecursion-prop (λ e. IsTrue (is_entry e)) (λ e. hlevel props) (found_of s ++ added_of s)) (entries_valid (found_of s ++ added_of s))
 
   -- its history leaves valid tables, which are those that it keeps
   pub history_valid : TablesValid (replay (view s).history)
-  history_valid = valid-replay new_tables (found_of s ++ added_of s) each_valid valid-new_tables s.legal
+  history_valid = valid-replay new_tables (found_of s ++ added_of s) each_valid valid-new_tables legal
 
   pub tables_valid : TablesValid (tables_of s)
-  tables_valid = subst TablesValid (sym s.replayed) history_valid
+  tables_valid = subst TablesValid (sym s.store.replayed) history_valid
 
   -- its triggers follow their schedules, since its history is legal
   pub schedules_kept : FollowsSchedules (view s).history
-  schedules_kept = follows new_tables (found_of s ++ added_of s) valid-new_tables each_valid s.legal
+  schedules_kept = follows new_tables (found_of s ++ added_of s) valid-new_tables each_valid legal
 
   -- while it is open, its journal has as many payloads as its history has entries
-  pub payloads_are : s.is_open ≡ true → (view s).payloads ≡ length (view s).history.entries
-  payloads_are is_open = s.placed is_open ∙ s.counted
+  pub payloads_are : (view s).is_open ≡ true → (view s).payloads ≡ length (view s).history.entries
+  payloads_are is_open = s.store.placed is_open ∙ s.store.counted

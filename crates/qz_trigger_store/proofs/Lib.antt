@@ -1,9 +1,6 @@
+pub mod Accepting
 pub mod Appending
-pub mod Committing
-pub mod Decided
 pub mod Kept
 pub mod Moments
-pub mod Once
-pub mod Refused
-pub mod Replays
+pub mod Outcomes
 pub mod Sound

@@ -1,5 +1,5 @@
 -- What the entries of the trigger store are to it.
-use Rattle.std.specs.Prelude.{⊤, ℕ, List, length, Ok, Err}
+use Rattle.std.specs.Prelude.{List, length, Ok, Err}
 use Rattle.std.specs.declared.result.Result.{Result}
 use Rattle.qz_types.specs.Entries.{EntryData}
 use Rattle.qz_types.specs.declared.replies.Reply.{Reply}
@@ -8,9 +8,7 @@ use Rattle.qz_types.specs.Outcomes.{Outcome, accepted, refused}
 use Rattle.qz_model.specs.Transaction.{transaction}
 use Rattle.qz_model.specs.History.{History, new_history, with_entry, replay}
 use Rattle.qz_codec.specs.Layout.{record_of}
-use Rattle.qz_stores.specs.Stores.{EntryKind, StoreState, LacksRoom}
-use Rattle.qz_types.specs.declared.errors.SubmitError.{SubmitError}
-use Rattle.qz_types.specs.declared.errors.SubmitError.TheVariants as submit
+use Rattle.qz_stores.specs.Stores.{EntryKind, StoreState}
 
 -- the reply of a transaction, or why it is refused
 abbrev pub answer_of : Outcome → Result Reply Refusal
@@ -32,12 +30,3 @@ history_of entries = record new_history { entries = entries }
 -- a trigger store at one moment
 abbrev pub TriggerState : Type 0
 TriggerState = StoreState History EntryData
-
--- Why a record of this length isn't written: it has no room, so many bytes are needed and so many are left; or there is
--- no memory for it.
-abbrev pub IsUnwritten : ℕ → TriggerState → SubmitError → Type 0
-IsUnwritten length s (submit.JournalFull need room) = LacksRoom length need room s
-IsUnwritten length s submit.NoMemory = ⊤
-IsUnwritten length s (submit.Refused refusal) = ⊥
-IsUnwritten length s (submit.Closed at) = ⊥
-IsUnwritten length s submit.Fault = ⊥

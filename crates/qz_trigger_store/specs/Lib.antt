@@ -1,7 +1,7 @@
 pub mod Accepted
 pub mod Bytes
 pub mod Entries
-pub mod Facts
+pub mod Kinds
+pub mod Laws
 pub mod Opening
-pub mod Restarting
 pub mod View

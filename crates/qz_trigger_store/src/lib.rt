@@ -2,17 +2,17 @@
 #![tactic(auto)]
 
 mod accepted;
-mod entry_log;
+mod kinds;
 mod laws;
 mod mounting;
 mod parts;
-mod replaying;
 mod restarting;
 mod stores;
 mod submitting;
+mod triggers;
 
+pub use kinds::Reread;
 pub use laws::{restarting_keeps_stores_sound, submitting_keeps_stores_sound};
 pub use qz_journal::MountError;
 pub use qz_types::SubmitError;
-pub use replaying::Reread;
 pub use stores::TriggerStore;

@@ -1,23 +1,17 @@
 //! Opening what is on a disk.
-ghost use Rattle.std.specs.Prelude.{◌≡◌, ◌⊎◌, ◌++◌, ◌^◌, ◌<◌, ◌≤◌, [], length, None, true, IfOk, IfErr, MatchResult};
+ghost use Rattle.std.specs.Prelude.{◌≡◌, ◌⊎◌, ◌≤◌, [], IfOk, IfErr, MatchResult};
 ghost use Rattle.qz_civil.specs.Causes.{Rose};
-ghost use Rattle.std.specs.List.{AllByRecursion};
-ghost use Rattle.qz_codec.specs.Values.{IsEntry};
-ghost use Rattle.qz_journal.specs.Layout.{end_of};
-ghost use Rattle.qz_journal.specs.declared.layout.TheConstants.{TRIGGERS as OF_TRIGGERS};
 ghost use Rattle.qz_journal.specs.Through.{OnlyReads, OnlyReadsUnless};
-ghost use Rattle.qz_journal.specs.View.{disk_of as journal_disk, kind_of, count_of, closed_at};
 ghost use Rattle.qz_model.specs.History.{History};
-ghost use Rattle.qz_trigger_store.specs.Bytes.{HoldEntries, Stands, IsHistory};
-ghost use Rattle.qz_trigger_store.specs.Opening.{IsOpened, IsRefused, IsFirstBad};
+ghost use Rattle.qz_trigger_store.specs.Bytes.{Stands, IsHistory};
+ghost use Rattle.qz_trigger_store.specs.Opening.{IsOpened, IsRefused};
 ghost use Rattle.qz_trigger_store.specs.View.{view, added_of, disk_state};
 
 use crate::TriggerStore;
 use crate::accepted::Accepted;
-use crate::replaying::{Reread, replay};
-use qz_civil::List;
 use qz_disk::Disk;
-use qz_journal::{Journal, MountError, TRIGGERS};
+use qz_journal::MountError;
+use qz_stores::Store;
 use std::alloc::Global;
 
 impl<D: Disk> TriggerStore<D> {
@@ -39,51 +33,13 @@ impl<D: Disk> TriggerStore<D> {
         ensures fault { IfErr result (λ e. (D.faults disk ≤ D.faults e.1)
             × (e.0 ≡ MountError.Fault → Rose (D.faults disk) (D.faults e.1))) }
     {
-        match Journal::mount_or_salvage(alloc, disk, TRIGGERS) {
-            Ok((journal, payloads)) => match replay(alloc, &payloads) {
-                Ok(replayed) => Ok(begin(alloc, journal, replayed)),
-                Err(error) => Err((error, journal.into_disk())),
-            },
-            Err((MountError::Damaged { at }, payloads, disk)) => {
-                Err((first_bad(alloc, &payloads, at), disk))
-            }
-            Err((error, _payloads, disk)) => Err((error, disk)),
+        match Store::mount(alloc, disk) {
+            Ok(store) => Ok(TriggerStore {
+                alloc,
+                store,
+                accepted: Accepted::new(alloc),
+            }),
+            Err(refused) => Err(refused),
         }
-    }
-}
-
-// An open store on a journal that holds the records of these entries.
-fn begin<D: Disk>(alloc: Global, journal: Journal<D>, replayed: Reread) -> TriggerStore<D>
-    requires kind { kind_of journal ≡ OF_TRIGGERS }
-    requires open { closed_at journal ≡ None }
-    requires counted { count_of journal ≡ length replayed.entries.items }
-    requires stands { D.honest → HoldEntries (D.state (journal_disk journal)).content replayed.entries.items }
-    requires recorded { ∥ AllByRecursion IsEntry replayed.entries.items ∥₁ }
-    ensures journal { result.journal ≡ journal }
-    ensures found { result.found.items ≡ replayed.entries.items }
-    ensures opened { (result.is_open ≡ true) × (result.undecided ≡ None) × (added_of result ≡ []) }
-{
-    let Reread { entries, tables } = replayed;
-    let count = journal.count();
-    TriggerStore {
-        alloc,
-        journal,
-        count,
-        tables,
-        found: entries,
-        accepted: Accepted::new(alloc),
-        is_open: true,
-        undecided: None,
-    }
-}
-
-// The first bad place of a journal that is damaged after these payloads, at this offset.
-fn first_bad(alloc: Global, payloads: &List<List<u8>>, at: u64) -> MountError
-    requires offsets { end_of payloads.now < 2 ^ 64 }
-    ensures { IsFirstBad payloads.now at result }
-{
-    match replay(alloc, payloads) {
-        Ok(_) => MountError::Damaged { at },
-        Err(error) => error,
     }
 }

@@ -1,5 +1,5 @@
 //! What a store shows of itself.
-ghost use Rattle.std.specs.Prelude.{◌≡◌, ◌++◌, length, not, is_some};
+ghost use Rattle.std.specs.Prelude.{◌≡◌, length, not, is_some};
 ghost use Rattle.qz_types.specs.Tables.{new_tables};
 ghost use Rattle.qz_types.specs.Words.{member_of};
 ghost use Rattle.qz_model.specs.History.{replay, replay_from, replies_from, moments_from};
@@ -16,21 +16,21 @@ impl<D: Disk> TriggerStore<D> {
     pub fn history_len(&self) -> u64
         ensures { result ≡ length (view self.now).history.entries }
     {
-        self.count
+        self.store.history_len()
     }
 
     /// Whether a call of this store was answered `Fault`, or a restart of it began and didn't end.
     pub fn closed(&self) -> bool
         ensures { result ≡ not (view self.now).is_open }
     {
-        !self.is_open
+        self.store.closed()
     }
 
     /// Whether a node of this name is a member.
     pub fn is_member(&self, node: &Text) -> bool
         ensures { result ≡ is_some (member_of node.now (replay (view self.now).history).members) }
     {
-        self.tables.tables().get_member(node).is_some()
+        self.tables().get_member(node).is_some()
     }
 
     /// The tables that the history leaves, which are valid.
@@ -39,7 +39,7 @@ impl<D: Disk> TriggerStore<D> {
         ensures value { result.now.tables ≡ replay (view self.now).history }
         ensures valid { TablesValid result.now.tables }
     {
-        self.tables.tables()
+        self.store.state().tables.tables()
     }
 
     /// The entries accepted since the mount, in order.
@@ -71,15 +71,9 @@ impl<D: Disk> TriggerStore<D> {
     {
         let TriggerStore {
             alloc: _,
-            journal,
-            count: _,
-            tables: _,
-            found: _,
+            store,
             accepted: _,
-            is_open: _,
-            undecided,
         } = self;
-        drop(undecided);
-        journal.into_disk()
+        store.into_disk()
     }
 }

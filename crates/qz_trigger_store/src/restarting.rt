@@ -3,16 +3,15 @@
 ghost use Rattle.std.specs.Prelude.{◌≡◌, ◌⊎◌, [], IfOk, IfErr, OnOk, Err};
 ghost use Rattle.qz_civil.specs.Causes.{Rose, HasCause};
 ghost use Rattle.qz_journal.specs.Through.{OnlyReads};
+ghost use Rattle.qz_stores.specs.Restarting.{read_of, IsReread};
 ghost use Rattle.qz_stores.specs.Stores.{Shuts, IsDecided, Opens};
 ghost use Rattle.qz_trigger_store.specs.Bytes.{Stands};
 ghost use Rattle.qz_trigger_store.specs.Entries.{trigger_entry, history_of};
 ghost use Rattle.qz_trigger_store.specs.Opening.{IsOpened};
-ghost use Rattle.qz_trigger_store.specs.Restarting.{read_of, IsReread};
 ghost use Rattle.qz_trigger_store.specs.View.{view, found_of, added_of, disk_of, disk_state, LeavesEither};
 
-use crate::TriggerStore;
 use crate::accepted::Accepted;
-use crate::replaying::{Reread, replay};
+use crate::{Reread, TriggerStore};
 use qz_civil::Failed;
 use qz_disk::Disk;
 use qz_journal::MountError;
@@ -26,8 +25,7 @@ impl<D: Disk> TriggerStore<D> {
         ensures cause { HasCause (view self.old).faults (view self.new).faults result }
         ensures any_moment { D.honest → LeavesEither self.old self.new }
     {
-        self.is_open = false;
-        self.journal.crash()
+        self.store.crash()
     }
 
     /// Reads the disk and replays what is on it, for `open`. The store is closed from then on, and keeps its history.
@@ -37,7 +35,7 @@ impl<D: Disk> TriggerStore<D> {
     pub fn reread(&mut self) -> Result<Reread, MountError>
         ensures shut { Shuts (view self.old) (view self.new) }
         ensures kept { (found_of self.new ≡ found_of self.old) × (added_of self.new ≡ added_of self.old) }
-        ensures read { IfOk result (λ reread. IsReread (read_of reread) self.new) }
+        ensures read { IfOk result (λ reread. IsReread (read_of reread) self.new.store) }
         ensures decided { D.honest → IfOk result (λ reread. IsDecided trigger_entry (view self.old).history (view self.old).undecided (history_of (read_of reread))) }
         ensures stands { D.honest → IfOk result (λ reread. Stands (disk_state self.old).content (history_of (read_of reread))) }
         ensures reads { D.honest → OnOk result (OnlyReads (disk_state self.old) (disk_state self.new)) }
@@ -45,17 +43,13 @@ impl<D: Disk> TriggerStore<D> {
         ensures fault { result ≡ Err MountError.Fault → Rose (view self.old).faults (view self.new).faults }
         ensures any_moment { D.honest → LeavesEither self.old self.new }
     {
-        self.is_open = false;
-        let payloads = self.journal.remount(self.alloc)?;
-        // the payloads end at an offset
-        let _gate = self.journal.gate();
-        replay(self.alloc, &payloads)
+        self.store.reread()
     }
 
     /// Opens the store with what `reread` found. It makes no device call and can't fail. What was accepted before is
     /// counted as found: `added`, `moments` and `replies` begin anew.
     pub fn open(&mut self, reread: Reread)
-        requires read { IsReread (read_of reread) self.old }
+        requires read { IsReread (read_of reread) self.old.store }
         ensures opens { Opens trigger_entry D.honest (view self.old) (view self.new) }
         ensures opened { IsOpened (view self.new) }
         ensures found { found_of self.new ≡ read_of reread }
@@ -64,12 +58,7 @@ impl<D: Disk> TriggerStore<D> {
         ensures disk { disk_of self.new ≡ disk_of self.old }
         ensures any_moment { D.honest → LeavesEither self.old self.new }
     {
-        let Reread { entries, tables } = reread;
-        self.count = self.journal.count();
-        self.tables = tables;
-        self.found = entries;
+        self.store.open(reread);
         self.accepted = Accepted::new(self.alloc);
-        self.is_open = true;
-        self.undecided = None;
     }
 }

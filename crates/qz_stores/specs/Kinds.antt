@@ -1,0 +1,99 @@
+-- What a kind of store is: its entries and their records, its states, and its histories. Whatever is said of stores is
+-- said of all kinds at once, and a store of triggers or of states is one of these.
+use Rattle.std.specs.Prelude.{◌≡◌, ℕ, List, [], ◌∷◌, ◌++◌, length, Option, Some, None, IsOk, Err}
+use Rattle.std.specs.declared.result.Result.{Result}
+use Rattle.qz_types.specs.declared.replies.Refusal.{Refusal}
+use Rattle.qz_types.specs.declared.errors.StepRefused.{StepRefused}
+use Rattle.qz_types.specs.declared.errors.StepRefused.TheVariants as step
+use Rattle.qz_journal.specs.View.{version}
+use Rattle.qz_stores.specs.Stores.{EntryKind}
+
+-- A kind, by the types of its histories, its states, its entries and the replies to them.
+pub record StoreKind (H S E R : Type 0) : Type 1 where
+  -- as the header of a file has it
+  pub number : ℕ
+  -- the record of an entry, and which entries have one
+  pub record_of : E → List ℕ
+  pub IsEntry : E → Type 0
+  -- the entries that a caller may submit
+  pub IsProper : E → Type 0
+  -- the state of a new store of this format version, and of one of the version that is written
+  pub empty : ℕ → S
+  pub new_state : S
+  -- what holds of each state that a store comes to
+  pub IsValid : S → Type 0
+  -- that two states are the same is known in one way at most
+  pub states_once : (T U : S) → IsProp (T ≡ U)
+  -- what an entry comes to at a state, which is its reply or why it is refused; and the state that it leaves
+  pub answer : S → E → Result R Refusal
+  pub after : S → E → S
+  -- the state after the last of some entries, and that each is accepted at the state which those before it leave
+  pub replay_from : S → List E → S
+  pub IsLegalFrom : S → List E → Type 0
+  -- A history begins with a base: how many entries came before those that it lists, and the state that they left.
+  pub history : ℕ → S → List E → H
+  pub base_count : H → ℕ
+  pub base : H → S
+  pub entries : H → List E
+
+-- the entry is accepted at this state
+abbrev pub IsAccepted : {H S E R : Type 0} → StoreKind H S E R → S → E → Type 0
+IsAccepted k T e = IsOk (k.answer T e)
+
+-- why it is refused, or None where it is accepted
+abbrev pub IsRefusalOf : {H S E R : Type 0} → StoreKind H S E R → S → E → Option Refusal → Type 0
+IsRefusalOf k T e None = IsAccepted k T e
+IsRefusalOf k T e (Some refusal) = k.answer T e ≡ Err refusal
+
+-- The error is right for what the entry comes to: a refusal is its own, and memory is wanted only for one that is accepted.
+abbrev pub IsErrorOf : {H S E R : Type 0} → StoreKind H S E R → S → E → StepRefused → Type 0
+IsErrorOf k T e (step.Refused refusal) = k.answer T e ≡ Err refusal
+IsErrorOf k T e step.NoMemory = IsAccepted k T e
+
+-- the state after the last entry of a history, and that it is legal
+abbrev pub replay : {H S E R : Type 0} → StoreKind H S E R → H → S
+replay k h = k.replay_from (k.base h) (k.entries h)
+
+abbrev pub IsLegal : {H S E R : Type 0} → StoreKind H S E R → H → Type 0
+IsLegal k h = k.IsLegalFrom (k.base h) (k.entries h)
+
+-- a history with one entry more
+abbrev pub with_entry : {H S E R : Type 0} → StoreKind H S E R → E → H → H
+with_entry k e h = k.history (k.base_count h) (k.base h) (k.entries h ++ e ∷ [])
+
+-- the history of these entries from a new store on
+abbrev pub history_of : {H S E R : Type 0} → StoreKind H S E R → List E → H
+history_of k entries = k.history 0 k.new_state entries
+
+-- what the entries of a store of this kind are to it
+abbrev pub entry_kind : {H S E R : Type 0} → StoreKind H S E R → EntryKind H E R
+entry_kind k = record {
+  answer = λ h e. k.answer (replay k h) e;
+  with_entry = with_entry k;
+  size = λ e. length (k.record_of e);
+}
+
+-- What has to hold of a kind, so that a store can be kept of it.
+pub record IsLawful {H S E R : Type 0} (k : StoreKind H S E R) : Type 0 where
+  -- a record is that of one entry at most
+  pub entries_once : (e f : E) → k.IsEntry e → k.IsEntry f → k.record_of e ≡ k.record_of f → e ≡ f
+  -- that two lists of entries are the same is known in one way at most
+  pub lists_once : (es fs : List E) → IsProp (es ≡ fs)
+  -- the version that is written is that of the journal
+  pub new_is : k.new_state ≡ k.empty version
+  -- entries are replayed one by one
+  pub replay_none : (T : S) → k.replay_from T [] ≡ T
+  pub replay_more : (T : S) (es : List E) (e : E) → k.replay_from T (es ++ e ∷ []) ≡ k.after (k.replay_from T es) e
+  -- and are legal if each is accepted
+  pub legal_none : (T : S) → k.IsLegalFrom T []
+  pub legal_more : (T : S) (es : List E) (e : E) → k.IsLegalFrom T es → IsAccepted k (k.replay_from T es) e → k.IsLegalFrom T (es ++ e ∷ [])
+  pub legal_at : (T : S) (es : List E) (e : E) (fs : List E) → k.IsLegalFrom T (es ++ e ∷ fs) → IsAccepted k (k.replay_from T es) e
+  -- a history is its base and its list
+  pub whole : (h : H) → k.history (k.base_count h) (k.base h) (k.entries h) ≡ h
+  pub base_count_is : (n : ℕ) (T : S) (es : List E) → k.base_count (k.history n T es) ≡ n
+  pub base_is : (n : ℕ) (T : S) (es : List E) → k.base (k.history n T es) ≡ T
+  pub entries_are : (n : ℕ) (T : S) (es : List E) → k.entries (k.history n T es) ≡ es
+
+-- An entry leaves a valid state.
+abbrev pub StaysValid : {H S E R : Type 0} → StoreKind H S E R → Type 0
+StaysValid {S = S} {E = E} k = (T : S) (e : E) → k.IsProper e → k.IsValid T → k.IsValid (k.after T e)

@@ -1,0 +1,56 @@
+//! What a store shows of itself.
+ghost use Rattle.std.specs.Prelude.{◌≡◌, ◌++◌, length, not};
+ghost use Rattle.qz_stores.specs.Kinds.{replay};
+ghost use Rattle.qz_stores.specs.View.{view, found_of, added_of, kept_of, disk_of};
+
+use crate::{Kind, Store};
+use qz_disk::Disk;
+
+impl<D: Disk, K: Kind> Store<D, K> {
+    /// How many entries the history has.
+    pub fn history_len(&self) -> u64
+        ensures { result ≡ length (found_of self.now ++ added_of self.now) }
+    {
+        self.count
+    }
+
+    /// Whether a call of this store was answered `Fault`, or a restart of it began and didn't end.
+    pub fn closed(&self) -> bool
+        ensures { result ≡ not (view self.now).is_open }
+    {
+        !self.is_open
+    }
+
+    /// The state that the history leaves.
+    pub fn state(&self) -> &K
+        ensures kept { result.now ≡ kept_of self.now }
+        ensures value { K.state result.now ≡ replay K.kind (view self.now).history }
+    {
+        &self.state
+    }
+
+    /// The offset, in bytes, of the gate after the last record.
+    pub fn gate(&self) -> u64
+        ensures { result ≡ (view self.now).gate }
+    {
+        self.journal.gate()
+    }
+
+    /// Gives the disk back.
+    pub fn into_disk(self) -> D
+        ensures { result ≡ disk_of self }
+    {
+        let Store {
+            alloc: _,
+            journal,
+            count: _,
+            state: _,
+            found: _,
+            added: _,
+            is_open: _,
+            undecided,
+        } = self;
+        drop(undecided);
+        journal.into_disk()
+    }
+}

@@ -1,0 +1,39 @@
+-- The trigger store as a kind of store.
+use Rattle.std.specs.Prelude.{◌≡◌, IsTrue}
+use Rattle.std.proofs.Props.{props}
+use Rattle.qz_types.specs.Entries.{EntryData, is_entry}
+use Rattle.qz_types.specs.Tables.{SchedulerTables, new_tables, empty}
+use Rattle.qz_types.specs.declared.replies.Reply.{Reply}
+use Rattle.qz_journal.specs.declared.layout.TheConstants.{TRIGGERS}
+use Rattle.qz_codec.specs.Layout.{record_of}
+use Rattle.qz_codec.specs.Values.{IsEntry}
+use Rattle.qz_model.specs.History.{History, tables_left, IsLegalFrom, replay_from}
+use Rattle.qz_model.specs.Invariant.{TablesValid}
+use Rattle.qz_model.specs.Transaction.{transaction}
+use Rattle.qz_stores.specs.Kinds.{StoreKind}
+use Rattle.qz_trigger_store.specs.Entries.{answer_of}
+
+pub tables_once : (T U : SchedulerTables) → IsProp (T ≡ U)
+tables_once T U = hlevel props
+
+-- An entry whose parts are within their limits may be submitted. It is answered as the transaction at the tables, and
+-- leaves what that leaves.
+abbrev pub trigger_kind : StoreKind History SchedulerTables EntryData Reply
+trigger_kind = record {
+  number = TRIGGERS;
+  record_of = record_of;
+  IsEntry = IsEntry;
+  IsProper = λ e. IsTrue (is_entry e);
+  empty = empty;
+  new_state = new_tables;
+  IsValid = TablesValid;
+  states_once = tables_once;
+  answer = λ T e. answer_of (transaction T e);
+  after = λ T e. tables_left T (transaction T e);
+  replay_from = replay_from;
+  IsLegalFrom = IsLegalFrom;
+  history = λ count base entries. record { base_count = count; base = base; entries = entries };
+  base_count = λ h. h.base_count;
+  base = λ h. h.base;
+  entries = λ h. h.entries;
+}

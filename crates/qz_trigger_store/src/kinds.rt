@@ -1,0 +1,90 @@
+//! The trigger store as a kind of store.
+use crate::triggers::Triggers;
+use qz_civil::List;
+use qz_codec::{ReadError, get_command, put_command};
+use qz_journal::TRIGGERS;
+use qz_plain::{PlainStore, Prepared};
+use qz_stores::{Kind, TakeError};
+use qz_types::{Entry, NoMemory, Refusal, Reply, StepRefused};
+use std::alloc::Global;
+
+/// A history that was read from a disk, from a new store on, and the tables that it leaves.
+pub type Reread = qz_stores::Reread<Triggers>;
+
+#[tactic(auto, using(crate::proofs::Outcomes::new_valid, crate::proofs::Outcomes::error_as, crate::proofs::Outcomes::refusal_as, crate::proofs::Outcomes::passes, crate::proofs::Outcomes::passes_as, crate::proofs::Outcomes::answered, crate::proofs::Outcomes::left_as))]
+impl Kind for Triggers {
+    type Entry = Entry;
+
+    type Reply = Reply;
+
+    type Change = Prepared;
+
+    ghost use Rattle.qz_types.specs.Tables.{SchedulerTables};
+    ghost use Rattle.qz_model.specs.History.{History};
+    ghost use Rattle.qz_plain.specs.Prepared.{Prepares};
+    ghost use Rattle.qz_trigger_store.specs.Kinds.{trigger_kind};
+    ghost use Rattle.qz_trigger_store.specs.Laws.{trigger_lawful};
+
+    ghost History = { History };
+
+    ghost State = { SchedulerTables };
+
+    ghost kind = { trigger_kind };
+
+    ghost state = { λ s. s.tables.tables };
+
+    ghost Prepares = { λ s e prepared. Prepares s.tables e prepared };
+
+    fn number() -> u8 {
+        TRIGGERS
+    }
+
+    fn new(alloc: Global) -> Triggers {
+        Triggers {
+            tables: PlainStore::new(alloc),
+        }
+    }
+
+    fn take(&mut self, alloc: Global, payload: &[u8]) -> Result<Entry, TakeError> {
+        let entry = match get_command(alloc, payload) {
+            Ok(entry) => entry,
+            Err(ReadError::BadRecord { at: _ }) => return Err(TakeError::Unfit),
+            Err(ReadError::NoMemory) => return Err(TakeError::NoMemory),
+        };
+        match self.tables.apply(&entry) {
+            Ok(reply) => {
+                drop(reply);
+                Ok(entry)
+            }
+            Err(StepRefused::Refused(refusal)) => {
+                drop(refusal);
+                drop(entry);
+                Err(TakeError::Unfit)
+            }
+            Err(StepRefused::NoMemory) => {
+                drop(entry);
+                Err(TakeError::NoMemory)
+            }
+        }
+    }
+
+    fn refusal(&self, entry: &Entry) -> Option<Refusal> {
+        self.tables.refusal(entry)
+    }
+
+    fn prepare(&mut self, entry: &Entry) -> Result<Prepared, StepRefused> {
+        self.tables.prepare(entry)
+    }
+
+    fn record(&self, alloc: Global, entry: &Entry) -> Result<List<u8>, NoMemory> {
+        put_command(alloc, entry)
+    }
+
+    fn commit(&mut self, entry: &Entry, prepared: Prepared) -> Reply {
+        self.tables.commit(entry, prepared)
+    }
+
+    ghost lawful = { trigger_lawful };
+
+    ghost valid = { λ s. s.valid };
+}
