@@ -91,6 +91,10 @@ class Membership:
         except (Unanswered, Unreachable) as error:
             lost = error
         except (StoreFault, StoreClosed, HubRefused) as error:
+            if isinstance(error, HubRefused) and error.word == "not-yours":
+                # (another thread has made this connection, and hasn't resumed on it yet)
+                self._come_back(generation, resumes=True)
+                raise Unanswered(str(error)) from None
             if not isinstance(scheduler, Connection) or isinstance(error, HubRefused) and error.word != "ended":
                 raise
             time.sleep(0.5)  # (the hub is about to end)

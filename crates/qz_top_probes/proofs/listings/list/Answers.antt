@@ -1,0 +1,11 @@
+use Rattle.std.proofs.Common.{rules}
+use Rattle.qz_top_probes.proofs.listings.list.Goals as goal
+
+pub returns : goal.returns
+returns g c = record {
+  done = search rules;
+  uses = search rules;
+  cause = search rules;
+  schedules = search rules;
+  reported = search rules;
+}

@@ -1,0 +1,22 @@
+//! The top call once more, a function for each way of calling it: edits of them show which wrong answers its contract refuses.
+#![tactic(auto)]
+
+mod bad_words;
+mod documents;
+mod fire_times;
+mod listings;
+mod making;
+mod memory;
+mod runs;
+mod scripts;
+mod workloads;
+
+pub use bad_words::refuse;
+pub use documents::load;
+pub use fire_times::times;
+pub use listings::list;
+pub use making::init;
+pub use memory::own;
+pub use runs::run;
+pub use scripts::script;
+pub use workloads::generate;

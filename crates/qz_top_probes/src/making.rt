@@ -1,0 +1,32 @@
+//! The top call, for `init`.
+ghost use Rattle.std.specs.Prelude.{map};
+ghost use Rattle.qz_io.specs.Around.{outside};
+ghost use Rattle.qz_top.specs.Causes.{counts};
+ghost use Rattle.qz_top_probes.specs.Promises.{Promised};
+ghost use Rattle.qz_top_probes.specs.Ways.{AsksInit};
+ghost use Rattle.qz_words.specs.Wishes.{wish_of};
+
+use qz_disk::Disk;
+use qz_io::{Clock, Sink, Source};
+use qz_node::{Job, Jobs};
+use qz_top::{Ended, command};
+use qz_types::Text;
+use std::alloc::Global;
+
+/// Makes the stores: the word is `init`.
+pub fn init<S: Source, K: Sink, E: Sink, D: Disk, C: Clock>(
+    alloc: Global,
+    words: &[Text],
+    input: &mut S,
+    out: &mut K,
+    err: &mut E,
+    triggers: D,
+    states: D,
+    clock: &mut C,
+    jobs: &mut Jobs,
+) -> Ended<D>
+    requires { AsksInit (wish_of words.now) }
+    ensures { Promised (wish_of words.now) (map means jobs.old.items) (map means jobs.new.items) triggers states result (outside S.Source K.Sink C.Clock input.old out.old clock.old) (outside S.Source K.Sink C.Clock input.new out.new clock.new) (counts S.Source K.Sink D.Disk input.old out.old triggers states) (counts S.Source K.Sink D.Disk input.new out.new result.triggers result.states) (E.held err.old) (E.held err.new) (E.faults err.old) (E.faults err.new) }
+{
+    command(alloc, words, input, out, err, triggers, states, clock, jobs)
+}

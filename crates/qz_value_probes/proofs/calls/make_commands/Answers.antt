@@ -1,0 +1,11 @@
+use Rattle.std.proofs.Common.{rules}
+use Rattle.qz_value_probes.proofs.calls.make_commands.Goals as goal
+
+pub returns-clause-value : goal.returns-clause-value
+returns-clause-value c = search rules
+
+pub returns-clause-valid : goal.returns-clause-valid
+returns-clause-valid c = search rules
+
+pub returns-clause-count : goal.returns-clause-count
+returns-clause-count c = search rules
