@@ -1,0 +1,9 @@
+pub mod Lists
+pub mod Heaps
+pub mod Sorts
+pub mod Bounds
+pub mod Edited
+pub mod Seen
+pub mod Threads
+pub mod Unlinks
+pub mod Columns

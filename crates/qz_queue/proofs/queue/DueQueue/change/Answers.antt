@@ -1,0 +1,11 @@
+use Rattle.qz_queue.proofs.Seen.{free_in, none_in, cheap_in, some_or_none}
+use Rattle.qz_queue.proofs.queue.DueQueue.change.Goals as goal
+
+pub change_at-requires-clause-free : goal.change_at-requires-clause-free
+change_at-requires-clause-free g c = rw c.deref_mut.ensures.value (free_in g.K.Ranked.stands_before g.K.Ranked.order c.self.inside.heap.items c.args.due c.args.slot (rw (← c.self.view_is) at c.requires.free))
+
+pub unreachable-requires : goal.unreachable-requires
+unreachable-requires g c = some_or_none _ (rw (← c.self.view_is) at c.requires.present) (none_in g.K.Ranked.stands_before g.K.Ranked.order c.self.inside.heap.items c.args.slot (rw c.deref.ensures.value at c.in-None.ensures.missing))
+
+pub returns-clause-calls : goal.returns-clause-calls
+returns-clause-calls g c = rw (← c.self.view_is) (cheap_in g.K.Ranked.stands_before g.K.Ranked.order c.self.inside.heap.items _ _ (rw c.deref_mut.ensures.value at c.change_at.ensures.calls))

@@ -1,0 +1,17 @@
+use Rattle.std.proofs.Common.{ℕ, ◌+◌, ◌≤◌, ◌<◌, length}
+use Rattle.std.specs.List.Sorted.{IsPermutation}
+use Rattle.qz_queue.specs.Heap.{IsPlaced}
+use Rattle.qz_queue.specs.Sift.{HasRisen, IsClimb}
+use Rattle.qz_queue.proofs.sifts.rise.Given as goal
+
+abbrev pub invariant-loop-at : goal.invariant-loop-at
+invariant-loop-at g l = record {
+  within : l.at < length l.heap;
+  permutation : IsPermutation l.initial.heap l.heap;
+  placed : IsPlaced l.heap l.places;
+  risen : HasRisen g.K.Ranked.stands_before l.initial.heap l.heap l.start l.at;
+  calls : (s : ℕ) × IsClimb s l.start l.at × (g.C.Compare.count l.compare ≤ g.C.Compare.count l.initial.compare + s);
+}
+
+abbrev pub decreases-loop-at : goal.decreases-loop-at
+decreases-loop-at g l = l.at
