@@ -18,13 +18,9 @@ use Rattle.qz_steps.specs.declared.steps.StepReply.TheVariants as reply
 use Rattle.qz_trigger_store.specs.Entries.{TriggerState}
 use Rattle.qz_trigger_store.specs.Opening.{IsSound}
 use Rattle.qz_trigger_store.proofs.Sound.{same_sound, submitted_sound, shut_sound}
-use Rattle.qz_stores.specs.Stores.{Shuts}
-use Rattle.qz_checkin.specs.Bytes.{BeginsNew, IsPlaced}
 use Rattle.qz_checkin.specs.Entries.{StatesState}
-use Rattle.qz_checkin.specs.History.{StateHistory, IsLegal as AreLegal, replay_states}
-use Rattle.qz_checkin.specs.Valid.{StatesValid}
 use Rattle.qz_checkin.specs.Opening.{IsSound as AreSound}
-use Rattle.qz_checkin.proofs.Sound.{same_sound as states_same_sound, submitted_sound as states_submitted_sound}
+use Rattle.qz_checkin.proofs.Sound.{same_sound as states_same_sound, shut_sound as states_shut_sound, submitted_sound as states_submitted_sound}
 use Rattle.qz_cluster.specs.Script.{TimedStep, entry_of, check_in_entry, forget_entry}
 use Rattle.qz_cluster.specs.Steps.{ClusterState, rows_of, entry_of_member, entry_of_step, state_entry_of_step, StoresStay, StatesDone, TriggersDone, AtStates, AtTriggers, BothShut, StepCase, IsStep, EndCase, IsCutShort}
 use Rattle.qz_cluster.specs.declared.errors.StepEnd.{StepEnd}
@@ -84,18 +80,6 @@ valid_state_entry S (Stop node) at e valid asked = absurd cc
 valid_state_entry S Restart at e valid asked = absurd cc
 valid_state_entry S (Resume node epoch) at e valid asked = absurd cc
 valid_state_entry S (Show question) at e valid asked = absurd cc
-
-none_open : (s : StatesState) → s.is_open ≡ false → s.is_open ≡ true → IsPlaced s
-none_open s shut is_open = let both_ways : false ≡ true = sym shut ∙ is_open in absurd cc
-
--- a restart that began
-states_shut_sound : (s t : StatesState) → Shuts s t → AreSound s → AreSound t
-states_shut_sound s t shut sound = record {
-  begins = subst BeginsNew (sym shut.history) sound.begins;
-  legal = subst AreLegal (sym shut.history) sound.legal;
-  rows = subst (λ (h : StateHistory). ∥ StatesValid (replay_states h) ∥₁) (sym shut.history) sound.rows;
-  placed = none_open t shut.is_open;
-}
 
 -- both stores are sound
 abbrev pub AreBothSound : ClusterState → Type 0

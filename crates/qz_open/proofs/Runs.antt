@@ -80,7 +80,7 @@ holds_case honest t answer.Fault S S' os valid (inl case) h =
     ∣ holds_fault S' os t.step (⊎_elim (λ at. holds_same S S' os at.triggers at.held h) (λ at. holds_closed S S' os at.triggers.history at.triggers.is_open h) case.which) ∣₁
 holds_case honest t answer.Fault S S' os valid (inr case) h = ∣ holds_fault S' os t.step (holds_closed S S' os case.shut.triggers.history case.shut.triggers.is_open h) ∣₁
 holds_case honest t (answer.Shown s) S S' os valid case h = ∣ holds_same S S' os case.stays.stores.triggers case.stays.held h ∣₁
-holds_case honest t answer.Restarted S S' os valid case h = ∥∥₁_map case.are_triggers.sound.tables (holds_none S')
+holds_case honest t answer.Restarted S S' os valid case h = ∥∥₁_map case.are_triggers.sound.state (holds_none S')
 
 -- All steps.
 
@@ -131,7 +131,7 @@ alone_from honest S os (t ∷ ts) (a ∷ answers) (S' ∷ states) done h = (
 
 pub always_alone : (honest : Type 0) (S : ClusterState) (ts : List TimedStep) (answers : List StepReply) (states : List ClusterState) → IsStart S → StepsDone honest S ts answers states → AreAlwaysAlone [] ts answers
 always_alone honest S ts answers states start done =
-    ∥∥₁_elim start.opened.sound.tables (always-prop [] ts answers) (λ valid. alone_from honest S [] ts answers states done (holds_none S valid))
+    ∥∥₁_elim start.opened.sound.state (always-prop [] ts answers) (λ valid. alone_from honest S [] ts answers states done (holds_none S valid))
 
 -- A recovery of a node that holds no epoch ends no open execution.
 
@@ -185,4 +185,4 @@ spares_from honest S os (t ∷ ts) (a ∷ answers) (S' ∷ states) done h = (
 
 pub always_spares : (honest : Type 0) (S : ClusterState) (ts : List TimedStep) (answers : List StepReply) (states : List ClusterState) → IsStart S → StepsDone honest S ts answers states → AlwaysSparesOthers S [] ts answers states
 always_spares honest S ts answers states start done =
-    ∥∥₁_elim start.opened.sound.tables (always_spares-prop S [] ts answers states) (λ valid. spares_from honest S [] ts answers states done (holds_none S valid))
+    ∥∥₁_elim start.opened.sound.state (always_spares-prop S [] ts answers states) (λ valid. spares_from honest S [] ts answers states done (holds_none S valid))

@@ -80,10 +80,10 @@ longer es e = omega (arith, length-append es (e ∷ []))
 
 module _ {D : Type 0} {g : Ghosts D} where
   pub triggers_begin : ((d : D) → g.honest → IsLawful (g.state d)) → (s : TriggerStore D g) → ∥ KeepsTriggers s s ∥₁
-  triggers_begin lawful s = ∣ (λ honest. started (disk_state s) _ (lawful (disk_of s) honest) (λ bytes is. inr (may_be _ _ bytes (s.images honest bytes is)))) ∣₁
+  triggers_begin lawful s = ∣ (λ honest. started (disk_state s) _ (lawful (disk_of s) honest) (λ bytes is. inr (may_be _ _ bytes (s.store.images honest bytes is)))) ∣₁
 
   pub states_begin : ((d : D) → g.honest → IsLawful (g.state d)) → (s : StateStore D g) → ∥ KeepsStates s s ∥₁
-  states_begin lawful s = ∣ (λ honest. started (states_disk_state s) _ (lawful (states_disk_of s) honest) (λ bytes is. inr (states_may_be _ _ bytes (s.images honest bytes is)))) ∣₁
+  states_begin lawful s = ∣ (λ honest. started (states_disk_state s) _ (lawful (states_disk_of s) honest) (λ bytes is. inr (states_may_be _ _ bytes (s.store.images honest bytes is)))) ∣₁
 
   pub triggers_kept : (b s t : TriggerStore D g) (e : EntryData) (r : Result Reply SubmitError) → length (view b).history.entries ≤ length (view s).history.entries → Submits trigger_entry e r (view s) (view t)
       → (g.honest → LeavesEither s t) → ∥ KeepsTriggers b s ∥₁ → ∥ KeepsTriggers b t ∥₁
@@ -93,8 +93,8 @@ module _ {D : Type 0} {g : Ghosts D} where
       let whole : (h : History) → first_entries (size h) h ≡ h = λ h i. record h { entries = take-length h.entries i } in
       let front : (e : EntryData) (h : History) (k : ℕ) → k ≤ size h → first_entries k (trigger_entry.with_entry e h) ≡ first_entries k h = λ e h k le i. record h { entries = take-append-le k h.entries (e ∷ []) le i } in
       ∥∥₁_map kept (λ so_far honest. then_leaves (disk_state b) (disk_state s) (disk_state t) _ _ _ (so_far honest) (leaves honest)
-      (λ bytes was. between_then trigger_entry Stands first_entries size grows whole front (view b) (view s) (view t) e r bytes within s.settled done was)
-      (λ bytes is. either_between trigger_entry Stands first_entries size grows whole front (view b) (view s) (view t) e r bytes within s.settled done is))
+      (λ bytes was. between_then trigger_entry Stands first_entries size grows whole front (view b) (view s) (view t) e r bytes within s.store.settled done was)
+      (λ bytes is. either_between trigger_entry Stands first_entries size grows whole front (view b) (view s) (view t) e r bytes within s.store.settled done is))
 
   pub states_kept : (b s t : StateStore D g) (e : StateEntryData) (r : Result ⊤ SubmitError) → length (states_view b).history.entries ≤ length (states_view s).history.entries → Submits of_states e r (states_view s) (states_view t)
       → (g.honest → LeaveEither s t) → ∥ KeepsStates b s ∥₁ → ∥ KeepsStates b t ∥₁
@@ -104,5 +104,5 @@ module _ {D : Type 0} {g : Ghosts D} where
       let whole : (h : StateHistory) → first_rows (size h) h ≡ h = λ h i. record h { entries = take-length h.entries i } in
       let front : (e : StateEntryData) (h : StateHistory) (k : ℕ) → k ≤ size h → first_rows k (of_states.with_entry e h) ≡ first_rows k h = λ e h k le i. record h { entries = take-append-le k h.entries (e ∷ []) le i } in
       ∥∥₁_map kept (λ so_far honest. then_leaves (states_disk_state b) (states_disk_state s) (states_disk_state t) _ _ _ (so_far honest) (leaves honest)
-      (λ bytes was. between_then of_states StatesStand first_rows size grows whole front (states_view b) (states_view s) (states_view t) e r bytes within s.settled done was)
-      (λ bytes is. either_between of_states StatesStand first_rows size grows whole front (states_view b) (states_view s) (states_view t) e r bytes within s.settled done is))
+      (λ bytes was. between_then of_states StatesStand first_rows size grows whole front (states_view b) (states_view s) (states_view t) e r bytes within s.store.settled done was)
+      (λ bytes is. either_between of_states StatesStand first_rows size grows whole front (states_view b) (states_view s) (states_view t) e r bytes within s.store.settled done is))

@@ -6,14 +6,14 @@ pub returns-clause-any_moment : goal.returns-clause-any_moment
 returns-clause-any_moment g c honest =
     let s = c.args.self.now in
     record {
-      triggers = triggers_rest s.triggers (g.met.D.Disk.lawful honest s.triggers.journal.disk) honest;
-      states = states_rest s.states (g.met.D.Disk.lawful honest s.states.journal.disk) honest;
+      triggers = triggers_rest s.triggers (g.met.D.Disk.lawful honest s.triggers.store.journal.disk) honest;
+      states = states_rest s.states (g.met.D.Disk.lawful honest s.states.store.journal.disk) honest;
     }
 
 pub returns-in_err-reserve-clause-any_moment : goal.returns-in_err-reserve-clause-any_moment
 returns-in_err-reserve-clause-any_moment g c honest =
     let s = c.args.self.now in
     record {
-      triggers = triggers_rest s.triggers (g.met.D.Disk.lawful honest s.triggers.journal.disk) honest;
-      states = states_rest s.states (g.met.D.Disk.lawful honest s.states.journal.disk) honest;
+      triggers = triggers_rest s.triggers (g.met.D.Disk.lawful honest s.triggers.store.journal.disk) honest;
+      states = states_rest s.states (g.met.D.Disk.lawful honest s.states.store.journal.disk) honest;
     }

@@ -13,4 +13,4 @@ returns-in-Ok-clause-any_moment g c honest = record {
 pub returns-in-Err-clause-any_moment : goal.returns-in-Err-clause-any_moment
 returns-in-Err-clause-any_moment g c honest =
     let s = c.args.self.now.triggers in
-    record { triggers = triggers_rest s (g.met.D.Disk.lawful honest s.journal.disk) honest; states = c.check_in.ensures.any_moment honest }
+    record { triggers = triggers_rest s (g.met.D.Disk.lawful honest s.store.journal.disk) honest; states = c.check_in.ensures.any_moment honest }

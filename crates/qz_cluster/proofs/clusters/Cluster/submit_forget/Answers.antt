@@ -5,4 +5,4 @@ use Rattle.qz_cluster.proofs.clusters.Cluster.submit_forget.Goals as goal
 pub returns-clause-any_moment : goal.returns-clause-any_moment
 returns-clause-any_moment g c honest =
     let s = c.args.self.now.triggers in
-    record { triggers = triggers_rest s (g.met.D.Disk.lawful honest s.journal.disk) honest; states = c.forget-answer.ensures.any_moment honest }
+    record { triggers = triggers_rest s (g.met.D.Disk.lawful honest s.store.journal.disk) honest; states = c.forget-answer.ensures.any_moment honest }
