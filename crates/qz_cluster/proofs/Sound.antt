@@ -1,5 +1,5 @@
 -- A valid step submits valid entries, so it leaves sound stores where it found them.
-use Rattle.std.proofs.Common.{◌≡◌, ◌⊎◌, inl, inr, ℤ, List, Bool, true, false, not, ◌&&◌, IsTrue, Some, None, refl, sym, ◌∙◌, subst}
+use Rattle.std.proofs.Common.{◌≡◌, ◌⊎◌, inl, inr, ℤ, List, Bool, true, false, not, ◌&&◌, IsTrue, Some, None, refl, subst}
 use Rattle.std.specs.Prelude.{Option, Ok, Err}
 use Rattle.std.proofs.lemmas.Bool.{and_parts}
 use Rattle.qz_types.specs.Rows.{MemberData, is_node, is_interval}

@@ -26,7 +26,7 @@ use Rattle.qz_model.proofs.RowPoints.{All-weaker}
 use Rattle.qz_cluster.specs.Script.{TimedStep, entry_of}
 use Rattle.qz_cluster.specs.Steps.{ClusterState, held_after, is_unheld, is_restart, first_refusal, entry_of_member, entry_of_step, TriggersDone, StepCase}
 use Rattle.qz_cluster.proofs.Sound.{valid_entry}
-use Rattle.qz_open.specs.Opened.{Execution, IsAlone, AreAlone, AreAlwaysAlone, without_node, open_after_command, open_after_done, open_after_fault, open_after}
+use Rattle.qz_open.specs.Opened.{Execution, IsAlone, AreAlone, AreAlwaysAlone, open_after_command, open_after_done, open_after_fault, open_after}
 use Rattle.qz_open.specs.Runs.{IsStart, StepsDone, SparesDone, SparesOthers, AlwaysSparesOthers}
 use Rattle.qz_open.proofs.Lists.{of_all, only_one, fewer}
 use Rattle.qz_open.proofs.Steps.{Stands, Holds, some_is_none, true_is_false, holds_none, holds_same, holds_closed, holds_without, holds_resumed, holds_client, holds_join}

@@ -30,7 +30,7 @@ new_sound : (m n : ℕ) → IsSound (new_cluster m n).triggers
 new_sound m n = record {
   begins = begins_new;
   legal = tt;
-  tables = ∣ valid-new_tables ∣₁;
+  state = ∣ valid-new_tables ∣₁;
   placed = λ is. record { payloads = []; encode = tt; gate = refl; count = refl };
 }
 

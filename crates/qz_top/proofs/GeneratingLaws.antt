@@ -221,7 +221,7 @@ module _ {D : Type 0} {g : Ghosts D} where
 
   -- an open store has no undecided entry
   stands_of : (b : TriggerStore D g) (bytes : List ℕ) → (view b).is_open ≡ true → MayBe (view b).history (view b).undecided bytes → Stands bytes (view b).history
-  stands_of b bytes opened may = subst (λ (u : Option EntryData). MayBe (view b).history u bytes) (b.settled opened) may
+  stands_of b bytes opened may = subst (λ (u : Option EntryData). MayBe (view b).history u bytes) (b.store.settled opened) may
 
   first_way : (a b c : TriggerStore D g) (added : List EntryData) (bytes : List ℕ) → (view b).is_open ≡ true → length (view a).history.entries ≤ length (view b).history.entries
       → (view c).history.entries ≡ (view b).history.entries ++ added → HasOnTheWay (view a) (view b) bytes → HasOnTheWay (view a) (view c) bytes

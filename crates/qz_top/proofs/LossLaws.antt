@@ -20,7 +20,7 @@ use Rattle.qz_laws.proofs.Histories.{exact}
 use Rattle.qz_stores.specs.Stores.{Appends}
 use Rattle.qz_trigger_store.specs.Entries.{TriggerState, answer_of, trigger_entry}
 use Rattle.qz_trigger_store.specs.Opening.{IsOpened}
-use Rattle.qz_trigger_store.proofs.Replays.{All-pushed}
+use Rattle.qz_stores.proofs.Blocks.{All-pushed}
 use Rattle.qz_checkin.specs.Entries.{StatesState}
 use Rattle.qz_cluster.specs.Script.{TimedStep}
 use Rattle.qz_cluster.specs.Steps.{ClusterState, TriggersDone, AtStates, AtTriggers, StepCase, IsStep, EndCase}

@@ -13,6 +13,7 @@ use Rattle.qz_model.specs.History.{tables_left, onto_replies, IsLegalFrom, repla
 use Rattle.qz_model.specs.Transaction.{transaction}
 use Rattle.qz_trigger_store.specs.View.{view, found_of, added_of, moments_of, replies_of}
 use Rattle.qz_trigger_store.specs.declared.stores.TriggerStore.{TriggerStore}
+use Rattle.qz_trigger_store.proofs.Kept.{legal}
 use Rattle.qz_top.specs.NodeRuns.{IsOfNodes, WritesRun}
 use Rattle.qz_top.specs.declared.statuses.Status.{Status}
 use Rattle.qz_top.specs.declared.statuses.Status.TheVariants as status
@@ -42,7 +43,7 @@ module _ {D : Type 0} {g : Ghosts D} (t : TriggerStore D g) where
   as_many_moments = ap length t.moments ∙ moments_length (replay_from new_tables (found_of t)) (added_of t)
 
   pub as_many_replies : length (replies_of t) ≡ length (added_of t)
-  as_many_replies = ap length t.replies ∙ replies_length (replay_from new_tables (found_of t)) (added_of t) (legal_after new_tables (found_of t) (added_of t) t.legal)
+  as_many_replies = ap length t.replies ∙ replies_length (replay_from new_tables (found_of t)) (added_of t) (legal_after new_tables (found_of t) (added_of t) (legal t))
 
   pub counted_both : length (view t).history.entries ≡ length (found_of t) + length (added_of t)
   counted_both = length-append (found_of t) (added_of t)

@@ -1,18 +1,18 @@
 -- Runs of steps that go on, and new clusters.
 use Rattle.std.proofs.Common.{◌≡◌, ℕ, List, [], ◌∷◌, ◌++◌, length, true, false, refl, sym, ap, ◌∙◌, subst, append_assoc}
-use Rattle.std.specs.Prelude.{map}
 use Rattle.std.proofs.lemmas.List.{append-nil}
 use Rattle.qz_steps.specs.declared.steps.StepReply.{StepReply}
-use Rattle.qz_types.specs.Entries.{EntryData}
 use Rattle.qz_model.specs.History.{History, new_history}
 use Rattle.qz_cluster.specs.Script.{TimedStep}
 use Rattle.qz_journal.specs.Layout.{Holds, end_of}
 use Rattle.qz_journal.specs.declared.layout.TheConstants.{STATES}
-use Rattle.qz_trigger_store.specs.Bytes.{Encode}
+use Rattle.qz_stores.specs.Kinds.{StoreKind}
+use Rattle.qz_stores.specs.Bytes.{Encode}
+use Rattle.qz_trigger_store.specs.Kinds.{trigger_kind}
 use Rattle.qz_trigger_store.specs.Opening.{IsOpened}
 use Rattle.qz_checkin.specs.History.{StateHistory, new_state_history}
 use Rattle.qz_checkin.specs.Bytes.{BeginsNew, Stands as StatesStand}
-use Rattle.qz_checkin.specs.Entries.{state_record_of}
+use Rattle.qz_checkin.specs.Kinds.{state_kind}
 use Rattle.qz_checkin.proofs.Appending.{holding}
 use Rattle.qz_checkin.specs.Opening.{IsOpened as AreOpened}
 use Rattle.qz_cluster.specs.Steps.{ClusterState, IsStep}
@@ -55,10 +55,11 @@ RanSteps-one t r R S step trail own no_fault =
 
 -- Clusters on new stores.
 
-none_encoded : (ps : List (List ℕ)) (es : List EntryData) → es ≡ [] → Encode ps es → ps ≡ []
-none_encoded [] es none encode = refl
-none_encoded (p ∷ ps) [] none encode = absurd encode
-none_encoded (p ∷ ps) (e ∷ es) none encode = absurd cc
+module _ {H S E R : Type 0} (k : StoreKind H S E R) where
+  none_encoded : (ps : List (List ℕ)) (es : List E) → es ≡ [] → Encode k ps es → ps ≡ []
+  none_encoded [] es none encode = refl
+  none_encoded (p ∷ ps) [] none encode = absurd encode
+  none_encoded (p ∷ ps) (e ∷ es) none encode = absurd cc
 
 pub states_begin_new : BeginsNew new_state_history
 states_begin_new = record { count = refl; base = refl }
@@ -70,13 +71,13 @@ pub new_state : (S : ClusterState) → S.triggers.history ≡ new_history → S.
     → S ≡ new_cluster S.triggers.faults S.states.faults
 new_state S history states_history opened states_opened held =
     let placed = opened.sound.placed opened.is_open in
-    let none = none_encoded placed.payloads S.triggers.history.entries (ap (λ (h : History). h.entries) history) placed.encode in
+    let none = none_encoded trigger_kind placed.payloads S.triggers.history.entries (ap (λ (h : History). h.entries) history) placed.encode in
     let gate : S.triggers.gate ≡ 16 = placed.gate ∙ ap end_of none in
     let payloads : S.triggers.payloads ≡ 0 = placed.count ∙ ap (λ (ps : List (List ℕ)). length ps) none in
     let states_placed = states_opened.sound.placed states_opened.is_open in
-    let no_states : map state_record_of S.states.history.entries ≡ [] = ap (λ (h : StateHistory). map state_record_of h.entries) states_history in
+    let no_states = none_encoded state_kind states_placed.payloads S.states.history.entries (ap (λ (h : StateHistory). h.entries) states_history) states_placed.encode in
     let states_gate : S.states.gate ≡ 16 = states_placed.gate ∙ ap end_of no_states in
-    let states_payloads : S.states.payloads ≡ 0 = states_placed.count ∙ ap (λ (h : StateHistory). length h.entries) states_history in
+    let states_payloads : S.states.payloads ≡ 0 = states_placed.count ∙ ap (λ (ps : List (List ℕ)). length ps) no_states in
     λ i. record {
       triggers = record { history = history i; gate = gate i; payloads = payloads i; is_open = opened.is_open i; undecided = opened.settled i; faults = S.triggers.faults };
       states = record {

@@ -4,7 +4,8 @@ use Rattle.qz_checkin.proofs.Appending.{may_be as states_may_be}
 use Rattle.qz_top.specs.NodeRuns.{both}
 use Rattle.qz_top.proofs.NodeRunLaws.{kept_on_the_way}
 use Rattle.qz_top.proofs.OpenedLaws.{rose_from_first}
-use Rattle.qz_trigger_store.proofs.Kept.{schedules_kept}
+use Rattle.qz_trigger_store.proofs.Kept.{legal, schedules_kept}
+use Rattle.qz_checkin.proofs.Kept.{legal as states_legal}
 use Rattle.qz_top.proofs.gen_on_disk.gen_opened.Goals as goal
 
 pub returns-clause-done : goal.returns-clause-done
@@ -22,13 +23,13 @@ returns-clause-done g c triggers states begins =
       stand = begins.stand;
       end = both left.triggers left.states;
       did = rw end.status generated.did;
-      legal = (left.triggers.legal, left.states.legal);
+      legal = (legal left.triggers, states_legal left.states);
       schedules = schedules_kept left.triggers;
       no_trail = end.trail;
       faults = (ap g.D.Disk.faults (end.disks.0 ∙ disk), ap g.D.Disk.faults (end.disks.1 ∙ states_disk));
       images = λ honest b. (
-        λ is. may_be _ _ b (left.triggers.images honest b (rw (end.disks.0 ∙ disk) at is)),
-        λ is. states_may_be _ _ b (left.states.images honest b (rw (end.disks.1 ∙ states_disk) at is)),
+        λ is. may_be _ _ b (left.triggers.store.images honest b (rw (end.disks.0 ∙ disk) at is)),
+        λ is. states_may_be _ _ b (left.states.store.images honest b (rw (end.disks.1 ∙ states_disk) at is)),
       );
       any_moment = kept_on_the_way triggers states cluster.triggers left.triggers cluster.states left.states _ _ (end.disks.0 ∙ disk) (end.disks.1 ∙ states_disk) begins.reads generated.any_moment.0 generated.any_moment.1;
     }
