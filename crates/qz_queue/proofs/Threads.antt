@@ -182,9 +182,9 @@ module _ (lists : List (List ℕ)) (firsts lasts nexts backs : List (Option ℕ)
             (cases_eq o owner);
       }
 
-  -- an owner gets one more behind its last
-  pub linked_behind : (b : ℕ) → at lasts owner ≡ Some b → IsThreaded (set lists owner (get_or lists owner [] ++ slot ∷ [])) firsts (set lasts owner (Some slot)) (set (set nexts slot None) b (Some slot)) (set backs slot (Some b)) (set owners slot owner)
-  linked_behind b last =
+  -- an owner gets one more after its last
+  pub linked_after : (b : ℕ) → at lasts owner ≡ Some b → IsThreaded (set lists owner (get_or lists owner [] ++ slot ∷ [])) firsts (set lasts owner (Some slot)) (set (set nexts slot None) b (Some slot)) (set backs slot (Some b)) (set owners slot owner)
+  linked_after b last =
       let rows = h.rows in let ends = h.ends in let sides = h.sides in
       let mine = get_or lists owner [] in
       let old = h.each owner row in
@@ -229,7 +229,7 @@ module _ (lists : List (List ℕ)) (firsts lasts nexts backs : List (Option ℕ)
   -- an owner gets one more, whether or not it has any
   pub linked : (last : Option ℕ) → at lasts owner ≡ last → IsThreaded (set lists owner (get_or lists owner [] ++ slot ∷ [])) (set_unless firsts last owner (Some slot)) (set lasts owner (Some slot)) (set_if (set nexts slot None) last (Some slot)) (set backs slot last) (set owners slot owner)
   linked None e = linked_first e
-  linked (Some b) e = linked_behind b e
+  linked (Some b) e = linked_after b e
 
 module _ {X : Type 0} where
   pub past_end : (xs : List X) (i : ℕ) (d : X) → length xs ≤ i → get_or xs i d ≡ d

@@ -101,14 +101,14 @@ module _ (nexts backs : List (Option ℕ)) (owners : List ℕ) (o : ℕ) where
       subst (λ (m : List ℕ). Threaded (set_if nexts (at backs slot) (at nexts slot)) (set_if backs (at nexts slot) (at backs slot)) owners o p m × (at backs slot ≡ p → head_of m ≡ at nexts slot) × (at backs slot ≢ p → head_of m ≡ Some x)) (sym (without_next x slot l n))
       (((omega arith, entry, set_if_other backs (at nexts slot) x (at backs slot) ahead ∙ t.0.2, t.0.3), ih.0), (λ e. absurd (outside_not p (x ∷ l) was.0 out was.2 (sym e ∙ was.1))), (λ e. refl))
 
-  behind : (x slot : ℕ) (l : List ℕ) → x ≢ slot → IsIn (x ∷ l) slot → IsIn l slot
-  behind x slot l n c = ⊎_elim (λ (e : x ≡ slot). absurd (n e)) (λ (d : IsIn l slot). d) c
+  further_on : (x slot : ℕ) (l : List ℕ) → x ≢ slot → IsIn (x ∷ l) slot → IsIn l slot
+  further_on x slot l n c = ⊎_elim (λ (e : x ≡ slot). absurd (n e)) (λ (d : IsIn l slot). d) c
 
   pub left : (slot : ℕ) (p : Option ℕ) (l : List ℕ) → length backs ≡ length nexts → Threaded nexts backs owners o p l → AreDistinct l → Outside p l → IsIn l slot → Left slot p l
   left slot p [] same t d out c = absurd c
   left slot p (x ∷ l) same t d out c = ⊎_elim
       (λ (e : x ≡ slot). left_head slot p x l same e t d out)
-      (λ (n : x ≢ slot). let e = behind x slot l n c in left_next slot p x l n t d out e (left slot (Some x) l same t.1 d.1 d.0 e))
+      (λ (n : x ≢ slot). let e = further_on x slot l n c in left_next slot p x l n t d out e (left slot (Some x) l same t.1 d.1 d.0 e))
       (cases_eq x slot)
 
   unfoldable pub Ends : ℕ → Option ℕ → List ℕ → Type 0
@@ -132,7 +132,7 @@ module _ (nexts backs : List (Option ℕ)) (owners : List ℕ) (o : ℕ) where
   ends slot p [] t c = absurd c
   ends slot p (x ∷ l) t c = ⊎_elim
       (λ (e : x ≡ slot). ends_head slot p x l e t)
-      (λ (n : x ≢ slot). ends_next slot p x l n (ends slot (Some x) l t.1 (behind x slot l n c)))
+      (λ (n : x ≢ slot). ends_next slot p x l n (ends slot (Some x) l t.1 (further_on x slot l n c)))
       (cases_eq x slot)
 
 end_if : (a v l m : Option ℕ) (xs : List (Option ℕ)) (i : ℕ) → i < length xs → at xs i ≡ l → (a ≡ None → m ≡ v) → (a ≢ None → m ≡ l) → at (set_unless xs a i v) i ≡ m
