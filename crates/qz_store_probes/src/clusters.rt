@@ -1,11 +1,11 @@
 //! Both stores together.
-ghost use Rattle.std.specs.Prelude.{◌≡◌, ◌⊎◌, ◌≤◌, [], true, false, IsTrue, IfOk, IfErr, OnErr, MatchResult};
+ghost use Rattle.std.specs.Prelude.{◌≡◌, ◌⊎◌, ◌≤◌, [], true, IsTrue, IfOk, IfErr, OnErr, MatchResult};
 ghost use Rattle.qz_checkin.specs.Bytes.{Stands as StatesStand, IsHistory as IsStateHistory};
 ghost use Rattle.qz_checkin.specs.History.{StateHistory};
 ghost use Rattle.qz_checkin.specs.Opening.{IsOpened as AreOpened};
-ghost use Rattle.qz_cluster.specs.Mounting.{DisksAfter, RefusedBy, RoseOf, CountsRise};
-ghost use Rattle.qz_cluster.specs.Steps.{IsStep, IsCutShort, is_restart, is_quiet};
-ghost use Rattle.qz_cluster.specs.View.{view, triggers_of, triggers_disk, states_disk, KeepsTriggers, KeepsStores, KeepsUnlessDone, EachLeavesEither};
+ghost use Rattle.qz_cluster.specs.Mounting.{DisksAfter, RefusedBy, StandsBefore, RoseOf, CountsRise};
+ghost use Rattle.qz_cluster.specs.Steps.{IsStep, IsCutShort, is_quiet};
+ghost use Rattle.qz_cluster.specs.View.{view, triggers_of, triggers_disk, states_disk, Keeps, KeepsUnanswered, KeepsStores, EachLeavesEither};
 ghost use Rattle.qz_journal.specs.Through.{OnlyReads};
 ghost use Rattle.qz_model.specs.History.{History};
 ghost use Rattle.qz_steps.specs.Steps.{is_step};
@@ -31,6 +31,7 @@ pub fn mount<D: Disk>(
     ensures reads { D.honest → IfOk result (λ c. OnlyReads (D.state triggers) (triggers_disk c) × OnlyReads (D.state states) (states_disk c)) }
     ensures reads_err { D.honest → IfErr result (λ e. DisksAfter D.Disk e.0.store e.0.error triggers states e.1 e.2) }
     ensures refused { D.honest → IfErr result (λ e. RefusedBy D.Disk e.0.store e.0.error triggers states) }
+    ensures first { D.honest → IfErr result (λ e. StandsBefore D.Disk e.0.store triggers) }
     ensures whole { D.honest → (h : History) → (k : StateHistory) → IsHistory h → IsStateHistory k
         → Stands (D.state triggers).content h → StatesStand (D.state states).content k
         → MatchResult result (λ c. ((view c).triggers.history ≡ h) × ((view c).states.history ≡ k)) (λ e. (e.0.error ≡ MountError.Fault) ⊎ (e.0.error ≡ MountError.NoMemory)) }
@@ -46,8 +47,8 @@ pub fn step<D: Disk>(cluster: &mut Cluster<D>, step: Step, at: i64) -> Result<St
     requires { IsTrue (is_step step) }
     ensures ok { IfOk result (λ r. IsStep D.honest (record { step = step; at = at }) r (view cluster.old) (view cluster.new)) }
     ensures err { IfErr result (λ e. IsCutShort D.honest (record { step = step; at = at }) e (view cluster.old) (view cluster.new)) }
-    ensures keeps { IfOk result (λ r. KeepsUnlessDone r cluster.old cluster.new) }
-    ensures unchanged { OnErr result (is_restart step ≡ false → KeepsTriggers cluster.old cluster.new) }
+    ensures keeps { IfOk result (λ r. Keeps step r cluster.old cluster.new) }
+    ensures unchanged { OnErr result (KeepsUnanswered step cluster.old cluster.new) }
     ensures quiet { is_quiet step ≡ true → KeepsStores cluster.old cluster.new }
     ensures any_moment { D.honest → EachLeavesEither cluster.old cluster.new }
 {

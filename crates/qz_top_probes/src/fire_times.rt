@@ -26,7 +26,7 @@ pub fn times<S: Source, K: Sink, E: Sink, D: Disk, C: Clock>(
     jobs: &mut Jobs,
 ) -> Ended<D>
     requires { AsksTimes (wish_of words.now) }
-    ensures { Promised (wish_of words.now) (map means jobs.old.items) (map means jobs.new.items) triggers states result (outside S.Source K.Sink C.Clock input.old out.old clock.old) (outside S.Source K.Sink C.Clock input.new out.new clock.new) (counts S.Source K.Sink D.Disk input.old out.old triggers states) (counts S.Source K.Sink D.Disk input.new out.new result.triggers result.states) (E.held err.old) (E.held err.new) (E.faults err.old) (E.faults err.new) }
+    ensures { Promised K.Sink E.Sink (wish_of words.now) (map means jobs.old.items) (map means jobs.new.items) triggers states result (outside S.Source K.Sink C.Clock input.old out.old clock.old) (outside S.Source K.Sink C.Clock input.new out.new clock.new) (counts S.Source K.Sink D.Disk input.old out.old triggers states) (counts S.Source K.Sink D.Disk input.new out.new result.triggers result.states) out.old out.new err.old err.new }
 {
     command(alloc, words, input, out, err, triggers, states, clock, jobs)
 }

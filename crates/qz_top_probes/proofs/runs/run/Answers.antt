@@ -7,5 +7,6 @@ returns g c = record {
   uses = search rules;
   cause = search rules;
   schedules = search rules;
+  handed = search rules;
   reported = search rules;
 }
