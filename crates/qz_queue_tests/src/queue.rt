@@ -1,4 +1,4 @@
-// The due queue: worked edits, and the number of comparisons of 1000 insertions.
+//! The due queue: worked edits, and the number of comparisons of 1000 insertions.
 ghost use Rattle.std.specs.Prelude.{◌≡◌, ◌+◌, ◌-◌, ◌<◌, ◌≤◌, length, ℕ, None, OnOk};
 ghost use Rattle.std.specs.List.{All};
 ghost use Rattle.qz_queue.specs.Order.{key_of, IsKeyFree};
