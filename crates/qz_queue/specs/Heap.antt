@@ -15,7 +15,8 @@ module _ {K : Type 0} (before : K → K → Bool) where
   unfoldable pub IsHeap : List (K × ℕ) → Type 0
   IsHeap xs = (k : ℕ) → 0 < k → k < length xs → IsOver xs ((k - 1) / 2) k
 
-  -- A heap but for the pair at j: no other pair stands before its parent, and the children of j don't stand before the parent of j.
+  -- A heap but for the pair at j: no other pair stands before its parent, and the children of j don't stand before the
+  -- parent of j.
   pub record IsHeapBut (xs : List (K × ℕ)) (j : ℕ) : Type 0 where
     pub others : (k : ℕ) → 0 < k → k < length xs → k ≢ j → (k - 1) / 2 ≢ j → IsOver xs ((k - 1) / 2) k
     pub around : (k : ℕ) → 0 < k → k < length xs → (k - 1) / 2 ≡ j → 0 < j → IsOver xs ((j - 1) / 2) k

@@ -1,4 +1,5 @@
--- Words on lists by recursion, as proofs go along lists. The standard library's `All` and `AllPairs` say the same by places.
+-- Words on lists by recursion, as proofs go along lists. The standard library's `All` and `AllPairs` say the same by
+-- places.
 use Rattle.std.specs.Prelude.{List, [], ◌∷◌}
 
 module _ {X : Type 0} (P : X → Type 0) where

@@ -12,7 +12,8 @@ pub record IsStrictOrder {K : Type 0} (before : K → K → Bool) : Type 0 where
 abbrev pub CountsOne : ℕ → ℕ → Type 0
 CountsOne old new = (new ≡ old + 1) ⊎ ((old ≡ 2 ^ 64 - 1) × (new ≡ 2 ^ 64 - 1))
 
--- In a queue of n pairs a count rises by at most 2 d + 2, for a d with 2 ^ d at most 2 n + 1: by the logarithm of n, but for a factor and a constant.
+-- In a queue of n pairs a count rises by at most 2 d + 2, for a d with 2 ^ d at most 2 n + 1: by the logarithm of n,
+-- but for a factor and a constant.
 abbrev pub IsLogarithmic : ℕ → ℕ → ℕ → Type 0
 IsLogarithmic n old new = (d : ℕ) × (2 ^ d ≤ 2 * n + 1) × (new ≤ old + (2 * d + 2))
 

@@ -3,7 +3,8 @@ use Rattle.std.specs.Prelude.{ℕ, List, Bool, refl}
 use Rattle.std.specs.Coded.{Coded, code_by, coded×, coded_ℕ, coded_list}
 use Rattle.qz_queue.specs.Heap.{IsHeap, IsPlaced, AreKeysApart}
 
--- The pairs of a key and its slot, in the order of the keys; how many more pairs go in without memory; slots below `places` have a place.
+-- The pairs of a key and its slot, in the order of the keys; how many more pairs go in without memory; slots below
+-- `places` have a place.
 pub record QueueData (K : Type 0) : Type 0 where
   pub pairs : List (K × ℕ)
   pub spare : ℕ

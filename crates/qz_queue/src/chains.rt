@@ -23,8 +23,9 @@ struct Ends {
 
 /// One list of slots for each owner. A slot is in one list at most, and once.
 ///
-/// The lists are linked both ways through the slots, by number. Contracts see the list `lists` of these lists, by owner, and the number `slots`: a slot below it has a place.
-/// An owner below the length of `lists` has a place. Only `reserve` takes memory. No call makes the places fewer.
+/// The lists are linked both ways through the slots, by number. Contracts see the list `lists` of these lists, by
+/// owner, and the number `slots`: a slot below it has a place. An owner below the length of `lists` has a place. Only
+/// `reserve` takes memory. No call makes the places fewer.
 #[derive(Drop)]
 pub struct Chains {
     ends: Vec<Ends>,
@@ -42,7 +43,8 @@ impl Model for Chains {
     ghost invariant = { λ c. AreThreaded (lists_of c.ends.items c.links.items) c.ends.items c.links.items };
 }
 
-// Lets what stands before a place in the owner's list lead to this slot: the slot `back`, or the front of the list where there is none.
+// Lets what stands before a place in the owner's list lead to this slot: the slot `back`, or the front of the list
+// where there is none.
 fn lead_on(
     ends: &mut Vec<Ends>,
     links: &mut Vec<Link>,
@@ -66,7 +68,8 @@ fn lead_on(
     }
 }
 
-// Lets what stands after a place in the owner's list lead back to this slot: the slot `next`, or the end of the list where there is none.
+// Lets what stands after a place in the owner's list lead back to this slot: the slot `next`, or the end of the list
+// where there is none.
 fn lead_back(
     ends: &mut Vec<Ends>,
     links: &mut Vec<Link>,
@@ -138,7 +141,8 @@ impl Chains {
         }
     }
 
-    /// Makes places for the owners below `owners`, each with an empty list, and for the slots below `slots`. Where memory runs out the lists are as before, and the places no fewer.
+    /// Makes places for the owners below `owners`, each with an empty list, and for the slots below `slots`. Where
+    /// memory runs out the lists are as before, and the places no fewer.
     pub fn reserve(&mut self, owners: usize, slots: usize) -> Result<(), AllocError>
         ensures lists { (owner : ℕ) → list_of self.new owner ≡ list_of self.old owner }
         ensures owners { OnOk result (owners ≤ length self.new.lists) }
@@ -151,8 +155,8 @@ impl Chains {
         make_slots(&mut self.links, slots)
     }
 
-    /// The first slot of the owner's list, or `None` where the list is empty. An owner without a place has the empty list. Takes no memory. Its contract also says that no slot is in
-    /// two lists, or in one twice.
+    /// The first slot of the owner's list, or `None` where the list is empty. An owner without a place has the empty
+    /// list. Takes no memory. Its contract also says that no slot is in two lists, or in one twice.
     pub fn first(&self, owner: usize) -> Option<usize>
         ensures first { result ≡ slice_get (list_of self.now owner) 0 }
         ensures once { AreSlotsOnce self.now }

@@ -1,4 +1,5 @@
-//! Slots in the order of their due keys, and lists of slots by owner. Both hold slots of a table that somebody else keeps, and neither knows what a slot stands for.
+//! Slots in the order of their due keys, and lists of slots by owner. Both hold slots of a table that somebody else
+//! keeps, and neither knows what a slot stands for.
 #![tactic(auto)]
 
 mod chains;

@@ -4,14 +4,16 @@ ghost use Rattle.qz_queue.specs.Order.{IsStrictOrder, CountsOne};
 
 use std::marker::Model;
 
-/// A type of keys. Of any two different keys exactly one stands before the other; each implementation proves this. It has no call: keys are compared by a [`Compare`] alone.
+/// A type of keys. Of any two different keys exactly one stands before the other; each implementation proves this. It
+/// has no call: keys are compared by a [`Compare`] alone.
 pub trait Ranked: Drop {
     ghost stands_before: { Self → Self → Bool };
 
     ghost order: { IsStrictOrder stands_before };
 }
 
-/// What compares two keys, and counts how often. A count that has reached 2^64 - 1 stays there, so a comparer that doesn't count may say that its count stands there from the first.
+/// What compares two keys, and counts how often. A count that has reached 2^64 - 1 stays there, so a comparer that
+/// doesn't count may say that its count stands there from the first.
 pub trait Compare<K: Ranked> {
     ghost count: { Self → ℕ };
 

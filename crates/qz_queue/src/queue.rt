@@ -9,8 +9,9 @@ use std::marker::Model;
 
 /// Slots, each with its due key, in the order of the keys. No two slots have one key, and no slot has two keys.
 ///
-/// It is a binary heap, with a table of the place that each slot has in it. Contracts see the list `pairs` of keys and slots in order, the number `spare` of pairs that
-/// go in without memory, and the number `places`: a slot below it has a place in the table. Only `reserve` takes memory. No call makes `places` less.
+/// It is a binary heap, with a table of the place that each slot has in it. Contracts see the list `pairs` of keys and
+/// slots in order, the number `spare` of pairs that go in without memory, and the number `places`: a slot below it has
+/// a place in the table. Only `reserve` takes memory. No call makes `places` less.
 #[derive(Drop)]
 pub struct DueQueue<K: Ranked> {
     heap: Vec<(K, usize)>,
@@ -59,7 +60,8 @@ impl<K: Ranked> DueQueue<K> {
         }
     }
 
-    /// Takes the memory for `more` pairs beyond those that it has, and makes places for the slots below `slots`. Where memory runs out the pairs are as before, and the room is no less.
+    /// Takes the memory for `more` pairs beyond those that it has, and makes places for the slots below `slots`. Where
+    /// memory runs out the pairs are as before, and the room is no less.
     pub fn reserve(&mut self, more: usize, slots: usize) -> Result<(), AllocError>
         ensures pairs { self.new.pairs ≡ self.old.pairs }
         ensures room { OnOk result (more ≤ self.new.spare) }
@@ -72,7 +74,8 @@ impl<K: Ranked> DueQueue<K> {
         widen(&mut self.places, slots)
     }
 
-    /// The first pair, or `None` where the queue has none. Compares nothing, and takes no memory. Its contract also says that the pairs are in order, and that no slot has two.
+    /// The first pair, or `None` where the queue has none. Compares nothing, and takes no memory. Its contract also
+    /// says that the pairs are in order, and that no slot has two.
     pub fn first(&self) -> Option<(&K, usize)>
         ensures first { option_map (λ p. (p.0.now, p.1)) result ≡ slice_get self.now.pairs 0 }
         ensures ascending { AreAscending K.stands_before self.now.pairs }
@@ -84,7 +87,8 @@ impl<K: Ranked> DueQueue<K> {
         }
     }
 
-    /// Puts a slot in, with its key. The slot has a place and isn't in the queue, the key is no other slot's, and there is room. Takes no memory.
+    /// Puts a slot in, with its key. The slot has a place and isn't in the queue, the key is no other slot's, and there
+    /// is room. Takes no memory.
     pub fn insert<C: Compare<K>>(&mut self, slot: usize, due: K, compare: &mut C)
         requires place { slot < self.old.places }
         requires absent { key_of slot self.old.pairs ≡ None }

@@ -1,4 +1,4 @@
-// Calls of chains.
+//! Calls of chains.
 ghost use Rattle.std.specs.Prelude.{◌≡◌, ◌<◌, ◌≤◌, length, ℕ, [], ◌∷◌, ◌++◌, OnOk, IsOk, slice_get, slice_set};
 ghost use Rattle.std.specs.List.{Contains};
 ghost use Rattle.qz_queue.specs.Chains.{list_of, after_in, without, IsUnlinked, IsLinked, AreSlotsOnce};

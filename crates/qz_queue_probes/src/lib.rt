@@ -1,4 +1,5 @@
-//! Calls of the due queue and of chains, once more: edits of them show which wrong answers the contracts of these calls refuse.
+//! Calls of the due queue and of chains, once more: edits of them show which wrong answers the contracts of these calls
+//! refuse.
 #![tactic(auto)]
 
 mod chains;

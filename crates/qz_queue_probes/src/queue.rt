@@ -1,4 +1,4 @@
-// Calls of a due queue.
+//! Calls of a due queue.
 ghost use Rattle.std.specs.Prelude.{◌≡◌, ◌+◌, ◌<◌, ◌≤◌, length, None, OnSome, option_map, slice_get};
 ghost use Rattle.qz_queue.specs.Order.{IsLogarithmic, IsKeyFree, put_pair, key_of, without_slot, AreAscending, AreSlotsApart};
 

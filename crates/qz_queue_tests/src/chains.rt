@@ -1,4 +1,4 @@
-// Chains: the lists of two owners, as slots come and go.
+//! Chains: the lists of two owners, as slots come and go.
 ghost use Rattle.std.specs.Prelude.{◌≡◌, ◌≢◌, ◌+◌, ◌<◌, ◌≤◌, length, ℕ, List, [], ◌∷◌, ◌++◌, Some, None, OnOk, IfOk};
 ghost use Rattle.qz_queue.specs.Chains.{list_of, IsLinked, IsUnlinked};
 ghost use Rattle.qz_queue_tests.specs.Lists.{AreLists};

@@ -1,4 +1,4 @@
-// The due queue: worked edits, and the number of comparisons of 1000 insertions.
+//! The due queue: worked edits, and the number of comparisons of 1000 insertions.
 ghost use Rattle.std.specs.Prelude.{◌≡◌, ◌+◌, ◌-◌, ◌<◌, ◌≤◌, length, ℕ, None, OnOk};
 ghost use Rattle.std.specs.List.{All};
 ghost use Rattle.qz_queue.specs.Order.{key_of, IsKeyFree};
@@ -8,7 +8,8 @@ use std::alloc::AllocError;
 
 const KEYS: u64 = 1000;
 
-// The most comparisons that a call may make in a queue of this many pairs: 2 d + 2, for the greatest d with 2^d at most 2 n + 1.
+// The most comparisons that a call may make in a queue of this many pairs: 2 d + 2, for the greatest d with 2^d at most
+// 2 n + 1.
 fn most_comparisons(pairs: u64) -> u64
     requires { pairs < 1000 }
 {

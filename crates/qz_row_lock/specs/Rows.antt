@@ -1,5 +1,6 @@
--- What holds of a lock's words, its slot and all seats between any two atomic steps (`IsKept`), and what each step shows the seat that makes it.
--- The words are the mark, the number of tickets drawn, and the ticket that is served. Words wrap at 2^64; the counts here don't.
+-- What holds of a lock's words, its slot and all seats between any two atomic steps (`IsKept`), and what each step
+-- shows the seat that makes it. The words are the mark, the number of tickets drawn, and the ticket that is served.
+-- Words wrap at 2^64; the counts here don't.
 use Rattle.std.specs.Prelude.{◌≡◌, ℕ, ◌+◌, ◌*◌, ◌%◌, ◌^◌, ◌<◌, ◌≤◌, ◌⊎◌, ◌==◌, List, [], ◌∷◌, ◌++◌, length, Bool, true, false, MatchBool, Option, Some}
 use mathlib.Core.Option.{none, some}
 use mathlib.Core.Option as maybe
@@ -9,7 +10,8 @@ use Rattle.qz_row_lock.specs.declared.view.View.{View}
 use Rattle.qz_row_lock.specs.Views.{bit, times, total, entries_of, NoneBear, claim_count, holding_count, spent, after_draw, after_enter, after_write, after_leave, after_look}
 
 module _ {E : Type 0} (num : E → ℕ) where
-  -- `seen` is a beginning of the log. `mine` are its entries after the base that bear one of these numbers, and the log has no more of them after `seen`.
+  -- `seen` is a beginning of the log. `mine` are its entries after the base that bear one of these numbers, and the log
+  -- has no more of them after `seen`.
   pub record Claim (base log : List E) (ids : List ℕ) (seen mine : List E) : Type 0 where
     pub past : List E
     pub later : List E
@@ -25,7 +27,7 @@ module _ {E : Type 0} (num : E → ℕ) where
       pub joined_are : v.joined_ids ≡ []
       pub not_queued : v.queued ≡ false
 
-    -- What a seat knows is true: its base, its ground, what it has seen; with the turn it knows the whole log.
+    -- What a seat knows is true: its base, its basis, what it has seen; with the turn it knows the whole log.
     pub record Fits (base : List E) (basis : G) (log : List E) (shut : Bool) (served drawn : ℕ) (v : View E G) : Type 0 where
       pub base_is : v.base ≡ base
       pub basis_is : v.basis ≡ Some basis
@@ -73,7 +75,8 @@ module _ {E : Type 0} (num : E → ℕ) where
         pub at : get_elem? views id ≡ some view
         pub turn : view.turn ≡ true
 
-      -- What holds of the lock between any two steps. The log is the base and the added entries; so many tickets are drawn and so many served.
+      -- What holds of the lock between any two steps. The log is the base and the added entries; so many tickets are
+      -- drawn and so many served.
       pub record IsKept (base : List E) (basis : G) (s : State (Option S) (View E G)) : Type 0 where
         pub log : List E
         pub added : List E

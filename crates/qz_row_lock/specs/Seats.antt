@@ -32,7 +32,8 @@ module _ {V E G : Type 0} {g : Ghosts V E G} where
   abbrev pub is_out : Seat V E G g → Bool
   is_out s = s.token.me.0.turn
 
-  -- The seat is one of this lock. What it has seen begins with the history of the first value, and `mine` is what it has after that of the seat's numbers.
+  -- The seat is one of this lock. What it has seen begins with the history of the first value, and `mine` is what it
+  -- has after that of the seat's numbers.
   pub record IsOf (lock : RowLock V E G) (s : Seat V E G g) : Type 0 where
     pub table : s.token.table_id ≡ lock.rows.shared.table_id
     pub basis_is : s.token.me.0.basis ≡ Some (g.basis (first_value lock))

@@ -47,7 +47,7 @@ module _ {E : Type 0} (num : E → ℕ) where
     pub bear : AllBear n further
 
 module _ {E G : Type 0} where
-  -- The view of the first seat of a lock over a value with this history and this ground.
+  -- The view of the first seat of a lock over a value with this history and this basis.
   abbrev pub first_view : List E → G → Bool → View E G
   first_view log basis shut = record { live = true; base = log; basis = Some basis; number = 0; more = 4294967295; parts = 4294967296; ids = 0 ∷ []; seen = log; mine = []; shut = shut; joined_ids = []; joined_seen = log; joined_mine = []; queued = false; ticket = 0; turn = false }
 
@@ -71,7 +71,8 @@ module _ {E G : Type 0} where
   abbrev pub after_leave : View E G → View E G
   after_leave v = record v { queued = false; turn = false }
 
-  -- After it looked at the mark: it has seen the log, in which `all` are its own entries and those of a seat that was joined into it.
+  -- After it looked at the mark: it has seen the log, in which `all` are its own entries and those of a seat that was
+  -- joined into it.
   abbrev pub after_look : View E G → List E → List E → Bool → View E G
   after_look v log all shut = record v { seen = log; mine = all; shut = shut; ids = v.ids ++ v.joined_ids; joined_ids = []; joined_seen = log; joined_mine = [] }
 

@@ -1,4 +1,5 @@
-//! A lock whose value has a history. Each participant of the lock has a seat, and what a seat has seen of the history is always a beginning of it.
+//! A lock whose value has a history. Each participant of the lock has a seat, and what a seat has seen of the history
+//! is always a beginning of it.
 #![tactic(auto)]
 
 mod logged;

@@ -1,7 +1,8 @@
 //! Values that have a history.
 ghost use Rattle.std.specs.Prelude.{◌≡◌, ℕ, List, Bool, length};
 
-/// A value that can stand under a [`RowLock`](crate::RowLock), as a store does: it means a list of entries, its history. Each entry bears the number of the seat that added it.
+/// A value that can stand under a [`RowLock`](crate::RowLock), as a store does: it means a list of entries, its
+/// history. Each entry bears the number of the seat that added it.
 pub trait Logged {
     type Entry;
 

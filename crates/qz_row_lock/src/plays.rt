@@ -1,4 +1,5 @@
-//! The rule that holds of a lock between any two atomic steps, and what each step shows the seat that makes it. No value of these types is made.
+//! The rule that holds of a lock between any two atomic steps, and what each step shows the seat that makes it. No
+//! value of these types is made.
 
 use crate::logged::Logged;
 use crate::view::View;

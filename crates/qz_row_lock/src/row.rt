@@ -17,9 +17,10 @@ type Token<V> = atomic_table::Seat<Option<V>, View<<V as Logged>::Entry, <V as L
 
 /// A lock whose value has a history. It hands its value to one seat at a time, in the order in which the seats ask.
 ///
-/// It is a table of three words that threads share, and of one slot, which holds the value while no seat has it. The words are a mark (twice the length of the history, and one more where the
-/// value is shut), the number of tickets that were drawn, and the ticket that is served. Every call has the condition that its seats and notes are of this lock, and that the seats don't have
-/// the value; `give` has it that its seat does.
+/// It is a table of three words that threads share, and of one slot, which holds the value while no seat has it. The
+/// words are a mark (twice the length of the history, and one more where the value is shut), the number of tickets that
+/// were drawn, and the ticket that is served. Every call has the condition that its seats and notes are of this lock,
+/// and that the seats don't have the value; `give` has it that its seat does.
 #[derive(Drop)]
 pub struct RowLock<V: Logged> {
     rows: Table<Option<V>, View<V::Entry, V::Ground>, Snapshot<V>, Rule<V>, Global>,
@@ -27,8 +28,9 @@ pub struct RowLock<V: Logged> {
     ghost sized: { (rows.shared.table_id.words ≡ 3) × (rows.shared.table_id.slots ≡ 1) },
 }
 
-/// A participant's handle to a lock. Contracts see the history that the seat has `seen`, its own entries in it (`mine`), the numbers `ids` that these bear, and whether the value
-/// was `shut` when the seat saw it last. A seat that is dropped keeps its share, so the lock can't be closed after that.
+/// A participant's handle to a lock. Contracts see the history that the seat has `seen`, its own entries in it
+/// (`mine`), the numbers `ids` that these bear, and whether the value was `shut` when the seat saw it last. A seat that
+/// is dropped keeps its share, so the lock can't be closed after that.
 #[derive(Drop)]
 pub struct Seat<V: Logged> {
     token: Token<V>,
@@ -36,11 +38,13 @@ pub struct Seat<V: Logged> {
     pub number: u32,
     /// How many further numbers the seat can hand on: those after its own.
     pub more: u32,
-    /// The seat's share of the lock. All seats of a lock have 4294967296 together, so a seat that has all is the only one left.
+    /// The seat's share of the lock. All seats of a lock have 4294967296 together, so a seat that has all is the only
+    /// one left.
     pub parts: u64,
     // The public fields are those of the view, and all numbers are below 2^32.
     ghost counts: { (token.me.0.number ≡ number) × (token.me.0.more ≡ more) × (token.me.0.parts ≡ parts) × (more < parts) × (number + more < 2 ^ 32) },
-    // Between two calls a seat waits only while it has the turn, has looked after each join, and its own number is one of its ids.
+    // Between two calls a seat waits only while it has the turn, has looked after each join, and its own number is one
+    // of its ids.
     ghost ready: { (token.me.0.live ≡ true) × (token.me.0.queued ≡ token.me.0.turn) × (token.me.0.joined_ids ≡ []) × (0 < times token.me.0.number token.me.0.ids) },
     // It holds the table's slot just while it has the turn.
     ghost slots: { token.me.1 ≡ slots_of token.me.0.turn },
@@ -61,7 +65,8 @@ fn needs_send<T: Send>() {}
 // Can be named only for what threads may share.
 fn needs_sync<T: Sync>() {}
 
-/// A law, and no work: a lock may be shared by threads, and a lock, its seats and its notes may be sent to them, wherever its value may be sent.
+/// A law, and no work: a lock may be shared by threads, and a lock, its seats and its notes may be sent to them,
+/// wherever its value may be sent.
 pub fn crosses_threads<V: Logged + Send>() {
     needs_send::<RowLock<V>>();
     needs_sync::<RowLock<V>>();

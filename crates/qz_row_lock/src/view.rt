@@ -1,13 +1,14 @@
 //! What a seat knows.
 use std::collections::LinkedList;
 
-/// What a seat knows of its lock. No value of it is ever made: proofs speak of it alone. So its numbers never wrap, and its lists take no memory.
+/// What a seat knows of its lock. No value of it is ever made: proofs speak of it alone. So its numbers never wrap, and
+/// its lists take no memory.
 pub struct View<E, G> {
     /// False of a seat that was joined into another.
     pub live: bool,
     /// The history with which the lock was made.
     pub base: LinkedList<E>,
-    /// The ground of the value with which the lock was made.
+    /// The basis of the value with which the lock was made.
     pub basis: Option<G>,
     /// The seat's own number.
     pub number: u64,

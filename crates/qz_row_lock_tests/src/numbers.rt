@@ -1,4 +1,4 @@
-// A list of numbers under a lock, each with the number of the seat that added it.
+//! A list of numbers under a lock, each with the number of the seat that added it.
 ghost use Rattle.std.specs.Prelude.{◌≡◌, ◌++◌, [], ◌∷◌, IfOk, OnOk, OnErr};
 
 use qz_row_lock::Logged;

@@ -1,4 +1,4 @@
-// Two seats of one thread take turns.
+//! Two seats of one thread take turns.
 use crate::numbers::{Entry, Numbers};
 use qz_row_lock::RowLock;
 use std::test::Fail;

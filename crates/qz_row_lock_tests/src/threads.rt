@@ -1,4 +1,4 @@
-// Two threads add to one list.
+//! Two threads add to one list.
 ghost use Rattle.std.specs.Prelude.{◌≡◌, ◌++◌, [], ◌∷◌, false};
 ghost use Rattle.qz_row_lock.specs.Seats.{IsOf, is_out};
 

@@ -14,7 +14,8 @@ use std::snapshot::Snapshot;
 use std::sync::Wait;
 
 impl<V: Logged> RowLock<V> {
-    /// A lock over this value, and its first seat, which has all numbers. This is the only call that takes memory: where there is none, the value is handed back as it was.
+    /// A lock over this value, and its first seat, which has all numbers. This is the only call that takes memory:
+    /// where there is none, the value is handed back as it was.
     pub fn new(alloc: Global, value: V) -> Result<(RowLock<V>, Seat<V>), (AllocError, V)>
         requires { length (V.history value) < 2 ^ 63 }
         ensures of { IfOk result (λ r. IsOf r.0 r.1 × (first_value r.0 ≡ value)) }
@@ -47,8 +48,9 @@ impl<V: Logged> RowLock<V> {
         }
     }
 
-    /// Waits until the value is this seat's turn, and takes it. Its history begins with all that the seat had seen. It can't fail; that it ever returns isn't promised, since another seat may
-    /// keep the value. A caller that adds an entry reads `seat.number` before, and lets the entry bear it.
+    /// Waits until the value is this seat's turn, and takes it. Its history begins with all that the seat had seen. It
+    /// can't fail; that it ever returns isn't promised, since another seat may keep the value. A caller that adds an
+    /// entry reads `seat.number` before, and lets the entry bear it.
     pub fn take<R: Wait>(&self, rt: &R, seat: &mut Seat<V>) -> V
         requires of { IsOf self.now seat.old }
         requires home { is_out seat.old ≡ false }
@@ -64,7 +66,8 @@ impl<V: Logged> RowLock<V> {
         self.enter(rt, &mut seat.token)
     }
 
-    /// Gives back the value that this seat took: with its history as it was, and after that any entries that bear the seat's number. Wakes who waits.
+    /// Gives back the value that this seat took: with its history as it was, and after that any entries that bear the
+    /// seat's number. Wakes who waits.
     pub fn give(&self, seat: &mut Seat<V>, value: V)
         requires of { IsOf self.now seat.old }
         requires out { is_out seat.old ≡ true }
@@ -83,7 +86,8 @@ impl<V: Logged> RowLock<V> {
         self.leave(&mut seat.token, value, mark);
     }
 
-    /// Splits a seat in two. The first keeps number, `ids` and `mine`. The second gets half of the numbers that could be handed on, rounded up; the first of them is its own.
+    /// Splits a seat in two. The first keeps number, `ids` and `mine`. The second gets half of the numbers that could
+    /// be handed on, rounded up; the first of them is its own.
     pub fn split(&self, seat: Seat<V>) -> (Seat<V>, Seat<V>)
         requires of { IsOf self.now seat }
         requires home { is_out seat ≡ false }
@@ -135,7 +139,8 @@ impl<V: Logged> RowLock<V> {
         other
     }
 
-    /// Makes one seat of two. It has seen what both had seen, and has the entries and the shares of both. The second's number is handed on no more.
+    /// Makes one seat of two. It has seen what both had seen, and has the entries and the shares of both. The second's
+    /// number is handed on no more.
     pub fn join(&self, seat: Seat<V>, other: Seat<V>) -> Seat<V>
         requires of { IsOf self.now seat × IsOf self.now other }
         requires home { (is_out seat ≡ false) × (is_out other ≡ false) }
@@ -208,7 +213,8 @@ impl<V: Logged> RowLock<V> {
         self.see(token);
     }
 
-    /// Ends the lock, and gives its value. All other seats were joined into this one, which so has all entries that were ever added.
+    /// Ends the lock, and gives its value. All other seats were joined into this one, which so has all entries that
+    /// were ever added.
     pub fn close(self, seat: Seat<V>) -> V
         requires of { IsOf self seat }
         requires home { is_out seat ≡ false }
