@@ -1,5 +1,5 @@
 -- What an opening of both stores finds on their disks.
-use Rattle.std.specs.Prelude.{◌≡◌, ◌≤◌}
+use Rattle.std.specs.Prelude.{⊤, ◌≡◌, ◌≤◌}
 use Rattle.qz_civil.specs.Causes.{Rose}
 use Rattle.qz_disk.specs.declared.disk.Disk.{Ghosts}
 use Rattle.qz_journal.specs.declared.errors.MountError.{MountError}
@@ -7,7 +7,9 @@ use Rattle.qz_journal.specs.declared.errors.MountError.TheVariants as mount
 use Rattle.qz_journal.specs.Through.{OnlyReads, OnlyReadsUnless}
 use Rattle.qz_types.specs.declared.stores.Store.{Store}
 use Rattle.qz_types.specs.declared.stores.Store.TheVariants.{Triggers, States}
-use Rattle.qz_trigger_store.specs.Opening.{IsRefused}
+use Rattle.qz_trigger_store.specs.Bytes.{Stands}
+use Rattle.qz_trigger_store.specs.Entries.{TriggerState}
+use Rattle.qz_trigger_store.specs.Opening.{IsOpened, IsRefused}
 use Rattle.qz_checkin.specs.Opening.{IsRefused as AreRefused}
 
 -- The trigger store is opened first. Where it is refused, the disk of the state store isn't touched; where the state store
@@ -22,6 +24,11 @@ DisksAfter g States error triggers states triggers_now states_now =
 abbrev pub RefusedBy : {D : Type 0} → Ghosts D → Store → MountError → D → D → Type 0
 RefusedBy g Triggers error triggers states = IsRefused (g.state triggers).content error
 RefusedBy g States error triggers states = AreRefused (g.state states).content error
+
+-- where the state store is refused, the trigger store stands: it could have been opened
+abbrev pub StandsBefore : {D : Type 0} → Ghosts D → Store → D → Type 0
+StandsBefore g Triggers triggers = ⊤
+StandsBefore g States triggers = (s : TriggerState) × IsOpened s × Stands (g.state triggers).content s.history
 
 -- the count of the disk that failed rose
 abbrev pub RoseOf : {D : Type 0} → Ghosts D → Store → D → D → D → D → Type 0

@@ -2,6 +2,8 @@
 use Rattle.std.specs.Prelude.{⊤}
 use Rattle.qz_disk.specs.declared.disk.Disk.{Ghosts}
 use Rattle.qz_disk.specs.Disk.{DiskState}
+use Rattle.qz_steps.specs.declared.steps.Step.{Step}
+use Rattle.qz_steps.specs.declared.steps.Step.TheVariants.{Join, Restart}
 use Rattle.qz_steps.specs.declared.steps.StepReply.{StepReply}
 use Rattle.qz_steps.specs.declared.steps.StepReply.TheVariants as reply
 use Rattle.qz_checkin.specs.declared.stores.StateStore.{StateStore}
@@ -44,16 +46,31 @@ KeepsTriggers c d = IsAsBefore c.triggers d.triggers
 abbrev pub KeepsStores : {D : Type 0} {g : Ghosts D} → Cluster D g → Cluster D g → Type 0
 KeepsStores c d = KeepsTriggers c d × AreAsBefore c.states d.states
 
--- Which stores a reply leaves as they were, with their disks: a refusal leaves the trigger store so, and the state store
--- too, except after the check-in of a join.
+-- Which stores a reply leaves as they were, with their disks: both, unless the step was done or a disk failed.
 abbrev pub KeepsUnlessDone : {D : Type 0} {g : Ghosts D} → StepReply → Cluster D g → Cluster D g → Type 0
 KeepsUnlessDone (reply.Ok r) c d = ⊤
 KeepsUnlessDone reply.Fault c d = ⊤
 KeepsUnlessDone reply.Restarted c d = ⊤
-KeepsUnlessDone (reply.Refused refusal) c d = KeepsTriggers c d
+KeepsUnlessDone (reply.Refused refusal) c d = KeepsStores c d
 KeepsUnlessDone reply.Closed c d = KeepsStores c d
 KeepsUnlessDone reply.Stopped c d = KeepsStores c d
 KeepsUnlessDone (reply.Shown shown) c d = KeepsStores c d
+
+-- The same of a join: where its second transaction was refused, its check-in was done before.
+abbrev pub KeepsUnlessJoined : {D : Type 0} {g : Ghosts D} → StepReply → Cluster D g → Cluster D g → Type 0
+KeepsUnlessJoined (reply.Refused refusal) c d = KeepsTriggers c d
+KeepsUnlessJoined r c d = KeepsUnlessDone r c d
+
+-- what a step leaves as it was that was answered so
+abbrev pub Keeps : {D : Type 0} {g : Ghosts D} → Step → StepReply → Cluster D g → Cluster D g → Type 0
+Keeps (Join node interval) r c d = KeepsUnlessJoined r c d
+Keeps step r c d = KeepsUnlessDone r c d
+
+-- What a step leaves as it was that had no answer: both stores, but a join may have checked in. A restart shuts both.
+abbrev pub KeepsUnanswered : {D : Type 0} {g : Ghosts D} → Step → Cluster D g → Cluster D g → Type 0
+KeepsUnanswered (Join node interval) c d = KeepsTriggers c d
+KeepsUnanswered Restart c d = ⊤
+KeepsUnanswered step c d = KeepsStores c d
 
 -- A crash at any moment of a call leaves each store as it was before the call, or as it is after it.
 pub record EachLeavesEither {D : Type 0} {g : Ghosts D} (c d : Cluster D g) : Type 0 where

@@ -9,7 +9,7 @@ ghost use Rattle.qz_trigger_store.specs.Entries.{trigger_entry};
 ghost use Rattle.qz_cluster.specs.Script.{entry_of, held_after_join};
 ghost use Rattle.qz_cluster.specs.Steps.{StepCase, EndCase, is_closed};
 ghost use Rattle.qz_cluster.specs.Submitting.{Submitted, Unsubmitted, held_by};
-ghost use Rattle.qz_cluster.specs.View.{view, KeepsTriggers, KeepsUnlessDone, EachLeavesEither};
+ghost use Rattle.qz_cluster.specs.View.{view, KeepsTriggers, KeepsStores, KeepsUnlessDone, KeepsUnlessJoined, EachLeavesEither};
 
 use crate::entries::client_entry;
 use crate::held::{epoch_of, put_reserved, room_for_one};
@@ -26,7 +26,7 @@ impl<D: Disk> Cluster<D> {
         requires interval { IsTrue (is_interval interval) }
         ensures ok { IfOk result (λ r. StepCase D.honest (record { step = step_is.Join node interval; at = at }) r (view self.old) (view self.new)) }
         ensures err { IfErr result (λ e. EndCase D.honest (record { step = step_is.Join node interval; at = at }) e (view self.old) (view self.new)) }
-        ensures keeps { IfOk result (λ r. KeepsUnlessDone r self.old self.new) }
+        ensures keeps { IfOk result (λ r. KeepsUnlessJoined r self.old self.new) }
         ensures unchanged { OnErr result (KeepsTriggers self.old self.new) }
         ensures any_moment { D.honest → EachLeavesEither self.old self.new }
     {
@@ -56,7 +56,7 @@ impl<D: Disk> Cluster<D> {
         requires name { name ≡ node }
         ensures ok { IfOk result (λ r. StepCase D.honest (record { step = step_is.Join node interval; at = at }) r (view self.old) (view self.new)) }
         ensures err { IfErr result (λ e. EndCase D.honest (record { step = step_is.Join node interval; at = at }) e (view self.old) (view self.new)) }
-        ensures keeps { IfOk result (λ r. KeepsUnlessDone r self.old self.new) }
+        ensures keeps { IfOk result (λ r. KeepsUnlessJoined r self.old self.new) }
         ensures unchanged { OnErr result (KeepsTriggers self.old self.new) }
         ensures any_moment { D.honest → EachLeavesEither self.old self.new }
     {
@@ -85,7 +85,7 @@ impl<D: Disk> Cluster<D> {
         ensures held_stays { OnErr result ((view self.new).held ≡ (view self.old).held) }
         ensures states { self.new.states ≡ self.old.states }
         ensures keeps { IfOk result (λ r. KeepsUnlessDone r self.old self.new) }
-        ensures unchanged { OnErr result (KeepsTriggers self.old self.new) }
+        ensures unchanged { OnErr result (KeepsStores self.old self.new) }
         ensures any_moment { D.honest → EachLeavesEither self.old self.new }
     {
         let reply = self.submit(client_entry(Command::Join { node }, at))?;
@@ -141,7 +141,7 @@ impl<D: Disk> Cluster<D> {
         ensures ok { IfOk result (λ r. StepCase D.honest (record { step = step_is.CheckIn node.now interval; at = at }) r (view self.old) (view self.new)) }
         ensures err { IfErr result (λ e. EndCase D.honest (record { step = step_is.CheckIn node.now interval; at = at }) e (view self.old) (view self.new)) }
         ensures keeps { IfOk result (λ r. KeepsUnlessDone r self.old self.new) }
-        ensures unchanged { OnErr result (KeepsTriggers self.old self.new) }
+        ensures unchanged { OnErr result (KeepsStores self.old self.new) }
         ensures any_moment { D.honest → EachLeavesEither self.old self.new }
     {
         if self.states.closed() {
@@ -165,7 +165,7 @@ impl<D: Disk> Cluster<D> {
         ensures ok { IfOk result (λ r. StepCase D.honest (record { step = step_is.Forget node.now failed.now; at = at }) r (view self.old) (view self.new)) }
         ensures err { IfErr result (λ e. EndCase D.honest (record { step = step_is.Forget node.now failed.now; at = at }) e (view self.old) (view self.new)) }
         ensures keeps { IfOk result (λ r. KeepsUnlessDone r self.old self.new) }
-        ensures unchanged { OnErr result (KeepsTriggers self.old self.new) }
+        ensures unchanged { OnErr result (KeepsStores self.old self.new) }
         ensures any_moment { D.honest → EachLeavesEither self.old self.new }
     {
         if self.closed() {

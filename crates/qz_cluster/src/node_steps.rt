@@ -10,7 +10,7 @@ ghost use Rattle.qz_trigger_store.specs.Entries.{trigger_entry};
 ghost use Rattle.qz_cluster.specs.Script.{entry_of, held_after_command};
 ghost use Rattle.qz_cluster.specs.Steps.{StepCase, EndCase, is_recover, command_refusal};
 ghost use Rattle.qz_cluster.specs.Submitting.{Submitted, Unsubmitted, held_by, is_leave};
-ghost use Rattle.qz_cluster.specs.View.{view, KeepsTriggers, KeepsUnlessDone, EachLeavesEither};
+ghost use Rattle.qz_cluster.specs.View.{view, KeepsStores, KeepsUnlessDone, EachLeavesEither};
 
 use crate::entries::node_entry;
 use crate::held::{epoch_of, others};
@@ -33,7 +33,7 @@ impl<D: Disk> Cluster<D> {
         ensures ok { IfOk result (λ r. StepCase D.honest (record { step = step_is.Node node command; at = at }) r (view self.old) (view self.new)) }
         ensures err { IfErr result (λ e. EndCase D.honest (record { step = step_is.Node node command; at = at }) e (view self.old) (view self.new)) }
         ensures keeps { IfOk result (λ r. KeepsUnlessDone r self.old self.new) }
-        ensures unchanged { OnErr result (KeepsTriggers self.old self.new) }
+        ensures unchanged { OnErr result (KeepsStores self.old self.new) }
         ensures any_moment { D.honest → EachLeavesEither self.old self.new }
     {
         if self.is_closed_for(&command) {
@@ -80,7 +80,7 @@ impl<D: Disk> Cluster<D> {
         ensures held_stays { OnErr result (self.new.held ≡ self.old.held) }
         ensures states { self.new.states ≡ self.old.states }
         ensures keeps { IfOk result (λ r. KeepsUnlessDone r self.old self.new) }
-        ensures unchanged { OnErr result (KeepsTriggers self.old self.new) }
+        ensures unchanged { OnErr result (KeepsStores self.old self.new) }
         ensures any_moment { D.honest → EachLeavesEither self.old self.new }
     {
         if !is_leave(&command) {
@@ -102,7 +102,7 @@ impl<D: Disk> Cluster<D> {
         ensures held_stays { OnErr result (self.new.held ≡ self.old.held) }
         ensures states { self.new.states ≡ self.old.states }
         ensures keeps { IfOk result (λ r. KeepsUnlessDone r self.old self.new) }
-        ensures unchanged { OnErr result (KeepsTriggers self.old self.new) }
+        ensures unchanged { OnErr result (KeepsStores self.old self.new) }
         ensures any_moment { D.honest → EachLeavesEither self.old self.new }
     {
         let reply = self.submit(node_entry(me, Command::Leave, at))?;

@@ -8,7 +8,7 @@ ghost use Rattle.qz_trigger_store.specs.View.{added_of};
 ghost use Rattle.qz_checkin.specs.Bytes.{Stands as StatesStand, IsHistory as IsStateHistory};
 ghost use Rattle.qz_checkin.specs.History.{StateHistory};
 ghost use Rattle.qz_checkin.specs.Opening.{IsOpened as AreOpened};
-ghost use Rattle.qz_cluster.specs.Mounting.{DisksAfter, RefusedBy, RoseOf, CountsRise};
+ghost use Rattle.qz_cluster.specs.Mounting.{DisksAfter, RefusedBy, RoseOf, StandsBefore, CountsRise};
 ghost use Rattle.qz_cluster.specs.Steps.{is_closed};
 ghost use Rattle.qz_cluster.specs.View.{view, triggers_of, states_of, disk_of_triggers, disk_of_states, triggers_disk, states_disk};
 
@@ -32,6 +32,7 @@ impl<D: Disk> Cluster<D> {
         ensures reads { D.honest → IfOk result (λ c. OnlyReads (D.state triggers) (triggers_disk c) × OnlyReads (D.state states) (states_disk c)) }
         ensures reads_err { D.honest → IfErr result (λ e. DisksAfter D.Disk e.0.store e.0.error triggers states e.1 e.2) }
         ensures refused { D.honest → IfErr result (λ e. RefusedBy D.Disk e.0.store e.0.error triggers states) }
+        ensures first { D.honest → IfErr result (λ e. StandsBefore D.Disk e.0.store triggers) }
         // Where the bytes are those of histories, it comes to these, or memory or a disk fails.
         ensures whole { D.honest → (h : History) → (k : StateHistory) → IsHistory h → IsStateHistory k
             → Stands (D.state triggers).content h → StatesStand (D.state states).content k

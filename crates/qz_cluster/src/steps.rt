@@ -1,9 +1,9 @@
 //! One step.
-ghost use Rattle.std.specs.Prelude.{◌≡◌, ℤ, true, false, IsTrue, IfOk, IfErr, OnErr};
+ghost use Rattle.std.specs.Prelude.{◌≡◌, ℤ, true, IsTrue, IfOk, IfErr, OnErr};
 ghost use Rattle.qz_steps.specs.Steps.{is_step};
 ghost use Rattle.qz_steps.specs.declared.steps.Step.TheVariants as step_is;
-ghost use Rattle.qz_cluster.specs.Steps.{StepCase, IsStep, IsCutShort, is_restart, is_quiet};
-ghost use Rattle.qz_cluster.specs.View.{view, KeepsTriggers, KeepsStores, KeepsUnlessDone, EachLeavesEither};
+ghost use Rattle.qz_cluster.specs.Steps.{StepCase, IsStep, IsCutShort, is_quiet};
+ghost use Rattle.qz_cluster.specs.View.{view, Keeps, KeepsUnanswered, KeepsStores, KeepsUnlessDone, EachLeavesEither};
 
 use crate::entries::client_entry;
 use crate::held::{epoch_of, remove};
@@ -21,8 +21,9 @@ impl<D: Disk> Cluster<D> {
         requires { IsTrue (is_step step) }
         ensures ok { IfOk result (λ r. IsStep D.honest (record { step = step; at = at }) r (view self.old) (view self.new)) }
         ensures err { IfErr result (λ e. IsCutShort D.honest (record { step = step; at = at }) e (view self.old) (view self.new)) }
-        ensures keeps { IfOk result (λ r. KeepsUnlessDone r self.old self.new) }
-        ensures unchanged { OnErr result (is_restart step ≡ false → KeepsTriggers self.old self.new) }
+        // Unless the step was done or a disk failed, both stores and their disks are as they were; only a join may have checked in.
+        ensures keeps { IfOk result (λ r. Keeps step r self.old self.new) }
+        ensures unchanged { OnErr result (KeepsUnanswered step self.old self.new) }
         ensures quiet { is_quiet step ≡ true → KeepsStores self.old self.new }
         ensures any_moment { D.honest → EachLeavesEither self.old self.new }
     {

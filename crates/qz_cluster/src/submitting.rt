@@ -8,7 +8,7 @@ ghost use Rattle.qz_checkin.specs.Lateness.{last_of};
 ghost use Rattle.qz_checkin.specs.Rows.{state_of};
 ghost use Rattle.qz_cluster.specs.Script.{check_in_entry, forget_entry};
 ghost use Rattle.qz_cluster.specs.Submitting.{Declined, Submitted, StatesSubmitted, Unsubmitted, unaccepted, answered};
-ghost use Rattle.qz_cluster.specs.View.{view, KeepsTriggers, KeepsUnlessDone, EachLeavesEither};
+ghost use Rattle.qz_cluster.specs.View.{view, KeepsStores, KeepsUnlessDone, EachLeavesEither};
 
 use crate::{Cluster, StepEnd};
 use qz_disk::Disk;
@@ -24,7 +24,7 @@ impl<D: Disk> Cluster<D> {
         ensures held { self.new.held ≡ self.old.held }
         ensures states { self.new.states ≡ self.old.states }
         ensures keeps { IfOk result (λ r. KeepsUnlessDone r self.old self.new) }
-        ensures unchanged { OnErr result (KeepsTriggers self.old self.new) }
+        ensures unchanged { OnErr result (KeepsStores self.old self.new) }
         ensures any_moment { D.honest → EachLeavesEither self.old self.new }
     {
         match self.triggers.submit(entry) {
@@ -50,7 +50,7 @@ impl<D: Disk> Cluster<D> {
     }
 
     /// A node's check-in, behind which the step has no other transaction.
-    #[tactic(auto, using(crate::proofs::Unaccepted::states_reply, crate::proofs::Unaccepted::states_end, crate::proofs::Unaccepted::states_keep))]
+    #[tactic(auto, using(crate::proofs::Unaccepted::states_reply, crate::proofs::Unaccepted::states_end, crate::proofs::Unaccepted::states_keep, crate::proofs::Unaccepted::states_stay))]
     pub(crate) fn submit_check_in(
         &mut self,
         node: &Text,
@@ -64,6 +64,7 @@ impl<D: Disk> Cluster<D> {
         ensures held { self.new.held ≡ self.old.held }
         ensures triggers { self.new.triggers ≡ self.old.triggers }
         ensures keeps { IfOk result (λ r. KeepsUnlessDone r self.old self.new) }
+        ensures unchanged { OnErr result (KeepsStores self.old self.new) }
         ensures any_moment { D.honest → EachLeavesEither self.old self.new }
     {
         let answer = self.states.check_in(at, 0, node, interval);
@@ -85,7 +86,7 @@ impl<D: Disk> Cluster<D> {
     }
 
     /// Forgets a node with the last check-in that it has now.
-    #[tactic(auto, using(crate::proofs::Unaccepted::states_reply, crate::proofs::Unaccepted::states_end, crate::proofs::Unaccepted::states_keep))]
+    #[tactic(auto, using(crate::proofs::Unaccepted::states_reply, crate::proofs::Unaccepted::states_end, crate::proofs::Unaccepted::states_keep, crate::proofs::Unaccepted::states_stay))]
     pub(crate) fn submit_forget(&mut self, failed: &Text, at: i64) -> Result<StepReply, StepEnd>
         requires { IsTrue (is_node failed.now) }
         ensures ok { IfOk result (λ r. StatesSubmitted (forget_entry (replay_states (view self.old).states.history) failed.now at) r (view self.old).states (view self.new).states) }
@@ -93,6 +94,7 @@ impl<D: Disk> Cluster<D> {
         ensures held { self.new.held ≡ self.old.held }
         ensures triggers { self.new.triggers ≡ self.old.triggers }
         ensures keeps { IfOk result (λ r. KeepsUnlessDone r self.old self.new) }
+        ensures unchanged { OnErr result (KeepsStores self.old self.new) }
         ensures any_moment { D.honest → EachLeavesEither self.old self.new }
     {
         let last = self.last_check_in(failed);

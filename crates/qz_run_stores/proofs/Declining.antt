@@ -1,6 +1,6 @@
 -- What a store's error says to a run.
 use Rattle.std.proofs.Common.{◌≡◌, ℕ, ℤ, ◌≤ℤ◌, length, sym, ap, ◌∙◌, subst}
-use Rattle.std.specs.Prelude.{Err}
+use Rattle.std.specs.Prelude.{Err, IsOk}
 use Rattle.qz_types.specs.Entries.{EntryData}
 use Rattle.qz_types.specs.Outcomes.{Outcome, accepted, refused}
 use Rattle.qz_types.specs.declared.errors.SubmitError.{SubmitError}
@@ -30,6 +30,10 @@ same_history kind e submit.Fault s t is = is.history
 pub lacks : {H E : Type 0} (size need room : ℕ) (s t : StoreState H E) → Same s t → LacksRoom size need room s → LacksRoom size need room t
 lacks size need room s t same is = rw (same.gate, same.payloads) is
 
+-- it would be accepted afterwards, too
+pub still_passes : {H E R : Type 0} (kind : EntryKind H E R) (e : E) (s t : StoreState H E) → Same s t → IsOk (kind.answer s.history e) → IsOk (kind.answer t.history e)
+still_passes kind e s t same passes = subst (λ h. IsOk (kind.answer h e)) (sym same.history) passes
+
 refused_by : (o : Outcome) (r : Refusal) → answer_of o ≡ Err r → o ≡ refused r
 refused_by (accepted next x) r is = absurd (cc)
 refused_by (refused x) r is = let same : x ≡ r = cc in ap refused same
@@ -48,7 +52,7 @@ module _ (e : EntryData) (s t : TriggerState) (many : (r : Refusal) → trigger_
       let limit : IsTooMany r = many r is.refused_as in
       subst (λ r. DeclinesEntry t e (declined_of (submit.Refused r))) (sym limit.refusal)
       (ap (λ h. trigger_entry.answer h e) is.same.history ∙ is.refused_as ∙ ap Err limit.refusal)
-  declines (submit.JournalFull need room) is = lacks (length (record_of e)) need room s t is.same is.full
+  declines (submit.JournalFull need room) is = (still_passes trigger_entry e s t is.same is.passes, lacks (length (record_of e)) need room s t is.same is.full)
   declines submit.NoMemory is = tt
   declines submit.Fault is = is.is_open
 

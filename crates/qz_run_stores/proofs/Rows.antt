@@ -25,7 +25,7 @@ use Rattle.qz_seen.specs.Seen.{node_name}
 use Rattle.qz_seen.proofs.Names.{other_name}
 use Rattle.qz_run_stores.specs.Declining.{DeclinesRow, HasDeclined, IsDeclinable, declined_of}
 use Rattle.qz_run_stores.specs.Logs.{has_row, row_log_of}
-use Rattle.qz_run_stores.proofs.Declining.{lacks}
+use Rattle.qz_run_stores.proofs.Declining.{lacks, still_passes}
 use Rattle.qz_run_stores.proofs.Logs.{row-log-more}
 use Rattle.qz_run_stores.proofs.NodeNames.{number_of}
 
@@ -118,7 +118,7 @@ module _ (e : StateEntryData) (s t : StatesState) (full : (r : Refusal) → of_s
   row_declines (submit.Refused r) is =
       subst (λ r. DeclinesRow t e (declined_of (submit.Refused r))) (sym (full r is.refused_as))
       (record { refused_as = ap (λ h. of_states.answer h e) is.same.history ∙ is.refused_as ∙ ap Err (full r is.refused_as); limit = refl })
-  row_declines (submit.JournalFull need room) is = lacks (length (state_record_of e)) need room s t is.same is.full
+  row_declines (submit.JournalFull need room) is = (still_passes of_states e s t is.same is.passes, lacks (length (state_record_of e)) need room s t is.same is.full)
   row_declines submit.NoMemory is = tt
   row_declines submit.Fault is = is.is_open
 

@@ -1,5 +1,5 @@
 -- Why the stores, as they stand, decline what a run asks.
-use Rattle.std.specs.Prelude.{⊤, ◌≡◌, ℕ, ℤ, List, false, length, Err}
+use Rattle.std.specs.Prelude.{⊤, ◌≡◌, ℕ, ℤ, List, false, length, Err, IsOk}
 use Rattle.qz_types.specs.Entries.{EntryData, StateEntryData}
 use Rattle.qz_types.specs.declared.errors.SubmitError.{SubmitError}
 use Rattle.qz_types.specs.declared.errors.SubmitError.TheVariants as submit
@@ -16,11 +16,11 @@ use Rattle.qz_run.specs.declared.commands.NodeCommand.{NodeCommand}
 use Rattle.qz_run.specs.declared.commands.NodeCommand.TheVariants as asks
 use Rattle.qz_run.specs.Stores.{IsTime, RowCommand, checks_in, forgets}
 
--- The trigger store declines this entry: the transaction is refused; or its record finds no room; or the disk has failed and
--- the store is closed; or memory is wanted.
+-- The trigger store declines this entry: the transaction is refused; or it would be accepted, and its record finds no room; or
+-- the disk has failed and the store is closed; or memory is wanted.
 abbrev pub DeclinesEntry : TriggerState → EntryData → Declined → Type 0
 DeclinesEntry s e (declined.TooMany count) = trigger_entry.answer s.history e ≡ Err (refusal.TooMany count)
-DeclinesEntry s e (declined.JournalFull need room) = LacksRoom (length (record_of e)) need room s
+DeclinesEntry s e (declined.JournalFull need room) = IsOk (trigger_entry.answer s.history e) × LacksRoom (length (record_of e)) need room s
 DeclinesEntry s e declined.Fault = s.is_open ≡ false
 DeclinesEntry s e declined.NoMemory = ⊤
 
@@ -32,7 +32,7 @@ pub record HasNoRow (s : StatesState) (e : StateEntryData) (count : ℕ) : Type 
 -- the state store declines this entry
 abbrev pub DeclinesRow : StatesState → StateEntryData → Declined → Type 0
 DeclinesRow s e (declined.TooMany count) = HasNoRow s e count
-DeclinesRow s e (declined.JournalFull need room) = LacksRoom (length (state_record_of e)) need room s
+DeclinesRow s e (declined.JournalFull need room) = IsOk (of_states.answer s.history e) × LacksRoom (length (state_record_of e)) need room s
 DeclinesRow s e declined.Fault = s.is_open ≡ false
 DeclinesRow s e declined.NoMemory = ⊤
 

@@ -13,7 +13,7 @@ use Rattle.qz_trigger_store.specs.Bytes.{Stands}
 use Rattle.qz_trigger_store.specs.Opening.{IsOpened, IsSound}
 use Rattle.qz_checkin.specs.Bytes.{Stands as StatesStand}
 use Rattle.qz_checkin.specs.Opening.{IsOpened as AreOpened, IsSound as AreSound}
-use Rattle.qz_cluster.specs.Mounting.{DisksAfter, RefusedBy}
+use Rattle.qz_cluster.specs.Mounting.{DisksAfter, RefusedBy, StandsBefore}
 use Rattle.qz_cluster.specs.Steps.{ClusterState, is_restart}
 use Rattle.qz_cluster.specs.Script.{ScriptState, TimedStep, new_script, step_replies}
 use Rattle.qz_open.specs.Opened.{AreAlwaysAlone}
@@ -180,5 +180,7 @@ pub record NotOpened {D : Type 0} {g : Ghosts D} (triggers states : D) (e : Ende
   pub status_is : e.status ≡ refusal_of store error
   pub none : trail_of e.trail ≡ []
   pub refused : g.honest → RefusedBy g store error triggers states
+  -- where the state store is named, the trigger store could be opened
+  pub first : g.honest → StandsBefore g store triggers
   pub reads : g.honest → DisksAfter g store error triggers states e.triggers e.states
   pub untouched : new ≡ old

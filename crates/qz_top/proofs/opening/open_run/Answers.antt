@@ -2,7 +2,7 @@ use Rattle.std.proofs.Common.{◌≡◌, ◌∙◌, sym, ap, subst, refl}
 use Rattle.qz_journal.specs.Through.{OnlyReads, OnlyReadsUnless}
 use Rattle.qz_journal.specs.declared.errors.MountError.TheVariants as mount
 use Rattle.qz_types.specs.declared.stores.Store.TheVariants as store
-use Rattle.qz_cluster.specs.View.{disk_of_triggers, disk_of_states}
+use Rattle.qz_cluster.specs.View.{view as cluster_view, disk_of_triggers, disk_of_states}
 use Rattle.qz_top.specs.Trails.{RunState}
 use Rattle.qz_top.proofs.MomentLaws.{begins_on}
 use Rattle.qz_top.proofs.opening.open_run.Goals as goal
@@ -28,6 +28,7 @@ returns-in-Err-begin-clause-err g c o =
       status_is = none.status;
       none = none.trail;
       refused = λ honest. tt;
+      first = λ honest. ((cluster_view c.in-Ok.cluster).triggers, c.in-Ok.ensures.opened.0, (c.in-Ok.ensures.stands honest).0);
       reads = λ honest.
           let reads = c.in-Ok.ensures.reads honest in (
             subst (λ d. OnlyReads (disk.state c.args.triggers) (disk.state d)) (sym triggers_is) reads.0,
