@@ -20,10 +20,7 @@ use qz_types::{Entry, Reply};
 use std::alloc::Global;
 
 /// Opens the trigger store on a disk, as `TriggerStore::mount` does.
-pub fn mount_triggers<D: Disk>(
-    alloc: Global,
-    disk: D,
-) -> Result<TriggerStore<D>, (MountError, D)>
+pub fn mount_triggers<D: Disk>(alloc: Global, disk: D) -> Result<TriggerStore<D>, (MountError, D)>
     ensures opened { IfOk result (λ store. IsOpened (view store)) }
     ensures nothing_added { IfOk result (λ store. added_of store ≡ []) }
     ensures stands { D.honest → IfOk result (λ store. Stands (D.state disk).content (view store).history) }

@@ -12,6 +12,8 @@ mod stores;
 pub use acquiring::{commit_acquiring, prepare_acquiring};
 pub use completing::{commit_completing, prepare_completing};
 pub use members::{commit_members, prepare_members};
-pub use rows::{change_state, first_due, get_job, insert_job, remove_acquired, remove_job, reserve};
+pub use rows::{
+    change_state, first_due, get_job, insert_job, remove_acquired, remove_job, reserve,
+};
 pub use scheduling::{commit_scheduling, prepare_scheduling};
 pub use stores::{commit, prepare, refusal, step};
