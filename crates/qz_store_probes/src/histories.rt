@@ -5,11 +5,11 @@ ghost use Rattle.qz_codec.specs.Values.{IsEntry};
 ghost use Rattle.qz_journal.specs.Through.{OnlyReads, OnlyReadsUnless};
 ghost use Rattle.qz_model.specs.History.{History};
 ghost use Rattle.qz_schedule_law.specs.Following.{FollowsSchedules};
+ghost use Rattle.qz_stores.specs.Restarting.{read_of, IsReread};
 ghost use Rattle.qz_stores.specs.Stores.{Submits, Shuts, Opens};
 ghost use Rattle.qz_trigger_store.specs.Bytes.{Stands, IsHistory};
 ghost use Rattle.qz_trigger_store.specs.Entries.{trigger_entry};
 ghost use Rattle.qz_trigger_store.specs.Opening.{IsOpened, IsRefused};
-ghost use Rattle.qz_trigger_store.specs.Restarting.{read_of, IsReread};
 ghost use Rattle.qz_trigger_store.specs.View.{view, found_of, added_of, moments_of, replies_of, tables_of, disk_of, disk_state, IsAsBefore, LeavesEither};
 ghost use Rattle.qz_types.specs.Tables.{recorded_moment};
 
@@ -72,7 +72,7 @@ pub fn crash<D: Disk>(store: &mut TriggerStore<D>) -> Result<(), Failed>
 
 /// Opens the store with a history that was read, as `TriggerStore::open` does.
 pub fn open<D: Disk>(store: &mut TriggerStore<D>, reread: Reread)
-    requires read { IsReread (read_of reread) store.old }
+    requires read { IsReread (read_of reread) store.old.store }
     ensures opens { Opens trigger_entry D.honest (view store.old) (view store.new) }
     ensures opened { IsOpened (view store.new) }
     ensures found { found_of store.new ≡ read_of reread }
