@@ -89,7 +89,13 @@ CALENDAR = _by_kind(
     },
 )
 
-ZONE = Form({"name": values.name, "stretches": values.stretches})
+
+def _zone(value: dict[str, object], dot: str) -> Iterator[Problem]:
+    if ("rule" in value) == ("stretches" in value):
+        yield Problem(f"{dot}rule", "a zone has either `rule` or `stretches`")
+
+
+ZONE = Form({"name": values.name}, {"stretches": values.stretches, "rule": values.zone_rule}, _zone)
 
 _KEY = Form({"name": values.name}, {"group": values.name})
 _NAME = Form({"name": values.name})

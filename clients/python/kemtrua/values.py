@@ -128,6 +128,12 @@ def holiday(value: object, place: str) -> Iterator[Problem]:
         yield Problem(place, f"{shown(value)} is no date; allowed is YYYY-MM-DD, a real date of 1970 to 2099")
 
 
+def zone_rule(value: object, place: str) -> Iterator[Problem]:
+    """The rule of a zone, as POSIX writes TZ. Whether its dates and times are right is for the program to say."""
+    if not isinstance(value, str) or not re.fullmatch(r"(<[A-Za-z0-9+-]{3,}>|[A-Za-z]{3,})[+-]?[0-9][!-~]*", value):
+        yield Problem(place, f"{shown(value)} is no rule of a zone; allowed is a POSIX text, as CET-1CEST,M3.5.0,M10.5.0/3")
+
+
 def stretches(value: object, place: str) -> Iterator[Problem]:
     """The table of a zone."""
     if not isinstance(value, list) or not 1 <= len(value) <= 512:

@@ -31,6 +31,8 @@ class Lines(unittest.TestCase):
             calendar(kind="weekly", days=[]), calendar(kind="monthly", days=[31]), calendar(kind="daily", **{"from": 5, "to": 5}, inverted=True),
             calendar(kind="cron", cron="* * * * * ?"),
             {"do": "add_zone", "name": "z", "stretches": [[0, 0], [172800000, -64800]]},
+            {"do": "add_zone", "name": "z", "rule": "CET-1CEST,M3.5.0,M10.5.0/3"},
+            {"do": "add_zone", "name": "z", "rule": "<+0330>-3:30"},
             {"do": "join", "node": "A", "interval": 86400000}, {"do": "acquire", "node": "A", "no_later": 2**53, "max": 64},
             {"do": "complete", "node": "A", "entry": 2**64 - 1, "code": "DELETE_TRIGGER"}, {"do": "restart"}, {"do": "show_next"},
             {"do": "show_job", "name": "j", "group": "g"}, {"do": "resume", "node": "A", "epoch": 1}, {"do": "threshold", "ms": 1},
@@ -58,6 +60,8 @@ class Lines(unittest.TestCase):
             (calendar(kind="daily", **{"from": 6, "to": 5}), "calendar.to", "before"), (calendar(), "calendar.kind", "missing"),
             ({"do": "add_zone", "name": "z", "stretches": []}, "stretches", "512"), ({"do": "add_zone", "name": "z", "stretches": [[0, 0], [172799999, 0]]}, "stretches[1]", "48 hours"),
             ({"do": "add_zone", "name": "z", "stretches": [[0, 64801]]}, "stretches[0]", "64800"),
+            ({"do": "add_zone", "name": "z"}, "rule", "either"), ({"do": "add_zone", "name": "z", "rule": "EST5", "stretches": [[0, 0]]}, "rule", "either"),
+            ({"do": "add_zone", "name": "z", "rule": "Europe/Berlin"}, "rule", "POSIX"), ({"do": "add_zone", "name": "z", "rule": 5}, "rule", "POSIX"),
         ):
             found = wrong(line)
             self.assertEqual(len(found), 1, (line, found))
