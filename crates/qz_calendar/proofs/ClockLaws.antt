@@ -51,11 +51,11 @@ barred chain from end (pos n) none low high member =
     cc
 barred chain from end (negsuc n) none low high member = omega (arith, ints)
 
-pub none-included : (chain : List ZonedCalendar) (from : ℕ) (ms : ℤ) → pos from ≡ ms → NoneIn (are_free_at chain) from 4102444800000 → IsNext LAST (Included chain) (ms -ℤ pos 1) None
+pub none-included : (chain : List ZonedCalendar) (from : ℕ) (ms : ℤ) → pos from ≡ ms → NoneIn (are_free_at chain) from 7258118400000 → IsNext LAST (Included chain) (ms -ℤ pos 1) None
 none-included chain from ms at none t member later within =
-    barred chain from 4102444800000 t none (omega (arith, ints)) (omega (arith, ints)) member
+    barred chain from 7258118400000 t none (omega (arith, ints)) (omega (arith, ints)) member
 
-pub least-included : (chain : List ZonedCalendar) (from t : ℕ) (ms : ℤ) → pos from ≡ ms → IsLeastIn (are_free_at chain) from 4102444800000 t → IsNext LAST (Included chain) (ms -ℤ pos 1) (Some (pos t))
+pub least-included : (chain : List ZonedCalendar) (from t : ℕ) (ms : ℤ) → pos from ≡ ms → IsLeastIn (are_free_at chain) from 7258118400000 t → IsNext LAST (Included chain) (ms -ℤ pos 1) (Some (pos t))
 least-included chain from t ms at first =
     let low = first.low in
     let high = first.high in

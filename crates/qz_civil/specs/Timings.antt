@@ -66,14 +66,14 @@ is_day_set days = nat_lt 0 days && nat_lt days (2 ^ 7)
 abbrev pub is_kind : Kind → Bool
 is_kind (Simple interval count) = is_simple interval count
 is_kind (Cron fields zone) = is_cron_fields fields && is_name zone
-is_kind (Interval unit every zone) = is_every every && is_name zone
+is_kind (Interval unit every zone preserve skip) = is_every every && is_name zone
 is_kind (Daily unit every from to days zone) = is_daily_time unit every from to && (is_day_set days && is_name zone)
 
 -- the misfire instructions of a kind, numbered as in Quartz: -1 ignores misfires, 0 leaves it to the kind
 abbrev pub is_misfire : Kind → ℤ → Bool
 is_misfire (Simple interval count) code = is_within (negsuc 0) (pos 5) code
 is_misfire (Cron fields zone) code = is_within (negsuc 0) (pos 2) code
-is_misfire (Interval unit every zone) code = is_within (negsuc 0) (pos 2) code
+is_misfire (Interval unit every zone preserve skip) code = is_within (negsuc 0) (pos 2) code
 is_misfire (Daily unit every from to days zone) code = is_within (negsuc 0) (pos 2) code
 
 -- none, or a time

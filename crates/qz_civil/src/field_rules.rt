@@ -29,7 +29,7 @@ pub fn is_year_set(years: [u64; 4]) -> bool
     ensures { result ≡ spec.is_year_set years }
 {
     let [first, second, third, fourth] = years;
-    (0 < first || 0 < second || 0 < third) && third < 1 << (Field::Year.size() - 128) && fourth == 0
+    (0 < first || 0 < second || 0 < third || 0 < fourth) && fourth < 1 << (Field::Year.size() - 192)
 }
 
 impl DayField {

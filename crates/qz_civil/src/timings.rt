@@ -63,11 +63,17 @@ pub enum Kind {
         fields: CronFields,
         zone: Text,
     },
-    /// Fires at the start and then every so many units, 1 to `EVERY_LIMIT`, as the zone's calendar counts them.
+    /// Fires at the start and then every so many units, 1 to `EVERY_LIMIT`, as the zone's calendar counts them. The two
+    /// flags are those of Quartz's `CalendarIntervalTrigger`, for units of a day and longer.
     Interval {
         unit: Unit,
         every: u32,
         zone: Text,
+        /// Whether the local time of day stays where the zone's offset changes (`preserveHourOfDayAcrossDaylightSavings`).
+        preserve: bool,
+        /// With `preserve`: whether a local time that a gap leaves out is skipped (`skipDayIfHourDoesNotExist`), and else
+        /// fires when the gap ends.
+        skip: bool,
     },
     /// Fires on the chosen days at `from` and then every so many seconds, minutes or hours up to `to`. The unit is one of
     /// these three, a step is 1 s to 24 h, and `from` is at most `to`.
@@ -123,10 +129,18 @@ impl Clone for Kind {
                 fields: *fields,
                 zone: zone.clone()?,
             },
-            Kind::Interval { unit, every, zone } => Kind::Interval {
+            Kind::Interval {
+                unit,
+                every,
+                zone,
+                preserve,
+                skip,
+            } => Kind::Interval {
                 unit: *unit,
                 every: *every,
                 zone: zone.clone()?,
+                preserve: *preserve,
+                skip: *skip,
             },
             Kind::Daily {
                 unit,

@@ -87,7 +87,7 @@ impl Pattern {
         requires step { self.now.step < 2 ^ 62 }
         requires from { self.now.from < 2 ^ 32 }
         requires to { self.now.to < 2 ^ 32 }
-        requires floor { floor < 2 ^ 33 }
+        requires floor { floor < 2 ^ 34 }
         ensures some { IfSome result (λ second. IsLeastIn (is_second self.now) floor (second + 1) second) }
         ensures none { IfNone result ((end : ℕ) → NoneIn (is_second self.now) floor end) }
     {
@@ -107,9 +107,9 @@ impl Pattern {
         requires step { self.now.step < 2 ^ 62 }
         requires from { self.now.from < 2 ^ 32 }
         requires to { self.now.to < 2 ^ 32 }
-        requires floor { floor < 2 ^ 32 }
+        requires floor { floor < 2 ^ 33 }
         requires shift { span.shift < 2 ^ 32 }
-        requires end { span.end < 2 ^ 32 }
+        requires end { span.end < 2 ^ 33 }
         ensures { IsFirst (λ s. is_second self.now (s + span.shift)) floor span.end result }
     {
         match self.first_second(floor + span.shift) {

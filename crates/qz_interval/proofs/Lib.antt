@@ -1,3 +1,4 @@
+pub mod ClockLemmas
 pub mod NumberLemmas
 pub mod TurnLemmas
 pub mod DatedLemmas

@@ -28,9 +28,9 @@ pub has_number-same : (c : Count) (n d e : ℕ) → HasNumber c n d → HasNumbe
 has_number-same Days n d e h k = h ∙ sym k
 has_number-same (Months of_month) n d e h k = date_of-same d e (h ∙ sym k)
 
--- from February 2100 on a day is late
-pub late_month : (number of_month day : ℕ) → 25201 ≤ number → HasNumber (Months of_month) number day → 47484 ≤ day
-late_month number of_month day le h = elim (cases_lt day 47484) [
+-- from February 2200 on a day is late
+pub late_month : (number of_month day : ℕ) → 26401 ≤ number → HasNumber (Months of_month) number day → 84008 ≤ day
+late_month number of_month day le h = elim (cases_lt day 84008) [
   | inl lt ↦ absurd (omega (arith, month_of-last day (omega arith), has_number (Months of_month) number day h))
   | inr ge ↦ ge
 ]

@@ -1,2 +1,3 @@
+pub mod Clocks
 pub mod Interval
 pub mod Turns

@@ -1,9 +1,7 @@
 -- Turns by their numbers: of days counted from 1969-12-31 on, or of months counted from January of the year 0 on.
-use Rattle.std.specs.Prelude.{◌≡◌, ℕ, ◌+◌, ◌*◌, ◌/◌, ◌%◌, ◌<◌, ◌≤◌, ◌^◌, ℤ, ◌≤ℤ◌, List}
+use Rattle.std.specs.Prelude.{◌≡◌, ℕ, ◌+◌, ◌*◌, ◌/◌, ◌%◌, ◌<◌, ◌≤◌, ◌^◌, ℤ, ◌≤ℤ◌}
 use Rattle.std.specs.Int.{IsInRange}
-use Rattle.qz_civil.specs.declared.stretches.Stretch.{Stretch}
 use Rattle.qz_civil.specs.Dates.{date_of}
-use Rattle.qz_civil.specs.Instants.{IsEarliest, IsShownAt}
 use Rattle.qz_civil.specs.Months.{day_in_month, month_number}
 use Rattle.qz_interval.specs.declared.turns.Count.{Count}
 use Rattle.qz_interval.specs.declared.turns.Count.TheVariants.{Days, Months}
@@ -31,15 +29,15 @@ pub record IsClockAt (turns : Turns) (number m : ℕ) : Type 0 where
 abbrev pub IsTurnOf : Turns → ℕ → ℕ → Type 0
 IsTurnOf turns k m = IsClockAt turns (turns.first + k * turns.step) m
 
--- the turn at place k has t as its earliest timestamp
-pub record HasTimestamp (zone : List Stretch) (turns : Turns) (k : ℕ) (t : ℤ) : Type 0 where
+-- t is the moment of the turn at place k
+pub record HasMoment (Moment : ℕ → ℤ → Type 0) (turns : Turns) (k : ℕ) (t : ℤ) : Type 0 where
   pub clock : ℕ
   pub turn : IsTurnOf turns k clock
-  pub at : IsEarliest (IsShownAt zone clock) t
+  pub at : Moment clock t
 
 -- no turn from the first on, before place k, comes later than `after`
-abbrev pub ArePassed : List Stretch → Turns → ℤ → ℕ → Type 0
-ArePassed zone turns after k = (j : ℕ) (s : ℤ) → 1 ≤ j → j < k → HasTimestamp zone turns j s → s ≤ℤ after
+abbrev pub ArePassed : (ℕ → ℤ → Type 0) → Turns → ℤ → ℕ → Type 0
+ArePassed Moment turns after k = (j : ℕ) (s : ℤ) → 1 ≤ j → j < k → HasMoment Moment turns j s → s ≤ℤ after
 
 -- 1 to 2 to the power of 40 days or months: 2147483647 weeks or years are fewer
 abbrev pub IsStep : Step → Type 0

@@ -2,6 +2,7 @@
 //! `CalendarIntervalTrigger`.
 #![tactic(auto)]
 
+mod clocks;
 mod dated;
 mod intervals;
 mod numbers;

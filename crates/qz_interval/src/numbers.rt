@@ -7,8 +7,8 @@ ghost use Rattle.qz_interval.specs.Turns as spec;
 use crate::turns::Count;
 use qz_civil::{Date, END_DAY, LAST_DAY, date_of, day_of, days_in_month, first_occurrence};
 
-// February 2100.
-const END_MONTH: u64 = 25201;
+// February 2200.
+const END_MONTH: u64 = 26401;
 
 /// The number of the date's month, counted from January of the year 0 on.
 pub fn month_number(date: Date) -> u64

@@ -12,19 +12,23 @@ pub struct IntervalTimes<'a> {
     end: Option<i64>,
     unit: Unit,
     every: u32,
+    preserve: bool,
+    skip: bool,
     zone: &'a Zone,
     ghost span: { IsTrue (is_span start) },
     ghost units: { IsTrue (is_every every) },
 }
 
 impl<'a> IntervalTimes<'a> {
-    /// The fire times from `start` on, every so many units by the zone's clock, before `end`. `start` is 0 to `LONGEST`, and
+    /// The fire times from `start` on, every so many units by the zone's clock and the flags, before `end`. `start` is 0 to `LONGEST`, and
     /// `every` is 1 to 2147483647.
     pub fn new(
         start: i64,
         end: Option<i64>,
         unit: Unit,
         every: u32,
+        preserve: bool,
+        skip: bool,
         zone: &'a Zone,
     ) -> IntervalTimes<'a>
         requires start { IsTrue (is_span start) }
@@ -33,6 +37,8 @@ impl<'a> IntervalTimes<'a> {
         ensures end { result.end ≡ end }
         ensures unit { result.unit ≡ unit }
         ensures every { result.every ≡ every }
+        ensures preserve { result.preserve ≡ preserve }
+        ensures skip { result.skip ≡ skip }
         ensures zone { result.zone.now ≡ zone.now }
     {
         IntervalTimes {
@@ -40,6 +46,8 @@ impl<'a> IntervalTimes<'a> {
             end,
             unit,
             every,
+            preserve,
+            skip,
             zone,
         }
     }
@@ -48,11 +56,18 @@ impl<'a> IntervalTimes<'a> {
 impl Times for IntervalTimes<'_> {
     ghost use Rattle.qz_interval.specs.Interval.{IsInterval};
 
-    ghost timestamps = { λ s. IsInterval s.start s.end s.unit s.every s.zone.now };
+    ghost timestamps = { λ s. IsInterval s.start s.end s.unit s.every s.preserve s.skip s.zone.now };
 
     fn next(&self, after: i64) -> Option<i64> {
         intervals::next(
-            self.start, self.end, self.unit, self.every, self.zone, after,
+            self.start,
+            self.end,
+            self.unit,
+            self.every,
+            self.preserve,
+            self.skip,
+            self.zone,
+            after,
         )
     }
 }

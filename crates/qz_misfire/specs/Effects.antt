@@ -31,7 +31,7 @@ other_effect instruction = if int_eq instruction (pos 2) then Resume else FireNo
 abbrev pub effect_of : Kind → ℤ → Effect
 effect_of (Simple interval count) instruction = simple_effect count instruction
 effect_of (Cron fields zone) instruction = other_effect instruction
-effect_of (Interval unit every zone) instruction = other_effect instruction
+effect_of (Interval unit every zone preserve skip) instruction = other_effect instruction
 effect_of (Daily unit every from to days zone) instruction = other_effect instruction
 
 -- A firing at that time would come after the end. A cron trigger still fires at its end, the others don't.
@@ -39,19 +39,19 @@ abbrev pub is_over : Kind → Option ℤ → ℤ → Bool
 is_over kind None now = false
 is_over (Simple interval count) (Some end) now = int_le end now
 is_over (Cron fields zone) (Some end) now = int_lt end now
-is_over (Interval unit every zone) (Some end) now = int_le end now
+is_over (Interval unit every zone preserve skip) (Some end) now = int_le end now
 is_over (Daily unit every from to days zone) (Some end) now = int_le end now
 
 -- how often a simple trigger fires after its first time, -1 without end; 0 for the other kinds
 abbrev pub count_of : Kind → ℤ
 count_of (Simple interval count) = count
 count_of (Cron fields zone) = pos 0
-count_of (Interval unit every zone) = pos 0
+count_of (Interval unit every zone preserve skip) = pos 0
 count_of (Daily unit every from to days zone) = pos 0
 
 -- the time between two firings of a simple trigger, in ms; 0 for the other kinds
 abbrev pub interval_of : Kind → ℤ
 interval_of (Simple interval count) = interval
 interval_of (Cron fields zone) = pos 0
-interval_of (Interval unit every zone) = pos 0
+interval_of (Interval unit every zone preserve skip) = pos 0
 interval_of (Daily unit every from to days zone) = pos 0

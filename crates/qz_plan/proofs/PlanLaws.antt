@@ -1,5 +1,5 @@
 -- The test of a fire time decides `IsFireTime`, so the first timestamp that passes is the least fire time.
-use Rattle.std.proofs.Common.{◌≡◌, ◌*◌, ◌≤◌, ◌&&◌, ℕ, ℤ, pos, negsuc, ◌≤ℤ◌, List, Option, IsTrue, arith}
+use Rattle.std.proofs.Common.{◌≡◌, ◌*◌, ◌≤◌, ◌&&◌, Bool, ℕ, ℤ, pos, negsuc, ◌≤ℤ◌, List, Option, IsTrue, arith}
 use Rattle.std.specs.Bool.{Decides}
 use Rattle.std.proofs.lemmas.Bool.Decides.{Decides-and, Decides-like}
 use Rattle.std.proofs.lemmas.Int.{ints}
@@ -14,7 +14,7 @@ use Rattle.qz_civil.specs.Least.{IsNext}
 use Rattle.qz_civil.specs.Timings.{is_kind, is_simple, is_timing}
 use Rattle.qz_calendar.specs.Chains.{ZonedCalendar}
 use Rattle.qz_daily.specs.Timestamps.{pattern}
-use Rattle.qz_interval.specs.Interval.{IsDated, IsDayTurn, IsDaysLater, IsInterval, IsMonthTurn, IsMonthsLater}
+use Rattle.qz_interval.specs.Interval.{IsDated, IsDayTurn, IsDaysLater, IsInterval, IsMoment, IsMonthTurn, IsMonthsLater}
 use Rattle.qz_misfire.proofs.NextLaws.{same_next}
 use Rattle.qz_simple.specs.Simple.{IsSimple}
 use Rattle.qz_plan.specs.FireTimes.{IsFireTime}
@@ -33,14 +33,14 @@ of_simple : (start : ℤ) (end : Option ℤ) (interval count t : ℤ) → IsTrue
 of_simple start end (pos i) count t valid = simple-decides start end count t i (grind (arith, ints))
 of_simple start end (negsuc i) count t valid = absurd (grind (arith, ints))
 
-module _ (start : ℤ) (end : Option ℤ) (every : ℕ) (zone : List Stretch) (t : ℤ) (some : 1 ≤ every) (low : pos 0 ≤ℤ t) (high : t ≤ℤ LAST) where
-  by_days : (step : ℕ) → 1 ≤ step → Decides (is_dated_time zone (is_day_later step) start t && is_before end t) (IsDated zone (IsDayTurn zone start step) start end t)
-  by_days step more = dated-decides zone (is_day_later step) (λ k. IsDaysLater (k * step)) start t end (day-decides step more) low high
+module _ (start : ℤ) (end : Option ℤ) (every : ℕ) (preserve skip : Bool) (zone : List Stretch) (t : ℤ) (some : 1 ≤ every) (low : pos 0 ≤ℤ t) (high : t ≤ℤ LAST) where
+  by_days : (step : ℕ) → 1 ≤ step → Decides (is_dated_time preserve skip zone (is_day_later step) start t && is_before end t) (IsDated (IsMoment preserve skip zone start) (IsDayTurn zone start step) start end t)
+  by_days step more = dated-decides (is_day_later step) (λ k. IsDaysLater (k * step)) (day-decides step more) preserve skip zone start t end low high
 
-  by_months : (step : ℕ) → 1 ≤ step → Decides (is_dated_time zone (is_month_later step) start t && is_before end t) (IsDated zone (IsMonthTurn zone start step) start end t)
-  by_months step more = dated-decides zone (is_month_later step) (λ k. IsMonthsLater (k * step)) start t end (month-decides step more) low high
+  by_months : (step : ℕ) → 1 ≤ step → Decides (is_dated_time preserve skip zone (is_month_later step) start t && is_before end t) (IsDated (IsMoment preserve skip zone start) (IsMonthTurn zone start step) start end t)
+  by_months step more = dated-decides (is_month_later step) (λ k. IsMonthsLater (k * step)) (month-decides step more) preserve skip zone start t end low high
 
-  of_interval : (unit : Unit) → Decides (is_interval_time start unit every zone t && is_before end t) (IsInterval start end unit every zone t)
+  of_interval : (unit : Unit) → Decides (is_interval_time start unit every preserve skip zone t && is_before end t) (IsInterval start end unit every preserve skip zone t)
   of_interval units.Second = simple-decides start end (negsuc 0) t (every * 1000) (omega (arith, ints))
   of_interval units.Minute = simple-decides start end (negsuc 0) t (every * 60000) (omega (arith, ints))
   of_interval units.Hour = simple-decides start end (negsuc 0) t (every * 3600000) (omega (arith, ints))
@@ -52,7 +52,7 @@ module _ (start : ℤ) (end : Option ℤ) (every : ℕ) (zone : List Stretch) (t
 of_kind : (kind : Kind) (zone : List Stretch) (start : ℤ) (end : Option ℤ) (t : ℤ) → IsTrue (is_kind kind) → pos 0 ≤ℤ t → t ≤ℤ LAST → Decides (is_scheduled kind zone start end t) (IsOfKind kind zone start end t)
 of_kind (Simple interval count) zone start end t valid low high = of_simple start end interval count t valid
 of_kind (Cron fields name) zone start end t valid low high = cron-decides fields zone start end t low
-of_kind (Interval unit every name) zone start end t valid low high = of_interval start end every zone t (grind arith) low high unit
+of_kind (Interval unit every name preserve skip) zone start end t valid low high = of_interval start end every preserve skip zone t (grind arith) low high unit
 of_kind (Daily unit every from to days name) zone start end t valid low high = daily-decides start end (pattern unit every from to days) zone t low
 
 kind_of : (timing : Timing) → IsTrue (is_timing timing) → IsTrue (is_kind timing.kind)

@@ -13,7 +13,7 @@ use Rattle.qz_civil.specs.declared.timings.Unit.TheVariants as units
 use Rattle.qz_civil.specs.Dates.{date_of}
 use Rattle.qz_civil.specs.Fields.{meets}
 use Rattle.qz_civil.specs.Months.{day_in_month, month_number}
-use Rattle.qz_civil.specs.Zones.{civil, local}
+use Rattle.qz_civil.specs.Zones.{civil, fixed_offset, local, offset_at}
 use Rattle.qz_calendar.specs.Chains.{ZonedCalendar, excludes_at}
 use Rattle.qz_daily.specs.declared.patterns.Pattern.{Pattern}
 use Rattle.qz_daily.specs.Timestamps.{pattern, is_weekday, is_time}
@@ -59,24 +59,39 @@ is_month_later step first day =
     is_day_later step (month_number (date_of first)) (month_number (date_of day))
     && same_date (date_of day) (day_in_month (month_number (date_of day)) (date_of first).day)
 
--- t is the start, or the earliest timestamp of the start's time of day on a later day of that stepping
-abbrev pub is_dated_time : List Stretch → (ℕ → ℕ → Bool) → ℤ → ℤ → Bool
-is_dated_time zone is_later start t =
-    int_eq t start
-    || (int_lt start t
-    && (local zone t % DAY_MS == local zone start % DAY_MS)
-    && is_later (local zone start / DAY_MS) (local zone t / DAY_MS)
-    && not (is_shown_before zone (local zone t) (unsigned_abs t)))
+-- the clock shows m on a later day of that stepping, at the time of day of l
+abbrev pub is_turn : (ℕ → ℕ → Bool) → ℕ → ℕ → Bool
+is_turn is_later l m = (m % DAY_MS == l % DAY_MS) && is_later (l / DAY_MS) (m / DAY_MS)
+
+-- t is the earliest timestamp at which the clock shows a turn
+abbrev pub is_shown_first : List Stretch → (ℕ → Bool) → ℤ → Bool
+is_shown_first zone is_turn t = is_turn (local zone t) && not (is_shown_before zone (local zone t) (unsigned_abs t))
+
+-- some number between the two passes
+abbrev pub is_between : (ℕ → Bool) → ℕ → ℕ → Bool
+is_between passes low zero = false
+is_between passes low (suc n) = (nat_lt low n && passes n) || is_between passes low n
+
+-- t is the moment of a turn by the flags, as `IsMoment` says it
+abbrev pub is_moment : Bool → Bool → List Stretch → (ℕ → Bool) → ℤ → ℤ → Bool
+is_moment true true zone is_turn start t = is_shown_first zone is_turn t
+is_moment true false zone is_turn start t = is_shown_first zone is_turn t || is_between is_turn (local zone (t -ℤ pos 1)) (local zone t)
+is_moment false skip zone is_turn start t = is_turn (local (fixed_offset (offset_at zone start)) t)
+
+-- t is the start, or the moment of the start's time of day on a later day of that stepping
+abbrev pub is_dated_time : Bool → Bool → List Stretch → (ℕ → ℕ → Bool) → ℤ → ℤ → Bool
+is_dated_time preserve skip zone is_later start t =
+    int_eq t start || (int_lt start t && is_moment preserve skip zone (is_turn is_later (local zone start)) start t)
 
 -- by unit
-abbrev pub is_interval_time : ℤ → Unit → ℕ → List Stretch → ℤ → Bool
-is_interval_time start units.Second every zone t = is_simple_time start (pos (every * 1000)) (negsuc 0) t
-is_interval_time start units.Minute every zone t = is_simple_time start (pos (every * 60000)) (negsuc 0) t
-is_interval_time start units.Hour every zone t = is_simple_time start (pos (every * 3600000)) (negsuc 0) t
-is_interval_time start units.Day every zone t = is_dated_time zone (is_day_later every) start t
-is_interval_time start units.Week every zone t = is_dated_time zone (is_day_later (every * 7)) start t
-is_interval_time start units.Month every zone t = is_dated_time zone (is_month_later every) start t
-is_interval_time start units.Year every zone t = is_dated_time zone (is_month_later (every * 12)) start t
+abbrev pub is_interval_time : ℤ → Unit → ℕ → Bool → Bool → List Stretch → ℤ → Bool
+is_interval_time start units.Second every preserve skip zone t = is_simple_time start (pos (every * 1000)) (negsuc 0) t
+is_interval_time start units.Minute every preserve skip zone t = is_simple_time start (pos (every * 60000)) (negsuc 0) t
+is_interval_time start units.Hour every preserve skip zone t = is_simple_time start (pos (every * 3600000)) (negsuc 0) t
+is_interval_time start units.Day every preserve skip zone t = is_dated_time preserve skip zone (is_day_later every) start t
+is_interval_time start units.Week every preserve skip zone t = is_dated_time preserve skip zone (is_day_later (every * 7)) start t
+is_interval_time start units.Month every preserve skip zone t = is_dated_time preserve skip zone (is_month_later every) start t
+is_interval_time start units.Year every preserve skip zone t = is_dated_time preserve skip zone (is_month_later (every * 12)) start t
 
 abbrev pub is_daily_time : ℤ → Pattern → List Stretch → ℤ → Bool
 is_daily_time start p zone t =
@@ -87,7 +102,7 @@ abbrev pub is_scheduled : Kind → List Stretch → ℤ → Option ℤ → ℤ �
 is_scheduled (Simple interval count) zone start end t = is_simple_time start interval count t && is_before end t
 is_scheduled (Cron fields name) zone start end t =
     is_whole_second t && meets fields (civil zone t) && int_le (start_second start) t && is_up_to end t
-is_scheduled (Interval unit every name) zone start end t = is_interval_time start unit every zone t && is_before end t
+is_scheduled (Interval unit every name preserve skip) zone start end t = is_interval_time start unit every preserve skip zone t && is_before end t
 is_scheduled (Daily unit every from to days name) zone start end t = is_daily_time start (pattern unit every from to days) zone t && is_before end t
 
 -- t is a fire time, as `IsFireTime` says it

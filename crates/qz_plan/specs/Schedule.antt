@@ -35,7 +35,7 @@ pub record IsCron (fields : CronFields) (zone : List Stretch) (start : ℤ) (end
 abbrev pub IsOfKind : Kind → List Stretch → ℤ → Option ℤ → ℤ → Type 0
 IsOfKind (Simple interval count) zone start end t = IsSimple start end interval count t
 IsOfKind (Cron fields name) zone start end t = IsCron fields zone start end t
-IsOfKind (Interval unit every name) zone start end t = IsInterval start end unit every zone t
+IsOfKind (Interval unit every name preserve skip) zone start end t = IsInterval start end unit every preserve skip zone t
 IsOfKind (Daily unit every from to days name) zone start end t = IsDaily start end (pattern unit every from to days) zone t
 
 -- t is a fire time of that timing, in the zone that its kind names

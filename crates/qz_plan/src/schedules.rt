@@ -25,7 +25,9 @@ pub(crate) fn scheduled_after(timing: &Timing, zone: &Zone, after: i64) -> Optio
             unit,
             every,
             zone: _,
-        } => qz_interval::next(start, end, *unit, *every, zone, after),
+            preserve,
+            skip,
+        } => qz_interval::next(start, end, *unit, *every, *preserve, *skip, zone, after),
         Kind::Daily {
             unit,
             every,

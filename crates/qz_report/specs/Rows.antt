@@ -46,7 +46,7 @@ state_word Error = codes "ERROR"
 abbrev pub kind_text : Kind → List ℕ
 kind_text (Simple interval count) = codes "simple " ++ signed_decimal count
 kind_text (Cron fields zone) = codes "cron"
-kind_text (Interval unit every zone) = codes "interval"
+kind_text (Interval unit every zone preserve skip) = codes "interval"
 kind_text (Daily unit every from to days zone) = codes "daily"
 
 -- the trigger, its job and its state

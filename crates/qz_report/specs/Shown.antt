@@ -29,7 +29,7 @@ shown_job (Some j) = job_text j ++ job_data j.payload
 abbrev pub zone_text : Kind → List ℕ
 zone_text (Simple interval count) = codes "none"
 zone_text (Cron fields zone) = escaped zone
-zone_text (Interval unit every zone) = escaped zone
+zone_text (Interval unit every zone preserve skip) = escaped zone
 zone_text (Daily unit every from to days zone) = escaped zone
 
 -- its misfire instruction, its calendar and its zone

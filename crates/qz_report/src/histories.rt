@@ -140,5 +140,9 @@ fn word_of(command: &Command) -> &'static str
         Command::Complete { entry: _, code: _ } => "complete",
         Command::Misfires => "misfires",
         Command::Recover { node: _ } => "recover",
+        Command::Upgrade => "migrate",
+        Command::ResetTrigger { key: _ } => "reset_trigger",
+        Command::PauseJobGroup { group: _ } => "pause_job_group",
+        Command::ResumeJobGroup { group: _ } => "resume_job_group",
     }
 }

@@ -109,6 +109,8 @@ fn push_zone(text: &mut String, kind: &Kind) -> Result<(), AllocError>
             unit: _,
             every: _,
             zone,
+            preserve: _,
+            skip: _,
         } => push_name(text, zone.as_str()),
         Kind::Daily {
             unit: _,

@@ -95,6 +95,8 @@ fn push_kind(text: &mut String, kind: &Kind) -> Result<(), AllocError>
             unit: _,
             every: _,
             zone: _,
+            preserve: _,
+            skip: _,
         } => text.push_str("interval"),
         Kind::Daily {
             unit: _,

@@ -34,7 +34,7 @@ after_fire next state t = record t { prev = t.next; next = next; times = min (t.
 abbrev pub counting : ℤ → Kind → Kind
 counting count (Simple interval old) = Simple interval count
 counting count (Cron fields zone) = Cron fields zone
-counting count (Interval unit every zone) = Interval unit every zone
+counting count (Interval unit every zone preserve skip) = Interval unit every zone preserve skip
 counting count (Daily unit every from to days zone) = Daily unit every from to days zone
 
 -- the timing with this start and this count

@@ -4,7 +4,7 @@ use Rattle.qz_civil.specs.Timings.{is_name, is_span}
 use Rattle.qz_types.specs.Rows.{is_interval, is_key, is_node, is_trigger_spec}
 use Rattle.qz_types.specs.declared.limits.TheConstants.{ACQUIRE_LIMIT}
 use Rattle.qz_types.specs.declared.commands.Command.{Command}
-use Rattle.qz_types.specs.declared.commands.Command.TheVariants.{AddJob, DeleteJob, AddTrigger, DeleteTrigger, PauseTrigger, ResumeTrigger, PauseGroup, ResumeGroup, AddCalendar, DeleteCalendar, AddZone, DeleteZone, TriggerNow, Threshold, Join, Leave, Acquire, Release, Fire, Complete, Misfires, Recover}
+use Rattle.qz_types.specs.declared.commands.Command.TheVariants.{AddJob, DeleteJob, AddTrigger, DeleteTrigger, PauseTrigger, ResumeTrigger, PauseGroup, ResumeGroup, AddCalendar, DeleteCalendar, AddZone, DeleteZone, TriggerNow, Threshold, Join, Leave, Acquire, Release, Fire, Complete, Misfires, Recover, Upgrade, ResetTrigger, PauseJobGroup, ResumeJobGroup}
 use Rattle.qz_types.specs.declared.commands.Actor.{Actor}
 use Rattle.qz_types.specs.declared.commands.Actor.TheVariants.{Client, Node}
 use Rattle.qz_types.specs.declared.states.StateCommand.{StateCommand}
@@ -40,6 +40,10 @@ is_command (Fire entry) = true
 is_command (Complete entry code) = true
 is_command Misfires = true
 is_command (Recover node) = is_node node
+is_command Upgrade = true
+is_command (ResetTrigger key) = is_key key
+is_command (PauseJobGroup group) = is_name group
+is_command (ResumeJobGroup group) = is_name group
 
 -- what a node does under its epoch; the others are a client's
 abbrev pub is_of_node : Command → Bool

@@ -1,7 +1,7 @@
 -- The number under which reply lines name a refusal. It is fixed for each refusal, whichever others there are.
 use Rattle.std.specs.Prelude.{ℕ}
 use Rattle.qz_types.specs.declared.replies.Refusal.{Refusal}
-use Rattle.qz_types.specs.declared.replies.Refusal.TheVariants.{Fenced, ReservedGroup, UnknownJob, UnknownTrigger, UnknownCalendar, UnknownZone, JobExists, TriggerExists, CalendarExists, ZoneExists, InUse, Circle, FlagInUse, NeverFires, UnknownEntry, NotYours, NotAcquired, NotExecuting, Early, NotMember, StillFresh, TooMany, UnknownNode, RowsFull, StillMember, Renewed}
+use Rattle.qz_types.specs.declared.replies.Refusal.TheVariants.{Fenced, ReservedGroup, UnknownJob, UnknownTrigger, UnknownCalendar, UnknownZone, JobExists, TriggerExists, CalendarExists, ZoneExists, InUse, Circle, FlagInUse, NeverFires, UnknownEntry, NotYours, NotAcquired, NotExecuting, Early, NotMember, StillFresh, TooMany, UnknownNode, RowsFull, StillMember, Renewed, OldStore, Current, NotInError}
 
 abbrev pub number_of : Refusal → ℕ
 number_of (Fenced live) = 1
@@ -30,3 +30,6 @@ number_of UnknownNode = 23
 number_of RowsFull = 24
 number_of StillMember = 25
 number_of (Renewed last) = 26
+number_of OldStore = 27
+number_of Current = 28
+number_of NotInError = 29

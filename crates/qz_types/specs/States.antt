@@ -61,7 +61,7 @@ unblocked Paused = Paused
 unblocked PausedBlocked = Paused
 unblocked Error = Error
 
--- the state of a trigger that is stored now, by whether its group is paused and an execution excludes others of its job
+-- the state of a trigger that is stored now, by whether it is paused with a group and an execution excludes others of its job
 abbrev pub first_state : Bool → Bool → TriggerState
 first_state false false = Waiting
 first_state true false = Paused

@@ -1,8 +1,8 @@
 -- The tables of the trigger store, as lists in the order of their ids, and their numbers. Times are in ms since
 -- 1970-01-01T00:00:00Z.
-use Rattle.std.specs.Prelude.{ℕ, ℤ, pos, ◌≤ℤ◌, List, []}
+use Rattle.std.specs.Prelude.{ℕ, ℤ, pos, ◌≤ℤ◌, List, [], ◌==◌, if◌then◌else◌}
 use Rattle.std.specs.Int.{int_max, int_min}
-use Rattle.qz_civil.specs.declared.limits.TheConstants.{LAST}
+use Rattle.qz_civil.specs.declared.limits.TheConstants.{LAST, VERSION_ONE_LAST}
 use Rattle.qz_types.specs.declared.limits.TheConstants.{FIRST_THRESHOLD}
 use Rattle.qz_types.specs.Rows.{JobData, TriggerData, CalendarData, ZoneData, MemberData, FiredData}
 
@@ -13,6 +13,8 @@ pub record SchedulerTables : Type 0 where
   pub zones : List ZoneData
   -- the groups of triggers that are paused, triggers that are stored later too
   pub paused_groups : List (List ℕ)
+  -- the groups of jobs whose triggers are paused, triggers that are stored later too
+  pub paused_job_groups : List (List ℕ)
   pub members : List MemberData
   pub fired : List FiredData
   -- the entry number that the next fired row gets
@@ -28,7 +30,7 @@ pub record SchedulerTables : Type 0 where
 
 -- how far the tables of a format version reach
 abbrev pub horizon_of : ℕ → ℤ
-horizon_of version = LAST
+horizon_of version = if version == 1 then VERSION_ONE_LAST else LAST
 
 -- the tables of a new store of this format version
 abbrev pub empty : ℕ → SchedulerTables
@@ -38,6 +40,7 @@ empty version = record {
   calendars = [];
   zones = [];
   paused_groups = [];
+  paused_job_groups = [];
   members = [];
   fired = [];
   next_entry = 1;
@@ -49,7 +52,7 @@ empty version = record {
 
 -- the tables of a new store, of the format version that is written today
 unfoldable pub new_tables : SchedulerTables
-new_tables = empty 1
+new_tables = empty 2
 
 -- from 0 to the horizon
 pub record IsMoment (horizon m : ℤ) : Type 0 where

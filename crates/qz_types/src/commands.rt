@@ -50,7 +50,7 @@ pub enum Command {
     PauseGroup {
         group: Text,
     },
-    /// Resumes each trigger of the group.
+    /// Resumes each trigger of the group, but those whose job's group is paused.
     ResumeGroup {
         group: Text,
     },
@@ -110,6 +110,20 @@ pub enum Command {
     /// The node recovers what a failed member, `node`, had in its hands.
     Recover {
         node: Text,
+    },
+    /// Takes the store of format version 1 to version 2: its fire times may go on to `LAST`.
+    Upgrade,
+    /// Takes the trigger out of the state ERROR.
+    ResetTrigger {
+        key: Key,
+    },
+    /// Pauses each trigger of the group's jobs, and each that is stored for one of them later.
+    PauseJobGroup {
+        group: Text,
+    },
+    /// Resumes each trigger of the group's jobs, but those whose own group is paused.
+    ResumeJobGroup {
+        group: Text,
     },
 }
 

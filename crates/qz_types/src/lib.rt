@@ -25,14 +25,14 @@ pub use jobs::JobRow;
 pub use keys::Key;
 pub use limits::{
     ACQUIRE_LIMIT, CALENDAR_LIMIT, CHAIN_LIMIT, FIRED_LIMIT, FIRST_THRESHOLD, GROUP_LIMIT,
-    INTERVAL_LIMIT, JOB_LIMIT, MEMBER_LIMIT, MISFIRE_LIMIT, NODE_LIMIT, NUMBER_LIMIT,
-    PAYLOAD_LIMIT, STATE_LIMIT, TIMES_LIMIT, TRIGGER_LIMIT, ZONE_LIMIT, limits_are,
+    INTERVAL_LIMIT, JOB_GROUP_LIMIT, JOB_LIMIT, MEMBER_LIMIT, MISFIRE_LIMIT, NODE_LIMIT,
+    NUMBER_LIMIT, PAYLOAD_LIMIT, STATE_LIMIT, TIMES_LIMIT, TRIGGER_LIMIT, ZONE_LIMIT, limits_are,
 };
 pub use members::MemberRow;
 pub use owners::Owner;
 pub use qz_civil::{
     CalendarKind, Failed, Kind, LAST, LONGEST, List, NAME_LIMIT, NoMemory, Stretch, Text, Timing,
-    Unit,
+    Unit, VERSION_ONE_LAST,
 };
 pub use replies::{MovedRow, Refusal, Reply, Taken};
 pub use sorted::{Keyed, find, insert, place};

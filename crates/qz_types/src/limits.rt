@@ -7,19 +7,21 @@ pub const NODE_LIMIT: u64 = 120;
 pub const PAYLOAD_LIMIT: u64 = 4096;
 
 /// Stored jobs.
-pub const JOB_LIMIT: u64 = 65536;
+pub const JOB_LIMIT: u64 = 262144;
 /// Stored triggers.
-pub const TRIGGER_LIMIT: u64 = 262144;
+pub const TRIGGER_LIMIT: u64 = 1048576;
 /// Stored calendars.
 pub const CALENDAR_LIMIT: u64 = 4096;
 /// Calendars in a chain: a trigger's calendar, that below it, and so on.
 pub const CHAIN_LIMIT: u64 = 8;
 /// Stored zones.
 pub const ZONE_LIMIT: u64 = 4096;
-/// Paused groups.
+/// Paused groups of triggers.
 pub const GROUP_LIMIT: u64 = 4096;
+/// Paused groups of jobs.
+pub const JOB_GROUP_LIMIT: u64 = 4096;
 /// Rows of acquired triggers and executions together.
-pub const FIRED_LIMIT: u64 = 16384;
+pub const FIRED_LIMIT: u64 = 65536;
 /// Members of the cluster.
 pub const MEMBER_LIMIT: u64 = 256;
 /// Rows of the state store.
@@ -43,13 +45,14 @@ pub const INTERVAL_LIMIT: i64 = 86400000;
 pub fn limits_are()
     ensures node { NODE_LIMIT ≡ 120 }
     ensures payload { PAYLOAD_LIMIT ≡ 4096 }
-    ensures jobs { JOB_LIMIT ≡ 65536 }
-    ensures triggers { TRIGGER_LIMIT ≡ 262144 }
+    ensures jobs { JOB_LIMIT ≡ 262144 }
+    ensures triggers { TRIGGER_LIMIT ≡ 1048576 }
     ensures calendars { CALENDAR_LIMIT ≡ 4096 }
     ensures chain { CHAIN_LIMIT ≡ 8 }
     ensures zones { ZONE_LIMIT ≡ 4096 }
     ensures groups { GROUP_LIMIT ≡ 4096 }
-    ensures fired { FIRED_LIMIT ≡ 16384 }
+    ensures job_groups { JOB_GROUP_LIMIT ≡ 4096 }
+    ensures fired { FIRED_LIMIT ≡ 65536 }
     ensures members { MEMBER_LIMIT ≡ 256 }
     ensures states { STATE_LIMIT ≡ 256 }
     ensures acquire { ACQUIRE_LIMIT ≡ 64 }

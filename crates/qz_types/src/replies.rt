@@ -129,6 +129,12 @@ pub enum Refusal {
     StillMember,
     /// The node has checked in since then: at `last`, in ms since 1970-01-01T00:00:00Z.
     Renewed { last: i64 },
+    /// The store is one of format version 1, which takes no transaction but Upgrade.
+    OldStore,
+    /// The store is of format version 2 already.
+    Current,
+    /// The trigger's state isn't ERROR.
+    NotInError,
 }
 
 impl Refusal {
@@ -163,6 +169,9 @@ impl Refusal {
             Refusal::RowsFull => 24,
             Refusal::StillMember => 25,
             Refusal::Renewed { last: _ } => 26,
+            Refusal::OldStore => 27,
+            Refusal::Current => 28,
+            Refusal::NotInError => 29,
         }
     }
 }

@@ -23,6 +23,8 @@ pub enum Wish {
     Load,
     /// What the stores hold.
     List,
+    /// A trigger store of format version 1 becomes one of version 2.
+    Migrate,
     /// For each trigger of the input its first fire times after a moment.
     Times {
         /// In ms since 1970-01-01T00:00:00Z, from 0 to `LAST`.
@@ -77,6 +79,7 @@ pub fn read_words(words: &[Text]) -> Result<Wish, WordFault>
             "script" => alone(Wish::Script, further),
             "load" => alone(Wish::Load, further),
             "list" => alone(Wish::List, further),
+            "migrate" => alone(Wish::Migrate, further),
             "times" => times(further),
             "run" => run(further),
             "gen" => generate(further),

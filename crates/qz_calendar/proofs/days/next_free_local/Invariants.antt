@@ -7,7 +7,7 @@ abbrev pub invariant-loop-day : goal.invariant-loop-day
 invariant-loop-day l = record {
   none : NoneIn (is_free l.kind) l.from (l.day * 86400000 + l.low);
   later : l.from ≤ l.day * 86400000 + l.low;
-  bounded : l.day ≤ 47484;
+  bounded : l.day ≤ 84008;
   within : l.low < 86400000;
 }
 

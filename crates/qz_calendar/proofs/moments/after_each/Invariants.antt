@@ -7,6 +7,6 @@ abbrev pub invariant-loop-calendar : goal.invariant-loop-calendar
 invariant-loop-calendar l = record {
   none : NoneIn (are_free_at l.calendars) l.from l.moment;
   later : l.from ≤ l.moment;
-  within : l.moment < 4102444800000;
+  within : l.moment < 7258118400000;
   same : l.moment ≡ l.from → are_free_at (take l.calendar-index l.calendars) l.from ≡ true;
 }

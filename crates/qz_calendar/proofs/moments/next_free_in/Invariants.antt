@@ -10,4 +10,4 @@ invariant-loop-start l = record {
 }
 
 abbrev pub decreases-loop-start : goal.decreases-loop-start
-decreases-loop-start l = 4102444800000 - l.start
+decreases-loop-start l = 7258118400000 - l.start

@@ -7,8 +7,8 @@ abbrev pub invariant-loop-moment : goal.invariant-loop-moment
 invariant-loop-moment l = record {
   none : NoneIn (are_free_at l.calendars) l.from l.moment;
   later : l.from ≤ l.moment;
-  within : l.moment ≤ 4102444800000;
+  within : l.moment ≤ 7258118400000;
 }
 
 abbrev pub decreases-loop-moment : goal.decreases-loop-moment
-decreases-loop-moment l = 4102444800000 - l.moment
+decreases-loop-moment l = 7258118400000 - l.moment

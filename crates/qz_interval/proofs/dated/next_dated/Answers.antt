@@ -9,15 +9,17 @@ returns-in-Some c =
     let start = to_z-of_z w64 c.args.start c.ranges.start in
     let after = to_z-of_z w64 c.args.after c.ranges.after in
     let ms = to_z-of_z w64 c.in-Some.ms f in
-    let clock = rw start at c.clock_of.ensures.value in
-    let same = rw clock at c.from_clock.ensures in
+    let moments = rw start at c.new-clock.ensures.moments in
+    let clock = rw start at c.at.ensures.value ∙ rw start at c.new-clock.ensures.start in
+    let turns = rw clock at c.from_clock.ensures in
     let natural : pos c.to_unsigned-in-Some.result ≡ c.in-Some.ms = c.to_unsigned-in-Some.ensures.value ∙ ms in
-    turn_next c.args.zone.now _ _ c.args.start c.args.end c.args.after c.in-Some.ms c.to_unsigned-in-Some.result c.before_end-in-Some.result same (omega (arith, ints)) natural (rw after at c.in-Some.ensures) c.before_end-in-Some.ensures.kept c.before_end-in-Some.ensures.gone
+    turn_next _ _ _ _ moments turns c.args.start c.args.end c.args.after c.in-Some.ms c.to_unsigned-in-Some.result c.before_end-in-Some.result (omega (arith, ints)) natural (rw after at c.in-Some.ensures) c.before_end-in-Some.ensures.kept c.before_end-in-Some.ensures.gone
 
 pub returns-in-None : goal.returns-in-None
 returns-in-None c =
     let start = to_z-of_z w64 c.args.start c.ranges.start in
     let after = to_z-of_z w64 c.args.after c.ranges.after in
-    let clock = rw start at c.clock_of.ensures.value in
-    let same = rw clock at c.from_clock.ensures in
-    turn_none c.args.zone.now _ _ c.args.start c.args.end c.args.after same (omega (arith, ints)) (rw after at c.in-None.ensures)
+    let moments = rw start at c.new-clock.ensures.moments in
+    let clock = rw start at c.at.ensures.value ∙ rw start at c.new-clock.ensures.start in
+    let turns = rw clock at c.from_clock.ensures in
+    turn_none _ _ _ _ moments turns c.args.start c.args.end c.args.after (omega (arith, ints)) (rw after at c.in-None.ensures)

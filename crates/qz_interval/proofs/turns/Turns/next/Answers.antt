@@ -8,8 +8,8 @@ pub loop-place-init : goal.loop-place-init
 loop-place-init c =
     let after = to_z-of_z w64 c.args.after c.ranges.after in
     let known = to_timestamp c.args.after c.requires.low c.requires.high in
-    let now = rw after at c.clock_of-now.ensures.value in
-    rw after (passed_first c.args.zone.now c.args.self c.args.after c.place_on.result c.max-place.result c.clock_of-now.ensures.valid known (rw now at c.place_on.ensures) (λ j one lt. omega (arith, c.max-place.ensures)))
+    let now = rw after at c.at-now.ensures.value in
+    rw after (passed_first c.args.clock c.requires.valid c.args.self c.args.after c.place_on.result c.max-place.result known (rw now at c.place_on.ensures) (λ j one lt. omega (arith, c.max-place.ensures)))
 
 pub returns-in-Some : goal.returns-in-Some
 returns-in-Some c =
@@ -17,12 +17,12 @@ returns-in-Some c =
     let after = to_z-of_z w64 c.args.after c.ranges.after in
     let ms = to_z-of_z w64 c.in-Some.ms f in
     let here = rw after at c.in-Some.ensures.some in
-    rw ms (least_turn c.args.zone.now c.args.self c.args.after c.in-Some.ms c.loop-place.place c.clock_of-now.ensures.valid (omega arith) (rw after at c.loop-place.invariant) here.0 here.1)
+    rw ms (least_turn c.args.clock c.requires.valid c.args.self c.args.after c.in-Some.ms c.loop-place.place (omega arith) (rw after at c.loop-place.invariant) here.0 here.1)
 
 pub loop-place-preserved : goal.loop-place-preserved
-loop-place-preserved c = passed_next c.args.zone.now c.args.self _ c.loop-place.place c.loop-place.invariant (c.timestamp_behind.ensures.none c.in_default.is)
+loop-place-preserved c = passed_next c.args.clock c.requires.valid c.args.self _ c.loop-place.place c.loop-place.invariant (c.moment_after.ensures.none c.in_default.is)
 
 pub returns : goal.returns
 returns c =
     let after = to_z-of_z w64 c.args.after c.ranges.after in
-    no_turn c.args.zone.now c.args.self c.args.after c.loop-place.place c.clock_of-now.ensures.valid (rw after at c.loop-place.invariant) (λ j m le turn. c.places-place-end.ensures.late j m (omega arith) turn)
+    no_turn c.args.clock c.requires.valid c.args.self c.args.after c.loop-place.place (rw after at c.loop-place.invariant) (λ j m le turn. c.places-place-end.ensures.late j m (omega arith) turn)
