@@ -7,13 +7,13 @@ use Rattle.qz_types.specs.Entries.{EntryData}
 use Rattle.qz_types.specs.declared.commands.Command.{Command}
 use Rattle.qz_types.specs.declared.commands.Command.TheVariants.{Join, Recover}
 use Rattle.qz_types.specs.declared.replies.Reply.{Reply}
-use Rattle.qz_types.specs.Tables.{SchedulerTables, new_tables}
+use Rattle.qz_types.specs.Tables.{SchedulerTables, empty}
 use Rattle.qz_types.specs.Words.{fired_of, member_of}
 use Rattle.qz_model.specs.History.{tables_left, replies_from, IsLegalFrom}
 use Rattle.qz_model.specs.Invariant.{TablesValid}
 use Rattle.qz_model.specs.Transaction.{transaction}
 use Rattle.qz_model.proofs.Histories.{valid-left}
-use Rattle.qz_model.proofs.Kept.{valid-new_tables}
+use Rattle.qz_model.proofs.Kept.{valid-empty}
 use Rattle.qz_model.proofs.RowLaws.{All-fired_of, fired_of-none}
 use Rattle.qz_model.proofs.RowPoints.{All-from, All-weaker, All-both, All-filter}
 use Rattle.qz_laws.specs.Losses.{is_executing, is_held_by, executions_of, Lost, lost_as, lost_in, lost_from, IsBegunByOne}
@@ -64,13 +64,13 @@ all_begun T (e ∷ es) valid good legal =
     (λ l executes begun. subst (λ (rs : List Reply). HasBegun T rs l) (sym (f.1 (replies_from U es))) (had_begun T U f.0 (replies_from U es) l f.2.origins executes begun))
     (executing_from U es) (all_begun U es (valid-left T e good.0 valid) good.1 legal.1))
 
-none_at_first : (entry : ℕ) → fired_of entry new_tables.fired ≡ None
-unfolding new_tables
-none_at_first entry = fired_of-none entry [] tt
+none_at_first : (entry version : ℕ) → fired_of entry (empty version).fired ≡ None
+none_at_first entry version = fired_of-none entry [] tt
 
 -- in a new store nothing stands at first
-pub begun_by_replies : (es : List EntryData) → AreValid es → IsLegalFrom new_tables es → AllByRecursion (λ l. IsBegunByOne l.row (replies_from new_tables es)) (lost_from new_tables es)
-begun_by_replies es good legal =
-    All-weaker (HasBegun new_tables (replies_from new_tables es)) (λ l. IsBegunByOne l.row (replies_from new_tables es)) (lost_from new_tables es)
-    (λ l begun. ⊎_elim (λ found. let none = none_at_first l.row.entry in absurd (cc)) (λ is. is) begun)
-    (all_begun new_tables es valid-new_tables good legal)
+pub begun_by_replies : (version : ℕ) (es : List EntryData) → AreValid es → IsLegalFrom (empty version) es
+    → AllByRecursion (λ l. IsBegunByOne l.row (replies_from (empty version) es)) (lost_from (empty version) es)
+begun_by_replies version es good legal =
+    All-weaker (HasBegun (empty version) (replies_from (empty version) es)) (λ l. IsBegunByOne l.row (replies_from (empty version) es)) (lost_from (empty version) es)
+    (λ l begun. ⊎_elim (λ found. let none = none_at_first l.row.entry version in absurd (cc)) (λ is. is) begun)
+    (all_begun (empty version) es (valid-empty version) good legal)

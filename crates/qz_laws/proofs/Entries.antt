@@ -2,7 +2,7 @@
 use Rattle.std.proofs.Common.{◌≡◌, ℤ, refl}
 use Rattle.qz_types.specs.Entries.{EntryData}
 use Rattle.qz_types.specs.declared.commands.Command.{Command}
-use Rattle.qz_types.specs.declared.commands.Command.TheVariants.{AddJob, DeleteJob, AddTrigger, DeleteTrigger, PauseTrigger, ResumeTrigger, PauseGroup, ResumeGroup, AddCalendar, DeleteCalendar, AddZone, DeleteZone, TriggerNow, Threshold, Join, Leave, Acquire, Release, Fire, Complete, Misfires, Recover}
+use Rattle.qz_types.specs.declared.commands.Command.TheVariants.{AddJob, DeleteJob, AddTrigger, DeleteTrigger, PauseTrigger, ResumeTrigger, PauseGroup, ResumeGroup, AddCalendar, DeleteCalendar, AddZone, DeleteZone, TriggerNow, Threshold, Join, Leave, Acquire, Release, Fire, Complete, Misfires, Recover, Upgrade, ResetTrigger, PauseJobGroup, ResumeJobGroup}
 use Rattle.qz_types.specs.declared.commands.Actor.{Actor}
 use Rattle.qz_types.specs.declared.commands.Actor.TheVariants.{Client, Node}
 use Rattle.qz_types.specs.declared.replies.Reply.{Reply}
@@ -12,7 +12,7 @@ use Rattle.qz_model.specs.Invariant.{TablesValid}
 use Rattle.qz_model.specs.Transaction.{by_command, transaction}
 use Rattle.qz_laws.proofs.Facts.{EntryFacts}
 use Rattle.qz_laws.proofs.Quiet.{quiet_facts}
-use Rattle.qz_laws.proofs.QuietClients.{quiet-add_job, quiet-delete_job, quiet-add_trigger, quiet-delete_trigger, quiet-trigger_now, quiet-set_threshold, quiet-pause_trigger, quiet-resume_trigger, quiet-pause_group, quiet-resume_group, quiet-add_calendar, quiet-delete_calendar, quiet-add_zone, quiet-delete_zone}
+use Rattle.qz_laws.proofs.QuietClients.{quiet-add_job, quiet-delete_job, quiet-add_trigger, quiet-delete_trigger, quiet-trigger_now, quiet-set_threshold, quiet-pause_trigger, quiet-resume_trigger, quiet-pause_group, quiet-resume_group, quiet-pause_job_group, quiet-resume_job_group, quiet-reset_trigger, quiet-upgrade, quiet-add_calendar, quiet-delete_calendar, quiet-add_zone, quiet-delete_zone}
 use Rattle.qz_laws.proofs.QuietNodes.{quiet-acquire, quiet-release, quiet-fire, quiet-complete, quiet-misfires, quiet-leave}
 use Rattle.qz_laws.proofs.Recovered.{facts-recover, facts-join}
 
@@ -46,6 +46,10 @@ facts-by_command T T' m Client Misfires r valid e = absurd (cc)
 facts-by_command T T' m (Node me) Misfires r valid e = quiet_facts T r T' Misfires refl (quiet-misfires T T' m me r valid e)
 facts-by_command T T' m Client (Recover node) r valid e = absurd (cc)
 facts-by_command T T' m (Node me) (Recover node) r valid e = facts-recover T T' m me node r valid e
+facts-by_command T T' m actor Upgrade r valid e = quiet_facts T r T' Upgrade refl (quiet-upgrade T T' m r valid e)
+facts-by_command T T' m actor (ResetTrigger key) r valid e = quiet_facts T r T' (ResetTrigger key) refl (quiet-reset_trigger T T' m key r valid e)
+facts-by_command T T' m actor (PauseJobGroup group) r valid e = quiet_facts T r T' (PauseJobGroup group) refl (quiet-pause_job_group T T' m group r valid e)
+facts-by_command T T' m actor (ResumeJobGroup group) r valid e = quiet_facts T r T' (ResumeJobGroup group) refl (quiet-resume_job_group T T' m group r valid e)
 
 pub facts : (T T' : SchedulerTables) (e : EntryData) (r : Reply) → TablesValid T → transaction T e ≡ accepted T' r → EntryFacts T e.command r T'
 facts T T' e r valid way = facts-by_command T T' (recorded_moment T e.at) e.actor e.command r valid way

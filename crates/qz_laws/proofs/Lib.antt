@@ -1,9 +1,11 @@
+pub mod Before
 pub mod Beginnings
 pub mod Counts
 pub mod Entries
 pub mod Facts
 pub mod Fenced
 pub mod Histories
+pub mod JobGroups
 pub mod Names
 pub mod Quiet
 pub mod QuietChanges

@@ -39,13 +39,13 @@ ends_by_number name own number small also named = elim (number == own) as (λ b.
   | false ↦ λ differ. false_from_ne_true (ends_with nat_eq name (95 ∷ decimal number)) (λ is. let one : (number == own) ≡ true = eq-eqb number own (one_number name number own also small (ends_in name number is) named) in absurd (cc))
 ] refl
 
-in_group : (groups : List (List ℕ)) (f : FiredData) → same_text (recovery_trigger groups f).spec.key.group (codes "RECOVERING_JOBS") ≡ true
+in_group : (groups job_groups : List (List ℕ)) (f : FiredData) → same_text (recovery_trigger groups job_groups f).spec.key.group (codes "RECOVERING_JOBS") ≡ true
 unfolding recovery_trigger same_text
-in_group groups f = refl
+in_group groups job_groups f = refl
 
 -- the model's trigger for an execution is a recovery of its entry number alone
-pub recovery_of_its_number : (groups : List (List ℕ)) (f : FiredData) (number : ℕ) → f.entry < 2 ^ 64 → number < 2 ^ 64 → is_recovery number (recovery_trigger groups f) ≡ (number == f.entry)
+pub recovery_of_its_number : (groups job_groups : List (List ℕ)) (f : FiredData) (number : ℕ) → f.entry < 2 ^ 64 → number < 2 ^ 64 → is_recovery number (recovery_trigger groups job_groups f) ≡ (number == f.entry)
 unfolding is_recovery
-recovery_of_its_number groups f number small also =
-    ap (λ b. b && ends_with nat_eq (recovery_trigger groups f).spec.key.name (95 ∷ decimal number)) (in_group groups f)
-    ∙ ends_by_number (recovery_trigger groups f).spec.key.name f.entry number small also (recovery_named groups f)
+recovery_of_its_number groups job_groups f number small also =
+    ap (λ b. b && ends_with nat_eq (recovery_trigger groups job_groups f).spec.key.name (95 ∷ decimal number)) (in_group groups job_groups f)
+    ∙ ends_by_number (recovery_trigger groups job_groups f).spec.key.name f.entry number small also (recovery_named groups job_groups f)

@@ -12,14 +12,16 @@ use Rattle.qz_types.specs.Words.{same_text, job_of, trigger_of, without_trigger}
 use Rattle.qz_model.specs.Calendars.{add_calendar_refusal, add_calendar, delete_calendar_refusal, delete_calendar, add_zone_refusal, add_zone, delete_zone_refusal, delete_zone}
 use Rattle.qz_model.specs.Invariant.{TablesValid}
 use Rattle.qz_model.specs.Jobs.{add_job_refusal, add_job, unknown_job, delete_job}
-use Rattle.qz_model.specs.Pausing.{pause_trigger, resume_trigger, is_in_group, is_row_of_group, pause_group_refusal, pause_group, resume_group}
+use Rattle.qz_model.specs.Pausing.{pause_trigger, resume_trigger, is_in_group, is_row_of_group, pause_group_refusal, pause_group, is_resumed_with_group, resume_group, is_in_job_group, is_row_of_job_group, pause_job_group_refusal, pause_job_group, is_resumed_with_job_group, resume_job_group}
 use Rattle.qz_model.specs.Plan.{first_time}
+use Rattle.qz_model.specs.Resetting.{reset_refusal, reset, reset_trigger}
 use Rattle.qz_model.specs.Tests.{is_trigger_of, is_row_of_job, is_row_of_trigger}
 use Rattle.qz_model.specs.Triggers.{is_reserved, new_trigger, naming_refusal, add_trigger_refusal, with_new_trigger, add_trigger, unknown_trigger, without_trigger_and_orphan, delete_trigger, manual_trigger, trigger_now_refusal, trigger_now, set_threshold}
+use Rattle.qz_model.specs.Upgrading.{widened_trigger, upgrade_refusal, upgrade}
 use Rattle.qz_model.proofs.Changes.{passes}
 use Rattle.qz_model.proofs.Refusals.{not_refused, no_first}
 use Rattle.qz_model.proofs.RowLaws.{All-put_trigger, All-without_trigger}
-use Rattle.qz_model.proofs.RowPoints.{All-left}
+use Rattle.qz_model.proofs.RowPoints.{All-left, All-map}
 use Rattle.qz_laws.proofs.Quiet.{is_in_recovery, WasStored, Quiet, were_stored, all_stood, steady, same, accepted_quiet}
 use Rattle.qz_laws.proofs.QuietChanges.{stored-with_trigger, stored-with_states, stood-without_acquired, quiet-without_trigger, at_moment}
 
@@ -103,7 +105,30 @@ quiet-pause_group T T' m group r valid e =
 
 pub quiet-resume_group : (T T' : SchedulerTables) (m : ℤ) (group : List ℕ) (r : Reply) → TablesValid T → resume_group T m group ≡ accepted T' r → Quiet T r T'
 quiet-resume_group T T' m group r valid e =
-    accepted_quiet T _ T' _ r e (steady T _ _ refl refl refl (all_stood T _ valid) (stored-with_states T resumed (is_in_group group) T.triggers (were_stored T valid)))
+    accepted_quiet T _ T' _ r e (steady T _ _ refl refl refl (all_stood T _ valid) (stored-with_states T resumed (is_resumed_with_group T group) T.triggers (were_stored T valid)))
+
+pub quiet-pause_job_group : (T T' : SchedulerTables) (m : ℤ) (group : List ℕ) (r : Reply) → TablesValid T → pause_job_group T m group ≡ accepted T' r → Quiet T r T'
+quiet-pause_job_group T T' m group r valid e =
+    accepted_quiet T _ T' _ r (passes (pause_job_group_refusal T group) _ T' r e).outcome
+    (steady T _ _ refl refl refl (stood-without_acquired T _ (is_row_of_job_group group) T.fired (all_stood T _ valid))
+    (stored-with_states T paused (is_in_job_group group) T.triggers (were_stored T valid)))
+
+pub quiet-resume_job_group : (T T' : SchedulerTables) (m : ℤ) (group : List ℕ) (r : Reply) → TablesValid T → resume_job_group T m group ≡ accepted T' r → Quiet T r T'
+quiet-resume_job_group T T' m group r valid e =
+    accepted_quiet T _ T' _ r e (steady T _ _ refl refl refl (all_stood T _ valid) (stored-with_states T resumed (is_resumed_with_job_group T group) T.triggers (were_stored T valid)))
+
+-- Resetting and upgrading.
+
+pub quiet-reset_trigger : (T T' : SchedulerTables) (m : ℤ) (key : Key) (r : Reply) → TablesValid T → reset_trigger T m key ≡ accepted T' r → Quiet T r T'
+unfolding reset
+quiet-reset_trigger T T' m key r valid e =
+    accepted_quiet T _ T' _ r (passes (reset_refusal (trigger_of key T.triggers)) _ T' r e).outcome
+    (steady T _ _ refl refl refl (all_stood T _ valid) (stored-with_trigger T key (reset T) T.triggers (λ t. refl) (were_stored T valid)))
+
+pub quiet-upgrade : (T T' : SchedulerTables) (m : ℤ) (r : Reply) → TablesValid T → upgrade T m ≡ accepted T' r → Quiet T r T'
+quiet-upgrade T T' m r valid e =
+    accepted_quiet T _ T' _ r (passes (upgrade_refusal T) _ T' r e).outcome
+    (steady T _ _ refl refl refl (all_stood T _ valid) (All-map (WasStored T) widened_trigger T.triggers (were_stored T valid)))
 
 -- Calendars and zones.
 

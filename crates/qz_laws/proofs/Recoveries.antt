@@ -1,5 +1,5 @@
 -- The triggers that are added where a member is recovered: one for each of its executions that asked.
-use Rattle.std.proofs.Common.{◌≡◌, ℕ, ◌+◌, ◌<◌, ◌^◌, ◌==◌, Bool, true, false, cond, not, ◌&&◌, List, [], ◌∷◌, fold, map, filter, count_by, Option, Some, None, is_some, is_none, codes, refl, sym, ap, ◌∙◌, subst, arith}
+use Rattle.std.proofs.Common.{◌≡◌, ℕ, ◌+◌, ◌<◌, ◌^◌, ◌==◌, Bool, true, false, cond, not, ◌&&◌, ◌||◌, List, [], ◌∷◌, fold, map, filter, count_by, Option, Some, None, is_some, is_none, codes, refl, sym, ap, ◌∙◌, subst, arith}
 use Rattle.std.specs.List.{AllByRecursion, list_any}
 use Rattle.std.proofs.lemmas.Bool.{and_from, and_left, and_right, eqb-true}
 use Rattle.qz_types.specs.Rows.{TriggerData, MemberData, FiredData}
@@ -45,12 +45,12 @@ not_complete true false = refl
 not_complete false true = refl
 not_complete true true = refl
 
-not_finished : (lost left : List FiredData) (groups : List (List ℕ)) (f : FiredData) → has_finished lost left (recovery_trigger groups f) ≡ false
+not_finished : (lost left : List FiredData) (groups job_groups : List (List ℕ)) (f : FiredData) → has_finished lost left (recovery_trigger groups job_groups f) ≡ false
 unfolding is_finished recovery_trigger
-not_finished lost left groups f =
-    let t : TriggerData = recovery_trigger groups f in
+not_finished lost left groups job_groups f =
+    let t : TriggerData = recovery_trigger groups job_groups f in
     and_right (list_any (is_row_of_trigger t.spec.key) lost) (is_finished left t)
-    (and_left (is_complete t.state && is_none t.next) (not (list_any (is_row_of_trigger t.spec.key) left)) (and_left (is_complete t.state) (is_none t.next) (not_complete (is_paused (codes "RECOVERING_JOBS") groups) false)))
+    (and_left (is_complete t.state && is_none t.next) (not (list_any (is_row_of_trigger t.spec.key) left)) (and_left (is_complete t.state) (is_none t.next) (not_complete (is_paused (codes "RECOVERING_JOBS") groups || is_paused f.job.group job_groups) false)))
 
 module _ (T : SchedulerTables) (member : MemberData) (valid : TablesValid T) (number : ℕ) (small : number < 2 ^ 64) where
   abbrev lost : List FiredData
@@ -67,7 +67,7 @@ module _ (T : SchedulerTables) (member : MemberData) (valid : TablesValid T) (nu
   counts t = not (is_some (trigger_of t.spec.key T.triggers)) && is_recovery number t
 
   abbrev trigger_for : FiredData → TriggerData
-  trigger_for f = recovery_trigger T.paused_groups f
+  trigger_for f = recovery_trigger T.paused_groups T.paused_job_groups f
 
   stored_old : AllByRecursion (WasStored T) old
   unfolding unblocked_by
@@ -84,7 +84,7 @@ module _ (T : SchedulerTables) (member : MemberData) (valid : TablesValid T) (nu
   live_new =
       All-mapped (λ t. not (has_finished lost left t) ≡ false → counts t ≡ false) trigger_for (filter (asks T.jobs) lost)
       (All-from (λ f. not (has_finished lost left (trigger_for f)) ≡ false → counts (trigger_for f) ≡ false) (filter (asks T.jobs) lost)
-      (λ f ended. let live = not_finished lost left T.paused_groups f in absurd (cc)))
+      (λ f ended. let live = not_finished lost left T.paused_groups T.paused_job_groups f in absurd (cc)))
 
   live_added : AllByRecursion (λ t. not (has_finished lost left t) ≡ false → counts t ≡ false) (triggers_added T member)
   unfolding triggers_added
@@ -115,10 +115,10 @@ module _ (T : SchedulerTables) (member : MemberData) (valid : TablesValid T) (nu
   is_counted : (f : FiredData) → fired_of f.entry T.fired ≡ Some f → counts (trigger_for f) ≡ (number == f.entry)
   is_counted f found =
       let absent : trigger_of (trigger_for f).spec.key T.triggers ≡ None =
-      trigger_of-none (trigger_for f).spec.key T.triggers (All-weaker (IsNotOf f.entry) (λ u. same_key (trigger_for f).spec.key u.spec.key ≡ false) T.triggers (no_such T.paused_groups f) (unnamed f found)) in
+      trigger_of-none (trigger_for f).spec.key T.triggers (All-weaker (IsNotOf f.entry) (λ u. same_key (trigger_for f).spec.key u.spec.key ≡ false) T.triggers (no_such T.paused_groups T.paused_job_groups f) (unnamed f found)) in
       let below : f.entry < T.next_entry = All-fired_of (λ g. g.entry < T.next_entry) f.entry f T.fired valid.fresh.fired found in
       ap (λ (o : Option TriggerData). not (is_some o) && is_recovery number (trigger_for f)) absent
-      ∙ recovery_of_its_number T.paused_groups f number (omega (arith, below, valid.references_and_limits.limits.next_entry)) small
+      ∙ recovery_of_its_number T.paused_groups T.paused_job_groups f number (omega (arith, below, valid.references_and_limits.limits.next_entry)) small
 
   count_new : AllByRecursion (λ f. fired_of f.entry T.fired ≡ Some f) lost → count_by counts (recoveries T member) ≡ count_by (asked_for number) (map (lost_as T) lost)
   unfolding recoveries asks

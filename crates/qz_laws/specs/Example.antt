@@ -33,7 +33,7 @@ execution_of number job = record {
 }
 
 abbrev pub example_tables : SchedulerTables
-example_tables = record (empty 1) {
+example_tables = record (empty 2) {
   jobs = job_that true (codes "asks") ∷ job_that false (codes "silent") ∷ [];
   members = record { node = codes "a"; epoch = 1 } ∷ record { node = codes "b"; epoch = 2 } ∷ [];
   fired =

@@ -1,6 +1,6 @@
 -- An execution begins, and keeps the tables valid. If it excludes others of its job, the other triggers of the job are blocked with it,
 -- and the acquired ones among them lose their rows.
-use Rattle.std.proofs.Common.{◌≡◌, ℕ, ◌<◌, ◌≤◌, ◌==◌, ℤ, ◌≤ℤ◌, Bool, true, false, not, ◌&&◌, List, length, count_by, nat_lt, Option, Some, None, IfSome, IsSomeAnd, refl, sym, ap, ◌∙◌, subst, arith}
+use Rattle.std.proofs.Common.{◌≡◌, ℕ, ◌<◌, ◌≤◌, ◌==◌, ℤ, ◌≤ℤ◌, Bool, true, false, not, ◌&&◌, List, length, count_by, nat_lt, Option, Some, None, IsSome, IfSome, IsSomeAnd, refl, sym, ap, ◌∙◌, subst, arith}
 use Rattle.std.specs.List.{AllByRecursion}
 use Rattle.std.specs.Ordering.{nat_cmp}
 use Rattle.std.proofs.lemmas.Bool.{and_parts, and_from, and_right, false_from_ne_true}
@@ -24,7 +24,7 @@ use Rattle.qz_model.proofs.RowLaws.{same_key_laws, same_key-exact, All-job_of, j
 use Rattle.qz_model.proofs.StateLaws.{ordered-with_states, length-with_states, All-with_states, ordered-without_acquired, length-without_acquired, All-without_acquired, count_by-without_acquired, fired_of-without_acquired}
 use Rattle.qz_model.proofs.RowChanges.{trigger_of-unchanged, one-with_fired, counted-with_fired}
 use Rattle.qz_model.proofs.References.{references-triggers, references-fired}
-use Rattle.qz_model.proofs.Changes.{HasOneRow, HasItsTrigger, HasNextTime, HasJob, HasCalendar, HasZone, AgreesWithRows, AgreesWithJob, StaysBlocked, IsBlockedBy, HasMember, HasRowTimes, busy-same, HasNumber, SharesNone, HasNumber-kept, HasNumber-alike}
+use Rattle.qz_model.proofs.Changes.{HasOneRow, HasItsTrigger, HasNextTime, HasJob, HasCalendar, HasZone, AgreesWithRows, AgreesWithJob, StaysBlocked, IsBlockedBy, HasMember, HasRowTimes, busy-same, HasNumber, SharesNone, HasNumber-kept, HasNumber-alike, each_next, have_next, live_next}
 
 -- The triggers of a job, blocked or not.
 pub All-with_blocked : (b : Bool) (job : Key) (P Q : TriggerData → Type 0) (rows : List TriggerData) → AllByRecursion P rows
@@ -115,9 +115,9 @@ fired_shared None b is = absurd (cc)
 fired_shared (Some n) true is = refl
 fired_shared (Some n) false is = absurd (cc)
 
-fired_next : (horizon : ℤ) (next : Option ℤ) (b : Bool) → IfSome next (IsMoment horizon) → is_live_state (fired_state next b) ≡ true → IsSomeAnd next (IsMoment horizon)
-fired_next horizon None b within live = absurd (cc)
-fired_next horizon (Some n) b within live = within
+fired_next : (next : Option ℤ) (b : Bool) → is_live_state (fired_state next b) ≡ true → IsSome next
+fired_next None b live = absurd (cc)
+fired_next (Some n) b live = refl
 
 -- a row that goes isn't that of a trigger of another job
 trigger_stays : (b : Bool) (job k : Key) (g : FiredData) (o : Option TriggerData) (rows : List TriggerData) → trigger_of k rows ≡ o → (b ≡ true → same_key job g.job ≡ false)
@@ -354,9 +354,9 @@ module _ (T : SchedulerTables) (m : ℤ) (f : FiredData) (t : TriggerData) (job 
 
   next_times_begun : AllByRecursion (HasNextTime T.horizon) triggers_then
   next_times_begun =
-      All-triggers_then (HasNextTime T.horizon) (HasNextTime T.horizon) valid.next_times.next
-      (λ s has live. fired_next T.horizon next exclusive begins.within live)
-      (λ u yes same has live. has (sym (same_live u.state) ∙ live))
+      All-triggers_then (HasNextTime T.horizon) (HasNextTime T.horizon) (each_next T valid)
+      (λ s has. (λ live. fired_next next exclusive live, begins.within))
+      (λ u yes same has. (λ live. has.0 (sym (same_live u.state) ∙ live), has.1))
       (λ u other away has. has)
 
   numbers_begun : AllByRecursion (HasNumber after_begin) triggers_then
@@ -375,8 +375,7 @@ module _ (T : SchedulerTables) (m : ℤ) (f : FiredData) (t : TriggerData) (job 
   row_times_begun =
       All-fired_then (HasRowTimes T.horizon) (HasRowTimes T.horizon) valid.row_times.rows
       (λ has. (
-        subst (λ o. IsSomeAnd o (IsMoment T.horizon)) row_of_trigger.next
-            (All-trigger_of (HasNextTime T.horizon) f.trigger t T.triggers valid.next_times.next begins.trigger (ap is_live_state row_of_trigger.state)),
+        subst (λ o. IsSomeAnd o (IsMoment T.horizon)) row_of_trigger.next (live_next T f.trigger t valid begins.trigger (ap is_live_state row_of_trigger.state)),
         begins.in_time,
       ))
       (λ g stays away is. is)
@@ -410,7 +409,7 @@ module _ (T : SchedulerTables) (m : ℤ) (f : FiredData) (t : TriggerData) (job 
     one_exclusive = exclusive_begun;
     blocked_are_busy = blocked_begun;
     rows_of_members = members_begun;
-    next_times = record { next = next_times_begun; moment = valid.next_times.moment };
+    next_times = have_next T.horizon T.last_moment triggers_then next_times_begun valid.next_times.moment;
     fresh = record {
       fired = All-fired_then (λ g. g.entry < T.next_entry) (λ g. g.entry < T.next_entry) valid.fresh.fired (λ is. is) (λ g stays away is. is);
       added = numbers_begun;

@@ -14,8 +14,9 @@ use Rattle.qz_types.specs.States.{is_acquired, is_acquired_for}
 use Rattle.qz_model.specs.Executions.{is_exclusive_of, is_busy}
 use Rattle.qz_model.specs.Plan.{zone_named_by, is_known_zone}
 use Rattle.qz_model.specs.Triggers.{is_reserved}
-use Rattle.qz_model.specs.Invariant.{IsRowOf, HasFlag, is_blocked_or_done, is_blocked, is_live_state, EndsIn, IsNumbered, HasTimes, TablesValid}
-use Rattle.qz_model.proofs.RowPoints.{All-weaker, any_from_counts}
+use Rattle.qz_model.specs.Invariant.{IsRowOf, HasFlag, is_blocked_or_done, is_blocked, is_live_state, EndsIn, IsNumbered, HasTimes, HaveNextTimes, TablesValid}
+use Rattle.qz_model.proofs.RowLaws.{All-trigger_of}
+use Rattle.qz_model.proofs.RowPoints.{All-weaker, All-both, any_from_counts}
 use Rattle.qz_model.proofs.References.{references-moment}
 
 -- an accepted outcome had no refusal
@@ -57,7 +58,7 @@ abbrev pub HasItsTrigger : List TriggerData → FiredData → Type 0
 HasItsTrigger triggers f = is_acquired f.state ≡ true → IsSomeAnd (trigger_of f.trigger triggers) (IsRowOf f)
 
 abbrev pub HasNextTime : ℤ → TriggerData → Type 0
-HasNextTime horizon t = is_live_state t.state ≡ true → IsSomeAnd t.next (IsMoment horizon)
+HasNextTime horizon t = (is_live_state t.state ≡ true → IsSome t.next) × IfSome t.next (IsMoment horizon)
 
 abbrev pub HasRowTimes : ℤ → FiredData → Type 0
 HasRowTimes horizon f = HasTimes horizon f f.state
@@ -123,6 +124,29 @@ HasNumber-alike T t u same has reserved =
       },
     )
 
+-- Next times, of each trigger by itself.
+pub each_next : (T : SchedulerTables) → TablesValid T → AllByRecursion (HasNextTime T.horizon) T.triggers
+each_next T valid =
+    All-both (λ t. is_live_state t.state ≡ true → IsSome t.next) (λ t. IfSome t.next (IsMoment T.horizon)) (HasNextTime T.horizon) T.triggers (λ t some within. (some, within))
+    valid.next_times.next valid.next_times.within
+
+pub have_next : (horizon last_moment : ℤ) (triggers : List TriggerData) → AllByRecursion (HasNextTime horizon) triggers → IsMoment horizon last_moment → HaveNextTimes horizon last_moment triggers
+have_next horizon last_moment triggers each is = record {
+  next = All-weaker (HasNextTime horizon) (λ t. is_live_state t.state ≡ true → IsSome t.next) triggers (λ t has. has.0) each;
+  within = All-weaker (HasNextTime horizon) (λ t. IfSome t.next (IsMoment horizon)) triggers (λ t has. has.1) each;
+  moment = is;
+}
+
+some_within : (P : ℤ → Type 0) (o : Option ℤ) → IsSome o → IfSome o P → IsSomeAnd o P
+some_within P None is within = absurd (cc)
+some_within P (Some n) is within = within
+
+-- a trigger that may fire again has a next time from 0 to the horizon
+pub live_next : (T : SchedulerTables) (k : Key) (t : TriggerData) → TablesValid T → trigger_of k T.triggers ≡ Some t → is_live_state t.state ≡ true → IsSomeAnd t.next (IsMoment T.horizon)
+live_next T k t valid found live =
+    let has : HasNextTime T.horizon t = All-trigger_of (HasNextTime T.horizon) k t T.triggers (each_next T valid) found in
+    some_within (IsMoment T.horizon) t.next (has.0 live) has.1
+
 -- the moment of the transaction
 pub valid-moment : (T : SchedulerTables) (m : ℤ) → TablesValid T → IsMoment T.horizon m → TablesValid (record T { last_moment = m })
 valid-moment T m valid is = record {
@@ -132,7 +156,7 @@ valid-moment T m valid is = record {
   one_exclusive = valid.one_exclusive;
   blocked_are_busy = valid.blocked_are_busy;
   rows_of_members = valid.rows_of_members;
-  next_times = record { next = valid.next_times.next; moment = is };
+  next_times = record { next = valid.next_times.next; within = valid.next_times.within; moment = is };
   fresh = record {
     fired = valid.fresh.fired;
     added = All-weaker (HasNumber T) (HasNumber (record T { last_moment = m })) T.triggers

@@ -20,7 +20,7 @@ use Rattle.qz_model.proofs.RowPoints.{All-from, All-weaker, All-both, All-none, 
 use Rattle.qz_model.proofs.LookUps.{row_of-filter, row_of-filter_none, IsAscending-filter}
 use Rattle.qz_model.proofs.References.{references-jobs, references-triggers, references-fired}
 use Rattle.qz_model.proofs.RowLaws.{key_total, same_key_laws, same_key-exact, All-without_job, ordered-without_job, job_of-without_job, length-without_job, each_trigger, only_trigger, trigger_of-key, trigger_of-alike}
-use Rattle.qz_model.proofs.Changes.{HasOneRow, HasItsTrigger, HasNextTime, HasJob, HasCalendar, HasZone, AgreesWithRows, AgreesWithJob, StaysBlocked, IsBlockedBy, HasMember, HasRowTimes, busy-same, HasNumber, SharesNone, HasNumber-kept}
+use Rattle.qz_model.proofs.Changes.{HasOneRow, HasItsTrigger, HasNextTime, HasJob, HasCalendar, HasZone, AgreesWithRows, AgreesWithJob, StaysBlocked, IsBlockedBy, HasMember, HasRowTimes, busy-same, HasNumber, SharesNone, HasNumber-kept, each_next, have_next}
 
 -- Filters of triggers.
 
@@ -170,7 +170,7 @@ module _ (T : SchedulerTables) (p : TriggerData → Bool) (q : FiredData → Boo
       distinct = valid.rows_of_members.distinct;
       rows = kept_rows (HasMember T.members) valid.rows_of_members.rows;
     };
-    next_times = record { next = kept_triggers (HasNextTime T.horizon) valid.next_times.next; moment = valid.next_times.moment };
+    next_times = have_next T.horizon T.last_moment triggers_left (kept_triggers (HasNextTime T.horizon) (each_next T valid)) valid.next_times.moment;
     fresh = record {
       fired = kept_rows (λ f. f.entry < T.next_entry) valid.fresh.fired;
       added = All-left (HasNumber T) (HasNumber without_triggers) p T.triggers valid.fresh.added

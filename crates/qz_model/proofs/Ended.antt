@@ -20,7 +20,7 @@ use Rattle.qz_model.proofs.RowPoints.{All-weaker, any_is_count, count_by-none}
 use Rattle.qz_model.proofs.RowLaws.{same_key_laws, ordered-without_fired, only_fired, one_fired, counted_fired, fired_of-without_fired, All-without_fired, count_by-without_fired, length-without_fired}
 use Rattle.qz_model.proofs.StateLaws.{ordered-with_states, length-with_states, All-with_states, trigger_of-with_states}
 use Rattle.qz_model.proofs.References.{references-triggers, references-fired}
-use Rattle.qz_model.proofs.Changes.{HasOneRow, HasItsTrigger, HasNextTime, HasJob, HasCalendar, HasZone, AgreesWithRows, AgreesWithJob, StaysBlocked, IsBlockedBy, HasMember, HasRowTimes, busy-same, HasNumber, SharesNone, HasNumber-kept, HasNumber-alike}
+use Rattle.qz_model.proofs.Changes.{HasOneRow, HasItsTrigger, HasNextTime, HasJob, HasCalendar, HasZone, AgreesWithRows, AgreesWithJob, StaysBlocked, IsBlockedBy, HasMember, HasRowTimes, busy-same, HasNumber, SharesNone, HasNumber-kept, HasNumber-alike, each_next, have_next}
 
 -- The triggers of a job, unblocked or not.
 All-with_unblocked : (b : Bool) (job : Key) (P Q : TriggerData → Type 0) (rows : List TriggerData) → AllByRecursion P rows
@@ -213,11 +213,9 @@ module _ (T : SchedulerTables) (f : FiredData) (valid : TablesValid T) (row : fi
       distinct = valid.rows_of_members.distinct;
       rows = kept_rows (HasMember T.members) valid.rows_of_members.rows;
     };
-    next_times = record {
-      next = All-with_unblocked exclusive f.job (HasNextTime T.horizon) (HasNextTime T.horizon) T.triggers valid.next_times.next
-          (λ u excluded same has live. has (sym (same_live u.state) ∙ live)) (λ u other has. has);
-      moment = valid.next_times.moment;
-    };
+    next_times = have_next T.horizon T.last_moment triggers_then
+        (All-with_unblocked exclusive f.job (HasNextTime T.horizon) (HasNextTime T.horizon) T.triggers (each_next T valid)
+        (λ u excluded same has. (λ live. has.0 (sym (same_live u.state) ∙ live), has.1)) (λ u other has. has)) valid.next_times.moment;
     fresh = record { fired = kept_rows (λ g. g.entry < T.next_entry) valid.fresh.fired; added = numbers_ended };
     row_times = record { rows = kept_rows (HasRowTimes T.horizon) valid.row_times.rows };
   }

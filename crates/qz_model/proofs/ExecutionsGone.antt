@@ -1,12 +1,11 @@
 -- The executions of a member that has no acquired rows end at once, and the tables stay valid: the triggers whose jobs they
 -- excluded are unblocked.
-use Rattle.std.proofs.Common.{◌≡◌, ℕ, ◌+◌, ◌<◌, ◌≤◌, ℤ, Bool, true, false, not, ◌&&◌, ◌==◌, List, length, count_by, nat_lt, filter, Option, Some, None, IsSome, IsSomeAnd, is_some, option_map, refl, sym, ap, ◌∙◌, subst, arith, if◌then◌else◌}
+use Rattle.std.proofs.Common.{◌≡◌, ℕ, ◌<◌, ◌≤◌, Bool, true, false, not, ◌&&◌, List, count_by, nat_lt, filter, None, IsSomeAnd, refl, sym, ap, ◌∙◌, subst, arith}
 use Rattle.std.specs.List.{AllByRecursion, list_any}
 use Rattle.std.specs.Ordering.{nat_cmp}
-use Rattle.std.proofs.lemmas.Bool.{and_parts, and_from, and_left, not-true, false_from_ne_true}
+use Rattle.std.proofs.lemmas.Bool.{and_parts, and_from, false_from_ne_true}
 use Rattle.std.proofs.lemmas.Cmp.{nat_cmp_total}
 use Rattle.qz_types.specs.Rows.{TriggerData, MemberData, FiredData}
-use Rattle.qz_types.specs.Sorted.{IsAscending}
 use Rattle.qz_types.specs.declared.keys.Key.{Key}
 use Rattle.qz_types.specs.declared.limits.TheConstants.{TRIGGER_LIMIT}
 use Rattle.qz_types.specs.Changes.{with_state, with_states}
@@ -14,15 +13,15 @@ use Rattle.qz_types.specs.States.{is_acquired, is_acquired_for, unblocked}
 use Rattle.qz_types.specs.Tables.{SchedulerTables}
 use Rattle.qz_types.specs.Words.{same_key, trigger_of, fired_of}
 use Rattle.qz_model.specs.Executions.{is_exclusive_of, is_busy}
-use Rattle.qz_model.specs.Invariant.{AreStored, ReferencesAndLimits, IsRowOf, HasFlag, ConcurrencyAgrees, OneExclusive, BlockedAreBusy, TablesValid}
+use Rattle.qz_model.specs.Invariant.{ReferencesAndLimits, IsRowOf, HasFlag, TablesValid}
 use Rattle.qz_model.specs.Recovery.{lost_of, rows_of_others, has_excluded, unblocked_by}
 use Rattle.qz_model.specs.Tests.{is_of}
-use Rattle.qz_model.proofs.Changes.{HasOneRow, HasItsTrigger, HasNextTime, HasJob, HasCalendar, HasZone, AgreesWithRows, AgreesWithJob, StaysBlocked, IsBlockedBy, HasMember, HasRowTimes, busy-same, HasNumber, SharesNone, HasNumber-kept, HasNumber-alike}
+use Rattle.qz_model.proofs.Changes.{HasOneRow, HasItsTrigger, HasNextTime, HasJob, HasCalendar, HasZone, AgreesWithRows, AgreesWithJob, StaysBlocked, IsBlockedBy, HasMember, HasRowTimes, busy-same, HasNumber, SharesNone, HasNumber-kept, HasNumber-alike, each_next, have_next}
 use Rattle.qz_model.proofs.Ended.{row_unblocked, was_acquired, not_blocked, same_live}
 use Rattle.qz_model.proofs.LookUps.{row_of-filter_none, IsAscending-filter}
 use Rattle.qz_model.proofs.References.{references-triggers, references-fired}
 use Rattle.qz_model.proofs.RowLaws.{same_key_laws}
-use Rattle.qz_model.proofs.RowPoints.{All-weaker, All-left, All-none, any_is_count, any-filter, any-alike, count_by-left, count_by-left_le, count_by-left_lt, length-filter_le, All-from}
+use Rattle.qz_model.proofs.RowPoints.{All-weaker, All-left, All-none, any_is_count, any-filter, any-alike, count_by-left, count_by-left_le, count_by-left_lt, length-filter_le}
 use Rattle.qz_model.proofs.StateLaws.{ordered-with_states, length-with_states, All-with_states, trigger_of-with_states}
 
 rearranged : (begun mine alone same : Bool) → ((begun && mine) && (alone && same)) ≡ (mine && ((begun && alone) && same))
@@ -144,10 +143,8 @@ module _ (T : SchedulerTables) (me : MemberData) (valid : TablesValid T) (begun 
       distinct = valid.rows_of_members.distinct;
       rows = kept_rows (HasMember T.members) valid.rows_of_members.rows;
     };
-    next_times = record {
-      next = with_ends (HasNextTime T.horizon) (HasNextTime T.horizon) valid.next_times.next (λ t is has live. has (sym (same_live t.state) ∙ live)) (λ t out has. has);
-      moment = valid.next_times.moment;
-    };
+    next_times = have_next T.horizon T.last_moment triggers_then
+        (with_ends (HasNextTime T.horizon) (HasNextTime T.horizon) (each_next T valid) (λ t is has. (λ live. has.0 (sym (same_live t.state) ∙ live), has.1)) (λ t out has. has)) valid.next_times.moment;
     fresh = record {
       fired = kept_rows (λ f. f.entry < T.next_entry) valid.fresh.fired;
       added = with_same (HasNumber after_ends) (λ t has. HasNumber-alike after_ends t (with_state unblocked t) refl has)

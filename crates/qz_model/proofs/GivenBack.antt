@@ -13,7 +13,7 @@ use Rattle.qz_model.specs.Executions.{is_busy}
 use Rattle.qz_model.specs.Invariant.{IsRowOf, is_blocked_or_done, is_live_state, TablesValid}
 use Rattle.qz_model.specs.Recovery.{has_acquired, freed_by}
 use Rattle.qz_model.specs.Tests.{is_of}
-use Rattle.qz_model.proofs.Changes.{HasOneRow, HasItsTrigger, HasNextTime, StaysBlocked, IsBlockedBy, HasRowTimes}
+use Rattle.qz_model.proofs.Changes.{HasOneRow, HasItsTrigger, HasNextTime, StaysBlocked, IsBlockedBy, HasRowTimes, each_next, have_next}
 use Rattle.qz_model.proofs.RowLaws.{same_key_laws, All-trigger_of, trigger_of-key, trigger_of-alike, each_trigger, each_fired, only_fired, one_fired}
 use Rattle.qz_model.proofs.RowPoints.{All-weaker, All-both, All-none, any_none}
 use Rattle.qz_model.proofs.StateChanges.{after_states, references-with_states, concurrency-without_acquired, one-without_acquired, members-without_acquired, stays-with_states, blocked_by-with_states, fresh-with_states}
@@ -149,11 +149,9 @@ module _ (T : SchedulerTables) (me : MemberData) (valid : TablesValid T) where
       busy = blocked_by-with_states waits passes (is_of me) T.triggers T.fired (IsBlockedBy T.fired) valid.blocked_are_busy.busy (λ t is has blocked. absurd (cc)) (λ t out has. has);
     };
     rows_of_members = members-without_acquired (is_of me) T.fired T.members T.next_epoch valid.rows_of_members;
-    next_times = record {
-      next = All-with_states waits passes (λ t. HasNextTime T.horizon t × IsTakenWhere t) (HasNextTime T.horizon) T.triggers (with_taken (HasNextTime T.horizon) valid.next_times.next)
-          (λ t is has live. has.0 (ap is_live_state (has.1 is))) (λ t out has. has.0);
-      moment = valid.next_times.moment;
-    };
+    next_times = have_next T.horizon T.last_moment triggers_then
+        (All-with_states waits passes (λ t. HasNextTime T.horizon t × IsTakenWhere t) (HasNextTime T.horizon) T.triggers (with_taken (HasNextTime T.horizon) (each_next T valid))
+        (λ t is has. (λ live. has.0.0 (ap is_live_state (has.1 is)), has.0.1)) (λ t out has. has.0)) valid.next_times.moment;
     fresh = fresh-with_states T waits passes (is_of me) valid.fresh;
     row_times = record { rows = All-without_acquired (is_of me) (HasRowTimes T.horizon) (HasRowTimes T.horizon) T.fired valid.row_times.rows (λ f away is. is) };
   }

@@ -3,12 +3,17 @@ use Rattle.std.proofs.Common.{◌≡◌, List, [], ◌∷◌, ◌++◌, IsTrue, 
 use Rattle.std.specs.List.{AllByRecursion}
 use Rattle.qz_types.specs.Entries.{EntryData, is_entry}
 use Rattle.qz_types.specs.declared.replies.Reply.{Reply}
-use Rattle.qz_types.specs.Tables.{SchedulerTables, recorded_moment}
+use Rattle.qz_types.specs.Tables.{SchedulerTables, new_tables, recorded_moment}
 use Rattle.qz_types.specs.Outcomes.{Outcome, accepted, refused, IsAccepted}
 use Rattle.qz_model.specs.Transaction.{transaction}
-use Rattle.qz_model.specs.History.{tables_left, onto_replies, IsLegalFrom, replay_from, replies_from, moments_from}
+use Rattle.qz_model.specs.History.{new_history, history_of_version, tables_left, onto_replies, IsLegalFrom, replay_from, replies_from, moments_from}
 use Rattle.qz_model.specs.Invariant.{TablesValid}
 use Rattle.qz_model.proofs.Kept.{kept}
+
+-- The history of a new store is that of the version that is written today.
+pub new_history-is : new_history ≡ history_of_version 2
+unfolding new_tables
+new_history-is = refl
 
 pub replay_from-append : (T : SchedulerTables) (es fs : List EntryData) → replay_from T (es ++ fs) ≡ replay_from (replay_from T es) fs
 replay_from-append T [] fs = refl

@@ -27,7 +27,7 @@ use Rattle.qz_model.proofs.RowLaws.{same_key_laws, ordered-with_trigger, All-wit
 use Rattle.qz_model.proofs.References.{references-triggers, references-fired}
 use Rattle.qz_model.proofs.DueLaws.{IsStoredWaiting, each_due}
 use Rattle.qz_model.proofs.Waiting.{none_waiting, has_next, still_waiting}
-use Rattle.qz_model.proofs.Changes.{HasOneRow, HasItsTrigger, HasNextTime, HasJob, HasCalendar, HasZone, AgreesWithRows, AgreesWithJob, StaysBlocked, IsBlockedBy, HasMember, HasRowTimes, busy-same, passes, HasNumber, SharesNone, HasNumber-kept, HasNumber-alike, valid-moment}
+use Rattle.qz_model.proofs.Changes.{HasOneRow, HasItsTrigger, HasNextTime, HasJob, HasCalendar, HasZone, AgreesWithRows, AgreesWithJob, StaysBlocked, IsBlockedBy, HasMember, HasRowTimes, busy-same, passes, HasNumber, SharesNone, HasNumber-kept, HasNumber-alike, each_next, have_next, valid-moment}
 
 found_mapped : (P : TriggerData → Type 0) (g : TriggerData → TriggerData) (o : Option TriggerData) → ((u : TriggerData) → P u → P (g u)) → IsSomeAnd o P → IsSomeAnd (option_map g o) P
 found_mapped P g None keeps is = is
@@ -73,8 +73,8 @@ module _ (T : SchedulerTables) (me : MemberData) (t : TriggerData) (valid : Tabl
       (HasNextTime T.horizon) t.spec.key (in_state state.Acquired) T.triggers
       (All-both (HasNextTime T.horizon) (λ u. same_key t.spec.key u.spec.key ≡ true → u ≡ t)
       (λ u. HasNextTime T.horizon u × (same_key t.spec.key u.spec.key ≡ true → u ≡ t)) T.triggers
-      (λ u has only. (has, only)) valid.next_times.next (only_trigger t.spec.key t T.triggers valid.references_and_limits.ordered.triggers one.stored))
-      (λ u same is live. is.0 (ap (λ x. is_live_state x.state) (is.1 same) ∙ ap is_live_state one.waits))
+      (λ u has only. (has, only)) (each_next T valid) (only_trigger t.spec.key t T.triggers valid.references_and_limits.ordered.triggers one.stored))
+      (λ u same is. (λ live. is.0.0 (ap (λ x. is_live_state x.state) (is.1 same) ∙ ap is_live_state one.waits), is.0.1))
       (λ u differ is. is.0)
 
   abbrev after_acquire : SchedulerTables
@@ -176,7 +176,7 @@ module _ (T : SchedulerTables) (me : MemberData) (t : TriggerData) (valid : Tabl
     one_exclusive = exclusive_acquired;
     blocked_are_busy = blocked_acquired;
     rows_of_members = members_acquired;
-    next_times = record { next = next_times_acquired; moment = valid.next_times.moment };
+    next_times = have_next T.horizon T.last_moment triggers_then next_times_acquired valid.next_times.moment;
     fresh = record {
       fired = All-put_fired (λ f. f.entry < T.next_entry + 1) new_row T.fired (omega arith) (All-weaker (λ f. f.entry < T.next_entry) (λ f. f.entry < T.next_entry + 1) T.fired (λ f below. omega arith) valid.fresh.fired);
       added = numbers_acquired;

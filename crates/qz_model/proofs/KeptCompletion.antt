@@ -132,7 +132,7 @@ horizon-without_finished SetAllJobTriggersComplete T key = refl
 horizon-without_finished SetTriggerError T key = refl
 horizon-without_finished SetAllJobTriggersError T key = refl
 
-horizon-completed : (T : SchedulerTables) (f : FiredData) (code : Code) → (completed T f code).horizon ≡ T.horizon
+pub horizon-completed : (T : SchedulerTables) (f : FiredData) (code : Code) → (completed T f code).horizon ≡ T.horizon
 unfolding without_execution
 horizon-completed T f code = horizon-without_finished code (without_execution (with_code code T f) f) f.trigger ∙ horizon-with_code code T f
 

@@ -2,7 +2,6 @@
 use Rattle.std.proofs.Common.{◌≡◌, ℕ, ℤ, pos, ◌≤ℤ◌, int_lt, true, false, not, List, Option, Some, None, IsSome, IfSome, is_some, IsSomeAnd, option_and_then, unwrap_or, refl, sym, ap, ◌∙◌, subst, arith}
 use Rattle.std.proofs.Math.Logic.{∥∥₁_elim}
 use Rattle.std.proofs.lemmas.Int.{ints}
-use Rattle.qz_civil.specs.declared.limits.TheConstants.{LAST}
 use Rattle.qz_types.specs.Rows.{JobData, TriggerData, MemberData, FiredData}
 use Rattle.qz_types.specs.declared.replies.Reply.{Reply}
 use Rattle.qz_types.specs.declared.replies.Refusal.{Refusal}
@@ -12,15 +11,14 @@ use Rattle.qz_types.specs.Outcomes.{accepted}
 use Rattle.qz_types.specs.States.{is_acquired}
 use Rattle.qz_types.specs.declared.keys.Key.{Key}
 use Rattle.qz_types.specs.Words.{job_of, trigger_of, fired_of}
-use Rattle.qz_plan.proofs.Plan.{fire_time_within}
 use Rattle.qz_model.specs.Acquiring.{owner_refusal, acquired_refusal, next_time}
 use Rattle.qz_model.specs.Membership.{node_refusal}
-use Rattle.qz_model.specs.Plan.{next_after}
 use Rattle.qz_model.specs.Firing.{early, next_of, fire_refusal, following, with_begun, fire_one, fire_row, fire}
 use Rattle.qz_model.specs.Invariant.{IsRowOf, is_live_state, TablesValid}
 use Rattle.qz_model.specs.Tests.{refuse_if, or_refusal, stored_job}
 use Rattle.qz_model.proofs.RowLaws.{All-trigger_of, All-fired_of, fired_of-entry}
-use Rattle.qz_model.proofs.Changes.{HasItsTrigger, HasNextTime, HasJob, passes, valid-moment}
+use Rattle.qz_model.proofs.Changes.{HasItsTrigger, HasJob, passes, live_next, valid-moment}
+use Rattle.qz_model.proofs.NextTimes.{next_after-within}
 use Rattle.qz_model.proofs.Begun.{valid-begun}
 
 -- where two refusals come one after the other, neither is there
@@ -68,21 +66,13 @@ next_found : (k : Key) (t : TriggerData) (rows : List TriggerData) → trigger_o
 unfolding next_of
 next_found k t rows found = ap (option_and_then (λ x. x.next)) found
 
--- a fire time after a moment lies within the horizon
-after_moment : (T : SchedulerTables) (t : TriggerData) (time : ℤ) (o : Option ℤ) → T.horizon ≡ LAST → pos 0 ≤ℤ time → next_after T t.spec time ≡ o → IfSome o (IsMoment T.horizon)
-unfolding next_after
-after_moment T t time None last low is = tt
-after_moment T t time (Some next) last low is =
-    let within = fire_time_within t.spec.timing _ _ time next (omega (arith, ints)) is in
-    record { low = omega (arith, ints, within.0); high = subst (λ h. next ≤ℤ h) (sym last) within.1 }
-
 -- the row's trigger is acquired for its scheduled time
 following_within : (T : SchedulerTables) (f : FiredData) (t : TriggerData) → TablesValid T → trigger_of f.trigger T.triggers ≡ Some t → IsRowOf f t → IfSome (following T f) (IsMoment T.horizon)
 unfolding following next_time
 following_within T f t valid found row =
-    let next : IsMoment T.horizon f.scheduled = subst (λ o. IsSomeAnd o (IsMoment T.horizon)) row.next (All-trigger_of (HasNextTime T.horizon) f.trigger t T.triggers valid.next_times.next found (ap is_live_state row.state)) in
+    let next : IsMoment T.horizon f.scheduled = subst (λ o. IsSomeAnd o (IsMoment T.horizon)) row.next (live_next T f.trigger t valid found (ap is_live_state row.state)) in
     let time : unwrap_or t.next (pos 0) ≡ f.scheduled = ap (λ o. unwrap_or o (pos 0)) row.next in
-    rw found (after_moment T t (unwrap_or t.next (pos 0)) _ valid.references_and_limits.limits.horizon (subst (λ n. pos 0 ≤ℤ n) (sym time) next.low) refl)
+    rw found (next_after-within T t.spec (unwrap_or t.next (pos 0)) (subst (IsMoment T.horizon) (sym time) next))
 
 -- the trigger of an acquired row fires
 kept-fire_one : (T T' : SchedulerTables) (m : ℤ) (me : MemberData) (f : FiredData) (t : Option TriggerData) (r : Reply) → TablesValid T → IsMoment T.horizon m → fired_of f.entry T.fired ≡ Some f

@@ -1,24 +1,20 @@
 -- The commands on jobs keep the tables valid.
-use Rattle.std.proofs.Common.{◌≡◌, ◌+◌, ◌≤◌, ℤ, Bool, true, false, not, ◌&&◌, List, [], ◌∷◌, cond, length, filter, find, nat_le, Option, Some, None, IsSome, is_some, is_none, refl, sym, subst, ap, ◌∙◌, arith}
+use Rattle.std.proofs.Common.{◌≡◌, ◌+◌, ◌≤◌, ℤ, Bool, true, false, not, ◌&&◌, List, [], ◌∷◌, cond, length, filter, find, nat_le, Option, Some, None, is_some, is_none, refl, subst}
 use Rattle.std.specs.Prelude.{⊤}
 use Rattle.std.specs.List.{AllByRecursion}
-use Rattle.std.proofs.lemmas.Bool.{leb-false}
 use Rattle.qz_types.specs.Rows.{JobData, FiredData}
 use Rattle.qz_types.specs.declared.keys.Key.{Key}
 use Rattle.qz_types.specs.declared.limits.TheConstants.{JOB_LIMIT}
-use Rattle.qz_types.specs.declared.replies.Refusal.{Refusal}
-use Rattle.qz_types.specs.declared.replies.Refusal.TheVariants.{FlagInUse}
 use Rattle.qz_types.specs.declared.replies.Reply.{Reply}
 use Rattle.qz_types.specs.Changes.{without_acquired}
-use Rattle.qz_types.specs.States.{is_acquired}
 use Rattle.qz_types.specs.Tables.{SchedulerTables, IsMoment}
 use Rattle.qz_types.specs.Outcomes.{accepted}
-use Rattle.qz_types.specs.Words.{same_key, job_of, put_job, without_job}
+use Rattle.qz_types.specs.Words.{job_of, put_job, without_job}
 use Rattle.qz_model.specs.Jobs.{differ, has_other_flag, flag_refusal, add_job_refusal, add_job, unknown_job, delete_job}
-use Rattle.qz_model.specs.Tests.{refuse_if, or_refusal, is_trigger_of, is_row_of_job}
+use Rattle.qz_model.specs.Tests.{is_trigger_of, is_row_of_job}
 use Rattle.qz_model.specs.Invariant.{HasFlag, TablesValid}
-use Rattle.qz_model.proofs.RowPoints.{All-from, All-weaker, All-left, length-filter_le}
-use Rattle.qz_model.proofs.RowLaws.{some_row_not_none, length-without_job, length-without_stored}
+use Rattle.qz_model.proofs.RowPoints.{All-from, All-weaker, All-left}
+use Rattle.qz_model.proofs.RowLaws.{length-without_job, length-without_stored}
 use Rattle.qz_model.proofs.Changes.{AgreesWithJob, passes, valid-moment}
 use Rattle.qz_model.proofs.Refusals.{not_refused, no_first, both_room}
 use Rattle.qz_model.proofs.Dropping.{valid-without_job_triggers, valid-without_job}

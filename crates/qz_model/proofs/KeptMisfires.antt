@@ -1,14 +1,12 @@
 -- A Misfires keeps the tables valid.
-use Rattle.std.proofs.Common.{◌≡◌, ℕ, ◌≤◌, ℤ, Bool, true, false, ◌&&◌, ◌||◌, List, [], ◌∷◌, fold, filter, Option, Some, None, IsSomeAnd, IfSome, is_none, refl, sym, ap, ◌∙◌, subst, arith, if◌then◌else◌}
+use Rattle.std.proofs.Common.{◌≡◌, ◌≤◌, ℤ, Bool, true, false, ◌&&◌, List, [], ◌∷◌, fold, filter, Option, Some, None, IsSome, IsSomeAnd, IfSome, is_none, refl, sym, ap, ◌∙◌, subst, arith, if◌then◌else◌}
 use Rattle.std.specs.List.{AllByRecursion}
 use Rattle.std.proofs.lemmas.Bool.{and_parts}
 use Rattle.qz_civil.specs.declared.timings.Kind.{Kind}
 use Rattle.qz_civil.specs.declared.timings.Kind.TheVariants.{Simple, Cron, Interval, Daily}
 use Rattle.qz_civil.specs.declared.timings.Moved.{Moved}
-use Rattle.qz_civil.specs.declared.timings.Timing.{Timing}
 use Rattle.qz_misfire.proofs.Moves.{moved-next}
-use Rattle.qz_types.specs.Rows.{TriggerData, MemberData, FiredData}
-use Rattle.qz_types.specs.declared.keys.Key.{Key}
+use Rattle.qz_types.specs.Rows.{TriggerData, MemberData}
 use Rattle.qz_types.specs.declared.limits.TheConstants.{TRIGGER_LIMIT, MISFIRE_LIMIT}
 use Rattle.qz_types.specs.declared.triggers.TriggerSpec.{TriggerSpec}
 use Rattle.qz_types.specs.declared.triggers.TriggerState.{TriggerState}
@@ -16,7 +14,7 @@ use Rattle.qz_types.specs.declared.triggers.TriggerState.TheVariants as state
 use Rattle.qz_types.specs.declared.replies.Reply.{Reply}
 use Rattle.qz_types.specs.Changes.{counting, moved_trigger}
 use Rattle.qz_types.specs.Due.{is_waiting, in_due_order}
-use Rattle.qz_types.specs.States.{is_acquired, is_acquired_for}
+use Rattle.qz_types.specs.States.{is_acquired_for}
 use Rattle.qz_types.specs.Tables.{SchedulerTables, IsMoment}
 use Rattle.qz_types.specs.Outcomes.{accepted}
 use Rattle.qz_types.specs.Sorted.{IsAscending}
@@ -26,21 +24,21 @@ use Rattle.qz_model.specs.Due.{is_misfired}
 use Rattle.qz_model.specs.Membership.{node_refusal}
 use Rattle.qz_model.specs.Misfires.{misfired_triggers, move_of, with_moved, misfires}
 use Rattle.qz_model.specs.Plan.{zone_named_by, next_after}
-use Rattle.qz_model.specs.Invariant.{AreStored, IsRowOf, AcquiredMatch, is_blocked, is_blocked_or_done, is_live_state, TablesValid}
+use Rattle.qz_model.specs.Invariant.{AreStored, IsRowOf, is_blocked, is_blocked_or_done, is_live_state, TablesValid}
 use Rattle.qz_model.proofs.Apart.{HasOtherKey, AreApart, All-take, apart-take, apart-filter, apart-in_due_order, apart}
 use Rattle.qz_model.proofs.RowPoints.{All-weaker, All-both, All-filter}
-use Rattle.qz_model.proofs.RowLaws.{same_key_laws, ordered-with_trigger, All-with_trigger, each_trigger, only_trigger, trigger_of-with_other, length-with_trigger}
+use Rattle.qz_model.proofs.RowLaws.{ordered-with_trigger, All-with_trigger, each_trigger, only_trigger, trigger_of-with_other, length-with_trigger}
 use Rattle.qz_model.proofs.NextTimes.{next_after-within}
 use Rattle.qz_model.proofs.References.{references-triggers}
 use Rattle.qz_model.proofs.DueLaws.{All-in_due_order, waiting_from, IsStoredWaiting}
 use Rattle.qz_model.proofs.Waiting.{none_waiting, other_row, still_waiting}
-use Rattle.qz_model.proofs.Changes.{HasOneRow, HasItsTrigger, HasNextTime, HasJob, HasCalendar, HasZone, StaysBlocked, IsBlockedBy, passes, HasNumber, SharesNone, HasNumber-kept, HasNumber-alike, valid-moment}
+use Rattle.qz_model.proofs.Changes.{HasOneRow, HasItsTrigger, HasNextTime, HasJob, HasCalendar, HasZone, StaysBlocked, IsBlockedBy, passes, HasNumber, SharesNone, HasNumber-kept, HasNumber-alike, each_next, have_next, valid-moment}
 
 -- the kind keeps its zone
 counting_zone : (count : ℤ) (kind : Kind) → zone_named_by (counting count kind) ≡ zone_named_by kind
 counting_zone count (Simple interval old) = refl
 counting_zone count (Cron fields zone) = refl
-counting_zone count (Interval unit every zone) = refl
+counting_zone count (Interval unit every zone preserve skip) = refl
 counting_zone count (Daily unit every from to days zone) = refl
 
 -- the state of a trigger that has moved
@@ -59,9 +57,9 @@ was_blocked : (next : Option ℤ) (s : TriggerState) → is_blocked (state_with 
 was_blocked None s is = absurd (cc)
 was_blocked (Some n) s is = is
 
-its_time : (P : ℤ → Type 0) (next : Option ℤ) (s : TriggerState) → IfSome next P → is_live_state (state_with next s) ≡ true → IsSomeAnd next P
-its_time P None s within live = absurd (cc)
-its_time P (Some n) s within live = within
+its_time : (next : Option ℤ) (s : TriggerState) → is_live_state (state_with next s) ≡ true → IsSome next
+its_time None s live = absurd (cc)
+its_time (Some n) s live = refl
 
 module _ (T : SchedulerTables) (t : TriggerData) (move : Moved) (valid : TablesValid T) (one : IsStoredWaiting T t) (within : IfSome move.next (IsMoment T.horizon)) where
   abbrev triggers_then : List TriggerData
@@ -128,11 +126,9 @@ module _ (T : SchedulerTables) (t : TriggerData) (move : Moved) (valid : TablesV
           (λ u same is blocked. is (was_blocked move.next u.state blocked)) (λ u differ is. is);
     };
     rows_of_members = valid.rows_of_members;
-    next_times = record {
-      next = All-with_trigger (HasNextTime T.horizon) (HasNextTime T.horizon) t.spec.key (moved_trigger move) T.triggers valid.next_times.next
-          (λ u same is live. its_time (IsMoment T.horizon) move.next u.state within live) (λ u differ is. is);
-      moment = valid.next_times.moment;
-    };
+    next_times = have_next T.horizon T.last_moment triggers_then
+        (All-with_trigger (HasNextTime T.horizon) (HasNextTime T.horizon) t.spec.key (moved_trigger move) T.triggers (each_next T valid)
+        (λ u same is. (λ live. its_time move.next u.state live, within)) (λ u differ is. is)) valid.next_times.moment;
     fresh = record { fired = valid.fresh.fired; added = numbers_moved };
     row_times = valid.row_times;
   }
@@ -177,5 +173,5 @@ pub kept-misfires : (T T' : SchedulerTables) (m : ℤ) (me : MemberData) (r : Re
 kept-misfires T T' m me r valid is e =
     let way = passes (node_refusal T me) _ T' r e in
     let ordered = valid.references_and_limits.ordered.triggers in
-    let moved_all = valid-moved_each T m T.triggers (misfired_triggers T m) is (λ s. next_after-within T s m valid is) valid (each_misfired T m ordered) (apart_misfired T m ordered) in
+    let moved_all = valid-moved_each T m T.triggers (misfired_triggers T m) is (λ s. next_after-within T s m is) valid (each_misfired T m ordered) (apart_misfired T m ordered) in
     subst TablesValid (cc) (valid-moment (record T { triggers = fold (with_moved T m) T.triggers (misfired_triggers T m) }) m moved_all is)

@@ -7,7 +7,7 @@ use Rattle.qz_types.specs.Changes.{with_state, with_states, without_acquired}
 use Rattle.qz_types.specs.States.{paused, resumed}
 use Rattle.qz_types.specs.Sorted.{IsAscending}
 use Rattle.qz_types.specs.declared.keys.Key.{Key}
-use Rattle.qz_types.specs.declared.limits.TheConstants.{GROUP_LIMIT}
+use Rattle.qz_types.specs.declared.limits.TheConstants.{GROUP_LIMIT, JOB_GROUP_LIMIT}
 use Rattle.qz_types.specs.declared.triggers.TriggerState.{TriggerState}
 use Rattle.qz_types.specs.declared.triggers.TriggerState.TheVariants as state
 use Rattle.qz_types.specs.declared.replies.Reply.{Reply}
@@ -16,12 +16,12 @@ use Rattle.qz_types.specs.Tables.{SchedulerTables, IsMoment}
 use Rattle.qz_types.specs.Outcomes.{accepted}
 use Rattle.qz_types.specs.Words.{text_cmp, same_text, trigger_of, with_trigger, group_of, is_paused, put_group, without_group}
 use Rattle.qz_model.specs.Invariant.{is_blocked_or_done, is_blocked, is_live_state, TablesValid}
-use Rattle.qz_model.specs.Pausing.{is_in_group, is_row_of_group, pause_trigger, resume_trigger, pause_group_refusal, pause_group, resume_group}
+use Rattle.qz_model.specs.Pausing.{is_in_group, is_row_of_group, pause_trigger, resume_trigger, pause_group_refusal, pause_group, is_resumed_with_group, resume_group, is_in_job_group, is_row_of_job_group, pause_job_group_refusal, pause_job_group, is_resumed_with_job_group, resume_job_group}
 use Rattle.qz_model.specs.Tests.{refuse_if, is_row_of_trigger}
 use Rattle.qz_model.specs.Triggers.{unknown_trigger}
 use Rattle.qz_model.proofs.Changes.{passes, HasNumber, HasNumber-kept, valid-moment}
 use Rattle.qz_model.proofs.LookUps.{IsAscending-filter}
-use Rattle.qz_model.proofs.References.{references-groups}
+use Rattle.qz_model.proofs.References.{references-groups, references-job_groups}
 use Rattle.qz_model.proofs.Replaced.{ordered-replaced, length-replaced}
 use Rattle.qz_model.proofs.Refusals.{not_refused}
 use Rattle.qz_model.proofs.RowPoints.{All-weaker, length-filter_le}
@@ -167,22 +167,25 @@ pub length-without_group : (group : List ℕ) (groups : List (List ℕ)) → len
 unfolding without_group
 length-without_group group groups = length-filter_le _ groups
 
-room_for_group : (T : SchedulerTables) (group : List ℕ) → pause_group_refusal T group ≡ None → length T.paused_groups ≤ GROUP_LIMIT → length (put_group group (without_group group T.paused_groups)) ≤ GROUP_LIMIT
-unfolding pause_group_refusal
-room_for_group T group clear within = elim (is_paused group T.paused_groups) as (λ b. refuse_if (not b && nat_le GROUP_LIMIT (length T.paused_groups)) (TooMany GROUP_LIMIT) None ≡ None
-    → length (put_group group (without_group group T.paused_groups)) ≤ length T.paused_groups + cond b 0 1 → length (put_group group (without_group group T.paused_groups)) ≤ GROUP_LIMIT) [
+room_for_group : (limit : ℕ) (group : List ℕ) (groups : List (List ℕ)) → refuse_if (not (is_paused group groups) && nat_le limit (length groups)) (TooMany limit) None ≡ None → length groups ≤ limit
+    → length (put_group group (without_group group groups)) ≤ limit
+room_for_group limit group groups clear within = elim (is_paused group groups) as (λ b. refuse_if (not b && nat_le limit (length groups)) (TooMany limit) None ≡ None
+    → length (put_group group (without_group group groups)) ≤ length groups + cond b 0 1 → length (put_group group (without_group group groups)) ≤ limit) [
       | true ↦ λ e grows. omega arith
-      | false ↦ λ e grows. let below = leb-false GROUP_LIMIT (length T.paused_groups) (not_refused _ _ None e).0 in omega arith
-    ] clear (length-with_group group T.paused_groups)
+      | false ↦ λ e grows. let below = leb-false limit (length groups) (not_refused _ _ None e).0 in omega arith
+    ] clear (length-with_group group groups)
+
+room_for_paused : (T : SchedulerTables) (group : List ℕ) → pause_group_refusal T group ≡ None → length T.paused_groups ≤ GROUP_LIMIT → length (put_group group (without_group group T.paused_groups)) ≤ GROUP_LIMIT
+unfolding pause_group_refusal
+room_for_paused T group clear within = room_for_group GROUP_LIMIT group T.paused_groups clear within
 
 pub kept-pause_group : (T T' : SchedulerTables) (m : ℤ) (group : List ℕ) (r : Reply) → TablesValid T → IsMoment T.horizon m → pause_group T m group ≡ accepted T' r → TablesValid T'
 kept-pause_group T T' m group r valid is e =
     let way = passes (pause_group_refusal T group) _ T' r e in
-    let groups : List (List ℕ) = put_group group (without_group group T.paused_groups) in
     let same : accepted (record T { paused_groups = put_group group (without_group group T.paused_groups); triggers = with_states paused (is_in_group group) T.triggers; fired = without_acquired (is_row_of_group group) T.fired; last_moment = m }) _ ≡ accepted T' r = way.outcome in
     let was = valid.references_and_limits in
     let first : TablesValid (record T { last_moment = m; paused_groups = put_group group (without_group group T.paused_groups) }) =
-    valid-groups (record T { last_moment = m }) (put_group group (without_group group T.paused_groups)) (valid-moment T m valid is) (ordered-with_group group T.paused_groups was.ordered.paused_groups) (room_for_group T group way.clear was.limits.paused_groups) in
+    valid-groups (record T { last_moment = m }) (put_group group (without_group group T.paused_groups)) (valid-moment T m valid is) (ordered-with_group group T.paused_groups was.ordered.paused_groups) (room_for_paused T group way.clear was.limits.paused_groups) in
     subst TablesValid (cc)
     (valid-with_states (record T { last_moment = m; paused_groups = put_group group (without_group group T.paused_groups) }) paused (is_in_group group) (is_row_of_group group) first (paused-fits (is_in_group group) T.fired)
     (λ t f own job. ap (λ k. same_text group k.group) own) (λ t passes. paused-leaves t.state))
@@ -193,4 +196,50 @@ kept-resume_group T T' m group r valid is e =
     let first : TablesValid (record T { last_moment = m; paused_groups = without_group group T.paused_groups }) =
     valid-groups (record T { last_moment = m }) (without_group group T.paused_groups) (valid-moment T m valid is) (ordered-without_group group T.paused_groups was.ordered.paused_groups)
     (omega (arith, length-without_group group T.paused_groups, was.limits.paused_groups)) in
-    subst TablesValid (cc) (valid-same_rows (record T { last_moment = m; paused_groups = without_group group T.paused_groups }) resumed (is_in_group group) first (resumed-fits (is_in_group group) T.fired) resumed-keeps)
+    subst TablesValid (cc)
+    (valid-same_rows (record T { last_moment = m; paused_groups = without_group group T.paused_groups }) resumed (is_resumed_with_group T group) first (resumed-fits (is_resumed_with_group T group) T.fired) resumed-keeps)
+
+-- Groups of jobs.
+
+pub valid-job_groups : (T : SchedulerTables) (groups : List (List ℕ)) → TablesValid T → IsAscending text_cmp (λ r. r) groups → length groups ≤ JOB_GROUP_LIMIT → TablesValid (record T { paused_job_groups = groups })
+valid-job_groups T groups valid ordered short = record {
+  references_and_limits = references-job_groups T valid.references_and_limits groups ordered short;
+  acquired_match = valid.acquired_match;
+  concurrency_agrees = valid.concurrency_agrees;
+  one_exclusive = valid.one_exclusive;
+  blocked_are_busy = valid.blocked_are_busy;
+  rows_of_members = valid.rows_of_members;
+  next_times = valid.next_times;
+  fresh = record {
+    fired = valid.fresh.fired;
+    added = All-weaker (HasNumber T) (HasNumber (record T { paused_job_groups = groups })) T.triggers
+        (λ t has. HasNumber-kept T (record T { paused_job_groups = groups }) t (omega arith) (λ n below none. none) (λ n all. all) has) valid.fresh.added;
+  };
+  row_times = valid.row_times;
+}
+
+room_for_paused_jobs : (T : SchedulerTables) (group : List ℕ) → pause_job_group_refusal T group ≡ None → length T.paused_job_groups ≤ JOB_GROUP_LIMIT
+    → length (put_group group (without_group group T.paused_job_groups)) ≤ JOB_GROUP_LIMIT
+unfolding pause_job_group_refusal
+room_for_paused_jobs T group clear within = room_for_group JOB_GROUP_LIMIT group T.paused_job_groups clear within
+
+pub kept-pause_job_group : (T T' : SchedulerTables) (m : ℤ) (group : List ℕ) (r : Reply) → TablesValid T → IsMoment T.horizon m → pause_job_group T m group ≡ accepted T' r → TablesValid T'
+kept-pause_job_group T T' m group r valid is e =
+    let way = passes (pause_job_group_refusal T group) _ T' r e in
+    let same : accepted (record T { paused_job_groups = put_group group (without_group group T.paused_job_groups); triggers = with_states paused (is_in_job_group group) T.triggers; fired = without_acquired (is_row_of_job_group group) T.fired; last_moment = m }) _ ≡ accepted T' r = way.outcome in
+    let was = valid.references_and_limits in
+    let first : TablesValid (record T { last_moment = m; paused_job_groups = put_group group (without_group group T.paused_job_groups) }) =
+    valid-job_groups (record T { last_moment = m }) (put_group group (without_group group T.paused_job_groups)) (valid-moment T m valid is) (ordered-with_group group T.paused_job_groups was.ordered.paused_job_groups)
+    (room_for_paused_jobs T group way.clear was.limits.paused_job_groups) in
+    subst TablesValid (cc)
+    (valid-with_states (record T { last_moment = m; paused_job_groups = put_group group (without_group group T.paused_job_groups) }) paused (is_in_job_group group) (is_row_of_job_group group) first (paused-fits (is_in_job_group group) T.fired)
+    (λ t f own job. ap (λ k. same_text group k.group) job) (λ t passes. paused-leaves t.state))
+
+pub kept-resume_job_group : (T T' : SchedulerTables) (m : ℤ) (group : List ℕ) (r : Reply) → TablesValid T → IsMoment T.horizon m → resume_job_group T m group ≡ accepted T' r → TablesValid T'
+kept-resume_job_group T T' m group r valid is e =
+    let was = valid.references_and_limits in
+    let first : TablesValid (record T { last_moment = m; paused_job_groups = without_group group T.paused_job_groups }) =
+    valid-job_groups (record T { last_moment = m }) (without_group group T.paused_job_groups) (valid-moment T m valid is) (ordered-without_group group T.paused_job_groups was.ordered.paused_job_groups)
+    (omega (arith, length-without_group group T.paused_job_groups, was.limits.paused_job_groups)) in
+    subst TablesValid (cc)
+    (valid-same_rows (record T { last_moment = m; paused_job_groups = without_group group T.paused_job_groups }) resumed (is_resumed_with_job_group T group) first (resumed-fits (is_resumed_with_job_group T group) T.fired) resumed-keeps)

@@ -1,16 +1,15 @@
 -- A member recovers another, and the tables stay valid: what it acquired is given back, its executions end, the recovery
 -- triggers are stored, then finished triggers go, and orphans with them, and last the member.
-use Rattle.std.proofs.Common.{◌≡◌, ℕ, ◌+◌, ◌<◌, ◌≤◌, ℤ, Bool, true, false, not, ◌&&◌, List, [], ◌∷◌, length, filter, map, fold, nat_lt, Option, Some, None, is_none, refl, sym, ap, ◌∙◌, subst, arith}
+use Rattle.std.proofs.Common.{◌≡◌, ℕ, ◌+◌, ◌≤◌, ℤ, Bool, true, false, not, ◌&&◌, List, length, filter, map, fold, nat_lt, Option, Some, None, is_none, refl, sym, ap, subst, arith}
 use Rattle.std.specs.Prelude.{⊤}
 use Rattle.std.specs.List.{AllByRecursion, list_any}
 use Rattle.std.specs.Ordering.{nat_cmp}
 use Rattle.std.proofs.lemmas.Bool.{and_parts, and_left, and_right, ltb-false}
 use Rattle.std.proofs.lemmas.Cmp.{nat_cmp_total}
 use Rattle.std.proofs.lemmas.List.{length-map}
-use Rattle.qz_types.specs.Rows.{JobData, TriggerData, MemberData, FiredData}
+use Rattle.qz_types.specs.Rows.{TriggerData, MemberData, FiredData}
 use Rattle.qz_types.specs.Sorted.{IsAscending}
 use Rattle.qz_types.specs.declared.limits.TheConstants.{TRIGGER_LIMIT}
-use Rattle.qz_types.specs.declared.triggers.TriggerState.{TriggerState}
 use Rattle.qz_types.specs.declared.triggers.TriggerState.TheVariants as state
 use Rattle.qz_types.specs.declared.replies.Reply.{Reply}
 use Rattle.qz_types.specs.declared.replies.Reply.TheVariants.{Recovered}
@@ -19,7 +18,7 @@ use Rattle.qz_types.specs.Changes.{with_states, without_acquired}
 use Rattle.qz_types.specs.States.{is_acquired, unblocked}
 use Rattle.qz_types.specs.Tables.{SchedulerTables, IsMoment}
 use Rattle.qz_types.specs.Outcomes.{accepted}
-use Rattle.qz_types.specs.Words.{same_key, member_of, without_member, put_trigger}
+use Rattle.qz_types.specs.Words.{member_of, put_trigger}
 use Rattle.qz_model.specs.Completing.{is_complete, is_finished}
 use Rattle.qz_model.specs.Invariant.{TablesValid}
 use Rattle.qz_model.specs.Jobs.{is_orphan}
@@ -27,7 +26,7 @@ use Rattle.qz_model.specs.Membership.{node_refusal}
 use Rattle.qz_model.specs.Recovery.{lost_of, rows_of_others, freed_by, unblocked_by, has_excluded, asks, recovery_trigger, recoveries, has_finished, triggers_added, triggers_left, has_lost, jobs_left, recovered, recovery_refusal, recover_member, recover}
 use Rattle.qz_model.specs.Tests.{is_of, is_row_of_trigger}
 use Rattle.qz_model.proofs.Changes.{passes, valid-moment}
-use Rattle.qz_model.proofs.Dropping.{IsHeldBy, valid-without_triggers, valid-without_jobs, orphan_unused}
+use Rattle.qz_model.proofs.Dropping.{valid-without_triggers, valid-without_jobs, orphan_unused}
 use Rattle.qz_model.proofs.ExecutionsGone.{after_ends, valid_then}
 use Rattle.qz_model.proofs.GivenBack.{valid-given_back}
 use Rattle.qz_model.proofs.KeptLeaving.{none_of_others}
@@ -107,7 +106,7 @@ module _ (T : SchedulerTables) (member : MemberData) (valid : TablesValid T) (fo
   few =
       let all = length-with_states unblocked (λ t. has_excluded (lost_of member back.fired) t.spec.job) given in
       let own : length given ≡ length T.triggers = length-map T.triggers _ in
-      let added : length (recoveries T member) ≡ length (rows_asking lost) = length-map (rows_asking lost) (recovery_trigger T.paused_groups) in
+      let added : length (recoveries T member) ≡ length (rows_asking lost) = length-map (rows_asking lost) (recovery_trigger T.paused_groups T.paused_job_groups) in
       let asking : length (rows_asking (lost_of member back.fired)) ≡ length (rows_asking lost) = ap (λ rows. length (rows_asking rows)) (lost_still member T.fired) in
       omega (arith, all, own, added, asking, room)
 
@@ -120,10 +119,10 @@ module _ (T : SchedulerTables) (member : MemberData) (valid : TablesValid T) (fo
   valid_added : TablesValid (record T { triggers = triggers_added T member; fired = left })
   unfolding triggers_added recoveries unblocked_by rows_of_others with_states
   valid_added =
-      let first = valid-recoveries (after_ends back member valid_back (begun_left member T.fired)) T.paused_groups (rows_asking (lost_of member back.fired))
+      let first = valid-recoveries (after_ends back member valid_back (begun_left member T.fired)) T.paused_groups T.paused_job_groups (rows_asking (lost_of member back.fired))
       (valid_then back member valid_back (begun_left member T.fired)) (all_recoverable back member valid_back (begun_left member T.fired)) in_order few in
-      subst (λ rows. TablesValid (record T { triggers = fold (λ ts t. put_trigger t ts) (with_states unblocked (λ t. has_excluded rows t.spec.job) given) (map (recovery_trigger T.paused_groups) (rows_asking rows)); fired = left })) (lost_still member T.fired)
-      (subst (λ fired. TablesValid (record T { triggers = fold (λ ts t. put_trigger t ts) (with_states unblocked (λ t. has_excluded (lost_of member back.fired) t.spec.job) given) (map (recovery_trigger T.paused_groups) (rows_asking (lost_of member back.fired))); fired = fired }))
+      subst (λ rows. TablesValid (record T { triggers = fold (λ ts t. put_trigger t ts) (with_states unblocked (λ t. has_excluded rows t.spec.job) given) (map (recovery_trigger T.paused_groups T.paused_job_groups) (rows_asking rows)); fired = left })) (lost_still member T.fired)
+      (subst (λ fired. TablesValid (record T { triggers = fold (λ ts t. put_trigger t ts) (with_states unblocked (λ t. has_excluded (lost_of member back.fired) t.spec.job) given) (map (recovery_trigger T.paused_groups T.paused_job_groups) (rows_asking (lost_of member back.fired))); fired = fired }))
       (others_still member T.fired) first)
 
   valid_finished : TablesValid (record T { triggers = triggers_left T member; fired = left })

@@ -1,10 +1,10 @@
 -- Releasing an acquired trigger keeps the tables valid.
-use Rattle.std.proofs.Common.{◌≡◌, ℕ, ◌≤◌, ◌<◌, ◌==◌, ℤ, true, false, not, ◌&&◌, List, length, count_by, Bool, Option, Some, None, IsSomeAnd, refl, sym, ap, ◌∙◌, subst, arith}
+use Rattle.std.proofs.Common.{◌≡◌, ℕ, ◌≤◌, ◌<◌, ◌==◌, ℤ, true, false, not, ◌&&◌, List, count_by, Bool, Option, Some, None, IsSomeAnd, refl, sym, ap, ◌∙◌, subst, arith}
 use Rattle.std.specs.List.{AllByRecursion}
-use Rattle.std.proofs.lemmas.Bool.{and_from, and_right, false_from_ne_true, not-false}
+use Rattle.std.proofs.lemmas.Bool.{and_from, and_right, false_from_ne_true}
 use Rattle.qz_types.specs.Rows.{TriggerData, MemberData, FiredData}
 use Rattle.qz_types.specs.declared.keys.Key.{Key}
-use Rattle.qz_types.specs.declared.limits.TheConstants.{TRIGGER_LIMIT, FIRED_LIMIT}
+use Rattle.qz_types.specs.declared.limits.TheConstants.{TRIGGER_LIMIT}
 use Rattle.qz_types.specs.declared.triggers.TriggerState.TheVariants as state
 use Rattle.qz_types.specs.declared.replies.Reply.{Reply}
 use Rattle.qz_types.specs.declared.replies.Refusal.{Refusal}
@@ -16,13 +16,13 @@ use Rattle.qz_types.specs.Outcomes.{accepted}
 use Rattle.qz_types.specs.Words.{same_key, trigger_of, with_trigger, fired_of, without_fired}
 use Rattle.qz_model.specs.Acquiring.{owner_refusal, acquired_refusal, release_row, release}
 use Rattle.qz_model.specs.Executions.{is_exclusive_of, is_busy}
-use Rattle.qz_model.specs.Invariant.{AreStored, ReferencesAndLimits, IsRowOf, HasFlag, ConcurrencyAgrees, is_blocked_or_done, OneExclusive, BlockedAreBusy, RowsOfMembers, is_live_state, TablesValid}
+use Rattle.qz_model.specs.Invariant.{AreStored, ReferencesAndLimits, IsRowOf, HasFlag, ConcurrencyAgrees, is_blocked_or_done, OneExclusive, BlockedAreBusy, is_live_state, TablesValid}
 use Rattle.qz_model.specs.Membership.{node_refusal}
 use Rattle.qz_model.specs.Tests.{refuse_if, or_refusal}
 use Rattle.qz_model.proofs.RowPoints.{All-weaker, All-both}
 use Rattle.qz_model.proofs.RowLaws.{same_key_laws, ordered-with_trigger, All-trigger_of, trigger_of-key, All-with_trigger, only_trigger, trigger_of-with_other, length-with_trigger, ordered-without_fired, All-fired_of, fired_of-entry, only_fired, one_fired, fired_of-without_fired, All-without_fired, count_by-without_fired, length-without_fired}
 use Rattle.qz_model.proofs.References.{references-triggers, references-fired}
-use Rattle.qz_model.proofs.Changes.{HasOneRow, HasItsTrigger, HasNextTime, HasJob, HasCalendar, HasZone, AgreesWithRows, AgreesWithJob, StaysBlocked, IsBlockedBy, HasMember, HasRowTimes, busy-same, passes, HasNumber, SharesNone, HasNumber-kept, HasNumber-alike, valid-moment}
+use Rattle.qz_model.proofs.Changes.{HasOneRow, HasItsTrigger, HasNextTime, HasJob, HasCalendar, HasZone, AgreesWithRows, AgreesWithJob, StaysBlocked, IsBlockedBy, HasMember, HasRowTimes, busy-same, passes, HasNumber, SharesNone, HasNumber-kept, HasNumber-alike, each_next, have_next, valid-moment}
 
 -- the row is stored, and it is of this trigger, which is acquired
 pub record IsHeld (T : SchedulerTables) (f : FiredData) (t : TriggerData) : Type 0 where
@@ -97,8 +97,8 @@ module _ (T : SchedulerTables) (f : FiredData) (t : TriggerData) (valid : Tables
   next_times_released =
       All-with_trigger (λ u. HasNextTime T.horizon u × (same_key f.trigger u.spec.key ≡ true → u ≡ t)) (HasNextTime T.horizon) f.trigger (in_state state.Waiting) T.triggers
       (All-both (HasNextTime T.horizon) (λ u. same_key f.trigger u.spec.key ≡ true → u ≡ t) (λ u. HasNextTime T.horizon u × (same_key f.trigger u.spec.key ≡ true → u ≡ t)) T.triggers
-      (λ u has was. (has, was)) valid.next_times.next only)
-      (λ u same is live. is.0 (ap (λ x. is_live_state x.state) (is.1 same) ∙ ap is_live_state is_held.acquired))
+      (λ u has was. (has, was)) (each_next T valid) only)
+      (λ u same is. (λ live. is.0.0 (ap (λ x. is_live_state x.state) (is.1 same) ∙ ap is_live_state is_held.acquired), is.0.1))
       (λ u differ is. is.0)
 
   numbers_released : AllByRecursion (HasNumber after_release) triggers_then
@@ -178,7 +178,7 @@ module _ (T : SchedulerTables) (f : FiredData) (t : TriggerData) (valid : Tables
     one_exclusive = exclusive_released;
     blocked_are_busy = blocked_released;
     rows_of_members = record { given = valid.rows_of_members.given; distinct = valid.rows_of_members.distinct; rows = left_all (HasMember T.members) valid.rows_of_members.rows };
-    next_times = record { next = next_times_released; moment = valid.next_times.moment };
+    next_times = have_next T.horizon T.last_moment triggers_then next_times_released valid.next_times.moment;
     fresh = record { fired = left_all (λ g. g.entry < T.next_entry) valid.fresh.fired; added = numbers_released };
     row_times = record { rows = left_all (HasRowTimes T.horizon) valid.row_times.rows };
   }

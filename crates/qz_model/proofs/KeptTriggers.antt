@@ -1,11 +1,8 @@
 -- The commands on triggers, and the threshold, keep the tables valid.
-use Rattle.std.proofs.Common.{◌≡◌, ℕ, ◌+◌, ◌<◌, ◌≤◌, ℤ, pos, negsuc, ◌≤ℤ◌, Bool, true, false, not, ◌&&◌, List, ◌∷◌, ◌++◌, length, nat_le, nat_lt, codes, Option, Some, None, IsSome, IfSome, IsSomeAnd, IsTrue, is_some, is_none, refl, sym, subst, ap, ◌∙◌, arith}
-use Rattle.std.specs.List.{AllByRecursion}
-use Rattle.std.specs.Fmt.{decimal}
+use Rattle.std.proofs.Common.{◌≡◌, ℕ, ◌+◌, ◌≤◌, ℤ, negsuc, Bool, true, false, not, ◌&&◌, List, length, nat_le, nat_lt, codes, Option, Some, None, IsSome, IfSome, IsTrue, is_some, is_none, refl, sym, subst, ◌∙◌, arith}
 use Rattle.std.proofs.lemmas.Bool.{leb-false, ltb-false, not-false}
 use Rattle.std.proofs.lemmas.Int.{ints}
-use Rattle.qz_civil.specs.declared.limits.TheConstants.{LAST}
-use Rattle.qz_types.specs.Rows.{JobData, TriggerData, CalendarData, ZoneData, FiredData, is_interval}
+use Rattle.qz_types.specs.Rows.{TriggerData, CalendarData, ZoneData, is_interval}
 use Rattle.qz_types.specs.declared.keys.Key.{Key}
 use Rattle.qz_types.specs.declared.limits.TheConstants.{TRIGGER_LIMIT, NUMBER_LIMIT}
 use Rattle.qz_types.specs.declared.triggers.TriggerSpec.{TriggerSpec}
@@ -15,15 +12,15 @@ use Rattle.qz_types.specs.Changes.{without_acquired}
 use Rattle.qz_types.specs.States.{first_state}
 use Rattle.qz_types.specs.Tables.{SchedulerTables, IsMoment}
 use Rattle.qz_types.specs.Outcomes.{accepted}
-use Rattle.qz_types.specs.Words.{same_text, same_key, job_of, trigger_of, put_trigger, without_trigger, calendar_of, is_paused}
-use Rattle.qz_plan.proofs.Plan.{fire_time_within}
+use Rattle.qz_types.specs.Words.{same_text, job_of, trigger_of, put_trigger, without_trigger, calendar_of}
 use Rattle.qz_model.specs.Executions.{is_busy}
-use Rattle.qz_model.specs.Plan.{zone_named_by, is_known_zone, is_known_zone_name, is_known_calendar, stretches_for, zoned_chain, next_after, first_time}
-use Rattle.qz_model.specs.Tests.{refuse_if, is_row_of_trigger}
-use Rattle.qz_model.specs.Triggers.{is_reserved, new_trigger, naming_refusal, add_trigger_refusal, without_old_orphan, with_new_trigger, add_trigger, unknown_trigger, without_trigger_and_orphan, delete_trigger, manual_trigger, trigger_now_refusal, trigger_now, set_threshold}
+use Rattle.qz_model.specs.Plan.{zone_named_by, is_known_zone, is_known_zone_name, is_known_calendar, first_time}
+use Rattle.qz_model.specs.Tests.{is_row_of_trigger}
+use Rattle.qz_model.specs.Triggers.{is_reserved, is_in_paused, new_state, new_trigger, naming_refusal, add_trigger_refusal, without_old_orphan, with_new_trigger, add_trigger, unknown_trigger, without_trigger_and_orphan, delete_trigger, manual_trigger, trigger_now_refusal, trigger_now, set_threshold}
 use Rattle.qz_model.specs.Invariant.{is_blocked_or_done, is_blocked, EndsIn, TablesValid}
 use Rattle.qz_model.proofs.RowLaws.{some_row_not_none, same_key-exact, trigger_of-key, All-trigger_of, trigger_of-without_own, length-without_trigger, length-without_stored_trigger}
-use Rattle.qz_model.proofs.Changes.{HasCalendar, HasZone, StaysBlocked, IsBlockedBy, passes, valid-moment}
+use Rattle.qz_model.proofs.Changes.{passes, valid-moment}
+use Rattle.qz_model.proofs.NextTimes.{next_after-moment}
 use Rattle.qz_model.proofs.Refusals.{not_refused, no_first, both_room}
 use Rattle.qz_model.proofs.Dropping.{busy-without_acquired, valid-without_trigger, valid-without_orphan_of, valid-without_trigger_and_orphan}
 use Rattle.qz_model.proofs.Putting.{IsNew, IsFreeNumber, HasFreeNumber, unnumbered, valid-put_trigger, valid-next_entry, free-next_entry, valid-threshold}
@@ -72,12 +69,8 @@ first_blocked false false e = absurd (cc)
 first_blocked true false e = absurd (cc)
 
 -- a first time lies within the horizon
-first_within : (T : SchedulerTables) (s : TriggerSpec) (o : Option ℤ) → T.horizon ≡ LAST → first_time T s ≡ o → is_none o ≡ false → IsSomeAnd o (IsMoment T.horizon)
-unfolding next_after
-first_within T s None last is some = absurd (cc)
-first_within T s (Some n) last is some =
-    let within = fire_time_within s.timing (stretches_for T.zones (zone_named_by s.timing.kind)) (zoned_chain T s.calendar) (negsuc 0) n (omega (arith, ints)) is in
-    record { low = omega (arith, ints, within.0); high = subst (λ h. n ≤ℤ h) (sym last) within.1 }
+first_within : (T : SchedulerTables) (s : TriggerSpec) → IfSome (first_time T s) (IsMoment T.horizon)
+first_within T s = next_after-moment T s (negsuc 0) (omega (arith, ints))
 
 valid-without_old_orphan : (T : SchedulerTables) (old : Option TriggerData) → TablesValid T → TablesValid (record T { jobs = without_old_orphan old T.triggers T.jobs })
 valid-without_old_orphan T None valid = valid
@@ -95,17 +88,17 @@ module _ (T : SchedulerTables) (m : ℤ) (s : TriggerSpec) (valid : TablesValid 
   first_trigger = new_trigger T s (first_time T s)
 
   is_new : NamesKnown T s → is_none (first_time T s) ≡ false → IsNew cleared first_trigger
-  unfolding new_trigger
+  unfolding new_trigger new_state
   is_new named time =
       let busy = busy-without_acquired s.job (is_row_of_trigger s.key) T.fired in record {
         absent = trigger_of-without_own s.key T.triggers;
         job = some_row_not_none _ named.job;
         calendar = known_calendar T.calendars s.calendar named.calendar;
         zone = known_zone T.zones (zone_named_by s.timing.kind) named.zone;
-        free = first_free (is_paused s.key.group T.paused_groups) (is_busy s.job T.fired);
-        stays = λ goes_on. first_stays (is_paused s.key.group T.paused_groups) (is_busy s.job T.fired) (sym busy ∙ goes_on);
-        blocked = λ waits. busy ∙ first_blocked (is_paused s.key.group T.paused_groups) (is_busy s.job T.fired) waits;
-        next = λ live. first_within T s (first_time T s) valid.references_and_limits.limits.horizon refl time;
+        free = first_free (is_in_paused T s) (is_busy s.job T.fired);
+        stays = λ goes_on. first_stays (is_in_paused T s) (is_busy s.job T.fired) (sym busy ∙ goes_on);
+        blocked = λ waits. busy ∙ first_blocked (is_in_paused T s) (is_busy s.job T.fired) waits;
+        next = (λ live. some_row_not_none (first_time T s) time, first_within T s);
       }
 
   valid-with_new_trigger : IsNew cleared first_trigger → is_reserved s.key.group ≡ false → length (without_trigger s.key T.triggers) + 1 ≤ TRIGGER_LIMIT → TablesValid (record (with_new_trigger T first_trigger) { last_moment = m })
@@ -184,16 +177,16 @@ module _ (T : SchedulerTables) (m : ℤ) (job : Key) (valid : TablesValid T) (is
   free_number = free-next_entry (record T { last_moment = m }) manual.key.name (valid-moment T m valid is) (manual_named m T.next_entry job) room
 
   manual_is_new : is_none (job_of job T.jobs) ≡ false → IsNew numbered manual_new
-  unfolding new_trigger manual_trigger
+  unfolding new_trigger new_state manual_trigger
   manual_is_new stored = record {
     absent = manual_absent T m job valid room;
     job = some_row_not_none _ stored;
     calendar = tt;
     zone = tt;
-    free = first_free (is_paused manual.key.group T.paused_groups) (is_busy job T.fired);
-    stays = λ goes_on. first_stays (is_paused manual.key.group T.paused_groups) (is_busy job T.fired) goes_on;
-    blocked = λ waits. first_blocked (is_paused manual.key.group T.paused_groups) (is_busy job T.fired) waits;
-    next = λ live. is;
+    free = first_free (is_in_paused T manual) (is_busy job T.fired);
+    stays = λ goes_on. first_stays (is_in_paused T manual) (is_busy job T.fired) goes_on;
+    blocked = λ waits. first_blocked (is_in_paused T manual) (is_busy job T.fired) waits;
+    next = (λ live. refl, is);
   }
 
   manual_number : HasFreeNumber numbered manual_new

@@ -20,7 +20,9 @@ pub mod KeptMisfires
 pub mod KeptPausing
 pub mod KeptRecovery
 pub mod KeptReleasing
+pub mod KeptResetting
 pub mod KeptTriggers
+pub mod KeptUpgrading
 pub mod KeptZones
 pub mod LookUps
 pub mod MembersGone
@@ -38,3 +40,4 @@ pub mod RowPoints
 pub mod StateChanges
 pub mod StateLaws
 pub mod Waiting
+pub mod Widened

@@ -12,7 +12,7 @@ use Rattle.qz_model.specs.Invariant.{IsRowOf, EndsIn, IsNumbered, ReferencesAndL
 use Rattle.qz_model.proofs.RowPoints.{All-weaker, All-both}
 use Rattle.qz_model.proofs.References.{references-jobs, references-triggers, references-fired, references-threshold}
 use Rattle.qz_model.proofs.RowLaws.{same_key_laws, ordered-put_job, ordered-without_job, All-put_job, All-without_job, job_of-put_job, job_of-without_job, length-put_job, fired_of-above, job_of-alike, job_of-put_own, job_of-without_own, ordered-put_trigger, trigger_of-put_trigger, All-put_trigger, length-put_trigger}
-use Rattle.qz_model.proofs.Changes.{HasOneRow, HasItsTrigger, HasNextTime, HasJob, HasCalendar, HasZone, AgreesWithJob, StaysBlocked, IsBlockedBy, HasNumber, SharesNone, HasNumber-kept}
+use Rattle.qz_model.proofs.Changes.{HasOneRow, HasItsTrigger, HasNextTime, HasJob, HasCalendar, HasZone, AgreesWithJob, StaysBlocked, IsBlockedBy, HasNumber, SharesNone, HasNumber-kept, each_next, have_next}
 use Rattle.qz_model.proofs.Numbers.{one_number}
 
 -- A trigger comes.
@@ -122,7 +122,7 @@ module _ (T : SchedulerTables) (t : TriggerData) (valid : TablesValid T) (new : 
     one_exclusive = record { one = valid.one_exclusive.one; blocked = All-put_trigger (StaysBlocked T.fired) t T.triggers new.stays valid.one_exclusive.blocked };
     blocked_are_busy = record { busy = All-put_trigger (IsBlockedBy T.fired) t T.triggers new.blocked valid.blocked_are_busy.busy };
     rows_of_members = valid.rows_of_members;
-    next_times = record { next = All-put_trigger (HasNextTime T.horizon) t T.triggers new.next valid.next_times.next; moment = valid.next_times.moment };
+    next_times = have_next T.horizon T.last_moment (put_trigger t T.triggers) (All-put_trigger (HasNextTime T.horizon) t T.triggers new.next (each_next T valid)) valid.next_times.moment;
     fresh = record {
       fired = valid.fresh.fired;
       added = numbers_put;

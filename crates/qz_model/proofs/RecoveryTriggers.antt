@@ -1,32 +1,30 @@
 -- The triggers by which executions are recovered are stored, and the tables stay valid.
-use Rattle.std.proofs.Common.{◌≡◌, ℕ, ◌+◌, ◌<◌, ◌≤◌, ◌^◌, ◌==◌, Bool, true, false, not, ◌&&◌, List, [], ◌∷◌, ◌++◌, codes, fold, map, length, filter, Option, Some, None, IsSome, is_some, refl, sym, ap, ◌∙◌, subst, arith}
+use Rattle.std.proofs.Common.{◌≡◌, ℕ, ◌+◌, ◌<◌, ◌≤◌, ◌==◌, Bool, true, false, not, ◌&&◌, ◌||◌, List, [], ◌∷◌, ◌++◌, codes, fold, map, length, filter, Some, None, IsSome, is_some, refl, ap, ◌∙◌, subst, arith}
 use Rattle.std.specs.List.{AllByRecursion, list_any}
 use Rattle.std.specs.Ordering.{nat_cmp}
 use Rattle.std.specs.declared.cmp.Ordering.TheVariants.{Less}
-use Rattle.std.proofs.lemmas.Bool.{and_parts, and_from, and_left, and_right, false_from_ne_true, not-true}
+use Rattle.std.proofs.lemmas.Bool.{and_parts, and_from, false_from_ne_true, not-true}
 use Rattle.std.proofs.lemmas.Bool.Decides.{nat_tests}
-use Rattle.qz_types.specs.Rows.{JobData, TriggerData, MemberData, FiredData}
+use Rattle.qz_types.specs.Rows.{TriggerData, MemberData, FiredData}
 use Rattle.qz_types.specs.Sorted.{IsBefore, IsAscending}
-use Rattle.qz_types.specs.declared.keys.Key.{Key}
 use Rattle.qz_types.specs.declared.limits.TheConstants.{TRIGGER_LIMIT}
 use Rattle.qz_types.specs.declared.fired.FiredState.{FiredState}
 use Rattle.qz_types.specs.declared.fired.FiredState.TheVariants as row
-use Rattle.qz_types.specs.Changes.{with_state}
-use Rattle.qz_types.specs.States.{is_acquired, unblocked}
+use Rattle.qz_types.specs.States.{is_acquired}
 use Rattle.qz_types.specs.Tables.{SchedulerTables, IsMoment}
 use Rattle.qz_types.specs.Words.{same_text, same_key, job_of, put_trigger, fired_of, is_paused}
 use Rattle.qz_model.specs.Executions.{is_exclusive_of, is_busy}
 use Rattle.qz_model.specs.Invariant.{EndsIn, IsNumbered, HasFlag, HasTimes, TablesValid}
-use Rattle.qz_model.specs.Recovery.{lost_of, rows_of_others, asks, recovery_trigger}
+use Rattle.qz_model.specs.Recovery.{lost_of, asks, recovery_trigger}
 use Rattle.qz_model.specs.Tests.{is_of}
 use Rattle.qz_model.specs.Triggers.{is_reserved}
 use Rattle.qz_model.proofs.Changes.{AgreesWithRows, HasRowTimes, HasNumber}
 use Rattle.qz_model.proofs.ExecutionsGone.{excluded_by, idle_then, with_same, after_ends}
-use Rattle.qz_model.proofs.KeptTriggers.{first_free, first_stays, first_blocked}
+use Rattle.qz_model.proofs.KeptTriggers.{first_free, first_blocked}
 use Rattle.qz_model.proofs.Numbers.{one_number}
 use Rattle.qz_model.proofs.Putting.{IsNew, IsFreeNumber, valid-put_trigger}
 use Rattle.qz_model.proofs.RowLaws.{same_key_laws, same_key-exact, trigger_of-none, All-put_trigger, length-put_trigger, All-fired_of, fired_of-none, only_fired, each_fired}
-use Rattle.qz_model.proofs.RowPoints.{All-from, All-weaker, All-both, All-filter, All-left, any_none, All-none}
+use Rattle.qz_model.proofs.RowPoints.{All-weaker, All-both, All-filter, All-left, any_none, All-none}
 
 -- no trigger that the scheduler added is named by the number
 abbrev pub IsNotOf : ℕ → TriggerData → Type 0
@@ -41,39 +39,39 @@ pub record IsRecoverable (T : SchedulerTables) (f : FiredData) : Type 0 where
   pub idle : is_busy f.job T.fired ≡ false
   pub time : IsMoment T.horizon f.scheduled
 
-recovery_reserved : (groups : List (List ℕ)) (f : FiredData) → is_reserved (recovery_trigger groups f).spec.key.group ≡ true
+recovery_reserved : (groups job_groups : List (List ℕ)) (f : FiredData) → is_reserved (recovery_trigger groups job_groups f).spec.key.group ≡ true
 unfolding is_reserved recovery_trigger same_text
-recovery_reserved groups f = refl
+recovery_reserved groups job_groups f = refl
 
-pub recovery_named : (groups : List (List ℕ)) (f : FiredData) → EndsIn (recovery_trigger groups f).spec.key.name f.entry
+pub recovery_named : (groups job_groups : List (List ℕ)) (f : FiredData) → EndsIn (recovery_trigger groups job_groups f).spec.key.name f.entry
 unfolding recovery_trigger
-recovery_named groups f = (codes "recover_" ++ f.node, refl)
+recovery_named groups job_groups f = (codes "recover_" ++ f.node, refl)
 
 -- no stored trigger has the key
-pub no_such : (groups : List (List ℕ)) (f : FiredData) (u : TriggerData) → IsNotOf f.entry u → same_key (recovery_trigger groups f).spec.key u.spec.key ≡ false
-no_such groups f u other = false_from_ne_true (same_key (recovery_trigger groups f).spec.key u.spec.key) (λ is.
-    let same : (recovery_trigger groups f).spec.key ≡ u.spec.key = same_key-exact (recovery_trigger groups f).spec.key u.spec.key is in
-    other (subst (λ k. is_reserved k.group ≡ true) same (recovery_reserved groups f)) (subst (λ k. EndsIn k.name f.entry) same (recovery_named groups f)))
+pub no_such : (groups job_groups : List (List ℕ)) (f : FiredData) (u : TriggerData) → IsNotOf f.entry u → same_key (recovery_trigger groups job_groups f).spec.key u.spec.key ≡ false
+no_such groups job_groups f u other = false_from_ne_true (same_key (recovery_trigger groups job_groups f).spec.key u.spec.key) (λ is.
+    let same : (recovery_trigger groups job_groups f).spec.key ≡ u.spec.key = same_key-exact (recovery_trigger groups job_groups f).spec.key u.spec.key is in
+    other (subst (λ k. is_reserved k.group ≡ true) same (recovery_reserved groups job_groups f)) (subst (λ k. EndsIn k.name f.entry) same (recovery_named groups job_groups f)))
 
-module _ (T : SchedulerTables) (groups : List (List ℕ)) (f : FiredData) (valid : TablesValid T) (ended : IsRecoverable T f) (room : length T.triggers + 1 ≤ TRIGGER_LIMIT) where
+module _ (T : SchedulerTables) (groups job_groups : List (List ℕ)) (f : FiredData) (valid : TablesValid T) (ended : IsRecoverable T f) (room : length T.triggers + 1 ≤ TRIGGER_LIMIT) where
   abbrev added : TriggerData
-  added = recovery_trigger groups f
+  added = recovery_trigger groups job_groups f
 
   is_new : IsNew T added
   unfolding recovery_trigger
   is_new = record {
-    absent = trigger_of-none added.spec.key T.triggers (All-weaker (IsNotOf f.entry) (λ u. same_key added.spec.key u.spec.key ≡ false) T.triggers (no_such groups f) ended.unused);
+    absent = trigger_of-none added.spec.key T.triggers (All-weaker (IsNotOf f.entry) (λ u. same_key added.spec.key u.spec.key ≡ false) T.triggers (no_such groups job_groups f) ended.unused);
     job = ended.job;
     calendar = tt;
     zone = tt;
-    free = first_free (is_paused (codes "RECOVERING_JOBS") groups) false;
+    free = first_free (is_paused (codes "RECOVERING_JOBS") groups || is_paused f.job.group job_groups) false;
     stays = λ busy. let idle = ended.idle in absurd (cc);
-    blocked = λ waits. (let wrong = first_blocked (is_paused (codes "RECOVERING_JOBS") groups) false waits in absurd (cc));
-    next = λ live. ended.time;
+    blocked = λ waits. (let wrong = first_blocked (is_paused (codes "RECOVERING_JOBS") groups || is_paused f.job.group job_groups) false waits in absurd (cc));
+    next = (λ live. refl, ended.time);
   }
 
   free_number : IsFreeNumber T added.spec.key.name f.entry
-  free_number = record { named = recovery_named groups f; below = ended.below; no_row = ended.no_row; unused = ended.unused }
+  free_number = record { named = recovery_named groups job_groups f; below = ended.below; no_row = ended.no_row; unused = ended.unused }
 
   valid-added : TablesValid (record T { triggers = put_trigger added T.triggers })
   valid-added = valid-put_trigger T added valid is_new (λ reserved. (f.entry, free_number)) room
@@ -86,7 +84,7 @@ module _ (T : SchedulerTables) (groups : List (List ℕ)) (f : FiredData) (valid
     no_row = is.no_row;
     unused = All-put_trigger (IsNotOf g.entry) added T.triggers
         (λ reserved ends.
-        let same : f.entry ≡ g.entry = one_number added.spec.key.name f.entry g.entry (omega (arith, ended.below, valid.references_and_limits.limits.next_entry)) (omega (arith, is.below, valid.references_and_limits.limits.next_entry)) (recovery_named groups f) ends in
+        let same : f.entry ≡ g.entry = one_number added.spec.key.name f.entry g.entry (omega (arith, ended.below, valid.references_and_limits.limits.next_entry)) (omega (arith, is.below, valid.references_and_limits.limits.next_entry)) (recovery_named groups job_groups f) ends in
         omega arith) is.unused;
     idle = is.idle;
     time = is.time;
@@ -107,15 +105,15 @@ later n [] before = tt
 later n (f ∷ fs) before = (less_from n f.entry before.0, later n fs before.1)
 
 -- each of these is recovered
-pub valid-recoveries : (T : SchedulerTables) (groups : List (List ℕ)) (fs : List FiredData) → TablesValid T → AllByRecursion (IsRecoverable T) fs → IsAscending nat_cmp (λ r. r.entry) fs
-    → length T.triggers + length fs ≤ TRIGGER_LIMIT → TablesValid (record T { triggers = fold (λ ts t. put_trigger t ts) T.triggers (map (recovery_trigger groups) fs) })
-valid-recoveries T groups [] valid each ordered room = valid
-valid-recoveries T groups (f ∷ fs) valid each ordered room =
+pub valid-recoveries : (T : SchedulerTables) (groups job_groups : List (List ℕ)) (fs : List FiredData) → TablesValid T → AllByRecursion (IsRecoverable T) fs → IsAscending nat_cmp (λ r. r.entry) fs
+    → length T.triggers + length fs ≤ TRIGGER_LIMIT → TablesValid (record T { triggers = fold (λ ts t. put_trigger t ts) T.triggers (map (recovery_trigger groups job_groups) fs) })
+valid-recoveries T groups job_groups [] valid each ordered room = valid
+valid-recoveries T groups job_groups (f ∷ fs) valid each ordered room =
     let few : length T.triggers + 1 ≤ TRIGGER_LIMIT = omega arith in
-    let U : SchedulerTables = record T { triggers = put_trigger (recovery_trigger groups f) T.triggers } in
-    valid-recoveries U groups fs (valid-added T groups f valid each.0 few)
-    (All-both (IsRecoverable T) (λ g. f.entry < g.entry) (IsRecoverable U) fs (still T groups f valid each.0 few) each.1 (later f.entry fs ordered.0))
-    ordered.1 (omega (arith, length-put_trigger (recovery_trigger groups f) T.triggers))
+    let U : SchedulerTables = record T { triggers = put_trigger (recovery_trigger groups job_groups f) T.triggers } in
+    valid-recoveries U groups job_groups fs (valid-added T groups job_groups f valid each.0 few)
+    (All-both (IsRecoverable T) (λ g. f.entry < g.entry) (IsRecoverable U) fs (still T groups job_groups f valid each.0 few) each.1 (later f.entry fs ordered.0))
+    ordered.1 (omega (arith, length-put_trigger (recovery_trigger groups job_groups f) T.triggers))
 
 -- The executions of a member that has no acquired rows, once they have ended.
 module _ (T : SchedulerTables) (me : MemberData) (valid : TablesValid T) (begun : AllByRecursion (λ f. (is_acquired f.state && is_of me f) ≡ false) T.fired) where

@@ -15,7 +15,7 @@ use Rattle.qz_types.specs.Words.{key_cmp, same_key, trigger_of, with_trigger}
 use Rattle.qz_model.specs.Executions.{is_exclusive_of, is_busy}
 use Rattle.qz_model.specs.Invariant.{AreStored, ReferencesAndLimits, IsRowOf, AcquiredMatch, HasFlag, ConcurrencyAgrees, is_blocked_or_done, is_blocked, RowsOfMembers, is_live_state, AreFresh, TablesValid}
 use Rattle.qz_model.specs.Tests.{is_trigger_of, is_row_of_job, is_row_of_trigger}
-use Rattle.qz_model.proofs.Changes.{HasOneRow, HasItsTrigger, HasNextTime, HasJob, HasCalendar, HasZone, AgreesWithRows, AgreesWithJob, StaysBlocked, IsBlockedBy, HasMember, HasRowTimes, HasNumber, SharesNone, HasNumber-kept, HasNumber-alike}
+use Rattle.qz_model.proofs.Changes.{HasOneRow, HasItsTrigger, HasNextTime, HasJob, HasCalendar, HasZone, AgreesWithRows, AgreesWithJob, StaysBlocked, IsBlockedBy, HasMember, HasRowTimes, HasNumber, SharesNone, HasNumber-kept, HasNumber-alike, each_next, have_next}
 use Rattle.qz_model.proofs.References.{references-triggers, references-fired}
 use Rattle.qz_model.proofs.RowLaws.{same_key-exact, trigger_of-key, trigger_of-alike, each_trigger}
 use Rattle.qz_model.proofs.RowPoints.{All-weaker, All-both}
@@ -119,7 +119,7 @@ module _ (change : TriggerState → TriggerState) (p : TriggerData → Bool) (q 
   pub next-with_states : (horizon : ℤ) → ((t : TriggerData) → p t ≡ true → is_live_state (change t.state) ≡ true → is_live_state t.state ≡ true)
       → AllByRecursion (HasNextTime horizon) triggers → AllByRecursion (HasNextTime horizon) triggers_then
   next-with_states horizon lives next =
-      All-with_states change p (HasNextTime horizon) (HasNextTime horizon) triggers next (λ t passes has live. has (lives t passes live)) (λ t out has. has)
+      All-with_states change p (HasNextTime horizon) (HasNextTime horizon) triggers next (λ t passes has. (λ live. has.0 (lives t passes live), has.1)) (λ t out has. has)
 
   pub stored-with_states : (jobs : List JobData) (calendars : List CalendarData) (zones : List ZoneData) → AreStored jobs triggers calendars zones → AreStored jobs triggers_then calendars zones
   stored-with_states jobs calendars zones was = record {
@@ -198,7 +198,7 @@ module _ (T : SchedulerTables) (change : TriggerState → TriggerState) (p : Tri
     };
     blocked_are_busy = record { busy = blocked_by-with_states change p q T.triggers T.fired (IsBlockedBy T.fired) valid.blocked_are_busy.busy fits.busy (λ t out was. was) };
     rows_of_members = members-without_acquired q T.fired T.members T.next_epoch valid.rows_of_members;
-    next_times = record { next = next-with_states change p q T.triggers T.fired T.horizon fits.lives valid.next_times.next; moment = valid.next_times.moment };
+    next_times = have_next T.horizon T.last_moment (with_states change p T.triggers) (next-with_states change p q T.triggers T.fired T.horizon fits.lives (each_next T valid)) valid.next_times.moment;
     fresh = fresh-with_states T change p q valid.fresh;
     row_times = record { rows = All-without_acquired q (HasRowTimes T.horizon) (HasRowTimes T.horizon) T.fired valid.row_times.rows (λ f away is. is) };
   }

@@ -1,5 +1,5 @@
 -- The transactions of a node that takes triggers and gives them back, as Quartz's JobStoreTX does it in a cluster.
-use Rattle.std.specs.Prelude.{ℕ, suc, ◌+◌, ℤ, pos, ◌+ℤ◌, List, [], ◌∷◌, Bool, not, ◌&&◌, fold, filter, take, length, nat_lt, Option, Some, None, unwrap_or, if◌then◌else◌}
+use Rattle.std.specs.Prelude.{ℕ, ◌+◌, ℤ, pos, ◌+ℤ◌, List, [], ◌∷◌, Bool, not, ◌&&◌, fold, filter, take, length, nat_lt, Option, Some, None, unwrap_or}
 use Rattle.qz_types.specs.Rows.{JobData, TriggerData, MemberData, FiredData}
 use Rattle.qz_types.specs.declared.limits.TheConstants.{FIRED_LIMIT, NUMBER_LIMIT}
 use Rattle.qz_types.specs.declared.triggers.TriggerState.TheVariants as state

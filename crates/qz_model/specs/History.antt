@@ -2,7 +2,7 @@
 use Rattle.std.specs.Prelude.{⊤, ℕ, ℤ, List, [], ◌∷◌, ◌++◌}
 use Rattle.qz_types.specs.Entries.{EntryData}
 use Rattle.qz_types.specs.declared.replies.Reply.{Reply}
-use Rattle.qz_types.specs.Tables.{SchedulerTables, new_tables, recorded_moment}
+use Rattle.qz_types.specs.Tables.{SchedulerTables, empty, new_tables, recorded_moment}
 use Rattle.qz_types.specs.Outcomes.{Outcome, accepted, refused, IsAccepted}
 use Rattle.qz_model.specs.Transaction.{transaction}
 
@@ -12,7 +12,11 @@ pub record History : Type 0 where
   pub base : SchedulerTables
   pub entries : List EntryData
 
--- the history of a new store
+-- the history of a new store of a format version
+abbrev pub history_of_version : ℕ → History
+history_of_version version = record { base_count = 0; base = empty version; entries = [] }
+
+-- and of the version that is written today
 abbrev pub new_history : History
 new_history = record { base_count = 0; base = new_tables; entries = [] }
 

@@ -1,20 +1,20 @@
 -- What holds of the tables after every transaction.
-use Rattle.std.specs.Prelude.{◌≡◌, ℕ, ◌<◌, ◌≤◌, ℤ, ◌≤ℤ◌, List, ◌∷◌, ◌++◌, length, Bool, true, false, ◌&&◌, ◌||◌, Option, Some, None, IsTrue, IsSome, IfSome, is_some, codes}
+use Rattle.std.specs.Prelude.{◌≡◌, ◌⊎◌, ℕ, ◌<◌, ◌≤◌, ℤ, ◌≤ℤ◌, List, ◌∷◌, ◌++◌, length, Bool, true, false, Some, None, IsTrue, IsSome, IfSome}
 use Rattle.std.specs.Option.{IsSomeAnd}
 use Rattle.std.specs.List.{AllByRecursion, count_by}
 use Rattle.std.specs.Fmt.{decimal}
 use Rattle.std.specs.Ordering.{nat_cmp}
-use Rattle.qz_civil.specs.declared.limits.TheConstants.{LAST}
+use Rattle.qz_civil.specs.declared.limits.TheConstants.{LAST, VERSION_ONE_LAST}
 use Rattle.qz_types.specs.Sorted.{IsAscending}
 use Rattle.qz_types.specs.Rows.{JobData, TriggerData, CalendarData, ZoneData, MemberData, FiredData, is_interval}
-use Rattle.qz_types.specs.declared.limits.TheConstants.{JOB_LIMIT, TRIGGER_LIMIT, CALENDAR_LIMIT, CHAIN_LIMIT, ZONE_LIMIT, GROUP_LIMIT, MEMBER_LIMIT, FIRED_LIMIT, NUMBER_LIMIT}
+use Rattle.qz_types.specs.declared.limits.TheConstants.{JOB_LIMIT, TRIGGER_LIMIT, CALENDAR_LIMIT, CHAIN_LIMIT, ZONE_LIMIT, GROUP_LIMIT, JOB_GROUP_LIMIT, MEMBER_LIMIT, FIRED_LIMIT, NUMBER_LIMIT}
 use Rattle.qz_types.specs.declared.keys.Key.{Key}
 use Rattle.qz_types.specs.declared.triggers.TriggerState.{TriggerState}
 use Rattle.qz_types.specs.declared.triggers.TriggerState.TheVariants as state
 use Rattle.qz_types.specs.declared.fired.FiredState.{FiredState}
 use Rattle.qz_types.specs.declared.fired.FiredState.TheVariants as row
 use Rattle.qz_types.specs.Tables.{SchedulerTables, IsMoment}
-use Rattle.qz_types.specs.Words.{key_cmp, text_cmp, same_text, same_key, job_of, trigger_of, calendar_of, zone_of, member_of, fired_of}
+use Rattle.qz_types.specs.Words.{key_cmp, text_cmp, same_key, job_of, trigger_of, calendar_of, member_of, fired_of}
 use Rattle.qz_types.specs.Chains.{ends_within}
 use Rattle.qz_types.specs.States.{is_acquired, is_acquired_for}
 use Rattle.qz_model.specs.Executions.{is_exclusive_of, is_busy}
@@ -30,6 +30,7 @@ pub record AreOrdered (T : SchedulerTables) : Type 0 where
   pub calendars : IsAscending text_cmp (λ r. r.name) T.calendars
   pub zones : IsAscending text_cmp (λ r. r.name) T.zones
   pub paused_groups : IsAscending text_cmp (λ r. r) T.paused_groups
+  pub paused_job_groups : IsAscending text_cmp (λ r. r) T.paused_job_groups
   pub members : IsAscending text_cmp (λ r. r.node) T.members
   pub fired : IsAscending nat_cmp (λ r. r.entry) T.fired
 
@@ -42,6 +43,10 @@ pub record AreStored (jobs : List JobData) (triggers : List TriggerData) (calend
   pub calendar_zones : AllByRecursion (λ c. IsTrue (is_known_zone zones c.zone)) calendars
   pub chains : AllByRecursion (λ c. IsTrue (ends_within calendars CHAIN_LIMIT (Some c))) calendars
 
+-- how far the tables of one of the two format versions reach
+abbrev pub IsHorizon : ℤ → Type 0
+IsHorizon horizon = (horizon ≡ VERSION_ONE_LAST) ⊎ (horizon ≡ LAST)
+
 -- No table and no number passes its limit.
 pub record AreWithinLimits (T : SchedulerTables) : Type 0 where
   pub jobs : length T.jobs ≤ JOB_LIMIT
@@ -49,12 +54,13 @@ pub record AreWithinLimits (T : SchedulerTables) : Type 0 where
   pub calendars : length T.calendars ≤ CALENDAR_LIMIT
   pub zones : length T.zones ≤ ZONE_LIMIT
   pub paused_groups : length T.paused_groups ≤ GROUP_LIMIT
+  pub paused_job_groups : length T.paused_job_groups ≤ JOB_GROUP_LIMIT
   pub members : length T.members ≤ MEMBER_LIMIT
   pub fired : length T.fired ≤ FIRED_LIMIT
   pub next_entry : T.next_entry ≤ NUMBER_LIMIT
   pub next_epoch : T.next_epoch ≤ NUMBER_LIMIT
   pub threshold : IsTrue (is_interval T.threshold)
-  pub horizon : T.horizon ≡ LAST
+  pub horizon : IsHorizon T.horizon
 
 pub record ReferencesAndLimits (T : SchedulerTables) : Type 0 where
   pub ordered : AreOrdered T
@@ -133,9 +139,11 @@ is_live_state state.Paused = true
 is_live_state state.PausedBlocked = true
 is_live_state state.Error = false
 
--- Each trigger that may fire again has a next time from 0 to the horizon, and the last moment is one from 0 to the horizon.
+-- Each trigger that may fire again has a next time, whatever next time a trigger has is from 0 to the horizon, and so is the last
+-- moment.
 pub record HaveNextTimes (horizon last_moment : ℤ) (triggers : List TriggerData) : Type 0 where
-  pub next : AllByRecursion (λ t. is_live_state t.state ≡ true → IsSomeAnd t.next (IsMoment horizon)) triggers
+  pub next : AllByRecursion (λ t. is_live_state t.state ≡ true → IsSome t.next) triggers
+  pub within : AllByRecursion (λ t. IfSome t.next (IsMoment horizon)) triggers
   pub moment : IsMoment horizon last_moment
 
 -- 8. Entry numbers are fresh.

@@ -12,6 +12,8 @@ pub mod Misfires
 pub mod Pausing
 pub mod Plan
 pub mod Recovery
+pub mod Resetting
 pub mod Tests
 pub mod Transaction
 pub mod Triggers
+pub mod Upgrading

@@ -1,5 +1,5 @@
 -- The fire times of a stored trigger, in its zone and with its calendars.
-use Rattle.std.specs.Prelude.{ℕ, ℤ, pos, negsuc, List, Bool, true, ◌||◌, map, codes, Option, Some, None, is_some, if◌then◌else◌}
+use Rattle.std.specs.Prelude.{ℕ, ℤ, pos, negsuc, int_le, List, Bool, true, ◌||◌, map, codes, Option, Some, None, is_some, if◌then◌else◌}
 use Rattle.qz_civil.specs.declared.stretches.Stretch.{Stretch}
 use Rattle.qz_civil.specs.declared.timings.Kind.{Kind}
 use Rattle.qz_civil.specs.declared.timings.Kind.TheVariants.{Simple, Cron, Interval, Daily}
@@ -17,7 +17,7 @@ use Rattle.qz_types.specs.Chains.{calendar_named, chain_of}
 abbrev pub zone_named_by : Kind → Option (List ℕ)
 zone_named_by (Simple interval count) = None
 zone_named_by (Cron fields zone) = Some zone
-zone_named_by (Interval unit every zone) = Some zone
+zone_named_by (Interval unit every zone preserve skip) = Some zone
 zone_named_by (Daily unit every from to days zone) = Some zone
 
 -- `UTC` is known without a row
@@ -59,9 +59,15 @@ zoned zones c = record { kind = c.kind; zone = stretches_named zones c.zone }
 unfoldable pub zoned_chain : SchedulerTables → Option (List ℕ) → List ZonedCalendar
 zoned_chain T calendar = map (zoned T.zones) (chain_of T.calendars CHAIN_LIMIT (calendar_named T.calendars calendar))
 
--- the trigger's least fire time after t, if there is one
+-- the time, unless it comes after the horizon
+abbrev pub within : ℤ → Option ℤ → Option ℤ
+within horizon None = None
+within horizon (Some time) = if int_le time horizon then Some time else None
+
+-- the trigger's least fire time after t up to the horizon of the tables, if there is one
 unfoldable pub next_after : SchedulerTables → TriggerSpec → ℤ → Option ℤ
-next_after T s t = fire_time_after s.timing (stretches_for T.zones (zone_named_by s.timing.kind)) (zoned_chain T s.calendar) t
+next_after T s t =
+    within T.horizon (fire_time_after s.timing (stretches_for T.zones (zone_named_by s.timing.kind)) (zoned_chain T s.calendar) t)
 
 -- its first fire time, if there is one
 abbrev pub first_time : SchedulerTables → TriggerSpec → Option ℤ

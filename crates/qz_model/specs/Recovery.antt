@@ -1,5 +1,5 @@
 -- The transactions on members: a node joins or leaves, or a member that failed is recovered.
-use Rattle.std.specs.Prelude.{ℕ, ◌+◌, ℤ, pos, negsuc, List, ◌∷◌, ◌++◌, Bool, false, not, ◌&&◌, fold, filter, map, length, nat_le, nat_lt, codes, Option, Some, None, is_some, if◌then◌else◌}
+use Rattle.std.specs.Prelude.{ℕ, ◌+◌, ℤ, pos, negsuc, List, ◌∷◌, ◌++◌, Bool, false, not, ◌&&◌, ◌||◌, fold, filter, map, length, nat_le, nat_lt, codes, Option, Some, None, is_some, if◌then◌else◌}
 use Rattle.std.specs.Fmt.{decimal}
 use Rattle.std.specs.List.{list_any}
 use Rattle.qz_civil.specs.declared.timings.Kind.TheVariants.{Simple}
@@ -52,9 +52,9 @@ unblocked_by lost triggers = map (λ t. if has_excluded lost t.spec.job then wit
 unfoldable pub asks : List JobData → FiredData → Bool
 asks jobs f = f.requests_recovery && is_some (job_of f.job jobs)
 
--- the trigger by which it is recovered: it fires once, for the same time
-unfoldable pub recovery_trigger : List (List ℕ) → FiredData → TriggerData
-recovery_trigger paused_groups f = record {
+-- the trigger by which it is recovered: it fires once, for the same time; paused groups, of triggers and of jobs, hold it
+unfoldable pub recovery_trigger : List (List ℕ) → List (List ℕ) → FiredData → TriggerData
+recovery_trigger paused_groups paused_job_groups f = record {
   spec = record {
     key = record { group = codes "RECOVERING_JOBS"; name = codes "recover_" ++ f.node ++ 95 ∷ decimal f.entry };
     job = f.job;
@@ -65,12 +65,12 @@ recovery_trigger paused_groups f = record {
   next = Some f.scheduled;
   prev = None;
   times = 0;
-  state = first_state (is_paused (codes "RECOVERING_JOBS") paused_groups) false;
+  state = first_state (is_paused (codes "RECOVERING_JOBS") paused_groups || is_paused f.job.group paused_job_groups) false;
 }
 
 -- the triggers that are added for a member's executions
 unfoldable pub recoveries : SchedulerTables → MemberData → List TriggerData
-recoveries T member = map (recovery_trigger T.paused_groups) (filter (asks T.jobs) (lost_of member T.fired))
+recoveries T member = map (recovery_trigger T.paused_groups T.paused_job_groups) (filter (asks T.jobs) (lost_of member T.fired))
 
 -- one of the executions was of this trigger, which is finished now
 abbrev pub has_finished : List FiredData → List FiredData → TriggerData → Bool

@@ -3,7 +3,7 @@ use Rattle.std.specs.Prelude.{ℤ, None}
 use Rattle.qz_types.specs.Rows.{MemberData}
 use Rattle.qz_types.specs.Entries.{EntryData}
 use Rattle.qz_types.specs.declared.commands.Command.{Command}
-use Rattle.qz_types.specs.declared.commands.Command.TheVariants.{AddJob, DeleteJob, AddTrigger, DeleteTrigger, PauseTrigger, ResumeTrigger, PauseGroup, ResumeGroup, AddCalendar, DeleteCalendar, AddZone, DeleteZone, TriggerNow, Threshold, Join, Leave, Acquire, Release, Fire, Complete, Misfires, Recover}
+use Rattle.qz_types.specs.declared.commands.Command.TheVariants.{AddJob, DeleteJob, AddTrigger, DeleteTrigger, PauseTrigger, ResumeTrigger, PauseGroup, ResumeGroup, AddCalendar, DeleteCalendar, AddZone, DeleteZone, TriggerNow, Threshold, Join, Leave, Acquire, Release, Fire, Complete, Misfires, Recover, Upgrade, ResetTrigger, PauseJobGroup, ResumeJobGroup}
 use Rattle.qz_types.specs.declared.commands.Actor.{Actor}
 use Rattle.qz_types.specs.declared.commands.Actor.TheVariants.{Client, Node}
 use Rattle.qz_types.specs.declared.replies.Refusal.TheVariants.{Fenced}
@@ -15,8 +15,10 @@ use Rattle.qz_model.specs.Completing.{complete}
 use Rattle.qz_model.specs.Firing.{fire}
 use Rattle.qz_model.specs.Jobs.{add_job, delete_job}
 use Rattle.qz_model.specs.Misfires.{misfires}
-use Rattle.qz_model.specs.Pausing.{pause_trigger, resume_trigger, pause_group, resume_group}
+use Rattle.qz_model.specs.Pausing.{pause_trigger, resume_trigger, pause_group, resume_group, pause_job_group, resume_job_group}
 use Rattle.qz_model.specs.Recovery.{recover, join, leave}
+use Rattle.qz_model.specs.Resetting.{reset_trigger}
+use Rattle.qz_model.specs.Upgrading.{upgrade}
 use Rattle.qz_model.specs.Triggers.{add_trigger, delete_trigger, trigger_now, set_threshold}
 
 -- what a node does under its epoch; a client is no member
@@ -48,6 +50,10 @@ by_command T m actor (Fire entry) = as_node actor (λ me. fire T m me entry)
 by_command T m actor (Complete entry code) = as_node actor (λ me. complete T m me entry code)
 by_command T m actor Misfires = as_node actor (λ me. misfires T m me)
 by_command T m actor (Recover node) = as_node actor (λ me. recover T m me node)
+by_command T m actor Upgrade = upgrade T m
+by_command T m actor (ResetTrigger key) = reset_trigger T m key
+by_command T m actor (PauseJobGroup group) = pause_job_group T m group
+by_command T m actor (ResumeJobGroup group) = resume_job_group T m group
 
 -- what the entry comes to at these tables
 abbrev pub transaction : SchedulerTables → EntryData → Outcome

@@ -6,6 +6,7 @@ use Rattle.qz_types.specs.Rows.{JobData, TriggerData}
 use Rattle.qz_types.specs.declared.keys.Key.{Key}
 use Rattle.qz_types.specs.declared.limits.TheConstants.{NUMBER_LIMIT, TRIGGER_LIMIT}
 use Rattle.qz_types.specs.declared.triggers.TriggerSpec.{TriggerSpec}
+use Rattle.qz_types.specs.declared.triggers.TriggerState.{TriggerState}
 use Rattle.qz_types.specs.declared.replies.Reply.TheVariants.{Done, Added, Triggered}
 use Rattle.qz_types.specs.declared.replies.Refusal.{Refusal}
 use Rattle.qz_types.specs.declared.replies.Refusal.TheVariants.{ReservedGroup, UnknownJob, UnknownTrigger, UnknownCalendar, UnknownZone, TriggerExists, NeverFires, TooMany}
@@ -23,6 +24,14 @@ use Rattle.qz_model.specs.Tests.{refuse_if, or_refusal, is_row_of_trigger}
 unfoldable pub is_reserved : List ℕ → Bool
 is_reserved group = same_text group (codes "RECOVERING_JOBS") || same_text group (codes "MANUAL_TRIGGERS")
 
+-- the trigger is paused with its group, or with the group of its job
+unfoldable pub is_in_paused : SchedulerTables → TriggerSpec → Bool
+is_in_paused T s = is_paused s.key.group T.paused_groups || is_paused s.job.group T.paused_job_groups
+
+-- the state of a trigger that is stored now
+unfoldable pub new_state : SchedulerTables → TriggerSpec → TriggerState
+new_state T s = first_state (is_in_paused T s) (is_busy s.job T.fired)
+
 -- a trigger that hasn't fired yet
 unfoldable pub new_trigger : SchedulerTables → TriggerSpec → Option ℤ → TriggerData
 new_trigger T s next = record {
@@ -30,7 +39,7 @@ new_trigger T s next = record {
   next = next;
   prev = None;
   times = 0;
-  state = first_state (is_paused s.key.group T.paused_groups) (is_busy s.job T.fired);
+  state = new_state T s;
 }
 
 -- AddTrigger.

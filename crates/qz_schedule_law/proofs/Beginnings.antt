@@ -39,7 +39,7 @@ found_new T m t = trigger_of-put_own t (without_trigger t.spec.key T.triggers) (
 
 plan_new : (T : SchedulerTables) (m : ℤ) (t : TriggerData) (s : TriggerSpec) (a : ℤ) → next_after (record (with_new_trigger T t) { last_moment = m }) s a ≡ next_after T s a
 unfolding with_new_trigger
-plan_new T m t s a = same_plan T _ s a refl refl
+plan_new T m t s a = same_plan T _ s a refl refl refl
 
 found_first : (T : SchedulerTables) (m : ℤ) (s : TriggerSpec) → trigger_of s.key (record (with_new_trigger T (new_trigger T s (first_time T s))) { last_moment = m }).triggers ≡ Some (new_trigger T s (first_time T s))
 unfolding new_trigger
@@ -89,7 +89,7 @@ begins : (T U : SchedulerTables) (e : EntryData) (key : Key) (r : Reply) (u : Tr
     → trigger_of key U.triggers ≡ Some u → Begins T key r U u
 begins T U e key r u valid good way stores found = elim (is_replaced key e.command) as (λ b. is_replaced key e.command ≡ b → Begins T key r U u) [
   | true ↦ λ replaced. begins_replaced T U e key r u e.command good way refl replaced found
-  | false ↦ λ kept. ⊎_elim (λ absent. (facts T U key e r valid kept (inr absent) way).new absent u found) (λ wrong. absurd (cc)) stores
+  | false ↦ λ kept. ⊎_elim (λ absent. (facts T U key e r valid kept (inr absent) (inr absent) way).new absent u found) (λ wrong. absurd (cc)) stores
 ] refl
 
 -- it goes on from its first time

@@ -67,7 +67,7 @@ module _ (T : SchedulerTables) (key : Key) (m : ℤ) (f : FiredData) (t : Trigge
         (before-with_blocked T key job.no_concurrent f.job T.triggers (as_before T key valid))
         (λ u at was. one_turn u was at)
         (λ u differ was. no_turn u was differ);
-    plan = λ s stored alone a. same_plan T _ s.spec a refl refl;
+    plan = λ s stored alone a. same_plan T _ s.spec a refl refl refl;
     new = λ absent u stored.
         let none = fired_none (after_fire (following T f) (fired_state (following T f) job.no_concurrent)) (λ x. refl) (with_blocked job.no_concurrent f.job T.triggers) (none_new job.no_concurrent f.job absent) in
         absurd (cc);

@@ -1,15 +1,16 @@
 -- Each trigger of a legal history follows its schedule.
-use Rattle.std.proofs.Common.{ℤ, negsuc, List, ◌∷◌, ◌++◌, IsTrue, subst}
+use Rattle.std.proofs.Common.{ℤ, List, ◌∷◌, ◌++◌, IsTrue, subst}
 use Rattle.qz_types.specs.Rows.{TriggerData}
 use Rattle.qz_types.specs.Entries.{EntryData, is_entry}
 use Rattle.qz_types.specs.declared.keys.Key.{Key}
 use Rattle.qz_types.specs.Tables.{SchedulerTables}
-use Rattle.qz_plan.specs.FireTimes.{IsFireTime, AreAllAfter, AreFireTimes}
+use Rattle.qz_plan.specs.FireTimes.{AreFireTimes}
 use Rattle.qz_model.specs.History.{tables_left, IsLegalFrom, replay_from, replies_from}
 use Rattle.qz_model.specs.Invariant.{TablesValid}
 use Rattle.qz_model.specs.Plan.{zone_named_by, stretches_for, zoned_chain, next_after, first_time}
 use Rattle.qz_model.specs.Transaction.{transaction}
 use Rattle.qz_model.proofs.Histories.{valid-left, valid-replay}
+use Rattle.qz_model.proofs.NextTimes.{horizon_of_valid}
 use Rattle.qz_schedule_law.specs.Following.{IsLife, FollowsFrom}
 use Rattle.qz_schedule_law.specs.Turns.{fired_times, IsPrefix}
 use Rattle.qz_schedule_law.specs.Undisturbed.{IsStoredBy}
@@ -23,8 +24,7 @@ pub first_times : (T : SchedulerTables) (e : EntryData) (es : List EntryData) (k
     → AreFireTimes T.horizon t.spec.timing (stretches_for T.zones (zone_named_by t.spec.timing.kind)) (zoned_chain T t.spec.calendar) all → IsPrefix (fired_times key (replies_from T (e ∷ es))) all
 first_times T e es key t u all by are =
     let first = from_the_first T e es key t u by in
-    let within = subst (λ (h : ℤ). AreAllAfter h (IsFireTime t.spec.timing (stretches_for T.zones (zone_named_by t.spec.timing.kind)) (zoned_chain T t.spec.calendar)) (negsuc 0) all) by.valid.references_and_limits.limits.horizon are in
-    let left = turns-left (next_after T t.spec) (first_time T t.spec) (fired_times key (replies_from T (e ∷ es))) u.next all first.1 (fire_times_turn T t.spec all first.0 within) in
+    let left = turns-left (next_after T t.spec) (first_time T t.spec) (fired_times key (replies_from T (e ∷ es))) u.next all first.1 (fire_times_turn T t.spec all first.0 (horizon_of_valid T by.valid).high are) in
     (left.0, left.1)
 
 -- The life of a trigger within legal entries.

@@ -34,7 +34,7 @@ stored_value P (Some u) t found holds = let one : u ≡ t = cc in subst P one ho
 pub gone_on : (T U : SchedulerTables) (e : EntryData) (r : Reply) (key : Key) (t u : TriggerData) → TablesValid T → transaction T e ≡ accepted U r → trigger_of key T.triggers ≡ Some t → trigger_of key U.triggers ≡ Some u
     → IsUndisturbed key T e.command r U → HasGoneOn T key t r U u
 gone_on T U e r key t u valid way before after alone =
-    let f = facts T U key e r valid alone.kept (inl alone.on_time) way in
+    let f = facts T U key e r valid alone.kept (inl alone.on_time) (inl alone.version) way in
     let turned = All-trigger_of (HasTurned T key r) key u U.triggers f.triggers after (trigger_of-key key u U.triggers after) t before in record {
       spec = turned.0;
       turned = turned.1;

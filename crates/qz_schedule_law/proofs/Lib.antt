@@ -13,3 +13,4 @@ pub mod Recoveries
 pub mod Schedules
 pub mod Stays
 pub mod Turns
+pub mod Upgrades

@@ -38,6 +38,7 @@ stays-with_acquired T key U me t was = record {
   triggers = before-with_trigger T key t.spec.key (in_state state.Acquired) U.triggers (λ u. refl) (λ u. refl) was.triggers;
   calendars = was.calendars;
   zones = was.zones;
+  horizon = was.horizon;
 }
 
 stays-acquire_each : (T : SchedulerTables) (key : Key) (U : SchedulerTables) (me : MemberData) (ts : List TriggerData) → Stays T key U → Stays T key (fold (with_acquired me) U ts)
@@ -48,13 +49,13 @@ pub facts-acquire : (T T' : SchedulerTables) (key : Key) (c : Command) (m : ℤ)
 facts-acquire T T' key c m me no_later window max r valid e =
     let ts = chosen T m (no_later +ℤ window) max in
     accepted_stays T _ T' key c _ r (passes (or_refusal (node_refusal T me) (acquire_refusal T max)) _ T' r e).outcome refl
-    (stays-moment T key (fold (with_acquired me) T ts) m (stays-acquire_each T key T me ts (same_triggers T key T valid refl refl refl)))
+    (stays-moment T key (fold (with_acquired me) T ts) m (stays-acquire_each T key T me ts (same_triggers T key T valid refl refl refl refl)))
 
 facts-release_row : (T T' : SchedulerTables) (key : Key) (c : Command) (m : ℤ) (me : MemberData) (o : Option FiredData) (r : Reply) → TablesValid T → release_row T m me o ≡ accepted T' r → TurnFacts T key c r T'
 facts-release_row T T' key c m me None r valid e = absurd (cc)
 facts-release_row T T' key c m me (Some f) r valid e =
     accepted_stays T _ T' key c _ r (passes (acquired_refusal me f) _ T' r e).outcome refl
-    (record { triggers = before-with_trigger T key f.trigger (in_state state.Waiting) T.triggers (λ t. refl) (λ t. refl) (as_before T key valid); calendars = refl; zones = refl })
+    (record { triggers = before-with_trigger T key f.trigger (in_state state.Waiting) T.triggers (λ t. refl) (λ t. refl) (as_before T key valid); calendars = refl; zones = refl; horizon = refl })
 
 pub facts-release : (T T' : SchedulerTables) (key : Key) (c : Command) (m : ℤ) (me : MemberData) (entry : ℕ) (r : Reply) → TablesValid T → release T m me entry ≡ accepted T' r → TurnFacts T key c r T'
 facts-release T T' key c m me entry r valid e = facts-release_row T T' key c m me (fired_of entry T.fired) r valid (passes (node_refusal T me) _ T' r e).outcome
@@ -63,17 +64,17 @@ facts-release T T' key c m me entry r valid e = facts-release_row T T' key c m m
 
 stays-trigger_ended : (T : SchedulerTables) (key k : Key) (s : TriggerState) → TablesValid T → Stays T key (with_trigger_ended T k s)
 unfolding with_trigger_ended
-stays-trigger_ended T key k s valid = record { triggers = before-with_trigger T key k (in_state s) T.triggers (λ t. refl) (λ t. refl) (as_before T key valid); calendars = refl; zones = refl }
+stays-trigger_ended T key k s valid = record { triggers = before-with_trigger T key k (in_state s) T.triggers (λ t. refl) (λ t. refl) (as_before T key valid); calendars = refl; zones = refl; horizon = refl }
 
 stays-job_ended : (T : SchedulerTables) (key job : Key) (s : TriggerState) → TablesValid T → Stays T key (with_job_ended T job s)
 unfolding with_job_ended
-stays-job_ended T key job s valid = record { triggers = before-with_states T key (λ _. s) (is_trigger_of job) T.triggers (as_before T key valid); calendars = refl; zones = refl }
+stays-job_ended T key job s valid = record { triggers = before-with_states T key (λ _. s) (is_trigger_of job) T.triggers (as_before T key valid); calendars = refl; zones = refl; horizon = refl }
 
 stays-with_code : (code : Code) (T : SchedulerTables) (key : Key) (f : FiredData) → TablesValid T → Stays T key (with_code code T f)
-stays-with_code Noop T key f valid = same_triggers T key T valid refl refl refl
-stays-with_code ReExecuteJob T key f valid = same_triggers T key T valid refl refl refl
+stays-with_code Noop T key f valid = same_triggers T key T valid refl refl refl refl
+stays-with_code ReExecuteJob T key f valid = same_triggers T key T valid refl refl refl refl
 stays-with_code SetTriggerComplete T key f valid = stays-trigger_ended T key f.trigger state.Complete valid
-stays-with_code DeleteTrigger T key f valid = stays-without_trigger T key T (trigger_of f.trigger T.triggers) (same_triggers T key T valid refl refl refl)
+stays-with_code DeleteTrigger T key f valid = stays-without_trigger T key T (trigger_of f.trigger T.triggers) (same_triggers T key T valid refl refl refl refl)
 stays-with_code SetAllJobTriggersComplete T key f valid = stays-job_ended T key f.job state.Complete valid
 stays-with_code SetTriggerError T key f valid = stays-trigger_ended T key f.trigger state.Error valid
 stays-with_code SetAllJobTriggersError T key f valid = stays-job_ended T key f.job state.Error valid
@@ -84,6 +85,7 @@ stays-without_execution T key U f was = record {
   triggers = before-with_unblocked T key f.no_concurrent f.job U.triggers was.triggers;
   calendars = was.calendars;
   zones = was.zones;
+  horizon = was.horizon;
 }
 
 stays-without_finished : (code : Code) (T : SchedulerTables) (key : Key) (U : SchedulerTables) (k : Key) → Stays T key U → Stays T key (without_finished code U k)
@@ -101,7 +103,7 @@ stays-completed T key m f code valid =
     (stays-without_finished code T key (without_execution (with_code code T f) f) f.trigger (stays-without_execution T key (with_code code T f) f (stays-with_code code T key f valid)))
 
 facts-complete_one : (T T' : SchedulerTables) (key : Key) (c : Command) (m : ℤ) (f : FiredData) (code : Code) (r : Reply) → TablesValid T → complete_one T m f code ≡ accepted T' r → TurnFacts T key c r T'
-facts-complete_one T T' key c m f ReExecuteJob r valid e = accepted_stays T _ T' key c _ r e refl (same_triggers T key _ valid refl refl refl)
+facts-complete_one T T' key c m f ReExecuteJob r valid e = accepted_stays T _ T' key c _ r e refl (same_triggers T key _ valid refl refl refl refl)
 facts-complete_one T T' key c m f Noop r valid e = accepted_stays T _ T' key c _ r e refl (stays-completed T key m f Noop valid)
 facts-complete_one T T' key c m f SetTriggerComplete r valid e = accepted_stays T _ T' key c _ r e refl (stays-completed T key m f SetTriggerComplete valid)
 facts-complete_one T T' key c m f DeleteTrigger r valid e = accepted_stays T _ T' key c _ r e refl (stays-completed T key m f DeleteTrigger valid)
@@ -154,11 +156,11 @@ pub facts-misfires : (T T' : SchedulerTables) (key : Key) (c : Command) (m : ℤ
 facts-misfires T T' key c m me r valid none e =
     let way = (passes (node_refusal T me) _ T' r e).outcome in
     accepted_stays T _ T' key c _ r way refl
-    (record { triggers = before-move_each T key m T.triggers (misfired_triggers T m) (unlisted T key m r valid (cc) none) (as_before T key valid); calendars = refl; zones = refl })
+    (record { triggers = before-move_each T key m T.triggers (misfired_triggers T m) (unlisted T key m r valid (cc) none) (as_before T key valid); calendars = refl; zones = refl; horizon = refl })
 
 -- Leave.
 
 pub facts-leave : (T T' : SchedulerTables) (key : Key) (c : Command) (m : ℤ) (me : MemberData) (r : Reply) → TablesValid T → leave T m me ≡ accepted T' r → TurnFacts T key c r T'
 facts-leave T T' key c m me r valid e =
     accepted_stays T _ T' key c _ r (passes (or_refusal (node_refusal T me) (leave_refusal T me)) _ T' r e).outcome refl
-    (record { triggers = before-freed_by T key me T.fired T.triggers (as_before T key valid); calendars = refl; zones = refl })
+    (record { triggers = before-freed_by T key me T.fired T.triggers (as_before T key valid); calendars = refl; zones = refl; horizon = refl })

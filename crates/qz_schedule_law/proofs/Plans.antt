@@ -22,7 +22,7 @@ use Rattle.qz_civil.specs.declared.stretches.Stretch.{Stretch}
 use Rattle.qz_plan.specs.Plan.{fire_time_after}
 use Rattle.qz_model.specs.Calendars.{with_new_calendar, add_calendar_refusal, add_calendar, is_named, calendar_uses, delete_calendar_refusal, delete_calendar, add_zone_refusal, add_zone, zone_uses, delete_zone_refusal, delete_zone}
 use Rattle.qz_model.specs.Invariant.{TablesValid}
-use Rattle.qz_model.specs.Plan.{zone_named_by, is_utc, is_known_zone, stretches_of_row, stretches_named, stretches_for, zoned, zoned_chain, next_after}
+use Rattle.qz_model.specs.Plan.{zone_named_by, is_utc, is_known_zone, stretches_of_row, stretches_named, stretches_for, zoned, zoned_chain, within, next_after}
 use Rattle.qz_model.proofs.Changes.{HasCalendar, HasZone, passes}
 use Rattle.qz_model.proofs.KeptZones.{no_uses}
 use Rattle.qz_model.proofs.LookUps.{row_of-put_new, row_of-filter}
@@ -48,7 +48,7 @@ plan_facts T U key c r valid none triggers plan = record {
 by_chain : (T : SchedulerTables) (calendars : List CalendarData) (m a : ℤ) (s : TriggerSpec) → chain_of calendars CHAIN_LIMIT (calendar_named calendars s.calendar) ≡ chain_of T.calendars CHAIN_LIMIT (calendar_named T.calendars s.calendar)
     → next_after (record T { calendars = calendars; last_moment = m }) s a ≡ next_after T s a
 unfolding next_after zoned_chain
-by_chain T calendars m a s same = ap (λ (cs : List CalendarData). fire_time_after s.timing (stretches_for T.zones (zone_named_by s.timing.kind)) (map (zoned T.zones) cs) a) same
+by_chain T calendars m a s same = ap (λ (cs : List CalendarData). within T.horizon (fire_time_after s.timing (stretches_for T.zones (zone_named_by s.timing.kind)) (map (zoned T.zones) cs) a)) same
 
 pub facts-add_calendar : (T T' : SchedulerTables) (key : Key) (m : ℤ) (d : CalendarData) (replace : Bool) (r : Reply) → TablesValid T → add_calendar T m d replace ≡ accepted T' r → TurnFacts T key (AddCalendar d replace) r T'
 facts-add_calendar T T' key m d replace r valid e =
@@ -111,8 +111,8 @@ by_zones T zones m a s own all =
     let calendars : map (zoned zones) chain ≡ map (zoned T.zones) chain =
     map_same (zoned zones) (zoned T.zones) chain
     (All-weaker (λ c. SameClock T.zones zones c.zone) (λ c. zoned zones c ≡ zoned T.zones c) chain (λ c same. ap (λ (z : List Stretch). record { kind = c.kind; zone = z }) same) in_chain) in
-    ap (λ (z : List Stretch). fire_time_after s.timing z (map (zoned zones) chain) a) (for_same T.zones zones (zone_named_by s.timing.kind) own)
-    ∙ ap (λ (cs : List ZonedCalendar). fire_time_after s.timing (stretches_for T.zones (zone_named_by s.timing.kind)) cs a) calendars
+    ap (λ (z : List Stretch). within T.horizon (fire_time_after s.timing z (map (zoned zones) chain) a)) (for_same T.zones zones (zone_named_by s.timing.kind) own)
+    ∙ ap (λ (cs : List ZonedCalendar). within T.horizon (fire_time_after s.timing (stretches_for T.zones (zone_named_by s.timing.kind)) cs a)) calendars
 
 if_both : (P Q R : List ℕ → Type 0) (o : Option (List ℕ)) → ((name : List ℕ) → P name → Q name → R name) → IfSome o P → IfSome o Q → IfSome o R
 if_both P Q R None all p q = tt

@@ -2,7 +2,6 @@
 use Rattle.std.proofs.Common.{◌≡◌, ℕ, ◌<◌, ℤ, true, false, not, ◌&&◌, List, [], ◌∷◌, fold, map, filter, Option, Some, None, refl, subst, arith}
 use Rattle.std.specs.List.{AllByRecursion}
 use Rattle.std.proofs.lemmas.Bool.{and_parts, not-true}
-use Rattle.qz_civil.specs.declared.limits.TheConstants.{LAST}
 use Rattle.qz_types.specs.declared.fired.FiredState.{FiredState}
 use Rattle.qz_types.specs.declared.fired.FiredState.TheVariants as row
 use Rattle.qz_types.specs.Rows.{TriggerData, MemberData, FiredData}
@@ -19,6 +18,7 @@ use Rattle.qz_model.specs.Membership.{node_refusal}
 use Rattle.qz_model.specs.Recovery.{lost_of, rows_of_others, freed_by, has_excluded, unblocked_by, asks, recovery_trigger, recoveries, has_finished, triggers_added, triggers_left, recovered, recovery_refusal, recover_member, recover, with_new_member, join_refusal, joined, join}
 use Rattle.qz_model.specs.Tests.{is_of}
 use Rattle.qz_model.proofs.Changes.{HasNumber, HasRowTimes, passes}
+use Rattle.qz_model.proofs.NextTimes.{moment_up_to_last}
 use Rattle.qz_model.proofs.Numbers.{one_number}
 use Rattle.qz_model.proofs.RecoveryTriggers.{IsNotOf, no_such}
 use Rattle.qz_model.proofs.RowLaws.{trigger_of-none, All-put_trigger, All-fired_of, each_fired}
@@ -43,10 +43,10 @@ unnamed T f valid found =
     absurd (cc)) valid.fresh.added
 
 -- so the key by which the row's execution is recovered isn't stored
-recovery_absent : (T : SchedulerTables) (groups : List (List ℕ)) (f : FiredData) → TablesValid T → fired_of f.entry T.fired ≡ Some f → trigger_of (recovery_trigger groups f).spec.key T.triggers ≡ None
-recovery_absent T groups f valid found =
-    trigger_of-none (recovery_trigger groups f).spec.key T.triggers
-    (All-weaker (IsNotOf f.entry) (λ u. same_key (recovery_trigger groups f).spec.key u.spec.key ≡ false) T.triggers (no_such groups f) (unnamed T f valid found))
+recovery_absent : (T : SchedulerTables) (groups job_groups : List (List ℕ)) (f : FiredData) → TablesValid T → fired_of f.entry T.fired ≡ Some f → trigger_of (recovery_trigger groups job_groups f).spec.key T.triggers ≡ None
+recovery_absent T groups job_groups f valid found =
+    trigger_of-none (recovery_trigger groups job_groups f).spec.key T.triggers
+    (All-weaker (IsNotOf f.entry) (λ u. same_key (recovery_trigger groups job_groups f).spec.key u.spec.key ≡ false) T.triggers (no_such groups job_groups f) (unnamed T f valid found))
 
 All-mapped : {R S : Type 0} (P : S → Type 0) (f : R → S) (xs : List R) → AllByRecursion (λ x. P (f x)) xs → AllByRecursion P (map f xs)
 All-mapped P f [] all = tt
@@ -55,7 +55,7 @@ All-mapped P f (x ∷ xs) all = (all.0, All-mapped P f xs all.1)
 -- the row stands, and its execution has begun for a moment
 pub record IsBegun (T : SchedulerTables) (f : FiredData) : Type 0 where
   pub found : fired_of f.entry T.fired ≡ Some f
-  pub time : IsMoment LAST f.scheduled
+  pub time : IsMoment T.horizon f.scheduled
 
 begun_time : (horizon : ℤ) (f : FiredData) (s : FiredState) → is_acquired s ≡ false → HasTimes horizon f s → IsMoment horizon f.scheduled
 begun_time horizon f row.Acquired executes times = absurd (cc)
@@ -64,7 +64,7 @@ begun_time horizon f row.Executing executes times = times.0
 is_begun : (T : SchedulerTables) (f : FiredData) → TablesValid T → fired_of f.entry T.fired ≡ Some f → is_acquired f.state ≡ false → IsBegun T f
 is_begun T f valid found executes = record {
   found = found;
-  time = subst (λ (h : ℤ). IsMoment h f.scheduled) valid.references_and_limits.limits.horizon (begun_time T.horizon f f.state executes (All-fired_of (HasRowTimes T.horizon) f.entry f T.fired valid.row_times.rows found));
+  time = begun_time T.horizon f f.state executes (All-fired_of (HasRowTimes T.horizon) f.entry f T.fired valid.row_times.rows found);
 }
 
 lost_begun : (T : SchedulerTables) (member : MemberData) → TablesValid T → AllByRecursion (IsBegun T) (lost_of member T.fired)
@@ -78,11 +78,12 @@ lost_begun T member valid =
 recoveries_before : (T : SchedulerTables) (key : Key) (member : MemberData) → TablesValid T → AllByRecursion (IsAsBefore T key) (recoveries T member)
 unfolding recoveries
 recoveries_before T key member valid =
-    All-mapped (IsAsBefore T key) (recovery_trigger T.paused_groups) (filter (asks T.jobs) (lost_of member T.fired))
-    (All-filter (λ f. IsAsBefore T key (recovery_trigger T.paused_groups f)) (asks T.jobs) (lost_of member T.fired)
-    (All-weaker (IsBegun T) (λ f. asks T.jobs f ≡ true → IsAsBefore T key (recovery_trigger T.paused_groups f)) (lost_of member T.fired)
+    All-mapped (IsAsBefore T key) (recovery_trigger T.paused_groups T.paused_job_groups) (filter (asks T.jobs) (lost_of member T.fired))
+    (All-filter (λ f. IsAsBefore T key (recovery_trigger T.paused_groups T.paused_job_groups f)) (asks T.jobs) (lost_of member T.fired)
+    (All-weaker (IsBegun T) (λ f. asks T.jobs f ≡ true → IsAsBefore T key (recovery_trigger T.paused_groups T.paused_job_groups f)) (lost_of member T.fired)
     (λ f begun is.
-    new_key T key (recovery_trigger T.paused_groups f) (recovery_absent T T.paused_groups f valid begun.found) (recovery_first T T.paused_groups f begun.time) (recovery_timing T.paused_groups f begun.time))
+    new_key T key (recovery_trigger T.paused_groups T.paused_job_groups f) (recovery_absent T T.paused_groups T.paused_job_groups f valid begun.found) (recovery_first T T.paused_groups T.paused_job_groups f valid begun.time)
+    (recovery_timing T.paused_groups T.paused_job_groups f (moment_up_to_last T f.scheduled valid begun.time)))
     (lost_begun T member valid)))
 
 -- The triggers that a recovery leaves.
@@ -108,7 +109,7 @@ before-triggers_left T key member valid =
 
 stays-recovered : (T : SchedulerTables) (key : Key) (m : ℤ) (member : MemberData) → TablesValid T → Stays T key (record (recovered T member) { last_moment = m })
 unfolding recovered
-stays-recovered T key m member valid = record { triggers = before-triggers_left T key member valid; calendars = refl; zones = refl }
+stays-recovered T key m member valid = record { triggers = before-triggers_left T key member valid; calendars = refl; zones = refl; horizon = refl }
 
 facts-recover_member : (T T' : SchedulerTables) (key : Key) (c : Command) (m : ℤ) (o : Option MemberData) (r : Reply) → TablesValid T → recover_member T m o ≡ accepted T' r → TurnFacts T key c r T'
 facts-recover_member T T' key c m None r valid e = absurd (cc)
@@ -121,11 +122,11 @@ facts-recover T T' key c m me node r valid e = facts-recover_member T T' key c m
 
 stays-new_member : (T : SchedulerTables) (key : Key) (m : ℤ) (node : List ℕ) → TablesValid T → Stays T key (record (with_new_member T node) { last_moment = m })
 unfolding with_new_member
-stays-new_member T key m node valid = same_triggers T key _ valid refl refl refl
+stays-new_member T key m node valid = same_triggers T key _ valid refl refl refl refl
 
 stays-rejoined : (T : SchedulerTables) (key : Key) (m : ℤ) (node : List ℕ) (member : MemberData) → TablesValid T → Stays T key (record (with_new_member (recovered T member) node) { last_moment = m })
 unfolding recovered with_new_member
-stays-rejoined T key m node member valid = record { triggers = before-triggers_left T key member valid; calendars = refl; zones = refl }
+stays-rejoined T key m node member valid = record { triggers = before-triggers_left T key member valid; calendars = refl; zones = refl; horizon = refl }
 
 facts-join_at : (T T' : SchedulerTables) (key : Key) (c : Command) (m : ℤ) (node : List ℕ) (o : Option MemberData) (r : Reply) → TablesValid T → unless (join_refusal T o) (joined T m node o) ≡ accepted T' r → TurnFacts T key c r T'
 facts-join_at T T' key c m node None r valid e = accepted_stays T _ T' key c _ r (passes (join_refusal T None) _ T' r e).outcome refl (stays-new_member T key m node valid)

@@ -46,6 +46,7 @@ pub record Stays (T : SchedulerTables) (key : Key) (U : SchedulerTables) : Type 
   pub triggers : AllByRecursion (IsAsBefore T key) U.triggers
   pub calendars : U.calendars ≡ T.calendars
   pub zones : U.zones ≡ T.zones
+  pub horizon : U.horizon ≡ T.horizon
 
 -- where a trigger is stored that the command leaves alone, its plan is as before
 abbrev pub KeepsPlan : SchedulerTables → Key → Command → SchedulerTables → Type 0
@@ -64,10 +65,10 @@ pub record TurnFacts (T : SchedulerTables) (key : Key) (c : Command) (r : Reply)
   pub plan : KeepsPlan T key c U
   pub new : trigger_of key T.triggers ≡ None → (u : TriggerData) → trigger_of key U.triggers ≡ Some u → Begins T key r U u
 
--- plans read the calendars and the zones alone
-pub same_plan : (T U : SchedulerTables) (s : TriggerSpec) (a : ℤ) → U.calendars ≡ T.calendars → U.zones ≡ T.zones → next_after U s a ≡ next_after T s a
+-- plans read the calendars, the zones and the horizon alone
+pub same_plan : (T U : SchedulerTables) (s : TriggerSpec) (a : ℤ) → U.calendars ≡ T.calendars → U.zones ≡ T.zones → U.horizon ≡ T.horizon → next_after U s a ≡ next_after T s a
 unfolding next_after zoned_chain
-same_plan T U s a calendars zones = rw (calendars, zones) refl
+same_plan T U s a calendars zones horizon = rw (calendars, zones, horizon) refl
 
 -- a reply that is no firing of the trigger has none of its times
 pub stays_turned : (T : SchedulerTables) (key : Key) (r : Reply) (u : TriggerData) → onto_times key r [] ≡ [] → IsAsBefore T key u → HasTurned T key r u
@@ -79,12 +80,12 @@ stays_new : (T : SchedulerTables) (key : Key) (r : Reply) (U : SchedulerTables) 
 stays_new T key r U none stays absent u found =
     let was = All-trigger_of (IsAsBefore T key) key u U.triggers stays.triggers found (trigger_of-key key u U.triggers found) in
     let new : IsFrom T None u = subst (λ (o : Option TriggerData). IsFrom T o u) absent was in
-    record { first = new.0; timing = new.1; plan = λ a. same_plan T U u.spec a stays.calendars stays.zones; silent = none }
+    record { first = new.0; timing = new.1; plan = λ a. same_plan T U u.spec a stays.calendars stays.zones stays.horizon; silent = none }
 
 stays_facts : (T : SchedulerTables) (key : Key) (c : Command) (r : Reply) (U : SchedulerTables) → onto_times key r [] ≡ [] → Stays T key U → TurnFacts T key c r U
 stays_facts T key c r U none stays = record {
   triggers = All-weaker (IsAsBefore T key) (HasTurned T key r) U.triggers (λ u was. stays_turned T key r u none was) stays.triggers;
-  plan = λ t found alone a. same_plan T U t.spec a stays.calendars stays.zones;
+  plan = λ t found alone a. same_plan T U t.spec a stays.calendars stays.zones stays.horizon;
   new = λ absent u found. stays_new T key r U none stays absent u found;
 }
 
@@ -105,11 +106,12 @@ as_before T key valid =
     (λ u found same. subst (λ (o : Option TriggerData). IsFrom T o u) (sym (trigger_of-alike key u.spec.key T.triggers same ∙ found)) (refl, refl))
     (each_trigger T.triggers valid.references_and_limits.ordered.triggers)
 
-pub same_triggers : (T : SchedulerTables) (key : Key) (U : SchedulerTables) → TablesValid T → U.triggers ≡ T.triggers → U.calendars ≡ T.calendars → U.zones ≡ T.zones → Stays T key U
-same_triggers T key U valid triggers calendars zones = record {
+pub same_triggers : (T : SchedulerTables) (key : Key) (U : SchedulerTables) → TablesValid T → U.triggers ≡ T.triggers → U.calendars ≡ T.calendars → U.zones ≡ T.zones → U.horizon ≡ T.horizon → Stays T key U
+same_triggers T key U valid triggers calendars zones horizon = record {
   triggers = subst (AllByRecursion (IsAsBefore T key)) (sym triggers) (as_before T key valid);
   calendars = calendars;
   zones = zones;
+  horizon = horizon;
 }
 
 -- Changes of triggers that keep what they were stored with and their next times.
@@ -151,8 +153,9 @@ stays-without_trigger T key U (Some t) was = record {
   triggers = All-without_trigger (IsAsBefore T key) (IsAsBefore T key) t.spec.key U.triggers was.triggers (λ u differ is. is);
   calendars = was.calendars;
   zones = was.zones;
+  horizon = was.horizon;
 }
 
 -- the moment is none of its points
 pub stays-moment : (T : SchedulerTables) (key : Key) (U : SchedulerTables) (m : ℤ) → Stays T key U → Stays T key (record U { last_moment = m })
-stays-moment T key U m was = record { triggers = was.triggers; calendars = was.calendars; zones = was.zones }
+stays-moment T key U m was = record { triggers = was.triggers; calendars = was.calendars; zones = was.zones; horizon = was.horizon }

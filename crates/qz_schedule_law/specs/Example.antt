@@ -29,7 +29,7 @@ often = record { key = example_key; job = job_key; priority = pos 5; calendar = 
 
 -- a job, and a node that is a member
 abbrev pub example_tables : SchedulerTables
-example_tables = record (empty 1) {
+example_tables = record (empty 2) {
   jobs = record { key = job_key; class = codes "C"; durable = true; no_concurrent = false; requests_recovery = false; payload = [] } ∷ [];
   members = node_a ∷ [];
   next_epoch = 2;

@@ -20,7 +20,8 @@ pub record IsLife (T : SchedulerTables) (e : EntryData) (es : List EntryData) (k
   pub ends : trigger_of key (replay_from T (e ∷ es)).triggers ≡ Some u
   pub goes_on : GoesOn key (tables_left T (transaction T e)) es
 
--- As long as nothing disturbs a trigger that one of these entries stored, it has fired for the first times of its schedule.
+-- As long as nothing disturbs a trigger that one of these entries stored, it has fired for the first times of its schedule, up to the
+-- horizon of the tables that it was stored in.
 abbrev pub FollowsFrom : SchedulerTables → List EntryData → Type 0
 FollowsFrom T all = (before : List EntryData) (e : EntryData) (es after : List EntryData) (key : Key) (t u : TriggerData) (times : List ℤ) → all ≡ before ++ (e ∷ (es ++ after))
     → IsLife (replay_from T before) e es key t u

@@ -17,6 +17,7 @@ use Rattle.qz_types.specs.Chains.{calendar_named, chain_of}
 use Rattle.qz_model.specs.History.{tables_left, IsLegalFrom, replay_from}
 use Rattle.qz_model.specs.Invariant.{TablesValid}
 use Rattle.qz_model.specs.Transaction.{transaction}
+use Rattle.qz_model.specs.Upgrading.{is_upgrade}
 
 -- the command stores a trigger of this key, in place of the one that is stored
 abbrev pub is_replaced : Key → Command → Bool
@@ -36,12 +37,13 @@ is_chain_changed T spec (AddCalendar calendar replace) =
 is_chain_changed T spec command = false
 
 -- An accepted entry, which leaves the tables `next`, neither removes the trigger of this key nor replaces it nor moves it for a
--- misfire, and its chain of calendars stays.
+-- misfire, its chain of calendars stays, and the entry is no Upgrade, so that the horizon stays too.
 pub record IsUndisturbed (key : Key) (T : SchedulerTables) (command : Command) (reply : Reply) (next : SchedulerTables) : Type 0 where
   pub stored : IsSome (trigger_of key next.triggers)
   pub kept : is_replaced key command ≡ false
   pub on_time : is_misfired key reply ≡ false
   pub calendars : IfSome (trigger_of key T.triggers) (λ t. is_chain_changed T t.spec command ≡ false)
+  pub version : is_upgrade command ≡ false
 
 -- a refusal changes nothing
 abbrev pub IsUndisturbedBy : Key → SchedulerTables → Command → Outcome → Type 0

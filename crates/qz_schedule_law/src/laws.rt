@@ -17,9 +17,10 @@ ghost use Rattle.qz_schedule_law.specs.Following.{FollowsFrom};
 ghost use Rattle.qz_schedule_law.specs.Turns.{onto_times, fired_times, AreInTurn, AreAllFrom, IsPrefix};
 ghost use Rattle.qz_schedule_law.specs.Undisturbed.{IsUndisturbed, GoesOn, IsStretch, IsStoredBy};
 
-/// A trigger fires for the times of its schedule, one after the other, none left out and none twice, as long as nothing disturbs
-/// it: it isn't removed or replaced, no Misfired reply lists it, and no calendar of its chain is replaced. So it is from any moment
-/// of a legal history on; and from the entry on that stored it, its times are the first ones of its schedule.
+/// A trigger fires for the times of its schedule up to the horizon, one after the other, none left out and none twice, as long as
+/// nothing disturbs it: it isn't removed or replaced, no Misfired reply lists it, no calendar of its chain is replaced, and no
+/// Upgrade moves the horizon. So it is from any moment of a legal history on; and from the entry on that stored it, its times are
+/// the first ones of its schedule, up to the horizon of the tables that it was stored in.
 pub fn triggers_fire_their_schedule()
     ensures step { (T U : SchedulerTables) (e : EntryData) (r : StoreReply) (key : TriggerKey) (t u : TriggerData) → TablesValid T → transaction T e ≡ accepted U r → trigger_of key T.triggers ≡ Some t → trigger_of key U.triggers ≡ Some u → IsUndisturbed key T e.command r U → (u.spec ≡ t.spec) × AreInTurn (next_after T t.spec) t.next (onto_times key r []) u.next }
     ensures history { (T : SchedulerTables) (es : List EntryData) (key : TriggerKey) (t u : TriggerData) → IsStretch T es key t u → (u.spec ≡ t.spec) × AreInTurn (next_after T t.spec) t.next (fired_times key (replies_from T es)) u.next }

@@ -1,4 +1,4 @@
-use Rattle.std.proofs.Common.{refl, arith}
+use Rattle.std.proofs.Common.{inr, refl, arith}
 use Rattle.std.proofs.lemmas.Fmt.{decimal_digit}
 use Rattle.qz_model.specs.Jobs.{is_orphan}
 use Rattle.qz_model.specs.Executions.{is_busy, is_exclusive_of}
@@ -9,6 +9,7 @@ use Rattle.qz_model.specs.Completing.{is_finished}
 use Rattle.qz_types.specs.States.{is_acquired_for}
 use Rattle.qz_types.specs.Entries.{is_entry}
 use Rattle.qz_types.specs.Words.{same_text, same_key, job_of, trigger_of, put_trigger, group_of, member_of, put_member, without_member, fired_of}
+use Rattle.qz_laws.specs.Before.{recovery_trigger_before, recoveries_before, triggers_added_before, triggers_left_before, jobs_left_before, recovered_before, recovery_refusal_before, join_refusal_before}
 use Rattle.qz_laws.specs.Losses.{is_held_by, is_recovery}
 use Rattle.qz_laws.proofs.examples.three_lost_executions.Goals as goal
 
@@ -22,6 +23,7 @@ returns-clause-tables c = record {
       calendars = tt;
       zones = tt;
       paused_groups = tt;
+      paused_job_groups = tt;
       members = ((refl, tt), (tt, tt));
       fired = ((refl, (refl, tt)), ((refl, tt), (tt, tt)));
     };
@@ -32,12 +34,13 @@ returns-clause-tables c = record {
       calendars = omega arith;
       zones = omega arith;
       paused_groups = omega arith;
+      paused_job_groups = omega arith;
       members = omega arith;
       fired = omega arith;
       next_entry = omega arith;
       next_epoch = omega arith;
       threshold = refl;
-      horizon = refl;
+      horizon = inr refl;
     };
   };
   acquired_match = record { one_row = tt; a_trigger = (λ wrong. absurd (cc), (λ wrong. absurd (cc), (λ wrong. absurd (cc), tt))) };
@@ -48,7 +51,7 @@ returns-clause-tables c = record {
   one_exclusive = record { one = λ key. omega arith; blocked = tt };
   blocked_are_busy = record { busy = tt };
   rows_of_members = record { given = (omega arith, (omega arith, tt)); distinct = ((λ e. refl, (λ e. absurd (omega arith), tt)), ((λ e. absurd (omega arith), (λ e. refl, tt)), tt)); rows = (refl, (refl, (refl, tt))) };
-  next_times = record { next = tt; moment = record { low = omega arith; high = omega arith } };
+  next_times = record { next = tt; within = tt; moment = record { low = omega arith; high = omega arith } };
   fresh = record { fired = (omega arith, (omega arith, (omega arith, tt))); added = tt };
   row_times = record { rows = ((record { low = omega arith; high = omega arith }, omega arith), ((record { low = omega arith; high = omega arith }, omega arith), ((record { low = omega arith; high = omega arith }, omega arith), tt))) };
 }
@@ -60,6 +63,10 @@ returns-clause-valid c = (refl, (refl, tt))
 pub returns-clause-legal : goal.returns-clause-legal
 unfolding is_orphan is_busy is_exclusive_of join_refusal epoch_refusal with_new_member recovery_refusal lost_of rows_of_others freed_by unblocked_by asks recovery_trigger recoveries triggers_added triggers_left jobs_left recovered node_refusal live_epoch is_of is_finished is_acquired_for is_entry same_text same_key job_of trigger_of put_trigger group_of member_of put_member without_member fired_of is_held_by is_recovery
 returns-clause-legal c = (tt, (tt, tt))
+
+pub returns-clause-was_legal : goal.returns-clause-was_legal
+unfolding is_orphan is_busy is_exclusive_of join_refusal_before epoch_refusal with_new_member recovery_refusal_before lost_of rows_of_others freed_by unblocked_by asks recovery_trigger_before recoveries_before triggers_added_before triggers_left_before jobs_left_before recovered_before node_refusal live_epoch is_of is_finished is_acquired_for is_entry same_text same_key job_of trigger_of put_trigger group_of member_of put_member without_member fired_of is_held_by is_recovery
+returns-clause-was_legal c = (refl, tt, (refl, tt, tt))
 
 pub returns-clause-lost : goal.returns-clause-lost
 unfolding is_orphan is_busy is_exclusive_of join_refusal epoch_refusal with_new_member recovery_refusal lost_of rows_of_others freed_by unblocked_by asks recovery_trigger recoveries triggers_added triggers_left jobs_left recovered node_refusal live_epoch is_of is_finished is_acquired_for is_entry same_text same_key job_of trigger_of put_trigger group_of member_of put_member without_member fired_of is_held_by is_recovery
