@@ -9,12 +9,14 @@ use Rattle.qz_types.specs.declared.keys.Key.{Key}
 use Rattle.qz_types.specs.declared.commands.Code.{Code}
 use Rattle.qz_types.specs.declared.commands.Code.TheVariants as code
 use Rattle.qz_types.specs.declared.commands.Command.{Command}
-use Rattle.qz_types.specs.declared.commands.Command.TheVariants.{AddJob, DeleteJob, AddTrigger, DeleteTrigger, PauseTrigger, ResumeTrigger, PauseGroup, ResumeGroup, AddCalendar, DeleteCalendar, AddZone, DeleteZone, TriggerNow, Threshold, Join, Leave, Acquire, Release, Fire, Complete, Misfires, Recover}
+use Rattle.qz_types.specs.declared.commands.Command.TheVariants.{AddJob, DeleteJob, AddTrigger, DeleteTrigger, PauseTrigger, ResumeTrigger, PauseGroup, ResumeGroup, AddCalendar, DeleteCalendar, AddZone, DeleteZone, TriggerNow, Threshold, Join, Leave, Acquire, Release, Fire, Complete, Misfires, Recover, Upgrade, ResetTrigger, PauseJobGroup, ResumeJobGroup}
+use Rattle.qz_values.specs.declared.versions.Version.{Version}
+use Rattle.qz_values.specs.declared.versions.Version.TheVariants.{One, Two}
 use Rattle.qz_values.specs.Fields.{number, integer, flag, text, is_long, IsText, IsName, IsNumber, IsSpan, Read, as_variant, checked, byte_at, number_at, flag_at, name_at, span_at}
 use Rattle.qz_codec.specs.Layout.{key, code_place, command}
 use Rattle.qz_codec.specs.Zones.{zone_row, IsZoneRow, zone_row_at}
 use Rattle.qz_codec.specs.Values.{IsKey, IsCommand}
-use Rattle.qz_codec.specs.Reading.{node_at, threshold_at, key_at, code_of, chosen, code_at, replacing_at, acquire_at, complete_at, client_command_at, node_command_at}
+use Rattle.qz_codec.specs.Reading.{node_at, threshold_at, key_at, code_of, chosen, code_at, replacing_at, acquire_at, complete_at, later_command_at, client_command_at, node_command_at}
 use Rattle.qz_values.specs.Formats.{IsBytes, EndsNear, Takes, IsFormat, Any}
 use Rattle.qz_values.proofs.Formats.{Both, Passes, ok_is, no_value, those}
 use Rattle.qz_values.proofs.SingleFields.{IsBytes-rest, wide32, wide64, number_format, flag_format}
@@ -120,8 +122,8 @@ acquire : IsVariant make_acquire (λ (x : ℤ × (ℤ × ℕ)). integer w64 x.0 
 unfolding acquire_at max_at
 acquire = read_so acquire_at (variant make_acquire (pair span_format (pair span_format max_format))) (λ bytes. regroup make_acquire (span_at bytes) _ _ (λ no_later. regroup (λ x. make_acquire (no_later.0, x)) (span_at no_later.1) (λ window. max_at window.1) _ (λ window. refl)))
 
-add_zone : IsVariant AddZone zone_row IsZoneRow (λ bytes. as_variant AddZone (zone_row_at bytes)) 6348
-add_zone = variant AddZone zone_row_format
+add_zone : (version : Version) → IsVariant AddZone zone_row (IsZoneRow version) (λ bytes. as_variant AddZone (zone_row_at version bytes)) 6348
+add_zone version = variant AddZone (zone_row_format version)
 
 of_key : (make : Key → Command) → IsVariant make key IsKey (λ bytes. as_variant make (key_at bytes)) 404
 of_key make = variant make key_format
@@ -140,74 +142,97 @@ threshold = variant Threshold (tested is_interval)
 
 -- ---- commands of a client and of a node
 
-pub record IsGiven (by_node : Bool) (c : Command) : Type 0 where
+pub record IsGiven (version : Version) (by_node : Bool) (c : Command) : Type 0 where
   pub actor : is_of_node c ≡ by_node
-  pub valid : IsCommand c
+  pub valid : IsCommand version c
 
-abbrev given_at : Bool → List ℕ → Read Command
-given_at false = client_command_at
-given_at true = node_command_at
+abbrev given_at : Version → Bool → List ℕ → Read Command
+given_at version false = client_command_at version
+given_at version true = node_command_at
 
-again : (c : Command) (rest : List ℕ) → IsCommand c → given_at (is_of_node c) (command c ++ rest) ≡ Ok (c, rest)
-unfolding client_command_at node_command_at command byte_at
-again (AddJob row replace) rest is = (replacing AddJob job_format).again (row, replace) rest (record { first = is; others = tt })
-again (DeleteJob k) rest is = (of_key DeleteJob).again k rest is
-again (AddTrigger row replace) rest is = (replacing AddTrigger spec_format).again (row, replace) rest (record { first = is; others = tt })
-again (DeleteTrigger k) rest is = (of_key DeleteTrigger).again k rest is
-again (PauseTrigger k) rest is = (of_key PauseTrigger).again k rest is
-again (ResumeTrigger k) rest is = (of_key ResumeTrigger).again k rest is
-again (PauseGroup group) rest is = (of_name PauseGroup).again group rest is
-again (ResumeGroup group) rest is = (of_name ResumeGroup).again group rest is
-again (AddCalendar row replace) rest is = (replacing AddCalendar calendar_row_format).again (row, replace) rest (record { first = is; others = tt })
-again (DeleteCalendar name) rest is = (of_name DeleteCalendar).again name rest is
-again (AddZone row) rest is = add_zone.again row rest is
-again (DeleteZone name) rest is = (of_name DeleteZone).again name rest is
-again (TriggerNow k) rest is = (of_key TriggerNow).again k rest is
-again (Threshold ms) rest is = threshold.again ms rest is
-again (Join node) rest is = (of_node Join).again node rest is
-again Leave rest is = refl
-again (Acquire no_later window max) rest is = acquire.again (no_later, (window, max)) rest (record { first = is.0; others = record { first = is.1; others = record { fits = is.2; passed = is.3 } } })
-again (Release entry) rest is = (of_entry Release).again entry rest is
-again (Fire entry) rest is = (of_entry Fire).again entry rest is
-again (Complete entry c) rest is = complete.again (entry, c) rest (record { first = is; others = tt })
-again Misfires rest is = refl
-again (Recover node) rest is = (of_node Recover).again node rest is
+again : (version : Version) (c : Command) (rest : List ℕ) → IsCommand version c → given_at version (is_of_node c) (command version c ++ rest) ≡ Ok (c, rest)
+unfolding client_command_at later_command_at node_command_at command byte_at
+again version (AddJob row replace) rest is = (replacing AddJob job_format).again (row, replace) rest (record { first = is; others = tt })
+again version (DeleteJob k) rest is = (of_key DeleteJob).again k rest is
+again version (AddTrigger row replace) rest is = (replacing AddTrigger (spec_format version)).again (row, replace) rest (record { first = is; others = tt })
+again version (DeleteTrigger k) rest is = (of_key DeleteTrigger).again k rest is
+again version (PauseTrigger k) rest is = (of_key PauseTrigger).again k rest is
+again version (ResumeTrigger k) rest is = (of_key ResumeTrigger).again k rest is
+again version (PauseGroup group) rest is = (of_name PauseGroup).again group rest is
+again version (ResumeGroup group) rest is = (of_name ResumeGroup).again group rest is
+again version (AddCalendar row replace) rest is = (replacing AddCalendar (calendar_row_format version)).again (row, replace) rest (record { first = is; others = tt })
+again version (DeleteCalendar name) rest is = (of_name DeleteCalendar).again name rest is
+again version (AddZone row) rest is = (add_zone version).again row rest is
+again version (DeleteZone name) rest is = (of_name DeleteZone).again name rest is
+again version (TriggerNow k) rest is = (of_key TriggerNow).again k rest is
+again version (Threshold ms) rest is = threshold.again ms rest is
+again version (Join node) rest is = (of_node Join).again node rest is
+again version Leave rest is = refl
+again version (Acquire no_later window max) rest is = acquire.again (no_later, (window, max)) rest (record { first = is.0; others = record { first = is.1; others = record { fits = is.2; passed = is.3 } } })
+again version (Release entry) rest is = (of_entry Release).again entry rest is
+again version (Fire entry) rest is = (of_entry Fire).again entry rest is
+again version (Complete entry c) rest is = complete.again (entry, c) rest (record { first = is; others = tt })
+again version Misfires rest is = refl
+again version (Recover node) rest is = (of_node Recover).again node rest is
+again One Upgrade rest is = absurd (let no = is in cc)
+again One (ResetTrigger k) rest is = absurd (let no = is.0 in cc)
+again One (PauseJobGroup group) rest is = absurd (let no = is.0 in cc)
+again One (ResumeJobGroup group) rest is = absurd (let no = is.0 in cc)
+again Two Upgrade rest is = refl
+again Two (ResetTrigger k) rest is = (of_key ResetTrigger).again k rest is.1
+again Two (PauseJobGroup group) rest is = (of_name PauseJobGroup).again group rest is.1
+again Two (ResumeJobGroup group) rest is = (of_name ResumeJobGroup).again group rest is.1
 
-given_again : (by_node : Bool) (c : Command) (rest : List ℕ) → IsGiven by_node c → given_at by_node (command c ++ rest) ≡ Ok (c, rest)
-given_again by_node c rest is = subst (λ (b : Bool). given_at b (command c ++ rest) ≡ Ok (c, rest)) is.actor (again c rest is.valid)
+given_again : (version : Version) (by_node : Bool) (c : Command) (rest : List ℕ) → IsGiven version by_node c → given_at version by_node (command version c ++ rest) ≡ Ok (c, rest)
+given_again version by_node c rest is = subst (λ (b : Bool). given_at version b (command version c ++ rest) ≡ Ok (c, rest)) is.actor (again version c rest is.valid)
+
+-- a place, and what reads after it
+abbrev Given : Version → Bool → Type 0
+Given version by_node = Part (command version) (IsGiven version by_node) 16995
 
 -- A command after its place, whose fields are all that it asks for.
-abbrev given : {A : Type 0} {make : A → Command} {write : A → List ℕ} {Is : A → Type 0} {read : List ℕ → Read Command} {m : ℕ} {by_node : Bool} (place : ℕ)
-    → IsVariant make write Is read m → m ≤ 16995 → ((x : A) → place ∷ write x ≡ command (make x)) → ((x : A) → Is x → IsGiven by_node (make x)) → Part command (IsGiven by_node) 16995
-given {A} {make} {write} {Is} {read} {m} {by_node} place v le spelled valid = record { place = place; read = read; is = part place v le spelled valid }
+abbrev given : {A : Type 0} {make : A → Command} {write : A → List ℕ} {Is : A → Type 0} {read : List ℕ → Read Command} {m : ℕ} {version : Version} {by_node : Bool} (place : ℕ)
+    → IsVariant make write Is read m → m ≤ 16995 → ((x : A) → place ∷ write x ≡ command version (make x)) → ((x : A) → Is x → IsGiven version by_node (make x)) → Given version by_node
+given {A} {make} {write} {Is} {read} {m} {version} {by_node} place v le spelled valid = record { place = place; read = read; is = part place v le spelled valid }
 
-client_parts : List (Part command (IsGiven false) 16995)
+later_parts : (version : Version) → List (Given version false)
 unfolding command
-client_parts =
+later_parts One = []
+later_parts Two =
+    record { place = 22; read = λ rest. Ok (Upgrade, rest); is = bare 22 Upgrade refl (record { actor = refl; valid = refl }) }
+    ∷ given 23 (of_key ResetTrigger) (omega arith) (λ x. refl) (λ x is. record { actor = refl; valid = (refl, is) })
+    ∷ given 24 (of_name PauseJobGroup) (omega arith) (λ x. refl) (λ x is. record { actor = refl; valid = (refl, is) })
+    ∷ given 25 (of_name ResumeJobGroup) (omega arith) (λ x. refl) (λ x is. record { actor = refl; valid = (refl, is) })
+    ∷ []
+
+client_parts : (version : Version) → List (Given version false)
+unfolding command
+client_parts version =
     given 0 (replacing AddJob job_format) (omega arith) (λ x. refl) (λ x is. record { actor = refl; valid = is.first })
     ∷ given 1 (of_key DeleteJob) (omega arith) (λ x. refl) (λ x is. record { actor = refl; valid = is })
-    ∷ given 2 (replacing AddTrigger spec_format) (omega arith) (λ x. refl) (λ x is. record { actor = refl; valid = is.first })
+    ∷ given 2 (replacing AddTrigger (spec_format version)) (omega arith) (λ x. refl) (λ x is. record { actor = refl; valid = is.first })
     ∷ given 3 (of_key DeleteTrigger) (omega arith) (λ x. refl) (λ x is. record { actor = refl; valid = is })
     ∷ given 4 (of_key PauseTrigger) (omega arith) (λ x. refl) (λ x is. record { actor = refl; valid = is })
     ∷ given 5 (of_key ResumeTrigger) (omega arith) (λ x. refl) (λ x is. record { actor = refl; valid = is })
     ∷ given 6 (of_name PauseGroup) (omega arith) (λ x. refl) (λ x is. record { actor = refl; valid = is })
     ∷ given 7 (of_name ResumeGroup) (omega arith) (λ x. refl) (λ x is. record { actor = refl; valid = is })
-    ∷ given 8 (replacing AddCalendar calendar_row_format) (omega arith) (λ x. refl) (λ x is. record { actor = refl; valid = is.first })
+    ∷ given 8 (replacing AddCalendar (calendar_row_format version)) (omega arith) (λ x. refl) (λ x is. record { actor = refl; valid = is.first })
     ∷ given 9 (of_name DeleteCalendar) (omega arith) (λ x. refl) (λ x is. record { actor = refl; valid = is })
-    ∷ given 10 add_zone (omega arith) (λ x. refl) (λ x is. record { actor = refl; valid = is })
+    ∷ given 10 (add_zone version) (omega arith) (λ x. refl) (λ x is. record { actor = refl; valid = is })
     ∷ given 11 (of_name DeleteZone) (omega arith) (λ x. refl) (λ x is. record { actor = refl; valid = is })
     ∷ given 12 (of_key TriggerNow) (omega arith) (λ x. refl) (λ x is. record { actor = refl; valid = is })
     ∷ given 13 threshold (omega arith) (λ x. refl) (λ x is. record { actor = refl; valid = is })
     ∷ given 14 (of_node Join) (omega arith) (λ x. refl) (λ x is. record { actor = refl; valid = is })
-    ∷ []
+    ∷ later_parts version
 
-pub client_format : IsFormat command Any (IsGiven false) client_command_at 16996
-unfolding client_command_at byte_at client_parts
-client_format = tagged 16995 (choices_of client_parts) (are_parts client_parts) refl (λ b bytes. refl) (given_again false)
+pub client_format : (version : Version) → IsFormat (command version) Any (IsGiven version false) (client_command_at version) 16996
+unfolding client_command_at later_command_at byte_at client_parts later_parts
+client_format One = tagged 16995 (choices_of (client_parts One)) (are_parts (client_parts One)) refl (λ b bytes. refl) (given_again One false)
+client_format Two = tagged 16995 (choices_of (client_parts Two)) (are_parts (client_parts Two)) refl (λ b bytes. refl) (given_again Two false)
 
-node_parts : List (Part command (IsGiven true) 16995)
+node_parts : (version : Version) → List (Given version true)
 unfolding command
-node_parts =
+node_parts version =
     record { place = 15; read = λ rest. Ok (Leave, rest); is = bare 15 Leave refl (record { actor = refl; valid = tt }) }
     ∷ given 16 acquire (omega arith) (λ x. refl) (λ x is. record { actor = refl; valid = (is.first, is.others.first, is.others.others.fits, is.others.others.passed) })
     ∷ given 17 (of_entry Release) (omega arith) (λ x. refl) (λ x is. record { actor = refl; valid = is })
@@ -217,6 +242,6 @@ node_parts =
     ∷ given 21 (of_node Recover) (omega arith) (λ x. refl) (λ x is. record { actor = refl; valid = is })
     ∷ []
 
-pub node_command_format : IsFormat command Any (IsGiven true) node_command_at 16996
+pub node_command_format : (version : Version) → IsFormat (command version) Any (IsGiven version true) node_command_at 16996
 unfolding node_command_at byte_at node_parts
-node_command_format = tagged 16995 (choices_of node_parts) (are_parts node_parts) refl (λ b bytes. refl) (given_again true)
+node_command_format version = tagged 16995 (choices_of (node_parts version)) (are_parts (node_parts version)) refl (λ b bytes. refl) (given_again version true)

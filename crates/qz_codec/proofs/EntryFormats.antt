@@ -5,8 +5,10 @@ use Rattle.qz_types.specs.Entries.{EntryData, is_of_node, has_actor}
 use Rattle.qz_types.specs.declared.commands.Command.{Command}
 use Rattle.qz_types.specs.declared.commands.Actor.{Actor}
 use Rattle.qz_types.specs.declared.commands.Actor.TheVariants.{Client, Node}
-use Rattle.qz_codec.specs.Layout.{actor, command, entry, record_of}
+use Rattle.qz_codec.specs.Layout.{actor, command, entry}
+use Rattle.qz_codec.specs.Records.{IsRecord}
 use Rattle.qz_codec.specs.Values.{IsActor, IsCommand, IsEntry}
+use Rattle.qz_values.specs.declared.versions.Version.{Version}
 use Rattle.qz_values.specs.Fields.{◌>>=◌, Read, as_variant, byte_at, flag_at}
 use Rattle.qz_codec.specs.Reading.{member_at, actor_at, command_at, entry_at}
 use Rattle.qz_values.specs.Formats.{IsBytes, EndsNear, Takes, IsFormat, Any}
@@ -48,9 +50,9 @@ actor_format = record { again = actor_again; takes = actor_takes; near = actor_n
 
 -- ---- commands of an actor
 
-pub record IsFrom (a : Actor) (c : Command) : Type 0 where
+pub record IsFrom (version : Version) (a : Actor) (c : Command) : Type 0 where
   pub asked : has_actor (is_of_node c) a ≡ true
-  pub valid : IsCommand c
+  pub valid : IsCommand version c
 
 of_client : (b : Bool) → has_actor b Client ≡ true → b ≡ false
 of_client true e = sym e
@@ -60,27 +62,27 @@ of_node : (b : Bool) (m : MemberData) → has_actor b (Node m) ≡ true → b �
 of_node true m e = refl
 of_node false m e = e
 
-command_format : (a : Actor) → IsFormat command Any (IsFrom a) (command_at a) 16996
-command_format Client = same {Is' = IsFrom Client} client_format (λ c k. refl) (λ c k p. record { asked = ap (λ (b : Bool). has_actor b Client) p.actor; valid = p.valid }) (λ c k p. record { actor = of_client (is_of_node c) p.asked; valid = p.valid })
-command_format (Node m) = same {Is' = IsFrom (Node m)} node_command_format (λ c k. refl) (λ c k p. record { asked = ap (λ (b : Bool). has_actor b (Node m)) p.actor; valid = p.valid }) (λ c k p. record { actor = of_node (is_of_node c) m p.asked; valid = p.valid })
+command_format : (version : Version) (a : Actor) → IsFormat (command version) Any (IsFrom version a) (command_at version a) 16996
+command_format version Client = same {Is' = IsFrom version Client} (client_format version) (λ c k. refl) (λ c k p. record { asked = ap (λ (b : Bool). has_actor b Client) p.actor; valid = p.valid }) (λ c k p. record { actor = of_client (is_of_node c) p.asked; valid = p.valid })
+command_format version (Node m) = same {Is' = IsFrom version (Node m)} (node_command_format version) (λ c k. refl) (λ c k p. record { asked = ap (λ (b : Bool). has_actor b (Node m)) p.actor; valid = p.valid }) (λ c k p. record { actor = of_node (is_of_node c) m p.asked; valid = p.valid })
 
 -- ---- entries
 
-pub record IsRestOfEntry (e : EntryData) : Type 0 where
+pub record IsRestOfEntry (version : Version) (e : EntryData) : Type 0 where
   pub seat : e.seat < 2 ^ 32
-  pub command : IsCommand e.command
+  pub command : IsCommand version e.command
   pub asked : has_actor (is_of_node e.command) e.actor ≡ true
 
 abbrev Free : {A : Type 0} → A → Type 0
 Free x = Unit {0}
 
-pub entry_format : IsFormat entry Any IsEntry entry_at 17139
+pub entry_format : (version : Version) → IsFormat (entry version) Any (IsEntry version) (entry_at version) 17139
 unfolding entry entry_at
-entry_format = same {write' = entry} {Is' = IsEntry}
+entry_format version = same {write' = entry version} {Is' = IsEntry version}
     (field Free (λ (e : EntryData). e.at) (integer_format wide64 same64) (λ at.
-    field (λ (e : EntryData). Also (Unit {0}) (e.at ≡ at)) (λ (e : EntryData). e.actor) actor_format (λ who. same {Is' = IsRestOfEntry}
+    field (λ (e : EntryData). Also (Unit {0}) (e.at ≡ at)) (λ (e : EntryData). e.actor) actor_format (λ who. same {Is' = IsRestOfEntry version}
     (field (λ (e : EntryData). Also (Also (Unit {0}) (e.at ≡ at)) (e.actor ≡ who)) (λ (e : EntryData). e.seat) (number_format wide32) (λ seat.
-    last (λ (e : EntryData). Also (Also (Also (Unit {0}) (e.at ≡ at)) (e.actor ≡ who)) (e.seat ≡ seat)) (λ (e : EntryData). e.command) (command_format who)
+    last (λ (e : EntryData). Also (Also (Also (Unit {0}) (e.at ≡ at)) (e.actor ≡ who)) (e.seat ≡ seat)) (λ (e : EntryData). e.command) (command_format version who)
     (λ c. record { at = at; actor = who; seat = seat; command = c })
     (λ c. record { before = record { before = record { before = tt; now = refl }; now = refl }; now = refl })
     (λ c. refl) (λ e h. rw (← h.now, ← h.before.now, ← h.before.before.now) refl)))
@@ -92,5 +94,5 @@ entry_format = same {write' = entry} {Is' = IsEntry}
     (λ e h p. record { first = p.at; others = record { first = p.actor; others = record { seat = p.seat; command = p.command; asked = p.asked } } })
 
 -- No two entries have one record.
-pub entry_record_unique : (a b : EntryData) → IsEntry a → IsEntry b → record_of a ≡ record_of b → a ≡ b
-entry_record_unique a b is_a is_b same_record = record_unique entry_format a b is_a is_b same_record
+pub entry_record_unique : (bytes : List ℕ) (a b : EntryData) → IsRecord entry IsEntry bytes a → IsRecord entry IsEntry bytes b → a ≡ b
+entry_record_unique bytes a b is_a is_b = record_unique entry_format bytes a b is_a is_b

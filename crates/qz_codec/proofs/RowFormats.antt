@@ -1,6 +1,7 @@
 -- Names, other texts and spans of time.
-use Rattle.std.proofs.Common.{◌≡◌, Bool, true, refl, arith, false, ◌&&◌, Option, None, Some}
+use Rattle.std.proofs.Common.{◌≡◌, refl, arith}
 use Rattle.qz_types.specs.declared.limits.TheConstants.{NODE_LIMIT, PAYLOAD_LIMIT}
+use Rattle.qz_values.specs.declared.versions.Version.{Version}
 use Rattle.qz_values.specs.Fields.{text, IsText, text_at}
 use Rattle.qz_codec.specs.Reading.{node_at, key_at, job_at, spec_at, member_at}
 use Rattle.qz_values.specs.Formats.{IsFormat, Any}
@@ -57,14 +58,14 @@ job_format = same {write' = job} {Is' = IsJob}
     (λ j h p. record { key = p.first; class = p.others.first; payload = p.others.others.others.others.others })
     (λ j h p. record { first = p.key; others = record { first = p.class; others = record { first = tt; others = record { first = tt; others = record { first = tt; others = p.payload } } } } })
 
-pub spec_format : IsFormat spec Any IsSpec spec_at 1298
+pub spec_format : (version : Version) → IsFormat (spec version) Any (IsSpec version) (spec_at version) 1298
 unfolding spec spec_at
-spec_format = same {write' = spec} {Is' = IsSpec}
+spec_format version = same {write' = spec version} {Is' = IsSpec version}
     (field Free (λ (s : TriggerSpec). s.key) key_format (λ k.
     field (λ (s : TriggerSpec). Also (Unit {0}) (s.key ≡ k)) (λ (s : TriggerSpec). s.job) key_format (λ j.
     field (λ (s : TriggerSpec). Also (Also (Unit {0}) (s.key ≡ k)) (s.job ≡ j)) (λ (s : TriggerSpec). s.priority) (integer_format wide32 same32) (λ priority.
     field (λ (s : TriggerSpec). Also (Also (Also (Unit {0}) (s.key ≡ k)) (s.job ≡ j)) (s.priority ≡ priority)) (λ (s : TriggerSpec). s.calendar) (optional_format name_format) (λ calendar.
-    last (λ (s : TriggerSpec). Also (Also (Also (Also (Unit {0}) (s.key ≡ k)) (s.job ≡ j)) (s.priority ≡ priority)) (s.calendar ≡ calendar)) (λ (s : TriggerSpec). s.timing) timing_format
+    last (λ (s : TriggerSpec). Also (Also (Also (Also (Unit {0}) (s.key ≡ k)) (s.job ≡ j)) (s.priority ≡ priority)) (s.calendar ≡ calendar)) (λ (s : TriggerSpec). s.timing) (timing_format version)
     (λ t. record { key = k; job = j; priority = priority; calendar = calendar; timing = t })
     (λ t. record { before = record { before = record { before = record { before = tt; now = refl }; now = refl }; now = refl }; now = refl })
     (λ t. refl) (λ s h. rw (← h.now, ← h.before.now, ← h.before.before.now, ← h.before.before.before.now) refl))))))
@@ -72,20 +73,20 @@ spec_format = same {write' = spec} {Is' = IsSpec}
     (λ s h p. record { key = p.first; job = p.others.first; priority = p.others.others.first; calendar = p.others.others.others.first; timing = p.others.others.others.others })
     (λ s h p. record { first = p.key; others = record { first = p.job; others = record { first = p.priority; others = record { first = p.calendar; others = p.timing } } } })
 
-pub zone_row_format : IsFormat zone_row Any IsZoneRow zone_row_at 6348
+pub zone_row_format : (version : Version) → IsFormat zone_row Any (IsZoneRow version) (zone_row_at version) 6348
 unfolding zone_row zone_row_at
-zone_row_format = same {write' = zone_row} {Is' = IsZoneRow}
+zone_row_format version = same {write' = zone_row} {Is' = IsZoneRow version}
     (field (λ (z : ZoneData). Unit {0}) (λ (z : ZoneData). z.name) name_format (λ name.
-    last (λ (z : ZoneData). Also (Unit {0}) (z.name ≡ name)) (λ (z : ZoneData). z.stretches) table_format (λ stretches. record { name = name; stretches = stretches }) (λ stretches. record { before = tt; now = refl }) (λ stretches. refl) (λ z h. rw (← h.now) refl)))
+    last (λ (z : ZoneData). Also (Unit {0}) (z.name ≡ name)) (λ (z : ZoneData). z.stretches) (table_format version) (λ stretches. record { name = name; stretches = stretches }) (λ stretches. record { before = tt; now = refl }) (λ stretches. refl) (λ z h. rw (← h.now) refl)))
     (λ z h. refl) (λ z h p. record { name = p.first; stretches = p.others }) (λ z h p. record { first = p.name; others = p.stretches })
 
-pub calendar_row_format : IsFormat calendar_row Any IsCalendarRow calendar_row_at 16994
+pub calendar_row_format : (version : Version) → IsFormat calendar_row Any (IsCalendarRow version) (calendar_row_at version) 16994
 unfolding calendar_row calendar_row_at
-calendar_row_format = same {write' = calendar_row} {Is' = IsCalendarRow}
+calendar_row_format version = same {write' = calendar_row} {Is' = IsCalendarRow version}
     (field (λ (c : CalendarData). Unit {0}) (λ (c : CalendarData). c.name) name_format (λ name.
     field (λ (c : CalendarData). Also (Unit {0}) (c.name ≡ name)) (λ (c : CalendarData). c.base) (optional_format name_format) (λ base.
     field (λ (c : CalendarData). Also (Also (Unit {0}) (c.name ≡ name)) (c.base ≡ base)) (λ (c : CalendarData). c.zone) name_format (λ zone.
-    last (λ (c : CalendarData). Also (Also (Also (Unit {0}) (c.name ≡ name)) (c.base ≡ base)) (c.zone ≡ zone)) (λ (c : CalendarData). c.kind) calendar_kind_format
+    last (λ (c : CalendarData). Also (Also (Also (Unit {0}) (c.name ≡ name)) (c.base ≡ base)) (c.zone ≡ zone)) (λ (c : CalendarData). c.kind) (calendar_kind_format version)
     (λ kind. record { name = name; base = base; zone = zone; kind = kind })
     (λ kind. record { before = record { before = record { before = tt; now = refl }; now = refl }; now = refl })
     (λ kind. refl) (λ c h. rw (← h.now, ← h.before.now, ← h.before.before.now) refl)))))

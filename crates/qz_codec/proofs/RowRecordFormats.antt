@@ -10,6 +10,7 @@ use Rattle.qz_types.specs.declared.fired.FiredState.{FiredState}
 use Rattle.qz_types.specs.declared.fired.FiredState.TheVariants as fired_states
 use Rattle.qz_types.specs.declared.triggers.TriggerState.{TriggerState}
 use Rattle.qz_types.specs.declared.triggers.TriggerState.TheVariants as trigger_states
+use Rattle.qz_values.specs.declared.versions.Version.{Version}
 use Rattle.qz_values.specs.Fields.{number, checked, byte_at, number_at}
 use Rattle.qz_codec.specs.Rows.{trigger_state_place, fired_state_place, trigger, fired, state, IsTrigger, IsFired, IsState, trigger_state_at, fired_state_at, trigger_at, progress_at, fired_at, state_at}
 use Rattle.qz_values.specs.Formats.{IsFormat, Any}
@@ -74,10 +75,10 @@ fired_state_format = tagged 0 fired_state_choices (bare 0 fired_states.Acquired 
 times_format : IsFormat (number w64) Any (λ n. nat_le n TIMES_LIMIT ≡ true) (checked (λ n. nat_le n TIMES_LIMIT) (number_at w64)) 8
 times_format = narrowed wide64 (λ n. nat_le n TIMES_LIMIT) (λ n p. omega (arith, leb-true n TIMES_LIMIT p))
 
-pub trigger_format : IsFormat trigger Any IsTrigger trigger_at 1325
+pub trigger_format : (version : Version) → IsFormat (trigger version) Any (IsTrigger version) (trigger_at version) 1325
 unfolding trigger trigger_at
-trigger_format = same {write' = trigger} {Is' = IsTrigger}
-    (field Free (λ (t : TriggerData). t.spec) spec_format (λ spec.
+trigger_format version = same {write' = trigger version} {Is' = IsTrigger version}
+    (field Free (λ (t : TriggerData). t.spec) (spec_format version) (λ spec.
     field (λ (t : TriggerData). Also (Unit {0}) (t.spec ≡ spec)) (λ (t : TriggerData). t.next) (optional_format (integer_format wide64 same64)) (λ next.
     field (λ (t : TriggerData). Also (Also (Unit {0}) (t.spec ≡ spec)) (t.next ≡ next)) (λ (t : TriggerData). t.prev) (optional_format (integer_format wide64 same64)) (λ prev.
     field (λ (t : TriggerData). Also (Also (Also (Unit {0}) (t.spec ≡ spec)) (t.next ≡ next)) (t.prev ≡ prev)) (λ (t : TriggerData). t.times) times_format (λ times.

@@ -10,9 +10,11 @@ use Rattle.qz_types.specs.declared.triggers.TriggerSpec.{TriggerSpec}
 use Rattle.qz_types.specs.declared.commands.Code.{Code}
 use Rattle.qz_types.specs.declared.commands.Code.TheVariants as code
 use Rattle.qz_types.specs.declared.commands.Command.{Command}
-use Rattle.qz_types.specs.declared.commands.Command.TheVariants.{AddJob, DeleteJob, AddTrigger, DeleteTrigger, PauseTrigger, ResumeTrigger, PauseGroup, ResumeGroup, AddCalendar, DeleteCalendar, AddZone, DeleteZone, TriggerNow, Threshold, Join, Leave, Acquire, Release, Fire, Complete, Misfires, Recover}
+use Rattle.qz_types.specs.declared.commands.Command.TheVariants.{AddJob, DeleteJob, AddTrigger, DeleteTrigger, PauseTrigger, ResumeTrigger, PauseGroup, ResumeGroup, AddCalendar, DeleteCalendar, AddZone, DeleteZone, TriggerNow, Threshold, Join, Leave, Acquire, Release, Fire, Complete, Misfires, Recover, Upgrade, ResetTrigger, PauseJobGroup, ResumeJobGroup}
 use Rattle.qz_types.specs.declared.commands.Actor.{Actor}
 use Rattle.qz_types.specs.declared.commands.Actor.TheVariants.{Client, Node}
+use Rattle.qz_values.specs.declared.versions.Version.{Version}
+use Rattle.qz_values.specs.declared.versions.Version.TheVariants.{One, Two}
 use Rattle.qz_values.specs.Fields.{is_long, ◌>>=◌, Read, checked, byte_at, number_at, integer_at, flag_at, text_at, name_at, span_at, optional_at, as_variant}
 use Rattle.qz_codec.specs.declared.errors.ReadError.{ReadError}
 use Rattle.qz_codec.specs.declared.errors.ReadError.TheVariants as errors
@@ -52,13 +54,13 @@ job_at bytes = do
     payload.1,
   )
 
-unfoldable pub spec_at : List ℕ → Read TriggerSpec
-spec_at bytes = do
+unfoldable pub spec_at : Version → List ℕ → Read TriggerSpec
+spec_at version bytes = do
   key ← key_at bytes
   job ← key_at key.1
   priority ← integer_at w32 job.1
   calendar ← optional_at name_at priority.1
-  timing ← timing_at calendar.1
+  timing ← timing_at version calendar.1
   Ok (record { key = key.0; job = job.0; priority = priority.0; calendar = calendar.0; timing = timing.0 }, timing.1)
 
 unfoldable pub member_at : List ℕ → Read MemberData
@@ -114,26 +116,37 @@ complete_at bytes = do
   code ← code_at entry.1
   Ok (Complete entry.0 code.0, code.1)
 
+-- a client's command that version two alone has
+unfoldable pub later_command_at : Version → List ℕ → Read Command
+later_command_at One bytes = Err (length bytes)
+later_command_at Two bytes = do
+  place ← byte_at bytes
+  if place.0 == 22 then Ok (Upgrade, place.1)
+      else if place.0 == 23 then as_variant ResetTrigger (key_at place.1)
+      else if place.0 == 24 then as_variant PauseJobGroup (name_at place.1)
+      else if place.0 == 25 then as_variant ResumeJobGroup (name_at place.1)
+      else Err (length bytes)
+
 -- a command that a client gives
-unfoldable pub client_command_at : List ℕ → Read Command
-client_command_at bytes = do
+unfoldable pub client_command_at : Version → List ℕ → Read Command
+client_command_at version bytes = do
   place ← byte_at bytes
   if place.0 == 0 then replacing_at AddJob job_at place.1
       else if place.0 == 1 then as_variant DeleteJob (key_at place.1)
-      else if place.0 == 2 then replacing_at AddTrigger spec_at place.1
+      else if place.0 == 2 then replacing_at AddTrigger (spec_at version) place.1
       else if place.0 == 3 then as_variant DeleteTrigger (key_at place.1)
       else if place.0 == 4 then as_variant PauseTrigger (key_at place.1)
       else if place.0 == 5 then as_variant ResumeTrigger (key_at place.1)
       else if place.0 == 6 then as_variant PauseGroup (name_at place.1)
       else if place.0 == 7 then as_variant ResumeGroup (name_at place.1)
-      else if place.0 == 8 then replacing_at AddCalendar calendar_row_at place.1
+      else if place.0 == 8 then replacing_at AddCalendar (calendar_row_at version) place.1
       else if place.0 == 9 then as_variant DeleteCalendar (name_at place.1)
-      else if place.0 == 10 then as_variant AddZone (zone_row_at place.1)
+      else if place.0 == 10 then as_variant AddZone (zone_row_at version place.1)
       else if place.0 == 11 then as_variant DeleteZone (name_at place.1)
       else if place.0 == 12 then as_variant TriggerNow (key_at place.1)
       else if place.0 == 13 then as_variant Threshold (threshold_at place.1)
       else if place.0 == 14 then as_variant Join (node_at place.1)
-      else Err (length bytes)
+      else later_command_at version bytes
 
 -- a command that a node gives under its epoch
 unfoldable pub node_command_at : List ℕ → Read Command
@@ -148,37 +161,54 @@ node_command_at bytes = do
       else if place.0 == 21 then as_variant Recover (node_at place.1)
       else Err (length bytes)
 
-abbrev pub command_at : Actor → List ℕ → Read Command
-command_at Client bytes = client_command_at bytes
-command_at (Node m) bytes = node_command_at bytes
+abbrev pub command_at : Version → Actor → List ℕ → Read Command
+command_at version Client bytes = client_command_at version bytes
+command_at version (Node m) bytes = node_command_at bytes
 
-unfoldable pub entry_at : List ℕ → Read EntryData
-entry_at bytes = do
+unfoldable pub entry_at : Version → List ℕ → Read EntryData
+entry_at version bytes = do
   at ← integer_at w64 bytes
   actor ← actor_at at.1
   seat ← number_at w32 actor.1
-  command ← command_at actor.0 seat.1
+  command ← command_at version actor.0 seat.1
   Ok (record { at = at.0; actor = actor.0; seat = seat.0; command = command.0 }, command.1)
 
--- a whole record: its version, what is read after it, and nothing more
-unfoldable pub whole_at : {A : Type 0} → (List ℕ → Read A) → List ℕ → Result A ℕ
-whole_at read bytes = do
-  version ← checked (λ n. n == 1) byte_at bytes
-  value ← read version.1
-  if length value.1 == 0 then Ok value.0 else Err (length value.1)
+-- the version of a byte
+abbrev pub version_of : ℕ → Option Version
+version_of n = if n == 1 then Some One else if n == 2 then Some Two else None
+
+unfoldable pub version_at : List ℕ → Read Version
+version_at bytes = do
+  n ← byte_at bytes
+  chosen (version_of n.0) (length bytes) n.1
+
+-- A whole record: its version, what is read after it in that version, and nothing more. `meant` is what that means.
+unfoldable pub whole_at : {A B : Type 0} → (Version → A → B) → (Version → List ℕ → Read A) → List ℕ → Result B ℕ
+whole_at meant read bytes = do
+  version ← version_at bytes
+  value ← read version.0 version.1
+  if length value.1 == 0 then Ok (meant version.0 value.0) else Err (length value.1)
 
 -- the place of the fault, from the front
 abbrev pub placed : {A : Type 0} → ℕ → Result A ℕ → Result A ℕ
 placed size (Ok x) = Ok x
 placed size (Err left) = Err (size - left)
 
--- The value whose record the bytes are, or the place of the first wrong field.
-abbrev pub reading_by : {A : Type 0} → (List ℕ → Read A) → List ℕ → Result A ℕ
-reading_by read bytes = placed (length bytes) (whole_at read bytes)
+-- What the record that the bytes are means, or the place of the first wrong field.
+abbrev pub reading_by : {A B : Type 0} → (Version → A → B) → (Version → List ℕ → Read A) → List ℕ → Result B ℕ
+reading_by meant read bytes = placed (length bytes) (whole_at meant read bytes)
 
--- the same of an entry
+-- a value with the version of its record
+abbrev pub with_version : {A : Type 0} → Version → A → Version × A
+with_version version x = (version, x)
+
+-- in either version a value means itself
+abbrev pub itself : {A : Type 0} → Version → A → A
+itself version x = x
+
+-- reading the record of an entry
 abbrev pub reading : List ℕ → Result EntryData ℕ
-reading bytes = reading_by entry_at bytes
+reading bytes = reading_by itself entry_at bytes
 
 -- What a call answered is what reading gives, unless memory ran out.
 abbrev pub Answers : {A : Type 0} → Result A ReadError → Result A ℕ → Type 0

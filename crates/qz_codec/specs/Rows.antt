@@ -8,6 +8,7 @@ use Rattle.qz_types.specs.declared.fired.FiredState.TheVariants as fired_states
 use Rattle.qz_types.specs.declared.keys.Key.{Key}
 use Rattle.qz_types.specs.declared.triggers.TriggerState.{TriggerState}
 use Rattle.qz_types.specs.declared.triggers.TriggerState.TheVariants as trigger_states
+use Rattle.qz_values.specs.declared.versions.Version.{Version}
 use Rattle.qz_values.specs.Fields.{number, integer, flag, text, optional, IsText, IsNumber, ◌>>=◌, Read, checked, byte_at, number_at, integer_at, flag_at, optional_at}
 use Rattle.qz_codec.specs.Layout.{key, spec}
 use Rattle.qz_codec.specs.Values.{IsKey, IsSpec}
@@ -30,9 +31,9 @@ fired_state_place fired_states.Acquired = 0
 fired_state_place fired_states.Executing = 1
 
 -- a trigger: as it was stored, its next and last fire times if it has them, how often it fired, its state
-unfoldable pub trigger : TriggerData → List ℕ
-trigger t =
-    spec t.spec
+unfoldable pub trigger : Version → TriggerData → List ℕ
+trigger version t =
+    spec version t.spec
     ++ (optional (integer w64) t.next
     ++ (optional (integer w64) t.prev ++ (number w64 t.times ++ trigger_state_place t.state ∷ [])))
 
@@ -56,8 +57,8 @@ state s = text s.node ++ (integer w64 s.last ++ integer w64 s.interval)
 
 -- ---- which have a record: their texts are UTF-8, their numbers fit, and each is within its limits
 
-pub record IsTrigger (t : TriggerData) : Type 0 where
-  pub spec : IsSpec t.spec
+pub record IsTrigger (version : Version) (t : TriggerData) : Type 0 where
+  pub spec : IsSpec version t.spec
   pub next : IfSome t.next (FitsSigned w64)
   pub prev : IfSome t.prev (FitsSigned w64)
   pub times : nat_le t.times TIMES_LIMIT ≡ true
@@ -98,9 +99,9 @@ fired_state_at bytes = do
       else if place.0 == 1 then Ok (fired_states.Executing, place.1)
       else Err (length bytes)
 
-unfoldable pub trigger_at : List ℕ → Read TriggerData
-trigger_at bytes = do
-  spec ← spec_at bytes
+unfoldable pub trigger_at : Version → List ℕ → Read TriggerData
+trigger_at version bytes = do
+  spec ← spec_at version bytes
   next ← optional_at (integer_at w64) spec.1
   prev ← optional_at (integer_at w64) next.1
   times ← checked (λ n. nat_le n TIMES_LIMIT) (number_at w64) prev.1

@@ -1,12 +1,16 @@
--- State entries: their bytes, which have a record, and how they are read.
-use Rattle.std.specs.Prelude.{ℕ, ◌^◌, ◌<◌, FitsSigned, List, ◌∷◌, ◌++◌, length, ◌==◌, Ok, Err, if◌then◌else◌}
-use Rattle.std.specs.Int.{w32, w64}
+-- State entries: their bytes, which have a record, how they are read, and what they mean.
+use Rattle.std.specs.Prelude.{◌≡◌, ℕ, ◌^◌, ◌<◌, ℤ, pos, FitsSigned, List, ◌∷◌, ◌++◌, length, ◌==◌, Ok, Err, if◌then◌else◌}
+use Rattle.std.specs.Int.{w32, w64, int_max, int_min}
+use Rattle.qz_civil.specs.declared.limits.TheConstants.{VERSION_ONE_LAST}
 use Rattle.qz_types.specs.Rows.{is_interval}
 use Rattle.qz_types.specs.Entries.{StateEntryData}
 use Rattle.qz_types.specs.declared.limits.TheConstants.{NODE_LIMIT}
 use Rattle.qz_types.specs.declared.states.StateCommand.{StateCommand}
 use Rattle.qz_types.specs.declared.states.StateCommand.TheVariants.{CheckIn, Forget}
+use Rattle.qz_values.specs.declared.versions.Version.{Version}
+use Rattle.qz_values.specs.declared.versions.Version.TheVariants.{One, Two}
 use Rattle.qz_values.specs.Fields.{number, integer, text, IsText, IsNumber, ◌>>=◌, Read, checked, byte_at, number_at, integer_at}
+use Rattle.qz_codec.specs.Records.{recorded}
 use Rattle.qz_codec.specs.Reading.{node_at}
 
 -- ---- bytes
@@ -58,3 +62,27 @@ state_entry_at bytes = do
   seat ← number_at w32 at.1
   command ← state_command_at seat.1
   Ok (record { at = at.0; seat = seat.0; command = command.0 }, command.1)
+
+-- ---- what they mean
+
+-- the nearest moment from 0 to the last one of version one
+abbrev pub clamped : ℤ → ℤ
+clamped t = int_max (pos 0) (int_min t VERSION_ONE_LAST)
+
+-- An entry in a record of version one means the one with its reading clamped. In version two it means itself.
+abbrev pub meant : Version → StateEntryData → StateEntryData
+meant One e = record { at = clamped e.at; seat = e.seat; command = e.command }
+meant Two e = e
+
+-- what is written is the same in both versions
+abbrev pub state_fields : Version → StateEntryData → List ℕ
+state_fields version e = state_entry e
+
+-- The bytes are a record of the entry, in version one or in version two.
+pub record IsStateRecord (bytes : List ℕ) (e : StateEntryData) : Type 0 where
+  pub version : Version
+  -- what stands in the record
+  pub stored : StateEntryData
+  pub has : IsStateEntry stored
+  pub bytes_are : bytes ≡ recorded state_fields version stored
+  pub means : e ≡ meant version stored

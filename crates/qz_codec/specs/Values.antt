@@ -1,4 +1,4 @@
--- Which entries have a record: numbers fit their types, texts are UTF-8, and everything is within its limits.
+-- Which entries have a record of a version: numbers fit their types, texts are UTF-8, and everything is within its limits.
 use Rattle.std.specs.Prelude.{◌≡◌, ◌^◌, ◌<◌, true, IfSome, FitsSigned}
 use Rattle.std.specs.Int.{w32, w64}
 use Rattle.qz_types.specs.Rows.{JobData, MemberData, is_interval}
@@ -7,11 +7,13 @@ use Rattle.qz_types.specs.declared.limits.TheConstants.{ACQUIRE_LIMIT, NODE_LIMI
 use Rattle.qz_types.specs.declared.keys.Key.{Key}
 use Rattle.qz_types.specs.declared.triggers.TriggerSpec.{TriggerSpec}
 use Rattle.qz_types.specs.declared.commands.Command.{Command}
-use Rattle.qz_types.specs.declared.commands.Command.TheVariants.{AddJob, DeleteJob, AddTrigger, DeleteTrigger, PauseTrigger, ResumeTrigger, PauseGroup, ResumeGroup, AddCalendar, DeleteCalendar, AddZone, DeleteZone, TriggerNow, Threshold, Join, Leave, Acquire, Release, Fire, Complete, Misfires, Recover}
+use Rattle.qz_types.specs.declared.commands.Command.TheVariants.{AddJob, DeleteJob, AddTrigger, DeleteTrigger, PauseTrigger, ResumeTrigger, PauseGroup, ResumeGroup, AddCalendar, DeleteCalendar, AddZone, DeleteZone, TriggerNow, Threshold, Join, Leave, Acquire, Release, Fire, Complete, Misfires, Recover, Upgrade, ResetTrigger, PauseJobGroup, ResumeJobGroup}
 use Rattle.qz_types.specs.declared.commands.Actor.{Actor}
 use Rattle.qz_types.specs.declared.commands.Actor.TheVariants.{Client, Node}
 use Rattle.qz_codec.specs.Zones.{IsZoneRow}
 use Rattle.qz_codec.specs.Calendars.{IsCalendarRow}
+use Rattle.qz_values.specs.declared.versions.Version.{Version}
+use Rattle.qz_values.specs.declared.versions.Version.TheVariants.{Two}
 use Rattle.qz_values.specs.Fields.{is_long, IsText, IsName, IsNumber, IsSpan}
 use Rattle.qz_values.specs.Timings.{IsTiming}
 
@@ -25,12 +27,12 @@ pub record IsJob (j : JobData) : Type 0 where
   pub class : IsName j.class
   pub payload : IsText 0 PAYLOAD_LIMIT j.payload
 
-pub record IsSpec (s : TriggerSpec) : Type 0 where
+pub record IsSpec (version : Version) (s : TriggerSpec) : Type 0 where
   pub key : IsKey s.key
   pub job : IsKey s.job
   pub priority : FitsSigned w32 s.priority
   pub calendar : IfSome s.calendar IsName
-  pub timing : IsTiming s.timing
+  pub timing : IsTiming version s.timing
 
 pub record IsMember (m : MemberData) : Type 0 where
   pub node : IsText 1 NODE_LIMIT m.node
@@ -41,36 +43,40 @@ abbrev pub IsActor : Actor → Type 0
 IsActor Client = Unit {0}
 IsActor (Node m) = IsMember m
 
--- what is in the command has a record
-abbrev pub IsCommand : Command → Type 0
-IsCommand (AddJob job replace) = IsJob job
-IsCommand (DeleteJob key) = IsKey key
-IsCommand (AddTrigger spec replace) = IsSpec spec
-IsCommand (DeleteTrigger key) = IsKey key
-IsCommand (PauseTrigger key) = IsKey key
-IsCommand (ResumeTrigger key) = IsKey key
-IsCommand (PauseGroup group) = IsName group
-IsCommand (ResumeGroup group) = IsName group
-IsCommand (AddCalendar calendar replace) = IsCalendarRow calendar
-IsCommand (DeleteCalendar name) = IsName name
-IsCommand (AddZone zone) = IsZoneRow zone
-IsCommand (DeleteZone name) = IsName name
-IsCommand (TriggerNow job) = IsKey job
-IsCommand (Threshold ms) = IsNumber w64 is_interval ms
-IsCommand (Join node) = IsText 1 NODE_LIMIT node
-IsCommand Leave = Unit {0}
-IsCommand (Acquire no_later window max) =
+-- what is in the command has a record; the last four commands have one in version two alone
+abbrev pub IsCommand : Version → Command → Type 0
+IsCommand version (AddJob job replace) = IsJob job
+IsCommand version (DeleteJob key) = IsKey key
+IsCommand version (AddTrigger spec replace) = IsSpec version spec
+IsCommand version (DeleteTrigger key) = IsKey key
+IsCommand version (PauseTrigger key) = IsKey key
+IsCommand version (ResumeTrigger key) = IsKey key
+IsCommand version (PauseGroup group) = IsName group
+IsCommand version (ResumeGroup group) = IsName group
+IsCommand version (AddCalendar calendar replace) = IsCalendarRow version calendar
+IsCommand version (DeleteCalendar name) = IsName name
+IsCommand version (AddZone zone) = IsZoneRow version zone
+IsCommand version (DeleteZone name) = IsName name
+IsCommand version (TriggerNow job) = IsKey job
+IsCommand version (Threshold ms) = IsNumber w64 is_interval ms
+IsCommand version (Join node) = IsText 1 NODE_LIMIT node
+IsCommand version Leave = Unit {0}
+IsCommand version (Acquire no_later window max) =
     IsSpan no_later × IsSpan window × (max < 2 ^ 32) × (is_long 1 ACQUIRE_LIMIT max ≡ true)
-IsCommand (Release entry) = entry < 2 ^ 64
-IsCommand (Fire entry) = entry < 2 ^ 64
-IsCommand (Complete entry code) = entry < 2 ^ 64
-IsCommand Misfires = Unit {0}
-IsCommand (Recover node) = IsText 1 NODE_LIMIT node
+IsCommand version (Release entry) = entry < 2 ^ 64
+IsCommand version (Fire entry) = entry < 2 ^ 64
+IsCommand version (Complete entry code) = entry < 2 ^ 64
+IsCommand version Misfires = Unit {0}
+IsCommand version (Recover node) = IsText 1 NODE_LIMIT node
+IsCommand version Upgrade = version ≡ Two
+IsCommand version (ResetTrigger key) = (version ≡ Two) × IsKey key
+IsCommand version (PauseJobGroup group) = (version ≡ Two) × IsName group
+IsCommand version (ResumeJobGroup group) = (version ≡ Two) × IsName group
 
-pub record IsEntry (e : EntryData) : Type 0 where
+pub record IsEntry (version : Version) (e : EntryData) : Type 0 where
   pub at : FitsSigned w64 e.at
   pub actor : IsActor e.actor
   pub seat : e.seat < 2 ^ 32
-  pub command : IsCommand e.command
+  pub command : IsCommand version e.command
   -- the commands of a node have one as actor, and the others a client
   pub asked : has_actor (is_of_node e.command) e.actor ≡ true

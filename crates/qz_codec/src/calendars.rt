@@ -4,12 +4,13 @@ ghost use Rattle.qz_types.specs.Rows.{is_calendar};
 ghost use Rattle.qz_values.specs.Reading.{Gives};
 ghost use Rattle.qz_values.specs.Fields.{name_at, optional_at, IsName, text, optional};
 ghost use Rattle.qz_codec.specs.Calendars.{calendar_row, IsCalendarRow, calendar_row_at};
+ghost use Rattle.qz_values.specs.declared.versions.Version.TheVariants.{Two};
 
-use crate::records::Recorded;
+use crate::records::{Recorded, Row};
 use qz_civil::beside;
 use qz_types::{CalendarRow, Text};
 use qz_values::{
-    Fault, bool_at, calendar_kind_of, make_texts, name_of, owned_name_of, put_bool,
+    Fault, Version, bool_at, calendar_kind_of, make_texts, name_of, owned_name_of, put_bool,
     put_calendar_kind, put_name,
 };
 use std::alloc::{AllocError, Global};
@@ -42,14 +43,21 @@ pub(crate) fn put_calendar(out: &mut Vec<u8>, calendar: &Option<Text>) -> Result
 }
 
 #[tactic(auto, unfolding(crate::specs::Calendars::calendar_row_at))]
-pub(crate) fn calendar_row_of(alloc: Global, bytes: &[u8]) -> Result<(CalendarRow, &[u8]), Fault>
-    ensures { Gives (λ x. (x.0, x.1.now)) result (calendar_row_at bytes.now) }
+pub(crate) fn calendar_row_of(
+    alloc: Global,
+    version: Version,
+    bytes: &[u8],
+) -> Result<(CalendarRow, &[u8]), Fault>
+    ensures { Gives (λ x. (x.0, x.1.now)) result (calendar_row_at version bytes.now) }
 {
     let (name, rest) = name_of(bytes)?;
     let (base, rest) = calendar_of(alloc, rest)?;
     let (base, (zone, rest)) = beside(base, name_of(rest))?;
     let named = beside(base, make_texts(alloc, name, zone))?;
-    let ((base, (name, zone)), (kind, rest)) = beside(named, calendar_kind_of(alloc, rest))?;
+    let ((base, (name, zone)), (kind, rest)) = beside(
+        named,
+        calendar_kind_of(alloc, version, rest),
+    )?;
     let row = CalendarRow {
         name,
         base,
@@ -62,7 +70,7 @@ pub(crate) fn calendar_row_of(alloc: Global, bytes: &[u8]) -> Result<(CalendarRo
 #[tactic(auto, unfolding(crate::specs::Calendars::calendar_row))]
 pub(crate) fn put_calendar_row(out: &mut Vec<u8>, row: &CalendarRow) -> Result<(), AllocError>
     ensures bytes { OnOk result (out.new.items ≡ out.old.items ++ calendar_row row.now) }
-    ensures valid { OnOk result (IsCalendarRow row.now) }
+    ensures valid { OnOk result (IsCalendarRow Two row.now) }
 {
     put_name(out, &row.name)?;
     put_calendar(out, &row.base)?;
@@ -73,7 +81,7 @@ pub(crate) fn put_calendar_row(out: &mut Vec<u8>, row: &CalendarRow) -> Result<(
 impl Recorded for CalendarRow {
     ghost can_put = { λ row. Unit {0} };
 
-    ghost fields = { calendar_row };
+    ghost fields = { λ version. calendar_row };
 
     ghost has_record = { IsCalendarRow };
 
@@ -85,9 +93,15 @@ impl Recorded for CalendarRow {
         put_calendar_row(out, self)
     }
 
-    fn fields_of(alloc: Global, bytes: &[u8]) -> Result<(CalendarRow, &[u8]), Fault> {
-        calendar_row_of(alloc, bytes)
+    fn fields_of(
+        alloc: Global,
+        version: Version,
+        bytes: &[u8],
+    ) -> Result<(CalendarRow, &[u8]), Fault> {
+        calendar_row_of(alloc, version, bytes)
     }
 
     fn is_format() {}
 }
+
+impl Row for CalendarRow {}

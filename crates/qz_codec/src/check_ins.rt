@@ -7,9 +7,9 @@ ghost use Rattle.qz_values.specs.Reading.{Gives};
 ghost use Rattle.qz_codec.specs.Rows.{state, IsState, state_at};
 
 use crate::members::{node_of, put_node};
-use crate::records::Recorded;
+use crate::records::{Recorded, Row};
 use qz_types::{INTERVAL_LIMIT, StateRow, Text};
-use qz_values::{Fault, i64_at, is_between, put_i64};
+use qz_values::{Fault, Version, i64_at, is_between, put_i64};
 use std::alloc::{AllocError, Global};
 
 /// A check-in interval or a threshold, in ms.
@@ -59,11 +59,11 @@ fn put_state(out: &mut Vec<u8>, row: &StateRow) -> Result<(), AllocError>
 impl Recorded for StateRow {
     ghost can_put = { λ row. Unit {0} };
 
-    ghost fields = { state };
+    ghost fields = { λ version. state };
 
-    ghost has_record = { IsState };
+    ghost has_record = { λ version. IsState };
 
-    ghost fields_at = { state_at };
+    ghost fields_at = { λ version. state_at };
 
     ghost most = { 138 };
 
@@ -71,9 +71,15 @@ impl Recorded for StateRow {
         put_state(out, self)
     }
 
-    fn fields_of(alloc: Global, bytes: &[u8]) -> Result<(StateRow, &[u8]), Fault> {
+    fn fields_of(
+        alloc: Global,
+        _version: Version,
+        bytes: &[u8],
+    ) -> Result<(StateRow, &[u8]), Fault> {
         state_of(alloc, bytes)
     }
 
     fn is_format() {}
 }
+
+impl Row for StateRow {}

@@ -8,15 +8,17 @@ ghost use Rattle.qz_codec.specs.Reading.{actor_at, Answers, entry_at, reading};
 ghost use Rattle.qz_types.specs.Entries.{EntryData, is_entry};
 ghost use Rattle.qz_codec.specs.declared.limits.TheConstants.{RECORD_LIMIT};
 ghost use Rattle.qz_codec.specs.Values.{IsActor, IsEntry};
-ghost use Rattle.qz_codec.specs.Layout.{member, actor, command, entry, record_of};
+ghost use Rattle.qz_codec.specs.Layout.{member, actor, command, entry, entry as fields_of_entry, record_of};
+ghost use Rattle.qz_codec.specs.Records.{IsRecord};
+ghost use Rattle.qz_values.specs.declared.versions.Version.TheVariants.{Two};
 
 use crate::commands::{command_of, put_whole_command};
 use crate::errors::ReadError;
 use crate::members::{member_of, put_member};
-use crate::records::{Recorded, read, write};
+use crate::records::{Recorded, read_value, write};
 use qz_civil::beside;
 use qz_types::{Actor, Entry, List, NoMemory};
-use qz_values::{Fault, bool_at, i64_at, put_bool, put_i64, put_u32, u32_at};
+use qz_values::{Fault, Version, bool_at, i64_at, put_bool, put_i64, put_u32, u32_at};
 use std::alloc::{AllocError, Global};
 
 #[tactic(auto, unfolding(crate::specs::Reading::actor_at))]
@@ -46,13 +48,13 @@ fn put_actor(out: &mut Vec<u8>, who: &Actor) -> Result<(), AllocError>
 }
 
 #[tactic(auto, unfolding(crate::specs::Reading::entry_at, qz_types::specs::Entries::is_entry))]
-fn entry_of(alloc: Global, bytes: &[u8]) -> Result<(Entry, &[u8]), Fault>
-    ensures { Gives (λ x. (x.0, x.1.now)) result (entry_at bytes.now) }
+fn entry_of(alloc: Global, version: Version, bytes: &[u8]) -> Result<(Entry, &[u8]), Fault>
+    ensures { Gives (λ x. (x.0, x.1.now)) result (entry_at version bytes.now) }
 {
     let (at, rest) = i64_at(bytes)?;
     let (actor, rest) = actor_of(alloc, rest)?;
     let (actor, (seat, rest)) = beside(actor, u32_at(rest))?;
-    let command = command_of(alloc, &actor, rest);
+    let command = command_of(alloc, version, &actor, rest);
     let (actor, (command, rest)) = beside(actor, command)?;
     let entry = Entry {
         at,
@@ -65,8 +67,8 @@ fn entry_of(alloc: Global, bytes: &[u8]) -> Result<(Entry, &[u8]), Fault>
 
 #[tactic(auto, unfolding(crate::specs::Layout::entry, qz_types::specs::Entries::is_entry), using(qz_values::proofs::Signs::signs))]
 fn put_entry(out: &mut Vec<u8>, e: &Entry) -> Result<(), AllocError>
-    ensures bytes { OnOk result (out.new.items ≡ out.old.items ++ entry e.now) }
-    ensures valid { OnOk result (IsEntry e.now) }
+    ensures bytes { OnOk result (out.new.items ≡ out.old.items ++ entry Two e.now) }
+    ensures valid { OnOk result (IsEntry Two e.now) }
 {
     put_i64(out, e.at)?;
     put_actor(out, &e.actor)?;
@@ -89,35 +91,35 @@ impl Recorded for Entry {
         put_entry(out, self)
     }
 
-    fn fields_of(alloc: Global, bytes: &[u8]) -> Result<(Entry, &[u8]), Fault> {
-        entry_of(alloc, bytes)
+    fn fields_of(alloc: Global, version: Version, bytes: &[u8]) -> Result<(Entry, &[u8]), Fault> {
+        entry_of(alloc, version, bytes)
     }
 
     fn is_format() {}
 }
 
-/// The record of an entry.
+/// The record of an entry, in version two.
 pub fn put_command(alloc: Global, entry: &Entry) -> Result<List<u8>, NoMemory>
     ensures bytes { IfOk result (λ bytes. bytes ≡ record_of entry.now) }
     ensures size { IfOk result (λ bytes. (1 ≤ length bytes) × (length bytes ≤ RECORD_LIMIT)) }
     // So its record is read as this entry.
-    ensures valid { OnOk result (IsEntry entry.now) }
+    ensures valid { OnOk result (IsEntry Two entry.now) }
     // No other entry has this record.
-    ensures unique { OnOk result ((e : EntryData) → IsEntry e → record_of e ≡ record_of entry.now → e ≡ entry.now) }
+    ensures unique { IfOk result (λ bytes. (e : EntryData) → IsRecord fields_of_entry IsEntry bytes e → e ≡ entry.now) }
 {
     write(alloc, entry)
 }
 
-/// Reads the record of an entry from any number of bytes. `BadRecord` comes only where they are no such record, at the
-/// first wrong field, or at the record's end where bytes follow it; those aren't looked at. `NoMemory` may come at any
-/// time.
+/// Reads the record of an entry, in version one or two, from any number of bytes. `BadRecord` comes only where they are no
+/// such record, at the first wrong field, or at the record's end where bytes follow it; those aren't looked at.
+/// `NoMemory` may come at any time.
 pub fn get_command(alloc: Global, bytes: &[u8]) -> Result<Entry, ReadError>
-    // What is read has these bytes as its record.
-    ensures found { IfOk result (λ e. IsEntry e × (bytes.now ≡ record_of e)) }
-    // The record of an entry is read as that entry, unless memory runs out.
-    ensures only { (e : EntryData) → IsEntry e → bytes.now ≡ record_of e → Answers result (Ok e) }
+    // The bytes are a record of what is read.
+    ensures found { IfOk result (λ e. IsRecord entry IsEntry bytes.now e) }
+    // A record of an entry is read as that entry, unless memory runs out.
+    ensures only { (e : EntryData) → IsRecord entry IsEntry bytes.now e → Answers result (Ok e) }
     // Which place is the fault's.
     ensures exact { Answers result (reading bytes.now) }
 {
-    read(alloc, bytes)
+    read_value(alloc, bytes)
 }

@@ -11,12 +11,12 @@ ghost use Rattle.qz_codec.specs.Rows.{fired_state_place, fired, IsFired, fired_s
 
 use crate::keys::{make_keys, names_of, put_key};
 use crate::members::{node_of, put_node};
-use crate::records::Recorded;
+use crate::records::{Recorded, Row};
 use qz_civil::beside;
 use qz_types::{FiredRow, FiredState, Key, Text};
 use qz_values::{
-    Fault, bool_at, i32_at, i64_at, put_bool, put_i32, put_i64, put_time, put_u8, put_u64, time_of,
-    u8_at, u64_at,
+    Fault, Version, bool_at, i32_at, i64_at, put_bool, put_i32, put_i64, put_time, put_u8, put_u64,
+    time_of, u8_at, u64_at,
 };
 use std::alloc::{AllocError, Global};
 
@@ -147,11 +147,11 @@ fn put_fired(out: &mut Vec<u8>, row: &FiredRow) -> Result<(), AllocError>
 impl Recorded for FiredRow {
     ghost can_put = { λ row. Unit {0} };
 
-    ghost fields = { fired };
+    ghost fields = { λ version. fired };
 
-    ghost has_record = { IsFired };
+    ghost has_record = { λ version. IsFired };
 
-    ghost fields_at = { fired_at };
+    ghost fields_at = { λ version. fired_at };
 
     ghost most = { 970 };
 
@@ -159,9 +159,15 @@ impl Recorded for FiredRow {
         put_fired(out, self)
     }
 
-    fn fields_of(alloc: Global, bytes: &[u8]) -> Result<(FiredRow, &[u8]), Fault> {
+    fn fields_of(
+        alloc: Global,
+        _version: Version,
+        bytes: &[u8],
+    ) -> Result<(FiredRow, &[u8]), Fault> {
         fired_of(alloc, bytes)
     }
 
     fn is_format() {}
 }
+
+impl Row for FiredRow {}

@@ -6,10 +6,12 @@ ghost use Rattle.qz_codec.specs.Values.{IsJob};
 ghost use Rattle.qz_codec.specs.Layout.{key, job, entry};
 
 use crate::keys::{names_of, put_key};
-use crate::records::Recorded;
+use crate::records::{Recorded, Row};
 use qz_civil::beside;
 use qz_types::{JobRow, Key, PAYLOAD_LIMIT, Text};
-use qz_values::{Fault, bool_at, make_texts, name_of, put_bool, put_name, put_str, str_at};
+use qz_values::{
+    Fault, Version, bool_at, make_texts, name_of, put_bool, put_name, put_str, str_at,
+};
 use std::alloc::{AllocError, Global};
 
 /// Memory for what a job has of texts.
@@ -64,11 +66,11 @@ pub(crate) fn put_job(out: &mut Vec<u8>, row: &JobRow) -> Result<(), AllocError>
 impl Recorded for JobRow {
     ghost can_put = { λ row. Unit {0} };
 
-    ghost fields = { job };
+    ghost fields = { λ version. job };
 
-    ghost has_record = { IsJob };
+    ghost has_record = { λ version. IsJob };
 
-    ghost fields_at = { job_at };
+    ghost fields_at = { λ version. job_at };
 
     ghost most = { 4707 };
 
@@ -76,9 +78,11 @@ impl Recorded for JobRow {
         put_job(out, self)
     }
 
-    fn fields_of(alloc: Global, bytes: &[u8]) -> Result<(JobRow, &[u8]), Fault> {
+    fn fields_of(alloc: Global, _version: Version, bytes: &[u8]) -> Result<(JobRow, &[u8]), Fault> {
         job_of(alloc, bytes)
     }
 
     fn is_format() {}
 }
+
+impl Row for JobRow {}

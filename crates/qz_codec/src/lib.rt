@@ -1,4 +1,5 @@
-//! Records: the bytes of an entry of a store's history and of a row, both ways. `docs/specification/records.md` has the
+//! Records: the bytes of an entry of a store's history and of a row, both ways. They are written in version two, and read in
+//! both versions. `docs/specification/records.md` has the
 //! format, and `qz_values` the single values.
 #![tactic(auto)]
 
@@ -22,5 +23,5 @@ mod zones;
 pub use entries::{get_command, put_command};
 pub use errors::ReadError;
 pub use limits::RECORD_LIMIT;
-pub use records::{Recorded, get_row, put_row};
+pub use records::{Recorded, Row, get_row, put_row};
 pub use states::{get_state, put_state};

@@ -7,9 +7,9 @@ ghost use Rattle.qz_codec.specs.Reading.{node_at, member_at};
 ghost use Rattle.qz_codec.specs.Values.{IsMember};
 ghost use Rattle.qz_codec.specs.Layout.{member};
 
-use crate::records::Recorded;
+use crate::records::{Recorded, Row};
 use qz_types::{MemberRow, NODE_LIMIT, Text};
-use qz_values::{Fault, put_str, put_u64, str_at, u64_at};
+use qz_values::{Fault, Version, put_str, put_u64, str_at, u64_at};
 use std::alloc::{AllocError, Global};
 
 pub(crate) fn node_of(bytes: &[u8]) -> Result<(&str, &[u8]), Fault>
@@ -61,11 +61,11 @@ pub(crate) fn put_member(out: &mut Vec<u8>, row: &MemberRow) -> Result<(), Alloc
 impl Recorded for MemberRow {
     ghost can_put = { λ row. Unit {0} };
 
-    ghost fields = { member };
+    ghost fields = { λ version. member };
 
-    ghost has_record = { IsMember };
+    ghost has_record = { λ version. IsMember };
 
-    ghost fields_at = { member_at };
+    ghost fields_at = { λ version. member_at };
 
     ghost most = { 130 };
 
@@ -73,9 +73,15 @@ impl Recorded for MemberRow {
         put_member(out, self)
     }
 
-    fn fields_of(alloc: Global, bytes: &[u8]) -> Result<(MemberRow, &[u8]), Fault> {
+    fn fields_of(
+        alloc: Global,
+        _version: Version,
+        bytes: &[u8],
+    ) -> Result<(MemberRow, &[u8]), Fault> {
         member_of(alloc, bytes)
     }
 
     fn is_format() {}
 }
+
+impl Row for MemberRow {}

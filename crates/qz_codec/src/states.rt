@@ -2,17 +2,19 @@
 ghost use Rattle.std.specs.Prelude.{◌≡◌, ◌≤◌, ◌++◌, ℕ, length, IfOk, OnOk, IsTrue, Ok};
 ghost use Rattle.qz_types.specs.Entries.{StateEntryData, is_state_command};
 ghost use Rattle.qz_codec.specs.declared.limits.TheConstants.{RECORD_LIMIT};
-ghost use Rattle.qz_codec.specs.Layout.{recorded};
+ghost use Rattle.qz_codec.specs.Records.{recorded};
+ghost use Rattle.qz_values.specs.declared.versions.Version.TheVariants.{Two};
 ghost use Rattle.qz_values.specs.Reading.{Gives};
 ghost use Rattle.qz_codec.specs.Reading.{Answers, reading_by};
-ghost use Rattle.qz_codec.specs.States.{state_command, state_entry, IsStateCommand, IsStateEntry, check_in_at, forget_at, state_command_at, state_entry_at};
+ghost use Rattle.qz_codec.specs.States.{state_command, state_entry, state_fields, IsStateCommand, IsStateEntry, check_in_at, forget_at, state_command_at, state_entry_at, clamped, meant, IsStateRecord};
 
 use crate::check_ins::{interval_of, put_interval};
 use crate::errors::ReadError;
 use crate::members::{node_of, put_node};
 use crate::records::{Recorded, read, write};
+use qz_civil::VERSION_ONE_LAST;
 use qz_types::{List, NoMemory, StateCommand, StateEntry, Text};
-use qz_values::{Fault, i64_at, put_i64, put_u8, put_u32, u8_at, u32_at};
+use qz_values::{Fault, Version, i64_at, put_i64, put_u8, put_u32, u8_at, u32_at};
 use std::alloc::{AllocError, Global};
 
 #[tactic(auto, unfolding(crate::specs::States::check_in_at))]
@@ -93,11 +95,11 @@ fn put_state_entry(out: &mut Vec<u8>, entry: &StateEntry) -> Result<(), AllocErr
 impl Recorded for StateEntry {
     ghost can_put = { λ e. Unit {0} };
 
-    ghost fields = { state_entry };
+    ghost fields = { state_fields };
 
-    ghost has_record = { IsStateEntry };
+    ghost has_record = { λ version. IsStateEntry };
 
-    ghost fields_at = { state_entry_at };
+    ghost fields_at = { λ version. state_entry_at };
 
     ghost most = { 143 };
 
@@ -105,35 +107,64 @@ impl Recorded for StateEntry {
         put_state_entry(out, self)
     }
 
-    fn fields_of(alloc: Global, bytes: &[u8]) -> Result<(StateEntry, &[u8]), Fault> {
+    fn fields_of(
+        alloc: Global,
+        _version: Version,
+        bytes: &[u8],
+    ) -> Result<(StateEntry, &[u8]), Fault> {
         state_entry_of(alloc, bytes)
     }
 
     fn is_format() {}
 }
 
-/// The record of a state entry.
+/// The record of a state entry, in version two.
 pub fn put_state(alloc: Global, entry: &StateEntry) -> Result<List<u8>, NoMemory>
-    ensures bytes { IfOk result (λ bytes. bytes ≡ recorded state_entry entry.now) }
+    ensures bytes { IfOk result (λ bytes. bytes ≡ recorded state_fields Two entry.now) }
     ensures size { IfOk result (λ bytes. (1 ≤ length bytes) × (length bytes ≤ RECORD_LIMIT)) }
     // So its record is read as this entry.
     ensures valid { OnOk result (IsStateEntry entry.now) }
     // No other entry has this record.
-    ensures unique { OnOk result ((e : StateEntryData) → IsStateEntry e → recorded state_entry e ≡ recorded state_entry entry.now → e ≡ entry.now) }
+    ensures unique { IfOk result (λ bytes. (e : StateEntryData) → IsStateRecord bytes e → e ≡ entry.now) }
 {
     write(alloc, entry)
 }
 
-/// Reads the record of a state entry from any number of bytes. `BadRecord` comes only where they are no such record, at
-/// the first wrong field, or at the record's end where bytes follow it; those aren't looked at. `NoMemory` may come at
-/// any time.
-pub fn get_state(alloc: Global, bytes: &[u8]) -> Result<StateEntry, ReadError>
-    // What is read has these bytes as its record.
-    ensures found { IfOk result (λ e. IsStateEntry e × (bytes.now ≡ recorded state_entry e)) }
-    // The record of an entry is read as that entry, unless memory runs out.
-    ensures only { (e : StateEntryData) → IsStateEntry e → bytes.now ≡ recorded state_entry e → Answers result (Ok e) }
-    // Which place is the fault's.
-    ensures exact { Answers result (reading_by state_entry_at bytes.now) }
+/// The moment that is nearest to this reading of the clock and that stores of version one know.
+fn clamp(ms: i64) -> i64
+    ensures { result ≡ clamped ms }
 {
-    read(alloc, bytes)
+    ms.min(VERSION_ONE_LAST).max(0)
+}
+
+/// What an entry that stands in a record of this version means.
+fn meaning(version: Version, entry: StateEntry) -> StateEntry
+    ensures { result ≡ meant version entry }
+{
+    match version {
+        Version::One => {
+            let StateEntry { at, seat, command } = entry;
+            StateEntry {
+                at: clamp(at),
+                seat,
+                command,
+            }
+        }
+        Version::Two => entry,
+    }
+}
+
+/// Reads the record of a state entry, in version one or two, from any number of bytes. Of a record of version one the
+/// reading is clamped to 0 to `VERSION_ONE_LAST`. `BadRecord` comes only where the bytes are no such record, at the first
+/// wrong field, or at the record's end where bytes follow it; those aren't looked at. `NoMemory` may come at any time.
+pub fn get_state(alloc: Global, bytes: &[u8]) -> Result<StateEntry, ReadError>
+    // The bytes are a record of what is read.
+    ensures found { IfOk result (λ e. IsStateRecord bytes.now e) }
+    // A record of an entry is read as that entry, unless memory runs out.
+    ensures only { (e : StateEntryData) → IsStateRecord bytes.now e → Answers result (Ok e) }
+    // Which place is the fault's.
+    ensures exact { Answers result (reading_by meant (λ version. state_entry_at) bytes.now) }
+{
+    let (version, entry) = read(alloc, bytes)?;
+    Ok(meaning(version, entry))
 }

@@ -6,6 +6,7 @@ ghost use Rattle.qz_values.specs.Reading.{Gives};
 ghost use Rattle.qz_values.specs.Fields.{checked, number_at};
 ghost use Rattle.qz_codec.specs.Reading.{spec_at};
 ghost use Rattle.qz_values.specs.Timings.{timing};
+ghost use Rattle.qz_values.specs.declared.versions.Version.TheVariants.{Two};
 ghost use Rattle.qz_codec.specs.Values.{IsSpec};
 ghost use Rattle.qz_codec.specs.Layout.{key, job, spec};
 ghost use Rattle.qz_types.specs.declared.limits.TheConstants.{TIMES_LIMIT};
@@ -13,18 +14,22 @@ ghost use Rattle.qz_codec.specs.Rows.{trigger_state_place, trigger, IsTrigger, t
 
 use crate::calendars::{calendar_of, put_calendar};
 use crate::keys::{make_keys, names_of, put_key};
-use crate::records::Recorded;
+use crate::records::{Recorded, Row};
 use qz_civil::beside;
 use qz_types::{TIMES_LIMIT, TriggerRow, TriggerSpec, TriggerState};
 use qz_values::{
-    Fault, i32_at, put_i32, put_time, put_timing, put_u8, put_u64, time_of, timing_of, u8_at,
-    u64_at,
+    Fault, Version, i32_at, put_i32, put_time, put_timing, put_u8, put_u64, time_of, timing_of,
+    u8_at, u64_at,
 };
 use std::alloc::{AllocError, Global};
 
 #[tactic(auto, unfolding(crate::specs::Reading::spec_at))]
-pub(crate) fn spec_of(alloc: Global, bytes: &[u8]) -> Result<(TriggerSpec, &[u8]), Fault>
-    ensures exact { Gives (λ x. (x.0, x.1.now)) result (spec_at bytes.now) }
+pub(crate) fn spec_of(
+    alloc: Global,
+    version: Version,
+    bytes: &[u8],
+) -> Result<(TriggerSpec, &[u8]), Fault>
+    ensures exact { Gives (λ x. (x.0, x.1.now)) result (spec_at version bytes.now) }
     ensures valid { IfOk result (λ x. IsTrue (is_trigger_spec x.0)) }
 {
     let (key, rest) = names_of(bytes)?;
@@ -32,7 +37,7 @@ pub(crate) fn spec_of(alloc: Global, bytes: &[u8]) -> Result<(TriggerSpec, &[u8]
     let (priority, rest) = i32_at(rest)?;
     let (calendar, rest) = calendar_of(alloc, rest)?;
     let named = beside(calendar, make_keys(alloc, key, job))?;
-    let ((calendar, (key, job)), (timing, rest)) = beside(named, timing_of(alloc, rest))?;
+    let ((calendar, (key, job)), (timing, rest)) = beside(named, timing_of(alloc, version, rest))?;
     let spec = TriggerSpec {
         key,
         job,
@@ -46,8 +51,8 @@ pub(crate) fn spec_of(alloc: Global, bytes: &[u8]) -> Result<(TriggerSpec, &[u8]
 #[tactic(auto, unfolding(crate::specs::Layout::spec), using(qz_values::proofs::Signs::signs))]
 pub(crate) fn put_spec(out: &mut Vec<u8>, row: &TriggerSpec) -> Result<(), AllocError>
     requires { IsTrue (is_trigger_spec row.now) }
-    ensures bytes { OnOk result (out.new.items ≡ out.old.items ++ spec row.now) }
-    ensures valid { OnOk result (IsSpec row.now) }
+    ensures bytes { OnOk result (out.new.items ≡ out.old.items ++ spec Two row.now) }
+    ensures valid { OnOk result (IsSpec Two row.now) }
 {
     put_key(out, &row.key)?;
     put_key(out, &row.job)?;
@@ -85,10 +90,10 @@ fn trigger_state_of(bytes: &[u8]) -> Result<(TriggerState, &[u8]), Fault>
 }
 
 #[tactic(auto, unfolding(crate::specs::Rows::trigger_at))]
-fn trigger_of(alloc: Global, bytes: &[u8]) -> Result<(TriggerRow, &[u8]), Fault>
-    ensures { Gives (λ x. (x.0, x.1.now)) result (trigger_at bytes.now) }
+fn trigger_of(alloc: Global, version: Version, bytes: &[u8]) -> Result<(TriggerRow, &[u8]), Fault>
+    ensures { Gives (λ x. (x.0, x.1.now)) result (trigger_at version bytes.now) }
 {
-    let (spec, rest) = spec_of(alloc, bytes)?;
+    let (spec, rest) = spec_of(alloc, version, bytes)?;
     let (spec, (next, rest)) = beside(spec, time_of(rest))?;
     let (spec, (prev, rest)) = beside(spec, time_of(rest))?;
     let (spec, (times, rest)) = beside(spec, times_of(rest))?;
@@ -120,8 +125,8 @@ fn place_of_state(state: TriggerState) -> u8
 
 #[tactic(auto, unfolding(crate::specs::Rows::trigger), using(qz_values::proofs::Signs::signs))]
 fn put_trigger(out: &mut Vec<u8>, row: &TriggerRow) -> Result<(), AllocError>
-    ensures bytes { OnOk result (out.new.items ≡ out.old.items ++ trigger row.now) }
-    ensures valid { OnOk result (IsTrigger row.now) }
+    ensures bytes { OnOk result (out.new.items ≡ out.old.items ++ trigger Two row.now) }
+    ensures valid { OnOk result (IsTrigger Two row.now) }
 {
     put_spec(out, &row.spec)?;
     put_time(out, &row.next)?;
@@ -145,9 +150,15 @@ impl Recorded for TriggerRow {
         put_trigger(out, self)
     }
 
-    fn fields_of(alloc: Global, bytes: &[u8]) -> Result<(TriggerRow, &[u8]), Fault> {
-        trigger_of(alloc, bytes)
+    fn fields_of(
+        alloc: Global,
+        version: Version,
+        bytes: &[u8],
+    ) -> Result<(TriggerRow, &[u8]), Fault> {
+        trigger_of(alloc, version, bytes)
     }
 
     fn is_format() {}
 }
+
+impl Row for TriggerRow {}

@@ -2,18 +2,23 @@
 ghost use Rattle.std.specs.Prelude.{◌≡◌, ◌++◌, OnOk};
 ghost use Rattle.qz_values.specs.Reading.{Gives};
 ghost use Rattle.qz_codec.specs.Zones.{zone_row, IsZoneRow, zone_row_at};
+ghost use Rattle.qz_values.specs.declared.versions.Version.TheVariants.{Two};
 
-use crate::records::Recorded;
+use crate::records::{Recorded, Row};
 use qz_types::{Text, ZoneRow};
-use qz_values::{Fault, name_of, put_name, put_zone, zone_of};
+use qz_values::{Fault, Version, name_of, put_name, put_zone, zone_of};
 use std::alloc::{AllocError, Global};
 
 #[tactic(auto, unfolding(crate::specs::Zones::zone_row_at))]
-pub(crate) fn zone_row_of(alloc: Global, bytes: &[u8]) -> Result<(ZoneRow, &[u8]), Fault>
-    ensures { Gives (λ x. (x.0, x.1.now)) result (zone_row_at bytes.now) }
+pub(crate) fn zone_row_of(
+    alloc: Global,
+    version: Version,
+    bytes: &[u8],
+) -> Result<(ZoneRow, &[u8]), Fault>
+    ensures { Gives (λ x. (x.0, x.1.now)) result (zone_row_at version bytes.now) }
 {
     let (name, rest) = name_of(bytes)?;
-    let (zone, rest) = zone_of(alloc, rest)?;
+    let (zone, rest) = zone_of(alloc, version, rest)?;
     let row = ZoneRow {
         name: Text::from_str(alloc, name)?,
         zone,
@@ -24,7 +29,7 @@ pub(crate) fn zone_row_of(alloc: Global, bytes: &[u8]) -> Result<(ZoneRow, &[u8]
 #[tactic(auto, unfolding(crate::specs::Zones::zone_row))]
 pub(crate) fn put_zone_row(out: &mut Vec<u8>, row: &ZoneRow) -> Result<(), AllocError>
     ensures bytes { OnOk result (out.new.items ≡ out.old.items ++ zone_row row.now) }
-    ensures valid { OnOk result (IsZoneRow row.now) }
+    ensures valid { OnOk result (IsZoneRow Two row.now) }
 {
     put_name(out, &row.name)?;
     put_zone(out, &row.zone)
@@ -33,7 +38,7 @@ pub(crate) fn put_zone_row(out: &mut Vec<u8>, row: &ZoneRow) -> Result<(), Alloc
 impl Recorded for ZoneRow {
     ghost can_put = { λ row. Unit {0} };
 
-    ghost fields = { zone_row };
+    ghost fields = { λ version. zone_row };
 
     ghost has_record = { IsZoneRow };
 
@@ -45,9 +50,11 @@ impl Recorded for ZoneRow {
         put_zone_row(out, self)
     }
 
-    fn fields_of(alloc: Global, bytes: &[u8]) -> Result<(ZoneRow, &[u8]), Fault> {
-        zone_row_of(alloc, bytes)
+    fn fields_of(alloc: Global, version: Version, bytes: &[u8]) -> Result<(ZoneRow, &[u8]), Fault> {
+        zone_row_of(alloc, version, bytes)
     }
 
     fn is_format() {}
 }
+
+impl Row for ZoneRow {}

@@ -7,9 +7,9 @@ use Rattle.qz_journal.specs.Through.{PutsThrough}
 use Rattle.qz_journal.proofs.Headers.{header_length}
 
 -- the front was read, and then the first 17 bytes were written
-pub created : {T E : Type 0} (kind : ℕ) (r : Result T E) (bytes front : List ℕ) (old mid new : DiskState) → IsHeader kind (take 16 front) → front ≡ take 16 front ++ 0 ∷ [] → Stays old mid → LeavesOnly old mid old.IsImage → Only bytes old → PutsThrough 0 front r mid new → LeavesOnly old new (Torn 0 17 bytes)
-created kind r bytes front old mid new header gate stays looked only puts =
-    let long : length front ≡ 17 = omega (arith, ap length gate, length-append (take 16 front) (0 ∷ []), header_length kind (take 16 front) header) in
+pub created : {T E : Type 0} (version kind : ℕ) (r : Result T E) (bytes front : List ℕ) (old mid new : DiskState) → IsHeader version kind (take 16 front) → front ≡ take 16 front ++ 0 ∷ [] → Stays old mid → LeavesOnly old mid old.IsImage → Only bytes old → PutsThrough 0 front r mid new → LeavesOnly old new (Torn 0 17 bytes)
+created version kind r bytes front old mid new header gate stays looked only puts =
+    let long : length front ≡ 17 = omega (arith, ap length gate, length-append (take 16 front) (0 ∷ []), header_length version kind (take 16 front) header) in
     then_leaves old mid new old.IsImage (Torn 0 (length front) bytes) (Torn 0 17 bytes) looked
     (puts.any_moment bytes (λ b is. only b ((stays.images b).0 is)))
     (λ b is. subst (Torn 0 17 bytes) (sym (only b is)) (torn_same 0 17 bytes))

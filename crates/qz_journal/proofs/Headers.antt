@@ -1,35 +1,47 @@
--- The headers of the two kinds.
-use Rattle.std.proofs.Common.{◌≡◌, ◌≢◌, ℕ, ◌<◌, List, length, take, drop, get_or, sym, ◌∙◌, ap, arith, length-take, take-append-drop, ◌++◌}
+-- The headers of the two kinds, and their versions.
+use Rattle.std.proofs.Common.{◌≡◌, ◌≢◌, ℕ, ◌<◌, true, false, List, length, take, drop, get_or, sym, ◌∙◌, ap, subst, arith, length-take, take-append-drop, ◌++◌}
 use Rattle.std.proofs.lemmas.Bool.Decides.{nat_tests}
-use Rattle.std.proofs.lemmas.List.{take-take}
-use Rattle.qz_journal.specs.Layout.{front_of, IsHeader, IsFront, IsStore, other_kind}
-use Rattle.qz_journal.specs.declared.layout.TheConstants.{VERSION}
+use Rattle.std.proofs.lemmas.List.{take-take, get_or-take}
+use Rattle.qz_journal.specs.Layout.{front_of, is_version, IsHeader, HasHeader, IsFront, IsStore, other_kind}
 
--- one kind has one header
-pub one_header : (kind : ℕ) (a b : List ℕ) → IsHeader kind a → IsHeader kind b → a ≡ b
-one_header kind a b is_a is_b =
+-- one version and kind have one header
+pub one_header : (version kind : ℕ) (a b : List ℕ) → IsHeader version kind a → IsHeader version kind b → a ≡ b
+one_header version kind a b is_a is_b =
     sym (take-append-drop 6 a)
     ∙ ap (λ (l : List ℕ). l ++ drop 6 a) (is_a.front ∙ sym is_b.front)
     ∙ ap (λ (l : List ℕ). take 6 b ++ l) (is_a.reserved ∙ sym is_b.reserved)
     ∙ take-append-drop 6 b
 
-pub header_length : (kind : ℕ) (head : List ℕ) → IsHeader kind head → length head ≡ 16
-header_length kind head is = ap length (sym (take-append-drop 6 head) ∙ ap (λ (l : List ℕ). l ++ drop 6 head) is.front ∙ ap (λ (l : List ℕ). front_of VERSION kind ++ l) is.reserved)
+pub header_length : (version kind : ℕ) (head : List ℕ) → IsHeader version kind head → length head ≡ 16
+header_length version kind head is = ap length (sym (take-append-drop 6 head) ∙ ap (λ (l : List ℕ). l ++ drop 6 head) is.front ∙ ap (λ (l : List ℕ). front_of version kind ++ l) is.reserved)
 
-pub other_header : (kind : ℕ) (a b : List ℕ) → IsHeader kind b → a ≢ b → IsHeader kind a → ⊥
-other_header kind a b is_b differ is_a = differ (one_header kind a b is_a is_b)
+-- the fifth byte is the version
+fifth_is : (version kind : ℕ) (head : List ℕ) → take 6 head ≡ front_of version kind → get_or head 4 0 ≡ version
+fifth_is version kind head is = sym (get_or-take 6 head 4 0 (omega arith)) ∙ ap (λ (l : List ℕ). get_or l 4 0) is
+
+pub one_version : (v w kind : ℕ) (head : List ℕ) → IsHeader v kind head → IsHeader w kind head → v ≡ w
+one_version v w kind head is_v is_w = sym (fifth_is v kind head is_v.front) ∙ fifth_is w kind head is_w.front
+
+-- the fifth byte is no version
+pub no_version : (kind : ℕ) (head : List ℕ) → is_version (get_or head 4 0) ≡ false → (version : ℕ) → IsHeader version kind head → ⊥
+no_version kind head none version is = let both : true ≡ false = sym is.known ∙ ap is_version (sym (fifth_is version kind head is.front)) ∙ none in cc
+
+-- it is another header than that of its fifth byte
+pub other_header : (kind : ℕ) (a b : List ℕ) → IsHeader (get_or a 4 0) kind b → a ≢ b → (version : ℕ) → IsHeader version kind a → ⊥
+other_header kind a b is_b differ version is_a =
+    differ (one_header (get_or a 4 0) kind a b (subst (λ n. IsHeader n kind a) (sym (fifth_is version kind a is_a.front)) is_a) is_b)
 
 -- fewer bytes are none
-pub too_short : (kind : ℕ) (bytes : List ℕ) → length bytes < 16 → IsHeader kind (take 16 bytes) → ⊥
-too_short kind bytes short is = omega (arith, header_length kind (take 16 bytes) is, length-take 16 bytes)
+pub too_short : (kind : ℕ) (bytes : List ℕ) → length bytes < 16 → HasHeader kind bytes → ⊥
+too_short kind bytes short (version, is) = omega (arith, header_length version kind (take 16 bytes) is, length-take 16 bytes)
 
 pub no_front : (kind : ℕ) (bytes : List ℕ) → length bytes < 6 → IsStore kind bytes → ⊥
 no_front kind bytes short (version, is) = omega (arith, ap length is, length-take 6 bytes)
 
-pub ruleset of_headers = (other_header, no_front)
+pub ruleset of_headers = no_front
 
-pub header_store : (bytes : List ℕ) (kind : ℕ) → IsHeader kind (take 16 bytes) → IsStore kind bytes
-header_store bytes kind is = (VERSION, sym (take-take 6 16 bytes (omega arith)) ∙ is.front)
+pub header_store : (bytes : List ℕ) (kind : ℕ) → HasHeader kind bytes → IsStore kind bytes
+header_store bytes kind (version, is) = (version, sym (take-take 6 16 bytes (omega arith)) ∙ is.front)
 
 pub one_kind : (bytes : List ℕ) (kind : ℕ) → IsStore kind bytes → IsStore (other_kind kind) bytes → ⊥
 one_kind bytes kind (v, is) (w, other) = differ kind (ap (λ (l : List ℕ). get_or l 5 0) (sym is ∙ other))

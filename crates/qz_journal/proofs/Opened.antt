@@ -1,5 +1,5 @@
 -- What an opening finds, from what its bytes are and which of them it read.
-use Rattle.std.proofs.Common.{◌≡◌, ◌⊎◌, inl, inr, ℕ, ◌+◌, ◌≤◌, min, true, false, List, length, take, sym, subst, arith}
+use Rattle.std.proofs.Common.{◌≡◌, ◌⊎◌, inl, inr, ℕ, ◌+◌, ◌≤◌, min, true, false, List, [], ◌∷◌, ◌++◌, length, take, sym, subst, arith}
 use Rattle.std.specs.Prelude.{Ok, Err, OnOk, OnErr, IfOk, IfErr, All}
 use Rattle.std.specs.declared.result.Result.{Result}
 use Rattle.qz_civil.specs.Causes.{Rose}
@@ -11,19 +11,32 @@ use Rattle.qz_journal.specs.declared.reading.Found.{Found}
 use Rattle.qz_journal.specs.declared.errors.MountError.{MountError}
 use Rattle.qz_journal.specs.declared.errors.MountError.TheVariants as mount
 use Rattle.qz_journal.proofs.Calls.{between_then, only_reads, only_reads_unless, still_only}
+use Rattle.qz_journal.proofs.Stands.{end_of-push}
 use Rattle.qz_journal.proofs.Walk.{holds_at, damaged_at}
 
-pub found_whole : (r : Result Found MountError) (kind : ℕ) (bytes content : List ℕ) → bytes ≡ content → IsHeader kind (take 16 bytes) → 16 ≤ length bytes
-    → IfOk r (λ f. All IsPayload f.payloads) → IfOk r (λ f. EndsAt bytes f.payloads f.is_whole) → IfOk r (λ f. f.is_whole ≡ true → Holds content kind f.payloads)
-found_whole (Ok f) kind bytes content same header long sizes ends = λ is. subst (λ (b : List ℕ). Holds b kind f.payloads) same (holds_at bytes kind f.payloads f.is_whole header long sizes ends is)
-found_whole (Err e) kind bytes content same header long sizes ends = tt
+pub found_whole : (r : Result Found MountError) (version kind : ℕ) (bytes content : List ℕ) → bytes ≡ content → IsHeader version kind (take 16 bytes) → 16 ≤ length bytes
+    → IfOk r (λ f. f.version ≡ version) → IfOk r (λ f. All IsPayload f.payloads) → IfOk r (λ f. EndsAt bytes f.payloads f.is_whole) → IfOk r (λ f. f.is_whole ≡ true → Holds content f.version kind f.payloads)
+found_whole (Ok f) version kind bytes content same header long v_is sizes ends = λ is.
+    subst (λ (n : ℕ). Holds content n kind f.payloads) (sym v_is) (subst (λ (b : List ℕ). Holds b version kind f.payloads) same (holds_at bytes version kind f.payloads f.is_whole header long sizes ends is))
+found_whole (Err e) version kind bytes content same header long v_is sizes ends = tt
 
-pub found_damaged : (r : Result Found MountError) (kind : ℕ) (bytes content : List ℕ) → bytes ≡ content → IsHeader kind (take 16 bytes)
+pub found_damaged : (r : Result Found MountError) (version kind : ℕ) (bytes content : List ℕ) → bytes ≡ content → IsHeader version kind (take 16 bytes)
     → IfOk r (λ f. All IsPayload f.payloads) → IfOk r (λ f. EndsAt bytes f.payloads f.is_whole) → IfOk r (λ f. f.gate ≡ end_of f.payloads)
     → IfOk r (λ f. f.is_whole ≡ false → IsDamagedBehind content kind f.payloads f.gate)
-found_damaged (Ok f) kind bytes content same header sizes ends gate = λ is.
-    subst (λ (b : List ℕ). IsDamagedBehind b kind f.payloads f.gate) same (damaged_at bytes kind f.gate f.payloads f.is_whole header sizes ends gate is)
-found_damaged (Err e) kind bytes content same header sizes ends gate = tt
+found_damaged (Ok f) version kind bytes content same header sizes ends gate = λ is.
+    subst (λ (b : List ℕ). IsDamagedBehind b kind f.payloads f.gate) same (damaged_at bytes version kind f.gate f.payloads f.is_whole header sizes ends gate is)
+found_damaged (Err e) version kind bytes content same header sizes ends gate = tt
+
+pub found_header : (r : Result Found MountError) (version kind : ℕ) (bytes content : List ℕ) → bytes ≡ content → IsHeader version kind (take 16 bytes) → IfOk r (λ f. f.version ≡ version)
+    → IfOk r (λ f. IsHeader f.version kind (take 16 content))
+found_header (Ok f) version kind bytes content same header v_is = subst (λ (n : ℕ). IsHeader n kind (take 16 content)) (sym v_is) (subst (λ (b : List ℕ). IsHeader version kind (take 16 b)) same header)
+found_header (Err e) version kind bytes content same header v_is = tt
+
+-- bytes aren't damaged after whatever payloads
+pub damaged_anywhere : (e : MountError) (content : List ℕ) (kind at : ℕ) → e ≡ mount.Damaged at → ((ps : List (List ℕ)) → IsRefusedBehind content kind ps e) → ⊥
+damaged_anywhere e content kind at is refused =
+    let after : (ps : List (List ℕ)) → IsDamagedBehind content kind ps at = λ ps. subst (IsRefusedBehind content kind ps) is (refused ps) in
+    absurd (omega (arith, (after []).at_is, (after ([] ++ [] ∷ [])).at_is, end_of-push [] []))
 
 -- bytes that weren't read to a bad place
 pub found_refused : (r : Result Found MountError) (kind before after : ℕ) (ps : List (List ℕ)) (content : List ℕ)

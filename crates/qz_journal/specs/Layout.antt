@@ -1,17 +1,25 @@
 -- The bytes of a store file: a header of 16 bytes, a block for each payload, and one byte that ends them.
-use Rattle.std.specs.Prelude.{◌≡◌, ◌≢◌, ◌⊎◌, ℕ, ◌+◌, ◌<◌, ◌≤◌, List, [], ◌∷◌, ◌++◌, length, take, drop, replicate, slice_index, All, if◌then◌else◌, ◌==◌}
+use Rattle.std.specs.Prelude.{◌≡◌, ◌≢◌, ◌⊎◌, ◌||◌, Bool, true, ℕ, ◌+◌, ◌<◌, ◌≤◌, List, [], ◌∷◌, ◌++◌, length, take, drop, replicate, slice_index, All, if◌then◌else◌, ◌==◌}
 use Rattle.std.specs.Int.{w32, to_be_bytes}
-use Rattle.qz_journal.specs.declared.layout.TheConstants.{VERSION, TRIGGERS, STATES, OPEN_GATE, MAX_PAYLOAD}
+use Rattle.qz_journal.specs.declared.layout.TheConstants.{TRIGGERS, STATES, OPEN_GATE, MAX_PAYLOAD}
 
 -- `QZ23`, a version and a kind
 abbrev pub front_of : ℕ → ℕ → List ℕ
 front_of version kind = 81 ∷ 90 ∷ 50 ∷ 51 ∷ version ∷ kind ∷ []
 
--- The first 16 bytes of a store of this kind, in the version that is written and read. Ten of them are kept for later
--- versions.
-pub record IsHeader (kind : ℕ) (head : List ℕ) : Type 0 where
-  pub front : take 6 head ≡ front_of VERSION kind
+-- the versions that are read
+abbrev pub is_version : ℕ → Bool
+is_version version = (version == 1) || (version == 2)
+
+-- The first 16 bytes of a store of this version and kind. Ten of them are kept for later versions.
+pub record IsHeader (version kind : ℕ) (head : List ℕ) : Type 0 where
+  pub known : is_version version ≡ true
+  pub front : take 6 head ≡ front_of version kind
   pub reserved : drop 6 head ≡ replicate 10 0
+
+-- The bytes begin with the header of a store of this kind, in a version that is read.
+abbrev pub HasHeader : ℕ → List ℕ → Type 0
+HasHeader kind bytes = (version : ℕ) × IsHeader version kind (take 16 bytes)
 
 -- the kind of the other store: `T` of triggers, `S` of states
 abbrev pub other_kind : ℕ → ℕ
@@ -52,14 +60,15 @@ end_of ps = 16 + length (blocks ps)
 abbrev pub BeginsWith : List ℕ → List ℕ → Type 0
 BeginsWith front bytes = take (length front) bytes ≡ front
 
--- The bytes hold these payloads: the header, a block for each, one byte that is no open gate, and then any bytes.
-pub record Holds (bytes : List ℕ) (kind : ℕ) (payloads : List (List ℕ)) : Type 0 where
+-- The bytes hold these payloads, in this version: the header, a block for each, one byte that is no open gate, and then any bytes.
+pub record Holds (bytes : List ℕ) (version kind : ℕ) (payloads : List (List ℕ)) : Type 0 where
   pub sizes : All IsPayload payloads
-  pub header : IsHeader kind (take 16 bytes)
+  pub header : IsHeader version kind (take 16 bytes)
   pub blocks_stand : BeginsWith (blocks payloads) (drop 16 bytes)
   pub gate : end_of payloads < length bytes
   pub shut : slice_index bytes (end_of payloads) ≢ open_gate
 
 -- without this further payload, or with it
-abbrev pub IsBeforeOrAfter : ℕ → List (List ℕ) → List ℕ → List ℕ → Type 0
-IsBeforeOrAfter kind payloads payload bytes = Holds bytes kind payloads ⊎ Holds bytes kind (payloads ++ payload ∷ [])
+abbrev pub IsBeforeOrAfter : ℕ → ℕ → List (List ℕ) → List ℕ → List ℕ → Type 0
+IsBeforeOrAfter version kind payloads payload bytes =
+    Holds bytes version kind payloads ⊎ Holds bytes version kind (payloads ++ payload ∷ [])

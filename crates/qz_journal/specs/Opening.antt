@@ -1,11 +1,11 @@
 -- What an opening or a creation finds in the bytes of a disk.
-use Rattle.std.specs.Prelude.{⊤, Bool, true, false, ◌≡◌, ◌≢◌, ◌⊎◌, ℕ, List, [], ◌∷◌, ◌++◌, take, drop, All, Ok, Err}
+use Rattle.std.specs.Prelude.{⊤, Bool, true, false, ◌≡◌, ◌≢◌, ◌⊎◌, ℕ, List, [], ◌∷◌, ◌++◌, drop, All, Ok, Err}
 use Rattle.std.specs.declared.result.Result.{Result}
 use Rattle.qz_journal.specs.declared.errors.CreateError.{CreateError}
 use Rattle.qz_journal.specs.declared.errors.CreateError.TheVariants as create
 use Rattle.qz_journal.specs.declared.errors.MountError.{MountError}
 use Rattle.qz_journal.specs.declared.errors.MountError.TheVariants as mount
-use Rattle.qz_journal.specs.Layout.{IsHeader, IsStore, HasStore, IsPayload, other_kind, open_gate, body_of, blocks, end_of}
+use Rattle.qz_journal.specs.Layout.{HasHeader, IsStore, HasStore, IsPayload, other_kind, open_gate, body_of, blocks, end_of}
 
 -- no length and payload stand here: the length is out of range, or it or the payload passes the end
 abbrev pub IsCut : List ℕ → Type 0
@@ -23,7 +23,7 @@ IsShut tail = (gate : ℕ) × (rest : List ℕ) × (tail ≡ gate ∷ rest) × (
 pub record IsDamagedBehind (bytes : List ℕ) (kind : ℕ) (payloads : List (List ℕ)) (at : ℕ) : Type 0 where
   pub sizes : All IsPayload payloads
   pub tail : List ℕ
-  pub header : IsHeader kind (take 16 bytes)
+  pub header : HasHeader kind bytes
   pub whole : drop 16 bytes ≡ blocks payloads ++ tail
   pub at_is : at ≡ end_of payloads
   pub bad : IsBad tail
@@ -43,14 +43,14 @@ pub record IsDamaged (bytes : List ℕ) (kind at : ℕ) : Type 0 where
 
 -- why an opening of these bytes is refused; that the disk or memory failed isn't seen in them
 abbrev pub IsRefused : List ℕ → ℕ → MountError → Type 0
-IsRefused bytes kind mount.NotAStore = IsHeader kind (take 16 bytes) → ⊥
+IsRefused bytes kind mount.NotAStore = HasHeader kind bytes → ⊥
 IsRefused bytes kind (mount.Damaged at) = IsDamaged bytes kind at
 IsRefused bytes kind mount.Fault = ⊤
 IsRefused bytes kind mount.NoMemory = ⊤
 
 -- the same, with the payloads that stand before a bad place
 abbrev pub IsRefusedBehind : List ℕ → ℕ → List (List ℕ) → MountError → Type 0
-IsRefusedBehind bytes kind payloads mount.NotAStore = IsHeader kind (take 16 bytes) → ⊥
+IsRefusedBehind bytes kind payloads mount.NotAStore = HasHeader kind bytes → ⊥
 IsRefusedBehind bytes kind payloads (mount.Damaged at) = IsDamagedBehind bytes kind payloads at
 IsRefusedBehind bytes kind payloads mount.Fault = ⊤
 IsRefusedBehind bytes kind payloads mount.NoMemory = ⊤

@@ -2,15 +2,14 @@
 use Rattle.std.specs.Prelude.{ℕ, Option}
 use Rattle.qz_disk.specs.declared.disk.Disk.{Ghosts}
 use Rattle.qz_journal.specs.declared.journal.Journal.{Journal}
-use Rattle.qz_journal.specs.declared.layout.TheConstants.{VERSION}
-
--- the format version that is written and read
-abbrev pub version : ℕ
-version = VERSION
 
 -- the disk that it is on
 abbrev pub disk_of : {D : Type 0} {g : Ghosts D} → Journal D g → D
 disk_of j = j.disk
+
+-- the version of its format
+abbrev pub version_of : {D : Type 0} {g : Ghosts D} → Journal D g → ℕ
+version_of j = j.version
 
 -- of triggers or of states
 abbrev pub kind_of : {D : Type 0} {g : Ghosts D} → Journal D g → ℕ

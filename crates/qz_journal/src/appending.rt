@@ -44,20 +44,20 @@ pub(crate) fn put_through<D: Disk>(disk: &mut D, at: u64, bytes: &[u8]) -> Resul
 // Writes a commit after the closed gate, and syncs; then opens the gate, and syncs.
 fn put_commit<D: Disk>(disk: &mut D, gate: u64, commit: &[u8]) -> Result<(), Failed>
     requires place { gate < D.len disk.old }
-    requires end { gate < 2 ^ 28 }
+    requires end { gate < 2 ^ 29 }
     ensures length { OnOk result (gate + 1 + length commit.now ≤ D.len disk.new) }
     ensures cause { HasCause (D.faults disk.old) (D.faults disk.new) result }
     ensures bytes_read { D.honest → (D.state disk.new).bytes_read ≡ (D.state disk.old).bytes_read }
     ensures bytes { D.honest → OnOk result ((D.state disk.new).content
         ≡ written gate (open_gate ∷ []) (written (gate + 1) commit.now (D.state disk.old).content)) }
     ensures durable { D.honest → OnOk result (Only (D.state disk.new).content (D.state disk.new)) }
-    ensures stands { D.honest → (kind count : ℕ) (payloads : List (List ℕ)) (payload : List ℕ) → IsPayload payload
-        → commit.now ≡ body_of payload ++ 0 ∷ [] → ∥ IsPlaced (D.state disk.old).content kind gate count ∥₁ → Holds (D.state disk.old).content kind payloads
-        → OnOk result (Holds (D.state disk.new).content kind (payloads ++ payload ∷ [])) }
-    ensures any_moment { D.honest → (kind count : ℕ) (payloads : List (List ℕ)) (payload : List ℕ) → IsPayload payload
-        → commit.now ≡ body_of payload ++ 0 ∷ [] → ∥ IsPlaced (D.state disk.old).content kind gate count ∥₁ → Holds (D.state disk.old).content kind payloads
+    ensures stands { D.honest → (version kind count : ℕ) (payloads : List (List ℕ)) (payload : List ℕ) → IsPayload payload
+        → commit.now ≡ body_of payload ++ 0 ∷ [] → ∥ IsPlaced (D.state disk.old).content version kind gate count ∥₁ → Holds (D.state disk.old).content version kind payloads
+        → OnOk result (Holds (D.state disk.new).content version kind (payloads ++ payload ∷ [])) }
+    ensures any_moment { D.honest → (version kind count : ℕ) (payloads : List (List ℕ)) (payload : List ℕ) → IsPayload payload
+        → commit.now ≡ body_of payload ++ 0 ∷ [] → ∥ IsPlaced (D.state disk.old).content version kind gate count ∥₁ → Holds (D.state disk.old).content version kind payloads
         → Only (D.state disk.old).content (D.state disk.old)
-        → LeavesOnly (D.state disk.old) (D.state disk.new) (IsBeforeOrAfter kind payloads payload) }
+        → LeavesOnly (D.state disk.old) (D.state disk.new) (IsBeforeOrAfter version kind payloads payload) }
 {
     put_through(disk, gate + 1, commit)?;
     put_through(disk, gate, &[OPEN_GATE])
@@ -94,7 +94,7 @@ impl<D: Disk> Journal<D> {
         ensures later { D.faults self.old.disk ≤ D.faults self.new.disk }
         ensures unchanged { result ≢ Err AppendError.Fault → OnErr result (self.new ≡ self.old) }
         ensures was_open { OnOk result (self.old.closed ≡ None) }
-        ensures same_kind { self.new.kind ≡ self.old.kind }
+        ensures same_kind { (self.new.version ≡ self.old.version) × (self.new.kind ≡ self.old.kind) }
         ensures completes { self.old.closed ≡ None → need_of (length payload.now) ≤ room_of self.old.gate self.old.count
             → (Rose (D.faults self.old.disk) (D.faults self.new.disk) → ⊥) → IsOk result }
         ensures ok { OnOk result ((self.new.closed ≡ None) × (self.new.gate ≡ self.old.gate + (5 + length payload.now))
@@ -107,19 +107,19 @@ impl<D: Disk> Journal<D> {
             ≡ written self.old.gate (open_gate ∷ []) (written (self.old.gate + 1) (body_of payload.now ++ 0 ∷ []) (D.state self.old.disk).content)) }
 
         // At `Ok` the bytes hold the payloads and then this one, and so does what a crash leaves.
-        ensures stands { D.honest → (payloads : List (List ℕ)) → Holds (D.state self.old.disk).content self.old.kind payloads
-            → OnOk result (Holds (D.state self.new.disk).content self.old.kind (payloads ++ payload.now ∷ [])) }
+        ensures stands { D.honest → (payloads : List (List ℕ)) → Holds (D.state self.old.disk).content self.old.version self.old.kind payloads
+            → OnOk result (Holds (D.state self.new.disk).content self.old.version self.old.kind (payloads ++ payload.now ∷ [])) }
         ensures durable { D.honest → OnOk result (Only (D.state self.new.disk).content (D.state self.new.disk)) }
 
         // Whatever is answered, the content holds the payloads without this one or with it.
         ensures content { D.honest → self.old.closed ≡ None
-            → (payloads : List (List ℕ)) → Holds (D.state self.old.disk).content self.old.kind payloads
-            → IsBeforeOrAfter self.old.kind payloads payload.now (D.state self.new.disk).content }
+            → (payloads : List (List ℕ)) → Holds (D.state self.old.disk).content self.old.version self.old.kind payloads
+            → IsBeforeOrAfter self.old.version self.old.kind payloads payload.now (D.state self.new.disk).content }
 
         // A crash at any moment of the call leaves the payloads without this one or with it.
         ensures any_moment { D.honest → self.old.closed ≡ None
-            → (payloads : List (List ℕ)) → Holds (D.state self.old.disk).content self.old.kind payloads
-            → LeavesOnly (D.state self.old.disk) (D.state self.new.disk) (IsBeforeOrAfter self.old.kind payloads payload.now) }
+            → (payloads : List (List ℕ)) → Holds (D.state self.old.disk).content self.old.version self.old.kind payloads
+            → LeavesOnly (D.state self.old.disk) (D.state self.new.disk) (IsBeforeOrAfter self.old.version self.old.kind payloads payload.now) }
     {
         if let Some(at) = self.closed {
             return Err(AppendError::Closed { at });

@@ -1,6 +1,6 @@
 //! The parts of a store file.
-ghost use Rattle.std.specs.Prelude.{◌≡◌, ◌↔◌, ◌++◌, ◌∷◌, [], ◌≤◌, length, true, false, vec_capacity, IsTrue, IfSome, IfNone};
-ghost use Rattle.qz_journal.specs.Layout.{IsHeader, IsFront, IsPayload, body_of, open_gate, other_kind};
+ghost use Rattle.std.specs.Prelude.{◌≡◌, ◌↔◌, ◌++◌, ◌∷◌, [], ◌≤◌, ℕ, length, true, false, None, vec_capacity, IsTrue, IfSome, IfNone};
+ghost use Rattle.qz_journal.specs.Layout.{is_version, IsHeader, IsFront, IsPayload, body_of, open_gate, other_kind};
 ghost use Rattle.qz_journal.specs.Opening.{IsCut};
 
 /// The kind of a store of triggers, as the header has it.
@@ -13,10 +13,10 @@ pub const STATES: u8 = b'S';
 pub const MAX_PAYLOAD: usize = 32768;
 
 /// The most bytes that a store has, header included.
-pub(crate) const MAX_BYTES: u64 = 1 << 28;
+pub(crate) const MAX_BYTES: u64 = 1 << 29;
 
 /// The most payloads that a store has.
-pub(crate) const MAX_PAYLOADS: u64 = 1 << 22;
+pub(crate) const MAX_PAYLOADS: u64 = 1 << 23;
 
 pub(crate) const HEADER_LENGTH: usize = 16;
 
@@ -39,26 +39,39 @@ pub(crate) const OPEN_GATE: u8 = 0xa5;
 
 pub(crate) const CLOSED_GATE: u8 = 0;
 
-/// The version of the format that is written, and the only one that is read.
-pub(crate) const VERSION: u8 = 1;
+/// The version of the format that `create` writes. Versions 1 and 2 are read.
+pub(crate) const VERSION: u8 = 2;
 
-// The header of a store of this kind, as it is written.
-pub(crate) fn header(kind: u8) -> [u8; 16]
-    ensures { IsHeader kind result }
+fn is_version(version: u8) -> bool
+    ensures { result ≡ is_version version }
+{
+    version == 1 || version == 2
+}
+
+// The header of a store of this version and kind.
+pub(crate) fn header(version: u8, kind: u8) -> [u8; 16]
+    requires { IsTrue (is_version version) }
+    ensures { IsHeader version kind result }
 {
     [
-        b'Q', b'Z', b'2', b'3', VERSION, kind, 0, 0, 0, 0, 0, 0, 0, 0, 0, 0,
+        b'Q', b'Z', b'2', b'3', version, kind, 0, 0, 0, 0, 0, 0, 0, 0, 0, 0,
     ]
 }
 
-// Whether these first 16 bytes are the header of a store of this kind.
-#[tactic(auto, using(crate::proofs::Headers::of_headers))]
-pub(crate) fn is_header(kind: u8, front: &[u8]) -> bool
-    ensures yes { result ≡ true → IsHeader kind front.now }
-    ensures no { result ≡ false → IsHeader kind front.now → ⊥ }
+// The version, where these first 16 bytes are the header of a store of this kind.
+pub(crate) fn version_of(kind: u8, front: &[u8; HEADER_LENGTH]) -> Option<u8>
+    ensures some { IfSome result (λ version. IsHeader version kind front.now) }
+    ensures none { result ≡ None → (version : ℕ) → IsHeader version kind front.now → ⊥ }
 {
-    let wanted = header(kind);
-    front == wanted.as_slice()
+    let version = front[4];
+    if !is_version(version) {
+        return None;
+    }
+    let wanted = header(version, kind);
+    if *front != wanted {
+        return None;
+    }
+    Some(version)
 }
 
 // Whether these first bytes are those of a store of this kind, of any version.

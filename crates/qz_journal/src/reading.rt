@@ -2,20 +2,22 @@
 ghost use Rattle.std.specs.Prelude.{◌≡◌, ◌⊎◌, ◌+◌, ◌-◌, ◌≤◌, ◌<◌, ◌++◌, ◌^◌, ⊤, ℕ, List as Items, All, length, take, drop, min, IfOk, IfErr, OnOk, OnErr, Ok, Err, true, false};
 ghost use Rattle.qz_civil.specs.Causes.{Rose, HasCause};
 ghost use Rattle.qz_disk.specs.Disk.{Only, LeavesOnly};
-ghost use Rattle.qz_journal.specs.Layout.{IsHeader, IsPayload, Holds, blocks, end_of};
+ghost use Rattle.qz_journal.specs.Layout.{is_version, IsHeader, IsPayload, Holds, blocks, end_of};
 ghost use Rattle.qz_journal.specs.Opening.{EndsAt, IsDamagedBehind, IsRefusedBehind};
 ghost use Rattle.qz_journal.specs.Through.{OnlyReads, OnlyReadsUnless, ReadsBetween};
 
 use crate::MountError;
-use crate::layout::{HEADER_LENGTH, MAX_BLOCK, WINDOW, is_header};
+use crate::layout::{HEADER_LENGTH, MAX_BLOCK, WINDOW, version_of};
 use crate::parsing::take_blocks;
 use qz_civil::{Failed, List};
 use qz_disk::Disk;
 use std::alloc::Global;
 
-// What the gates of a store lead to: payloads, and after them a closed gate or a bad place, at the offset `gate`.
+// The version of a store, and what its gates lead to: payloads, and after them a closed gate or a bad place, at the offset
+// `gate`.
 #[derive(Drop)]
 pub(crate) struct Found {
+    pub(crate) version: u8,
     pub(crate) payloads: List<List<u8>>,
     pub(crate) gate: u64,
     pub(crate) is_whole: bool,
@@ -27,7 +29,9 @@ pub(crate) fn read_payloads<D: Disk>(
     disk: &mut D,
     kind: u8,
 ) -> Result<Found, MountError>
-    ensures whole { D.honest → IfOk result (λ f. f.is_whole ≡ true → Holds (D.state disk.old).content kind f.payloads) }
+    ensures whole { D.honest → IfOk result (λ f. f.is_whole ≡ true → Holds (D.state disk.old).content f.version kind f.payloads) }
+    ensures version { IfOk result (λ f. is_version f.version ≡ true) }
+    ensures header { D.honest → IfOk result (λ f. IsHeader f.version kind (take 16 (D.state disk.old).content)) }
     ensures damaged { D.honest → IfOk result (λ f. f.is_whole ≡ false → IsDamagedBehind (D.state disk.old).content kind f.payloads f.gate) }
     ensures gate { IfOk result (λ f. f.gate ≡ end_of f.payloads) }
     ensures inside { IfOk result (λ f. f.is_whole ≡ true → f.gate < D.len disk.new) }
@@ -42,8 +46,8 @@ pub(crate) fn read_payloads<D: Disk>(
     let Ok(len) = synced_length(disk) else {
         return Err(MountError::Fault);
     };
-    read_header(disk, len, kind)?;
-    read_blocks(alloc, disk, len)
+    let version = read_header(disk, len, kind)?;
+    read_blocks(alloc, disk, len, version)
 }
 
 // Syncs, and asks for the length.
@@ -59,12 +63,14 @@ fn synced_length<D: Disk>(disk: &mut D) -> Result<u64, Failed>
     disk.len()
 }
 
-// Whether the disk, of this length, begins with the header of a store of this kind.
-fn read_header<D: Disk>(disk: &mut D, len: u64, kind: u8) -> Result<(), MountError>
+// The version of the store of this kind with whose header the disk, of this length, begins.
+#[tactic(auto, using(crate::proofs::Headers::too_short))]
+fn read_header<D: Disk>(disk: &mut D, len: u64, kind: u8) -> Result<u8, MountError>
     requires { len ≡ D.len disk.old }
     ensures length { D.len disk.new ≡ D.len disk.old }
     ensures long { OnOk result (16 ≤ len) }
-    ensures header { D.honest → OnOk result (IsHeader kind (take 16 (D.state disk.old).content)) }
+    ensures header { D.honest → IfOk result (λ version. IsHeader version kind (take 16 (D.state disk.old).content)) }
+    ensures known { IfOk result (λ version. is_version version ≡ true) }
     ensures reads { D.honest → OnOk result (ReadsBetween 0 16 (D.state disk.old) (D.state disk.new)) }
     ensures reads_err { D.honest → OnErr result (ReadsBetween 0 len (D.state disk.old) (D.state disk.new)) }
     ensures refused { D.honest → (payloads : Items (Items ℕ)) → IfErr result (IsRefusedBehind (D.state disk.old).content kind payloads) }
@@ -78,17 +84,23 @@ fn read_header<D: Disk>(disk: &mut D, len: u64, kind: u8) -> Result<(), MountErr
     if disk.read(0, &mut front).is_err() {
         return Err(MountError::Fault);
     }
-    if !is_header(kind, &front) {
-        return Err(MountError::NotAStore);
+    match version_of(kind, &front) {
+        Some(version) => Ok(version),
+        None => Err(MountError::NotAStore),
     }
-    Ok(())
 }
 
-// The payloads after the header of a disk of this length.
-fn read_blocks<D: Disk>(alloc: Global, disk: &mut D, len: u64) -> Result<Found, MountError>
+// The payloads after the header of a disk of this length, which has this version.
+fn read_blocks<D: Disk>(
+    alloc: Global,
+    disk: &mut D,
+    len: u64,
+    version: u8,
+) -> Result<Found, MountError>
     requires length { len ≡ D.len disk.old }
     requires long { 16 ≤ len }
     ensures length { D.len disk.new ≡ D.len disk.old }
+    ensures version { IfOk result (λ f. f.version ≡ version) }
     ensures gate { IfOk result (λ f. f.gate ≡ end_of f.payloads) }
     ensures inside { IfOk result (λ f. f.is_whole ≡ true → f.gate < len) }
     ensures sizes { IfOk result (λ f. All IsPayload f.payloads) }
@@ -106,6 +118,7 @@ fn read_blocks<D: Disk>(alloc: Global, disk: &mut D, len: u64) -> Result<Found, 
         let (rest, is_whole) = take_blocks(alloc, &mut payloads, &window)?;
         if is_whole || rest.len() >= MAX_BLOCK || position == len {
             return Ok(Found {
+                version,
                 payloads,
                 gate: position - rest.len() as u64,
                 is_whole,

@@ -1,15 +1,20 @@
 -- Kinds of calendars: each that is valid is written and read so, and none else is read.
-use Rattle.std.proofs.Common.{◌≡◌, ℕ, ◌<◌, ◌^◌, Bool, true, List, [], ◌∷◌, ◌++◌, length, Option, None, Some, Ok, refl, arith}
+use Rattle.std.proofs.Common.{◌≡◌, ℕ, ◌/◌, ◌<◌, ◌^◌, Bool, true, List, [], ◌∷◌, ◌++◌, length, Option, None, Some, Ok, refl, arith}
 use Rattle.std.specs.Prelude.{nat_le}
 use Rattle.std.specs.Int.{Width, w16, w32, byte_len}
 use Rattle.qz_civil.specs.Calendars.{is_annual_day, is_holiday, is_above, are_above, is_list_of, is_day_part, is_calendar_kind}
+use Rattle.qz_civil.specs.Fields.{is_cron_fields}
 use Rattle.qz_civil.specs.declared.calendars.CalendarKind.{CalendarKind}
 use Rattle.qz_civil.specs.declared.calendars.CalendarKind.TheVariants.{Annual, Holiday, Weekly, Monthly, Daily, Cron}
+use Rattle.qz_civil.specs.declared.fields.CronFields.{CronFields}
 use Rattle.qz_civil.specs.declared.limits.TheConstants.{ANNUAL_LIMIT, HOLIDAY_LIMIT}
+use Rattle.qz_values.specs.declared.versions.Version.{Version}
+use Rattle.qz_values.specs.declared.versions.Version.TheVariants.{Two}
 use Rattle.qz_values.specs.Fields.{number, flag, is_long, as_variant, checked, byte_at, number_at, flag_at}
 use Rattle.qz_values.specs.CronFields.{cron_fields, cron_fields_at}
 use Rattle.qz_values.specs.Lists.{list, list_at}
-use Rattle.qz_values.specs.Calendars.{calendar_kind, IsCalendarKind, is_next, next_day_at, next_date_at, day_part_at, calendar_kind_at}
+use Rattle.qz_values.specs.Versions.{has_year, has_years}
+use Rattle.qz_values.specs.Calendars.{calendar_kind, is_holiday_of, is_kind_of, HasWords, IsCalendarKind, is_next, next_day_at, next_date_at, day_part_at, calendar_kind_at}
 use Rattle.qz_values.specs.Formats.{IsFormat, Any}
 use Rattle.qz_values.proofs.Formats.{Both, same}
 use Rattle.qz_values.proofs.SingleFields.{IsWide, one_byte, wide16, wide32, flag_format}
@@ -60,19 +65,36 @@ day_fits n h = grind arith
 date_fits : (n : ℕ) → is_holiday n ≡ true → n < 2 ^ 32
 date_fits n h = grind arith
 
+date_of_fits : (version : Version) (n : ℕ) → is_holiday_of version n ≡ true → n < 2 ^ 32
+date_of_fits version n h = date_fits n (parts_true (has_year version (n / 10000)) (is_holiday n) h).others
+
+-- dates of a version are dates
+dates_above : (version : Version) (before : Option ℕ) (ns : List ℕ) → are_above (is_holiday_of version) before ns ≡ true → are_above is_holiday before ns ≡ true
+dates_above version before [] h = refl
+dates_above version before (n ∷ ns) h =
+    let both = parts_true (is_next (is_holiday_of version) before n) (are_above (is_holiday_of version) (Some n) ns) h in
+    let first = parts_true (is_holiday_of version n) (is_above before n) both.first in
+    let date = parts_true (has_year version (n / 10000)) (is_holiday n) first.first in
+    rw (date.others, first.others, dates_above version (Some n) ns both.others) refl
+
+pub dates_valid : (version : Version) (ns : List ℕ) → is_list_of (is_holiday_of version) HOLIDAY_LIMIT ns ≡ true → is_list_of is_holiday HOLIDAY_LIMIT ns ≡ true
+dates_valid version ns h =
+    let both = parts_true (nat_le (length ns) HOLIDAY_LIMIT) (are_above (is_holiday_of version) None ns) h in
+    rw (both.first, dates_above version None ns both.others) refl
+
 pub days_format : IsFormat (list (number w16)) Any (λ ns. is_list_of is_annual_day ANNUAL_LIMIT ns ≡ true) (list_at 0 ANNUAL_LIMIT next_day_at) 734
 days_format = same (list_format 0 ANNUAL_LIMIT (omega arith) (next_format wide16 is_annual_day day_fits)) (λ ns k. refl) (λ ns k p. valid-of_list is_annual_day ANNUAL_LIMIT ns p) (λ ns k p. list-of_valid is_annual_day ANNUAL_LIMIT ns p)
 
-pub dates_format : IsFormat (list (number w32)) Any (λ ns. is_list_of is_holiday HOLIDAY_LIMIT ns ≡ true) (list_at 0 HOLIDAY_LIMIT next_date_at) 16386
-dates_format = same (list_format 0 HOLIDAY_LIMIT (omega arith) (next_format wide32 is_holiday date_fits)) (λ ns k. refl) (λ ns k p. valid-of_list is_holiday HOLIDAY_LIMIT ns p) (λ ns k p. list-of_valid is_holiday HOLIDAY_LIMIT ns p)
+pub dates_format : (version : Version) → IsFormat (list (number w32)) Any (λ ns. is_list_of (is_holiday_of version) HOLIDAY_LIMIT ns ≡ true) (list_at 0 HOLIDAY_LIMIT (next_date_at version)) 16386
+dates_format version = same (list_format 0 HOLIDAY_LIMIT (omega arith) (next_format wide32 (is_holiday_of version) (date_of_fits version))) (λ ns k. refl) (λ ns k p. valid-of_list (is_holiday_of version) HOLIDAY_LIMIT ns p) (λ ns k p. list-of_valid (is_holiday_of version) HOLIDAY_LIMIT ns p)
 
 -- ---- what follows a kind's place
 
 annual : IsVariant Annual (list (number w16)) (λ ns. is_list_of is_annual_day ANNUAL_LIMIT ns ≡ true) (λ rest. as_variant Annual (list_at 0 ANNUAL_LIMIT next_day_at rest)) 734
 annual = variant Annual days_format
 
-holiday : IsVariant Holiday (list (number w32)) (λ ns. is_list_of is_holiday HOLIDAY_LIMIT ns ≡ true) (λ rest. as_variant Holiday (list_at 0 HOLIDAY_LIMIT next_date_at rest)) 16386
-holiday = variant Holiday dates_format
+holiday : (version : Version) → IsVariant Holiday (list (number w32)) (λ ns. is_list_of (is_holiday_of version) HOLIDAY_LIMIT ns ≡ true) (λ rest. as_variant Holiday (list_at 0 HOLIDAY_LIMIT (next_date_at version) rest)) 16386
+holiday version = variant Holiday (dates_format version)
 
 weekly : IsVariant Weekly one_byte (λ n. is_calendar_kind (Weekly n) ≡ true) (λ rest. as_variant Weekly (checked (λ n. is_calendar_kind (Weekly n)) byte_at rest)) 1
 weekly = variant Weekly (narrow_byte (λ n. is_calendar_kind (Weekly n)) (λ n h. grind arith))
@@ -105,8 +127,8 @@ daily = read_so day_part_at (variant make_daily (pair_by {IsB = IsRest} (part_fo
     (λ bytes. regroup make_daily (checked (is_day_part 0) (number_at w32) bytes) _ _ (λ from.
     regroup (λ x. make_daily (from.0, x)) (checked (is_day_part from.0) (number_at w32) from.1) (λ to. flag_at to.1) _ (λ to. refl)))
 
-cron : IsVariant Cron cron_fields IsCronFields (λ rest. as_variant Cron (cron_fields_at rest)) 62
-cron = variant Cron cron_fields_format
+cron : (version : Version) → IsVariant Cron cron_fields (IsCronFields version) (λ rest. as_variant Cron (cron_fields_at version rest)) 62
+cron version = variant Cron (cron_fields_format version)
 
 -- ---- kinds
 
@@ -114,41 +136,58 @@ cron = variant Cron cron_fields_format
 daily-parts : (from to : ℕ) (inverted : Bool) → is_day_part from to ≡ true → IsPartOfDay (from, (to, inverted))
 daily-parts from to inverted h = record { first = grind arith; others = record { first = h; others = tt } }
 
-kind_choices : Choices CalendarKind
-kind_choices =
+kind_choices : Version → Choices CalendarKind
+kind_choices version =
     (0, λ rest. as_variant Annual (list_at 0 ANNUAL_LIMIT next_day_at rest))
-    ∷ (1, λ rest. as_variant Holiday (list_at 0 HOLIDAY_LIMIT next_date_at rest))
+    ∷ (1, λ rest. as_variant Holiday (list_at 0 HOLIDAY_LIMIT (next_date_at version) rest))
     ∷ (2, λ rest. as_variant Weekly (checked (λ n. is_calendar_kind (Weekly n)) byte_at rest))
     ∷ (3, λ rest. as_variant Monthly (checked (λ n. is_calendar_kind (Monthly n)) (number_at w32) rest))
     ∷ (4, day_part_at)
-    ∷ (5, λ rest. as_variant Cron (cron_fields_at rest))
+    ∷ (5, λ rest. as_variant Cron (cron_fields_at version rest))
     ∷ []
 
-kind_again : (k : CalendarKind) (rest : List ℕ) → IsCalendarKind k → calendar_kind_at (calendar_kind k ++ rest) ≡ Ok (k, rest)
-unfolding calendar_kind_at byte_at calendar_kind
-kind_again (Annual days) rest is = annual.again days rest is.valid
-kind_again (Holiday dates) rest is = holiday.again dates rest is.valid
-kind_again (Weekly days) rest is = weekly.again days rest is.valid
-kind_again (Monthly days) rest is = monthly.again days rest is.valid
-kind_again (Daily from to inverted) rest is = daily.again (from, (to, inverted)) rest (daily-parts from to inverted is.valid)
-kind_again (Cron fields) rest is = cron.again fields rest (record { valid = is.valid; long = is.words })
+cron_known : (version : Version) (fields : CronFields) → is_kind_of version (Cron fields) ≡ true → length fields.years ≡ 4 → IsCronFields version fields
+cron_known version fields h long =
+    let both = parts_true (has_years version fields.years) (is_cron_fields fields) h in
+    record { valid = both.others; long = long; known = both.first }
 
-pub calendar_kind_format : IsFormat calendar_kind Any IsCalendarKind calendar_kind_at 16387
+kind_again : (version : Version) (k : CalendarKind) (rest : List ℕ) → IsCalendarKind version k → calendar_kind_at version (calendar_kind k ++ rest) ≡ Ok (k, rest)
+unfolding calendar_kind_at byte_at calendar_kind
+kind_again version (Annual days) rest is = annual.again days rest is.valid
+kind_again version (Holiday dates) rest is = (holiday version).again dates rest is.valid
+kind_again version (Weekly days) rest is = weekly.again days rest is.valid
+kind_again version (Monthly days) rest is = monthly.again days rest is.valid
+kind_again version (Daily from to inverted) rest is = daily.again (from, (to, inverted)) rest (daily-parts from to inverted is.valid)
+kind_again version (Cron fields) rest is = (cron version).again fields rest (cron_known version fields is.valid is.words)
+
+pub calendar_kind_format : (version : Version) → IsFormat calendar_kind Any (IsCalendarKind version) (calendar_kind_at version) 16387
 unfolding calendar_kind_at byte_at calendar_kind kind_choices
-calendar_kind_format = tagged 16386 kind_choices (
+calendar_kind_format version = tagged 16386 (kind_choices version) (
   part 0 annual (omega arith) (λ x. refl) (λ x is. record { valid = is; words = tt }),
   (
-    part 1 holiday (omega arith) (λ x. refl) (λ x is. record { valid = is; words = tt }),
+    part 1 (holiday version) (omega arith) (λ x. refl) (λ x is. record { valid = is; words = tt }),
     (
       part 2 weekly (omega arith) (λ x. refl) (λ x is. record { valid = is; words = tt }),
       (
         part 3 monthly (omega arith) (λ x. refl) (λ x is. record { valid = is; words = tt }),
         (
           part 4 daily (omega arith) (λ x. refl) (λ x is. record { valid = is.others.first; words = tt }),
-          (part 5 cron (omega arith) (λ x. refl) (λ x is. record { valid = is.valid; words = is.long }), tt),
+          (part 5 (cron version) (omega arith) (λ x. refl) (λ x is. record { valid = rw (is.known, is.valid) refl; words = is.long }), tt),
         ),
       ),
     ),
   ),
 )
-    refl (λ b bytes. refl) kind_again
+    refl (λ b bytes. refl) (kind_again version)
+
+-- Version two has every calendar that is valid.
+kind_of_two : (k : CalendarKind) → is_calendar_kind k ≡ true → is_kind_of Two k ≡ true
+kind_of_two (Annual days) h = h
+kind_of_two (Holiday dates) h = h
+kind_of_two (Weekly days) h = h
+kind_of_two (Monthly days) h = h
+kind_of_two (Daily from to inverted) h = h
+kind_of_two (Cron fields) h = h
+
+pub calendar_of_two : (k : CalendarKind) → is_calendar_kind k ≡ true → HasWords k → IsCalendarKind Two k
+calendar_of_two k valid words = record { valid = kind_of_two k valid; words = words }

@@ -1,5 +1,5 @@
 -- The fields of a cron text: those that are valid are written and read so, and none else are read.
-use Rattle.std.proofs.Common.{◌≡◌, ℕ, ◌-◌, ◌^◌, ◌<◌, ◌≤◌, Bool, true, false, cond, List, [], ◌∷◌, ◌++◌, length, get_or, Ok, refl, sym, ap, subst, arith, not, ◌&&◌}
+use Rattle.std.proofs.Common.{◌≡◌, ℕ, ◌^◌, ◌<◌, ◌≤◌, Bool, true, false, cond, List, [], ◌∷◌, ◌++◌, length, get_or, Ok, refl, sym, ap, subst, arith, not, ◌&&◌}
 use Rattle.std.specs.Prelude.{nat_le, nat_lt}
 use Rattle.std.specs.Int.{Width, w32, w64, byte_len}
 use Rattle.std.proofs.lemmas.List.{append-nil}
@@ -7,14 +7,17 @@ use Rattle.qz_civil.specs.declared.fields.CronFields.{CronFields}
 use Rattle.qz_civil.specs.declared.fields.DayField.{DayField}
 use Rattle.qz_civil.specs.declared.fields.DayField.TheVariants as month_days
 use Rattle.qz_civil.specs.declared.fields.Field.{Field}
-use Rattle.qz_civil.specs.declared.fields.Field.TheVariants.{Seconds, Minutes, Hours, DayOfMonth, Month, DayOfWeek, Year}
+use Rattle.qz_civil.specs.declared.fields.Field.TheVariants.{Seconds, Minutes, Hours, DayOfMonth, Month, DayOfWeek}
 use Rattle.qz_civil.specs.declared.fields.WeekField.{WeekField}
 use Rattle.qz_civil.specs.declared.fields.WeekField.TheVariants as week_days
 use Rattle.qz_civil.specs.Fields.{size, least, greatest, is_set, is_value, is_within_words, has_some, is_year_set, is_day_field, is_week_field, is_any_day, is_any_week, is_time_fields, is_date_fields, is_cron_fields}
+use Rattle.qz_values.specs.declared.versions.Version.{Version}
+use Rattle.qz_values.specs.declared.versions.Version.TheVariants.{One, Two}
 use Rattle.qz_values.specs.Fields.{number, Read, as_variant, checked, byte_at}
+use Rattle.qz_values.specs.Versions.{has_years, has_third_word}
 use Rattle.qz_values.specs.CronFields.{day_field, week_field, words, cron_fields, set_at, day_at, nth_at, named_week_at, any_week_at, years_at, cron_fields_at}
 use Rattle.qz_values.specs.Formats.{IsFormat, Any}
-use Rattle.qz_values.proofs.Formats.{Also, Both, field, last, same}
+use Rattle.qz_values.proofs.Formats.{Also, Both, Passes, field, last, same, those}
 use Rattle.qz_values.proofs.SingleFields.{IsWide, wide16, wide32, wide64, number_format, one_byte}
 use Rattle.qz_values.proofs.NameFormats.{narrowed, narrow_byte}
 use Rattle.qz_values.proofs.VariantFormats.{IsVariant, variant, read_so, pair, regroup, Choices, part, bare, wider, tagged}
@@ -195,29 +198,29 @@ known_too f = record {
 abbrev word : ℕ → List ℕ → ℕ
 word i ws = get_or ws i 0
 
--- the last year's word has that many bits
-abbrev is_third : ℕ → Bool
-is_third w = nat_lt w (2 ^ (size Year - 128))
+-- years that the version has, of which there is one
+abbrev is_years_of : Version → List ℕ → Bool
+is_years_of version ws = has_years version ws && is_year_set ws
 
-pub record IsFour (ws : List ℕ) : Type 0 where
+-- a third word that fits, and has no bit beyond the version's last year
+abbrev IsThird : Version → ℕ → Type 0
+IsThird version w = Passes (λ n. n < 2 ^ 64) (has_third_word version) w
+
+pub record IsFour (version : Version) (ws : List ℕ) : Type 0 where
   pub first : word 0 ws < 2 ^ 64
   pub second : word 1 ws < 2 ^ 64
-  pub third : is_third (word 2 ws) ≡ true
-  pub all : is_year_set (word 0 ws ∷ word 1 ws ∷ word 2 ws ∷ word 3 ws ∷ []) ≡ true
-
-third_below : (w : ℕ) → is_third w ≡ true → w < 2 ^ 64
-unfolding size
-third_below w h = grind arith
+  pub third : IsThird version (word 2 ws)
+  pub all : is_years_of version (word 0 ws ∷ word 1 ws ∷ word 2 ws ∷ word 3 ws ∷ []) ≡ true
 
 fourth_below : (a b c d : ℕ) → is_year_set (a ∷ b ∷ c ∷ d ∷ []) ≡ true → d < 2 ^ 64
 unfolding is_year_set size
 fourth_below a b c d h =
-    let both = parts_true (has_some (a ∷ b ∷ c ∷ d ∷ [])) (is_within_words 130 (a ∷ b ∷ c ∷ d ∷ [])) h in
-    let from_first = parts_true (nat_lt a (2 ^ 64)) (is_within_words 66 (b ∷ c ∷ d ∷ [])) both.others in
-    let from_second = parts_true (nat_lt b (2 ^ 64)) (is_within_words 2 (c ∷ d ∷ [])) from_first.others in
-    let from_third = parts_true (nat_lt c (2 ^ 2)) (is_within_words 0 (d ∷ [])) from_second.others in
-    let none : nat_lt d 1 ≡ true = (parts_true (nat_lt d 1) true from_third.others).first in
-    grind (arith, none)
+    let both = parts_true (has_some (a ∷ b ∷ c ∷ d ∷ [])) (is_within_words 230 (a ∷ b ∷ c ∷ d ∷ [])) h in
+    let from_first = parts_true (nat_lt a (2 ^ 64)) (is_within_words 166 (b ∷ c ∷ d ∷ [])) both.others in
+    let from_second = parts_true (nat_lt b (2 ^ 64)) (is_within_words 102 (c ∷ d ∷ [])) from_first.others in
+    let from_third = parts_true (nat_lt c (2 ^ 64)) (is_within_words 38 (d ∷ [])) from_second.others in
+    let few : nat_lt d (2 ^ 38) ≡ true = (parts_true (nat_lt d (2 ^ 38)) true from_third.others).first in
+    grind (arith, few)
 
 abbrev IsFourLong : List ℕ → Type 0
 IsFourLong ws = length ws ≡ 4
@@ -248,17 +251,17 @@ words_are (p ∷ q ∷ []) long = absurd cc
 words_are (p ∷ q ∷ r ∷ []) long = absurd cc
 words_are (p ∷ q ∷ r ∷ s ∷ t ∷ rest) long = absurd (omega (arith, long))
 
-pub record IsYears (ws : List ℕ) : Type 0 where
+pub record IsYears (version : Version) (ws : List ℕ) : Type 0 where
   pub long : length ws ≡ 4
-  pub set : is_year_set ws ≡ true
+  pub set : is_years_of version ws ≡ true
 
-four_format : IsFormat words IsFourLong IsFour years_at 32
+four_format : (version : Version) → IsFormat words IsFourLong (IsFour version) (years_at version) 32
 unfolding years_at
-four_format = same {write' = words} {Is' = IsFour}
+four_format version = same {write' = words} {Is' = IsFour version}
     (field IsFourLong (word 0) (number_format wide64) (λ a.
     field (Known1 a) (word 1) (number_format wide64) (λ b.
-    field (Known2 a b) (word 2) (narrowed wide64 is_third third_below) (λ c. same {Is' = λ ws. is_year_set (word 0 ws ∷ word 1 ws ∷ word 2 ws ∷ word 3 ws ∷ []) ≡ true}
-    (last (Known3 a b c) (word 3) (narrowed wide64 (λ d. is_year_set (a ∷ b ∷ c ∷ d ∷ [])) (fourth_below a b c))
+    field (Known2 a b) (word 2) (those (has_third_word version) (number_format wide64)) (λ c. same {Is' = λ ws. is_years_of version (word 0 ws ∷ word 1 ws ∷ word 2 ws ∷ word 3 ws ∷ []) ≡ true}
+    (last (Known3 a b c) (word 3) (narrowed wide64 (λ d. is_years_of version (a ∷ b ∷ c ∷ d ∷ [])) (λ d h. fourth_below a b c d (parts_true (has_years version (a ∷ b ∷ c ∷ d ∷ [])) (is_year_set (a ∷ b ∷ c ∷ d ∷ [])) h).others))
     (λ d. a ∷ b ∷ c ∷ d ∷ [])
     (λ d. record { before = record { before = record { before = refl; now = refl }; now = refl }; now = refl })
     (λ d. refl) (λ ws h. four_is a b c ws h))
@@ -269,32 +272,58 @@ four_format = same {write' = words} {Is' = IsFour}
     (λ ws h p. record { first = p.first; second = p.others.first; third = p.others.others.first; all = p.others.others.others })
     (λ ws h p. record { first = p.first; others = record { first = p.second; others = record { first = p.third; others = p.all } } })
 
-four_words : (ws : List ℕ) → is_year_set (word 0 ws ∷ word 1 ws ∷ word 2 ws ∷ word 3 ws ∷ []) ≡ true → IsFour ws
+-- the first three words of a set of years
+pub record AreWords (a b c : ℕ) : Type 0 where
+  pub first : a < 2 ^ 64
+  pub second : b < 2 ^ 64
+  pub third : c < 2 ^ 64
+
+words_below : (a b c d : ℕ) → is_year_set (a ∷ b ∷ c ∷ d ∷ []) ≡ true → AreWords a b c
 unfolding is_year_set size
-four_words ws h = record { first = grind arith; second = grind arith; third = grind arith; all = h }
+words_below a b c d h =
+    let both = parts_true (has_some (a ∷ b ∷ c ∷ d ∷ [])) (is_within_words 230 (a ∷ b ∷ c ∷ d ∷ [])) h in
+    let from_first = parts_true (nat_lt a (2 ^ 64)) (is_within_words 166 (b ∷ c ∷ d ∷ [])) both.others in
+    let from_second = parts_true (nat_lt b (2 ^ 64)) (is_within_words 102 (c ∷ d ∷ [])) from_first.others in
+    let from_third = parts_true (nat_lt c (2 ^ 64)) (is_within_words 38 (d ∷ [])) from_second.others in
+    record { first = grind (arith, from_first.first); second = grind (arith, from_second.first); third = grind (arith, from_third.first) }
+
+third_has : (version : Version) (a b c d : ℕ) → has_years version (a ∷ b ∷ c ∷ d ∷ []) ≡ true → has_third_word version c ≡ true
+third_has Two a b c d h = refl
+third_has One a b c d h =
+    let from_first = parts_true (nat_lt a (2 ^ 64)) (is_within_words 66 (b ∷ c ∷ d ∷ [])) h in
+    let from_second = parts_true (nat_lt b (2 ^ 64)) (is_within_words 2 (c ∷ d ∷ [])) from_first.others in
+    (parts_true (nat_lt c (2 ^ 2)) (is_within_words 0 (d ∷ [])) from_second.others).first
+
+four_words : (version : Version) (ws : List ℕ) → is_years_of version (word 0 ws ∷ word 1 ws ∷ word 2 ws ∷ word 3 ws ∷ []) ≡ true → IsFour version ws
+four_words version ws h =
+    let whole = word 0 ws ∷ word 1 ws ∷ word 2 ws ∷ word 3 ws ∷ [] in
+    let both = parts_true (has_years version whole) (is_year_set whole) h in
+    let below = words_below (word 0 ws) (word 1 ws) (word 2 ws) (word 3 ws) both.others in
+    record { first = below.first; second = below.second; third = record { fits = below.third; passed = third_has version (word 0 ws) (word 1 ws) (word 2 ws) (word 3 ws) both.first }; all = h }
 
 of_four : (ws : List ℕ) → IsFourLong ws → word 0 ws ∷ word 1 ws ∷ word 2 ws ∷ word 3 ws ∷ [] ≡ ws
 of_four ws long = four_is (word 0 ws) (word 1 ws) (word 2 ws) ws (record { before = record { before = record { before = long; now = refl }; now = refl }; now = refl })
 
-years_format : IsFormat words Any IsYears years_at 32
-years_format = same {Is' = IsYears} (known_too four_format) (λ ws k. refl)
-    (λ ws k p. record { long = p.first; set = subst (λ (zs : List ℕ). is_year_set zs ≡ true) (of_four ws p.first) p.others.all })
-    (λ ws k p. record { first = p.long; others = four_words ws (subst (λ (zs : List ℕ). is_year_set zs ≡ true) (sym (of_four ws p.long)) p.set) })
+years_format : (version : Version) → IsFormat words Any (IsYears version) (years_at version) 32
+years_format version = same {Is' = IsYears version} (known_too (four_format version)) (λ ws k. refl)
+    (λ ws k p. record { long = p.first; set = subst (λ (zs : List ℕ). is_years_of version zs ≡ true) (of_four ws p.first) p.others.all })
+    (λ ws k p. record { first = p.long; others = four_words version ws (subst (λ (zs : List ℕ). is_years_of version zs ≡ true) (sym (of_four ws p.long)) p.set) })
 
 -- ---- all fields
 
-pub record IsCronFields (f : CronFields) : Type 0 where
+pub record IsCronFields (version : Version) (f : CronFields) : Type 0 where
   pub valid : is_cron_fields f ≡ true
   pub long : length f.years ≡ 4
+  pub known : has_years version f.years ≡ true
 
-pub record AreFields (f : CronFields) : Type 0 where
+pub record AreFields (version : Version) (f : CronFields) : Type 0 where
   pub seconds : is_set Seconds f.seconds ≡ true
   pub minutes : is_set Minutes f.minutes ≡ true
   pub hours : is_set Hours f.hours ≡ true
   pub day : is_day_field f.day ≡ true
   pub months : is_set Month f.months ≡ true
   pub week : IsBeside (is_any_day f.day) f.week
-  pub years : IsYears f.years
+  pub years : IsYears version f.years
 
 just_one : (day week : Bool) → week ≡ not day → cond day (not week) week ≡ true
 just_one true week e = rw e refl
@@ -305,15 +334,16 @@ one_then true true h = absurd cc
 one_then true false h = refl
 one_then false week h = h
 
-fields-valid : (f : CronFields) → AreFields f → IsCronFields f
+fields-valid : (version : Version) (f : CronFields) → AreFields version f → IsCronFields version f
 unfolding is_time_fields is_date_fields
-fields-valid f p =
+fields-valid version f p =
     let one = just_one (is_any_day f.day) (is_any_week f.week) p.week.one in
-    record { valid = rw (p.seconds, p.minutes, p.hours, p.day, p.months, p.week.valid, p.years.set, one) refl; long = p.years.long }
+    let years = parts_true (has_years version f.years) (is_year_set f.years) p.years.set in
+    record { valid = rw (p.seconds, p.minutes, p.hours, p.day, p.months, p.week.valid, years.others, one) refl; long = p.years.long; known = years.first }
 
-valid-fields : (f : CronFields) → IsCronFields f → AreFields f
+valid-fields : (version : Version) (f : CronFields) → IsCronFields version f → AreFields version f
 unfolding is_time_fields is_date_fields
-valid-fields f is =
+valid-fields version f is =
     let whole = parts_true (is_time_fields f) (is_date_fields f) is.valid in
     let time = parts_true (is_set Seconds f.seconds && is_set Minutes f.minutes) (is_set Hours f.hours) whole.first in
     let minutes = parts_true (is_set Seconds f.seconds) (is_set Minutes f.minutes) time.first in
@@ -328,7 +358,7 @@ valid-fields f is =
       day = months.first;
       months = months.others;
       week = record { valid = week.others; one = one_then (is_any_day f.day) (is_any_week f.week) date.others };
-      years = record { long = is.long; set = years.others };
+      years = record { long = is.long; set = rw (is.known, years.others) refl };
     }
 
 abbrev After1 : ℕ → CronFields → Type 0
@@ -349,16 +379,16 @@ After5 seconds minutes hours day months f = Also (After4 seconds minutes hours d
 abbrev After6 : ℕ → ℕ → ℕ → DayField → ℕ → WeekField → CronFields → Type 0
 After6 seconds minutes hours day months week f = Also (After5 seconds minutes hours day months f) (f.week ≡ week)
 
-pub cron_fields_format : IsFormat cron_fields Any IsCronFields cron_fields_at 62
+pub cron_fields_format : (version : Version) → IsFormat cron_fields Any (IsCronFields version) (cron_fields_at version) 62
 unfolding cron_fields cron_fields_at
-cron_fields_format = same {write' = cron_fields} {Is' = IsCronFields}
+cron_fields_format version = same {write' = cron_fields} {Is' = IsCronFields version}
     (field (λ (f : CronFields). Unit {0}) (λ (f : CronFields). f.seconds) (set_format Seconds wide64 seconds_fit) (λ seconds.
     field (After1 seconds) (λ (f : CronFields). f.minutes) (set_format Minutes wide64 minutes_fit) (λ minutes.
     field (After2 seconds minutes) (λ (f : CronFields). f.hours) (set_format Hours wide32 hours_fit) (λ hours.
     field (After3 seconds minutes hours) (λ (f : CronFields). f.day) day_format (λ day.
-    field (After4 seconds minutes hours day) (λ (f : CronFields). f.months) (set_format Month wide16 months_fit) (λ months. same {Is' = λ (f : CronFields). Both (IsBeside (is_any_day f.day) f.week) (IsYears f.years)}
+    field (After4 seconds minutes hours day) (λ (f : CronFields). f.months) (set_format Month wide16 months_fit) (λ months. same {Is' = λ (f : CronFields). Both (IsBeside (is_any_day f.day) f.week) (IsYears version f.years)}
     (field (After5 seconds minutes hours day months) (λ (f : CronFields). f.week) (week_format (is_any_day day)) (λ week.
-    last (After6 seconds minutes hours day months week) (λ (f : CronFields). f.years) years_format
+    last (After6 seconds minutes hours day months week) (λ (f : CronFields). f.years) (years_format version)
     (λ years. record { seconds = seconds; minutes = minutes; hours = hours; day = day; months = months; week = week; years = years })
     (λ years. record { before = record { before = record { before = record { before = record { before = record { before = tt; now = refl }; now = refl }; now = refl }; now = refl }; now = refl }; now = refl })
     (λ years. refl)
@@ -367,7 +397,7 @@ cron_fields_format = same {write' = cron_fields} {Is' = IsCronFields}
     (λ f h p. record { first = subst (λ (d : DayField). IsBeside (is_any_day d) f.week) (sym h.before.now) p.first; others = p.others })
     (λ f h p. record { first = subst (λ (d : DayField). IsBeside (is_any_day d) f.week) h.before.now p.first; others = p.others })))))))
     (λ f h. refl)
-    (λ f h p. fields-valid f (record { seconds = p.first; minutes = p.others.first; hours = p.others.others.first; day = p.others.others.others.first; months = p.others.others.others.others.first; week = p.others.others.others.others.others.first; years = p.others.others.others.others.others.others }))
+    (λ f h p. fields-valid version f (record { seconds = p.first; minutes = p.others.first; hours = p.others.others.first; day = p.others.others.others.first; months = p.others.others.others.others.first; week = p.others.others.others.others.others.first; years = p.others.others.others.others.others.others }))
     (λ f h p.
-    let q = valid-fields f p in
+    let q = valid-fields version f p in
     record { first = q.seconds; others = record { first = q.minutes; others = record { first = q.hours; others = record { first = q.day; others = record { first = q.months; others = record { first = q.week; others = q.years } } } } } })

@@ -1,5 +1,5 @@
 -- Kinds of triggers: each that is valid is written and read so, and none else is read.
-use Rattle.std.proofs.Common.{◌≡◌, ℕ, ◌^◌, ◌<◌, ℤ, true, List, [], ◌∷◌, ◌++◌, Ok, refl, arith}
+use Rattle.std.proofs.Common.{◌≡◌, ℕ, ◌^◌, ◌<◌, ℤ, Bool, true, List, [], ◌∷◌, ◌++◌, Ok, refl, subst, arith}
 use Rattle.std.specs.Int.{w32, w64}
 use Rattle.qz_civil.specs.declared.fields.CronFields.{CronFields}
 use Rattle.qz_civil.specs.declared.timings.Kind.{Kind}
@@ -7,14 +7,16 @@ use Rattle.qz_civil.specs.declared.timings.Kind.TheVariants.{Simple, Cron, Inter
 use Rattle.qz_civil.specs.declared.timings.Unit.{Unit as Units}
 use Rattle.qz_civil.specs.declared.timings.Unit.TheVariants.{Second, Minute, Hour, Day, Week, Month, Year}
 use Rattle.qz_civil.specs.Timings.{is_kind, is_every, is_day_set, is_step, seconds}
+use Rattle.qz_values.specs.declared.versions.Version.{Version}
+use Rattle.qz_values.specs.declared.versions.Version.TheVariants.{One, Two}
 use Rattle.qz_values.specs.Fields.{number, integer, text, IsName, IsNumber, IsSpan, checked, byte_at, number_at, integer_at, name_at, span_at}
 use Rattle.qz_values.specs.CronFields.{cron_fields, cron_fields_at}
-use Rattle.qz_values.specs.Timings.{unit_place, kind, IsDaily, IsKind, unit_at, simple_at, cron_at, interval_at, is_even, is_second_from, daily_at, kind_at}
-use Rattle.qz_values.specs.Formats.{IsFormat, Any}
-use Rattle.qz_values.proofs.Formats.{Both, same, those}
-use Rattle.qz_values.proofs.SingleFields.{wide32, one_byte}
+use Rattle.qz_values.specs.Timings.{unit_place, interval_flags, kind, HasFlags, IsDaily, IsKind, unit_at, simple_at, cron_at, interval_flags_at, interval_at, is_even, is_second_from, daily_at, kind_at}
+use Rattle.qz_values.specs.Formats.{Takes, IsFormat, Any}
+use Rattle.qz_values.proofs.Formats.{Both, ok_is, same, those}
+use Rattle.qz_values.proofs.SingleFields.{wide32, one_byte, flag_format}
 use Rattle.qz_values.proofs.NameFormats.{name_format, tested, span_format, narrowed, narrow_byte}
-use Rattle.qz_values.proofs.VariantFormats.{IsVariant, variant, read_so, pair, pair_by, regroup, Choices, part, bare, tagged}
+use Rattle.qz_values.proofs.VariantFormats.{IsVariant, variant, read_so, pair, pair_by, regroup, Choices, part, bare, wider, tagged}
 use Rattle.qz_values.proofs.CronFormats.{IsCronFields, cron_fields_format}
 
 -- ---- units
@@ -62,20 +64,56 @@ simple = read_so simple_at (variant make_simple (pair_by {IsB = λ i. IsNumber w
 abbrev make_cron : CronFields × List ℕ → Kind
 make_cron x = Cron x.0 x.1
 
-cron : IsVariant make_cron (λ (x : CronFields × List ℕ). cron_fields x.0 ++ text x.1) (λ (x : CronFields × List ℕ). Both (IsCronFields x.0) (IsName x.1)) cron_at 264
+cron : (version : Version) → IsVariant make_cron (λ (x : CronFields × List ℕ). cron_fields x.0 ++ text x.1) (λ (x : CronFields × List ℕ). Both (IsCronFields version x.0) (IsName x.1)) (cron_at version) 264
 unfolding cron_at
-cron = read_so cron_at (variant make_cron (pair cron_fields_format name_format)) (λ bytes. regroup make_cron (cron_fields_at bytes) (λ fields. name_at fields.1) _ (λ fields. refl))
+cron version = read_so (cron_at version) (variant make_cron (pair (cron_fields_format version) name_format)) (λ bytes. regroup make_cron (cron_fields_at version bytes) (λ fields. name_at fields.1) _ (λ fields. refl))
 
-abbrev make_interval : Units × (ℕ × List ℕ) → Kind
-make_interval x = Interval x.0 x.1.0 x.1.1
+-- an interval's two flags
+abbrev Flags : Type 0
+Flags = Bool × Bool
+
+abbrev put_flags : Version → Flags → List ℕ
+put_flags version x = interval_flags version x.0 x.1
+
+abbrev AreFlags : Version → Flags → Type 0
+AreFlags version x = HasFlags version x.0 x.1
+
+-- in version one nothing is written, and nothing is read
+no_flags : IsFormat (put_flags One) Any (AreFlags One) (interval_flags_at One) 0
+unfolding interval_flags_at
+no_flags = record {
+  again = λ x rest known is. rw (is.0, is.1) refl;
+  takes = λ bytes x fits e. subst (λ (y : Flags × List ℕ). Takes (put_flags One) Any (AreFlags One) bytes y) (ok_is ((true, true), bytes) x e) (record { parts = refl; rest = fits; known = tt; valid = (refl, refl) });
+  near = λ bytes. record { within = omega arith; near = omega arith };
+}
+
+flags_format : (version : Version) → IsFormat (put_flags version) Any (AreFlags version) (interval_flags_at version) 2
+unfolding interval_flags_at
+flags_format One = wider (omega arith) no_flags
+flags_format Two = same {Is' = AreFlags Two} (pair flag_format flag_format) (λ x k. refl) (λ x k p. tt) (λ x k p. record { first = tt; others = tt })
+
+-- every, zone and flags
+abbrev Spaced : Type 0
+Spaced = ℕ × (List ℕ × Flags)
+
+abbrev make_interval : Units × Spaced → Kind
+make_interval x = Interval x.0 x.1.0 x.1.1.0 x.1.1.1.0 x.1.1.1.1
+
+abbrev put_interval : Version → Units × Spaced → List ℕ
+put_interval version x = unit_byte x.0 ++ (number w32 x.1.0 ++ (text x.1.1.0 ++ put_flags version x.1.1.1))
+
+abbrev IsSpaced : Version → Units × Spaced → Type 0
+IsSpaced version x = Both (Any x.0) (Both (is_every x.1.0 ≡ true) (Both (IsName x.1.1.0) (AreFlags version x.1.1.1)))
 
 every_format : IsFormat (number w32) Any (λ n. is_every n ≡ true) (checked is_every (number_at w32)) 4
 every_format = narrowed wide32 is_every (λ n h. grind arith)
 
-interval : IsVariant make_interval (λ (x : Units × (ℕ × List ℕ)). unit_byte x.0 ++ (number w32 x.1.0 ++ text x.1.1)) (λ (x : Units × (ℕ × List ℕ)). Both (Any x.0) (Both (is_every x.1.0 ≡ true) (IsName x.1.1))) interval_at 207
+interval : (version : Version) → IsVariant make_interval (put_interval version) (IsSpaced version) (interval_at version) 209
 unfolding interval_at
-interval = read_so interval_at (variant make_interval (pair unit_format (pair every_format name_format)))
-    (λ bytes. regroup make_interval (unit_at bytes) _ _ (λ unit. regroup (λ x. make_interval (unit.0, x)) (checked is_every (number_at w32) unit.1) (λ every. name_at every.1) _ (λ every. refl)))
+interval version = read_so (interval_at version) (variant make_interval (pair unit_format (pair every_format (pair name_format (flags_format version)))))
+    (λ bytes. regroup make_interval (unit_at bytes) _ _ (λ unit.
+    regroup (λ x. make_interval (unit.0, x)) (checked is_every (number_at w32) unit.1) _ _ (λ every.
+    regroup (λ x. make_interval (unit.0, (every.0, x))) (name_at every.1) (λ zone. interval_flags_at version zone.1) _ (λ zone. refl))))
 
 even_format : IsFormat unit_byte Any (λ unit. is_even unit ≡ true) (checked is_even unit_at) 1
 even_format = same (those is_even unit_format) (λ u k. refl) (λ u k p. p.passed) (λ u k p. record { fits = tt; passed = p })
@@ -149,26 +187,26 @@ daily-parts unit every from to days zone is =
     let step : is_step unit every ≡ true = grind arith in
     record { first = step-even unit every step; others = record { first = step; others = record { first = grind arith; others = record { first = grind arith; others = record { first = is.days; others = is.zone } } } } }
 
-kind_choices : Choices Kind
-kind_choices = (0, simple_at) ∷ (1, cron_at) ∷ (2, interval_at) ∷ (3, daily_at) ∷ []
+kind_choices : Version → Choices Kind
+kind_choices version = (0, simple_at) ∷ (1, cron_at version) ∷ (2, interval_at version) ∷ (3, daily_at) ∷ []
 
-kind_again : (k : Kind) (rest : List ℕ) → IsKind k → kind_at (kind k ++ rest) ≡ Ok (k, rest)
+kind_again : (version : Version) (k : Kind) (rest : List ℕ) → IsKind version k → kind_at version (kind version k ++ rest) ≡ Ok (k, rest)
 unfolding kind_at byte_at kind
-kind_again (Simple interval count) rest is = simple.again (interval, count) rest (record { first = is.0; others = is.1 })
-kind_again (Cron fields zone) rest is = cron.again (fields, zone) rest (record { first = record { valid = is.fields; long = is.words }; others = is.zone })
-kind_again (Interval unit every zone) rest is = interval.again (unit, (every, zone)) rest (record { first = tt; others = record { first = is.every; others = is.zone } })
-kind_again (Daily unit every from to days zone) rest is = daily.again (unit, (every, (from, (to, (days, zone))))) rest (daily-parts unit every from to days zone is)
+kind_again version (Simple interval count) rest is = simple.again (interval, count) rest (record { first = is.0; others = is.1 })
+kind_again version (Cron fields zone) rest is = (cron version).again (fields, zone) rest (record { first = record { valid = is.fields; long = is.words; known = is.years }; others = is.zone })
+kind_again version (Interval unit every zone preserve skip) rest is = (interval version).again (unit, (every, (zone, (preserve, skip)))) rest (record { first = tt; others = record { first = is.every; others = record { first = is.zone; others = is.flags } } })
+kind_again version (Daily unit every from to days zone) rest is = daily.again (unit, (every, (from, (to, (days, zone))))) rest (daily-parts unit every from to days zone is)
 
-pub kind_format : IsFormat kind Any IsKind kind_at 265
+pub kind_format : (version : Version) → IsFormat (kind version) Any (IsKind version) (kind_at version) 265
 unfolding kind_at byte_at kind kind_choices
-kind_format = tagged 264 kind_choices (
+kind_format version = tagged 264 (kind_choices version) (
   part 0 simple (omega arith) (λ x. refl) (λ x p. (p.first, p.others)),
   (
-    part 1 cron (omega arith) (λ x. refl) (λ x p. record { fields = p.first.valid; words = p.first.long; zone = p.others }),
+    part 1 (cron version) (omega arith) (λ x. refl) (λ x p. record { fields = p.first.valid; words = p.first.long; years = p.first.known; zone = p.others }),
     (
-      part 2 interval (omega arith) (λ x. refl) (λ x p. record { every = p.others.first; zone = p.others.others }),
+      part 2 (interval version) (omega arith) (λ x. refl) (λ x p. record { every = p.others.first; zone = p.others.others.first; flags = p.others.others.others }),
       (part 3 daily (omega arith) (λ x. refl) daily-valid, tt),
     ),
   ),
 )
-    refl (λ b bytes. refl) kind_again
+    refl (λ b bytes. refl) (kind_again version)

@@ -5,6 +5,7 @@ use Rattle.std.specs.Int.{w8}
 use Rattle.qz_civil.specs.Timings.{is_misfire}
 use Rattle.qz_civil.specs.declared.timings.Kind.{Kind}
 use Rattle.qz_civil.specs.declared.timings.Timing.{Timing}
+use Rattle.qz_values.specs.declared.versions.Version.{Version}
 use Rattle.qz_values.specs.Fields.{small, IsNumber, IsSpan, checked, small_at}
 use Rattle.qz_values.specs.Timings.{timing, IsTiming, timing_at}
 use Rattle.qz_values.specs.Formats.{IsFormat, Any}
@@ -24,10 +25,10 @@ pub record IsRestOfTiming (t : Timing) : Type 0 where
   pub start : IsSpan t.start
   pub end : IfSome t.end IsSpan
 
-pub timing_format : IsFormat timing Any IsTiming timing_at 283
+pub timing_format : (version : Version) → IsFormat (timing version) Any (IsTiming version) (timing_at version) 283
 unfolding timing timing_at
-timing_format = same {write' = timing} {Is' = IsTiming}
-    (field Free (λ (t : Timing). t.kind) kind_format (λ k. same {Is' = IsRestOfTiming}
+timing_format version = same {write' = timing version} {Is' = IsTiming version}
+    (field Free (λ (t : Timing). t.kind) (kind_format version) (λ k. same {Is' = IsRestOfTiming}
     (field (λ (t : Timing). Also (Unit {0}) (t.kind ≡ k)) (λ (t : Timing). t.misfire) (misfire_format k) (λ misfire.
     field (λ (t : Timing). Also (Also (Unit {0}) (t.kind ≡ k)) (t.misfire ≡ misfire)) (λ (t : Timing). t.start) span_format (λ start.
     last (λ (t : Timing). Also (Also (Also (Unit {0}) (t.kind ≡ k)) (t.misfire ≡ misfire)) (t.start ≡ start)) (λ (t : Timing). t.end) (optional_format span_format)

@@ -1,15 +1,17 @@
 -- The bytes of a cron text's fields, both ways.
-use Rattle.std.specs.Prelude.{ℕ, ◌-◌, ◌^◌, List, [], ◌∷◌, ◌++◌, length, nat_lt, nat_le, ◌==◌, ◌&&◌, Ok, Err, if◌then◌else◌}
+use Rattle.std.specs.Prelude.{ℕ, List, [], ◌∷◌, ◌++◌, length, nat_le, ◌==◌, ◌&&◌, Ok, Err, if◌then◌else◌}
 use Rattle.std.specs.Int.{Width, w16, w32, w64}
 use Rattle.qz_civil.specs.declared.fields.CronFields.{CronFields}
 use Rattle.qz_civil.specs.declared.fields.DayField.{DayField}
 use Rattle.qz_civil.specs.declared.fields.DayField.TheVariants as month_days
 use Rattle.qz_civil.specs.declared.fields.Field.{Field}
-use Rattle.qz_civil.specs.declared.fields.Field.TheVariants.{Seconds, Minutes, Hours, DayOfMonth, Month, DayOfWeek, Year}
+use Rattle.qz_civil.specs.declared.fields.Field.TheVariants.{Seconds, Minutes, Hours, DayOfMonth, Month, DayOfWeek}
 use Rattle.qz_civil.specs.declared.fields.WeekField.{WeekField}
 use Rattle.qz_civil.specs.declared.fields.WeekField.TheVariants as week_days
-use Rattle.qz_civil.specs.Fields.{is_set, is_value, is_any_day, is_year_set, size}
+use Rattle.qz_civil.specs.Fields.{is_set, is_value, is_any_day, is_year_set}
+use Rattle.qz_values.specs.declared.versions.Version.{Version}
 use Rattle.qz_values.specs.Fields.{◌>>=◌, Read, number, checked, as_variant, byte_at, number_at}
+use Rattle.qz_values.specs.Versions.{has_years, has_third_word}
 
 -- the variant's place, and its fields
 unfoldable pub day_field : DayField → List ℕ
@@ -70,24 +72,24 @@ any_week_at bytes = do
 abbrev pub week_at : DayField → List ℕ → Read WeekField
 week_at day bytes = if is_any_day day then named_week_at bytes else any_week_at bytes
 
--- The third word has no bit beyond the last year, and the fourth has none. It is wrong too where no word has a year.
-unfoldable pub years_at : List ℕ → Read (List ℕ)
-years_at bytes = do
+-- A word is wrong where it has a bit beyond the version's last year, and the fourth also where no word has a year.
+unfoldable pub years_at : Version → List ℕ → Read (List ℕ)
+years_at version bytes = do
   first ← number_at w64 bytes
   second ← number_at w64 first.1
-  third ← checked (λ w. nat_lt w (2 ^ (size Year - 128))) (number_at w64) second.1
-  fourth ← checked (λ w. is_year_set (first.0 ∷ second.0 ∷ third.0 ∷ w ∷ [])) (number_at w64) third.1
+  third ← checked (has_third_word version) (number_at w64) second.1
+  fourth ← checked (λ w. has_years version (first.0 ∷ second.0 ∷ third.0 ∷ w ∷ []) && is_year_set (first.0 ∷ second.0 ∷ third.0 ∷ w ∷ [])) (number_at w64) third.1
   Ok (first.0 ∷ second.0 ∷ third.0 ∷ fourth.0 ∷ [], fourth.1)
 
-unfoldable pub cron_fields_at : List ℕ → Read CronFields
-cron_fields_at bytes = do
+unfoldable pub cron_fields_at : Version → List ℕ → Read CronFields
+cron_fields_at version bytes = do
   seconds ← set_at Seconds w64 bytes
   minutes ← set_at Minutes w64 seconds.1
   hours ← set_at Hours w32 minutes.1
   day ← day_at hours.1
   months ← set_at Month w16 day.1
   week ← week_at day.0 months.1
-  years ← years_at week.1
+  years ← years_at version week.1
   Ok (
     record {
       seconds = seconds.0;

@@ -1,5 +1,6 @@
 pub mod Formats
 pub mod Fields
+pub mod Versions
 pub mod CronFields
 pub mod Lists
 pub mod Timings

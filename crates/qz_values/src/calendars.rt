@@ -8,11 +8,13 @@ ghost use Rattle.qz_values.specs.Lists.{list_at};
 ghost use Rattle.qz_values.specs.Reading.{Gives};
 ghost use Rattle.qz_values.specs.CronFields.{cron_fields_at};
 ghost use Rattle.qz_values.specs.Calendars as format;
+ghost use Rattle.qz_values.specs.declared.versions.Version.TheVariants.{Two};
 
 use crate::cron_fields::{cron_fields_of, put_cron_fields};
 use crate::faults::Fault;
 use crate::lists::{Item, list_of, put_list};
 use crate::numbers::{bool_at, put_bool, put_u8, put_u16, put_u32, u8_at, u16_at, u32_at};
+use crate::versions::Version;
 use qz_civil::{ANNUAL_LIMIT, CalendarKind, HOLIDAY_LIMIT, List, is_annual_day, is_holiday};
 use std::alloc::{AllocError, Global};
 
@@ -26,10 +28,11 @@ fn is_next_day(before: Option<u16>, day: u16) -> bool
         }
 }
 
-fn is_next_date(before: Option<u32>, date: u32) -> bool
-    ensures { result ≡ format.is_next spec.is_holiday before date }
+fn is_next_date(version: Version, before: Option<u32>, date: u32) -> bool
+    ensures { result ≡ format.is_next (format.is_holiday_of version) before date }
 {
-    is_holiday(date)
+    version.has_year(date / 10_000)
+        && is_holiday(date)
         && match before {
             None => true,
             Some(before) => before < date,
@@ -40,13 +43,13 @@ fn is_next_date(before: Option<u32>, date: u32) -> bool
 impl Item for u16 {
     ghost item = { number w16 };
 
-    ghost item_at = { format.next_day_at };
+    ghost item_at = { λ version. format.next_day_at };
 
     fn put_item(self, out: &mut Vec<u8>) -> Result<(), AllocError> {
         put_u16(out, self)
     }
 
-    fn item_of(before: Option<u16>, bytes: &[u8]) -> Result<(u16, &[u8]), Fault>
+    fn item_of(_version: Version, before: Option<u16>, bytes: &[u8]) -> Result<(u16, &[u8]), Fault>
         ensures { Gives (λ x. (x.0, x.1.now)) result (format.next_day_at before bytes.now) }
     {
         match u16_at(bytes) {
@@ -66,11 +69,11 @@ impl Item for u32 {
         put_u32(out, self)
     }
 
-    fn item_of(before: Option<u32>, bytes: &[u8]) -> Result<(u32, &[u8]), Fault>
-        ensures { Gives (λ x. (x.0, x.1.now)) result (format.next_date_at before bytes.now) }
+    fn item_of(version: Version, before: Option<u32>, bytes: &[u8]) -> Result<(u32, &[u8]), Fault>
+        ensures { Gives (λ x. (x.0, x.1.now)) result (format.next_date_at version before bytes.now) }
     {
         match u32_at(bytes) {
-            Ok((date, _)) if !is_next_date(before, date) => Err(Fault::at(bytes)),
+            Ok((date, _)) if !is_next_date(version, before, date) => Err(Fault::at(bytes)),
             read => read,
         }
     }
@@ -81,15 +84,16 @@ fn days_of(alloc: Global, bytes: &[u8]) -> Result<(List<u16>, &[u8]), Fault>
     ensures exact { Gives (λ x. (x.0, x.1.now)) result (list_at 0 ANNUAL_LIMIT format.next_day_at bytes.now) }
     ensures valid { IfOk result (λ x. IsTrue (spec.is_list_of spec.is_annual_day ANNUAL_LIMIT x.0)) }
 {
-    list_of(alloc, bytes, 0, ANNUAL_LIMIT as u16)
+    // both versions have the same days
+    list_of(alloc, Version::Two, bytes, 0, ANNUAL_LIMIT as u16)
 }
 
 /// The dates of a calendar of holidays.
-fn dates_of(alloc: Global, bytes: &[u8]) -> Result<(List<u32>, &[u8]), Fault>
-    ensures exact { Gives (λ x. (x.0, x.1.now)) result (list_at 0 HOLIDAY_LIMIT format.next_date_at bytes.now) }
+fn dates_of(alloc: Global, version: Version, bytes: &[u8]) -> Result<(List<u32>, &[u8]), Fault>
+    ensures exact { Gives (λ x. (x.0, x.1.now)) result (list_at 0 HOLIDAY_LIMIT (format.next_date_at version) bytes.now) }
     ensures valid { IfOk result (λ x. IsTrue (spec.is_list_of spec.is_holiday HOLIDAY_LIMIT x.0)) }
 {
-    list_of(alloc, bytes, 0, HOLIDAY_LIMIT as u16)
+    list_of(alloc, version, bytes, 0, HOLIDAY_LIMIT as u16)
 }
 
 fn annual_of(alloc: Global, bytes: &[u8]) -> Result<(CalendarKind, &[u8]), Fault>
@@ -100,11 +104,11 @@ fn annual_of(alloc: Global, bytes: &[u8]) -> Result<(CalendarKind, &[u8]), Fault
     Ok((CalendarKind::Annual { days }, rest))
 }
 
-fn holiday_of(alloc: Global, bytes: &[u8]) -> Result<(CalendarKind, &[u8]), Fault>
-    ensures exact { Gives (λ x. (x.0, x.1.now)) result (as_variant CalendarKind.Holiday (list_at 0 HOLIDAY_LIMIT format.next_date_at bytes.now)) }
+fn holiday_of(alloc: Global, version: Version, bytes: &[u8]) -> Result<(CalendarKind, &[u8]), Fault>
+    ensures exact { Gives (λ x. (x.0, x.1.now)) result (as_variant CalendarKind.Holiday (list_at 0 HOLIDAY_LIMIT (format.next_date_at version) bytes.now)) }
     ensures valid { IfOk result (λ x. IsTrue (spec.is_calendar_kind x.0)) }
 {
-    let (dates, rest) = dates_of(alloc, bytes)?;
+    let (dates, rest) = dates_of(alloc, version, bytes)?;
     Ok((CalendarKind::Holiday { dates }, rest))
 }
 
@@ -132,11 +136,11 @@ fn monthly_of(bytes: &[u8]) -> Result<(CalendarKind, &[u8]), Fault>
     }
 }
 
-fn cron_of(bytes: &[u8]) -> Result<(CalendarKind, &[u8]), Fault>
-    ensures exact { Gives (λ x. (x.0, x.1.now)) result (as_variant CalendarKind.Cron (cron_fields_at bytes.now)) }
+fn cron_of(version: Version, bytes: &[u8]) -> Result<(CalendarKind, &[u8]), Fault>
+    ensures exact { Gives (λ x. (x.0, x.1.now)) result (as_variant CalendarKind.Cron (cron_fields_at version bytes.now)) }
     ensures valid { IfOk result (λ x. IsTrue (spec.is_calendar_kind x.0)) }
 {
-    let (fields, rest) = cron_fields_of(bytes)?;
+    let (fields, rest) = cron_fields_of(version, bytes)?;
     Ok((CalendarKind::Cron { fields }, rest))
 }
 
@@ -164,18 +168,22 @@ fn day_part_of(bytes: &[u8]) -> Result<(CalendarKind, &[u8]), Fault>
 
 /// What a calendar excludes: the place of its kind in one byte, then what the kind has.
 #[tactic(auto, unfolding(crate::specs::Calendars::calendar_kind_at))]
-pub fn calendar_kind_of(alloc: Global, bytes: &[u8]) -> Result<(CalendarKind, &[u8]), Fault>
-    ensures exact { Gives (λ x. (x.0, x.1.now)) result (format.calendar_kind_at bytes.now) }
+pub fn calendar_kind_of(
+    alloc: Global,
+    version: Version,
+    bytes: &[u8],
+) -> Result<(CalendarKind, &[u8]), Fault>
+    ensures exact { Gives (λ x. (x.0, x.1.now)) result (format.calendar_kind_at version bytes.now) }
     ensures valid { IfOk result (λ x. IsTrue (spec.is_calendar_kind x.0)) }
 {
     let (place, rest) = u8_at(bytes)?;
     match place {
         0 => annual_of(alloc, rest),
-        1 => holiday_of(alloc, rest),
+        1 => holiday_of(alloc, version, rest),
         2 => weekly_of(rest),
         3 => monthly_of(rest),
         4 => day_part_of(rest),
-        5 => cron_of(rest),
+        5 => cron_of(version, rest),
         _ => Err(Fault::at(bytes)),
     }
 }
@@ -193,7 +201,7 @@ fn put_day_part(out: &mut Vec<u8>, from: u32, to: u32, inverted: bool) -> Result
 pub fn put_calendar_kind(out: &mut Vec<u8>, kind: &CalendarKind) -> Result<(), AllocError>
     requires { IsTrue (spec.is_calendar_kind kind.now) }
     ensures bytes { OnOk result (out.new.items ≡ out.old.items ++ format.calendar_kind kind.now) }
-    ensures valid { OnOk result (format.IsCalendarKind kind.now) }
+    ensures valid { OnOk result (format.IsCalendarKind Two kind.now) }
 {
     match kind {
         CalendarKind::Annual { days } => {

@@ -1,14 +1,16 @@
 //! The fields of a cron text, both ways.
-ghost use Rattle.std.specs.Prelude.{◌≡◌, ℕ, ◌-◌, ◌^◌, nat_le, nat_lt, ◌&&◌, not, true, false, IsTrue, IfOk, ◌<◌, ◌++◌, length, OnOk};
+ghost use Rattle.std.specs.Prelude.{◌≡◌, ℕ, nat_le, ◌&&◌, not, true, false, IsTrue, IfOk, ◌<◌, ◌++◌, length, OnOk};
 ghost use Rattle.std.specs.Int.{w16, w32, w64};
 ghost use Rattle.qz_civil.specs.Fields as rules;
-ghost use Rattle.qz_civil.specs.declared.fields.Field.TheVariants.{DayOfMonth, DayOfWeek, Year};
+ghost use Rattle.qz_civil.specs.declared.fields.Field.TheVariants.{DayOfMonth, DayOfWeek};
 ghost use Rattle.qz_values.specs.Reading.{Gives};
 ghost use Rattle.qz_values.specs.Fields.{checked, byte_at, number_at, text};
+ghost use Rattle.qz_values.specs.Versions.{has_third_word};
 ghost use Rattle.qz_values.specs.CronFields.{set_at, day_at, nth_at, named_week_at, any_week_at, week_at, years_at, cron_fields_at, day_field, week_field, words, cron_fields};
 
 use crate::faults::Fault;
 use crate::numbers::{put_u8, put_u16, put_u32, put_u64, u8_at, u16_at, u32_at, u64_at};
+use crate::versions::Version;
 use qz_civil::{CronFields, DayField, Field, WeekField, is_year_set};
 use std::alloc::AllocError;
 
@@ -168,36 +170,35 @@ fn week_of(day: DayField, bytes: &[u8]) -> Result<(WeekField, &[u8]), Fault>
     }
 }
 
-#[tactic(auto, unfolding(qz_civil::specs::Fields::size))]
-fn third_word_of(bytes: &[u8]) -> Result<(u64, &[u8]), Fault>
-    ensures { Gives (λ x. (x.0, x.1.now)) result (checked (λ w. nat_lt w (2 ^ (rules.size Year - 128))) (number_at w64) bytes.now) }
+fn third_word_of(version: Version, bytes: &[u8]) -> Result<(u64, &[u8]), Fault>
+    ensures { Gives (λ x. (x.0, x.1.now)) result (checked (has_third_word version) (number_at w64) bytes.now) }
 {
     match u64_at(bytes) {
-        Ok((word, _)) if word >= 1 << (Field::Year.size() - 128) => Err(Fault::at(bytes)),
+        Ok((word, _)) if !version.has_third_word(word) => Err(Fault::at(bytes)),
         read => read,
     }
 }
 
 /// Bit j of word i is the year 1970 + 64 * i + j.
 #[tactic(auto, unfolding(crate::specs::CronFields::years_at))]
-fn years_of(bytes: &[u8]) -> Result<([u64; 4], &[u8]), Fault>
-    ensures exact { Gives (λ x. (x.0, x.1.now)) result (years_at bytes.now) }
+fn years_of(version: Version, bytes: &[u8]) -> Result<([u64; 4], &[u8]), Fault>
+    ensures exact { Gives (λ x. (x.0, x.1.now)) result (years_at version bytes.now) }
     ensures valid { IfOk result (λ x. IsTrue (rules.is_year_set x.0)) }
 {
     let (first, rest) = u64_at(bytes)?;
     let (second, rest) = u64_at(rest)?;
-    let (third, rest) = third_word_of(rest)?;
+    let (third, rest) = third_word_of(version, rest)?;
     let (fourth, after) = u64_at(rest)?;
     let years = [first, second, third, fourth];
-    if !is_year_set(years) {
+    if !version.has_years(years) || !is_year_set(years) {
         return Err(Fault::at(rest));
     }
     Ok((years, after))
 }
 
 #[tactic(auto, unfolding(crate::specs::CronFields::cron_fields_at, qz_civil::specs::Fields::is_time_fields, qz_civil::specs::Fields::is_date_fields))]
-pub(crate) fn cron_fields_of(bytes: &[u8]) -> Result<(CronFields, &[u8]), Fault>
-    ensures exact { Gives (λ x. (x.0, x.1.now)) result (cron_fields_at bytes.now) }
+pub(crate) fn cron_fields_of(version: Version, bytes: &[u8]) -> Result<(CronFields, &[u8]), Fault>
+    ensures exact { Gives (λ x. (x.0, x.1.now)) result (cron_fields_at version bytes.now) }
     ensures valid { IfOk result (λ x. IsTrue (rules.is_cron_fields x.0)) }
 {
     let (seconds, rest) = u64_set_of(Field::Seconds, bytes)?;
@@ -206,7 +207,7 @@ pub(crate) fn cron_fields_of(bytes: &[u8]) -> Result<(CronFields, &[u8]), Fault>
     let (day, rest) = day_of(rest)?;
     let (months, rest) = u16_set_of(Field::Month, rest)?;
     let (week, rest) = week_of(day, rest)?;
-    let (years, rest) = years_of(rest)?;
+    let (years, rest) = years_of(version, rest)?;
     let fields = CronFields {
         seconds,
         minutes,

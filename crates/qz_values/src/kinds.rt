@@ -3,15 +3,17 @@ ghost use Rattle.std.specs.Prelude.{◌≡◌, ℕ, ℤ, ◌<◌, ◌&&◌, IsTr
 ghost use Rattle.std.specs.Int.{w32, w64};
 ghost use Rattle.qz_civil.specs.Timings.{is_day_set, is_every, is_kind, is_step};
 ghost use Rattle.qz_values.specs.Reading.{Gives};
-ghost use Rattle.qz_values.specs.Fields.{checked, byte_at, number_at, integer_at, number, integer, text};
-ghost use Rattle.qz_values.specs.Timings.{unit_at, simple_at, cron_at, interval_at, is_even, is_second_from, daily_at, kind_at, IsKind, unit_place, kind};
+ghost use Rattle.qz_values.specs.Fields.{checked, byte_at, number_at, integer_at, number, integer, flag, text};
+ghost use Rattle.qz_values.specs.Timings.{unit_at, simple_at, cron_at, interval_flags_at, interval_at, is_even, is_second_from, daily_at, kind_at, IsKind, unit_place, kind};
 ghost use Rattle.qz_values.specs.CronFields.{cron_fields};
+ghost use Rattle.qz_values.specs.declared.versions.Version.TheVariants.{Two};
 
 use crate::cron_fields::{cron_fields_of, put_cron_fields};
 use crate::faults::Fault;
-use crate::numbers::{i64_at, put_i64, put_u8, put_u32, u8_at, u32_at};
-use crate::texts::{owned_name_of, put_name};
+use crate::numbers::{bool_at, i64_at, put_bool, put_i64, put_u8, put_u32, u8_at, u32_at};
+use crate::texts::{name_of, owned_name_of, put_name};
 use crate::times::{is_between, span_of};
+use crate::versions::Version;
 use qz_civil::{COUNT_LIMIT, CronFields, DAY_SECONDS, EVERY_LIMIT, Kind, LONGEST, Text, Unit};
 use std::alloc::{AllocError, Global};
 
@@ -45,11 +47,11 @@ fn simple_of(bytes: &[u8]) -> Result<(Kind, &[u8]), Fault>
 }
 
 #[tactic(auto, unfolding(crate::specs::Timings::cron_at))]
-fn cron_of(alloc: Global, bytes: &[u8]) -> Result<(Kind, &[u8]), Fault>
-    ensures exact { Gives (λ x. (x.0, x.1.now)) result (cron_at bytes.now) }
+fn cron_of(alloc: Global, version: Version, bytes: &[u8]) -> Result<(Kind, &[u8]), Fault>
+    ensures exact { Gives (λ x. (x.0, x.1.now)) result (cron_at version bytes.now) }
     ensures valid { IfOk result (λ x. IsTrue (is_kind x.0)) }
 {
-    let (fields, rest) = cron_fields_of(bytes)?;
+    let (fields, rest) = cron_fields_of(version, bytes)?;
     let (zone, rest) = owned_name_of(alloc, rest)?;
     Ok((Kind::Cron { fields, zone }, rest))
 }
@@ -82,15 +84,39 @@ fn every_of(bytes: &[u8]) -> Result<(u32, &[u8]), Fault>
     }
 }
 
+/// Whether an interval keeps the hour of the day, and whether it skips a day that doesn't have it. A record of version
+/// one doesn't say so: there it does both.
+#[tactic(auto, unfolding(crate::specs::Timings::interval_flags_at))]
+fn interval_flags_of(version: Version, bytes: &[u8]) -> Result<((bool, bool), &[u8]), Fault>
+    ensures { Gives (λ x. (x.0, x.1.now)) result (interval_flags_at version bytes.now) }
+{
+    match version {
+        Version::One => Ok(((true, true), bytes)),
+        Version::Two => {
+            let (preserve, rest) = bool_at(bytes)?;
+            let (skip, rest) = bool_at(rest)?;
+            Ok(((preserve, skip), rest))
+        }
+    }
+}
+
 #[tactic(auto, unfolding(crate::specs::Timings::interval_at))]
-fn interval_of(alloc: Global, bytes: &[u8]) -> Result<(Kind, &[u8]), Fault>
-    ensures exact { Gives (λ x. (x.0, x.1.now)) result (interval_at bytes.now) }
+fn interval_of(alloc: Global, version: Version, bytes: &[u8]) -> Result<(Kind, &[u8]), Fault>
+    ensures exact { Gives (λ x. (x.0, x.1.now)) result (interval_at version bytes.now) }
     ensures valid { IfOk result (λ x. IsTrue (is_kind x.0)) }
 {
     let (unit, rest) = unit_of(bytes)?;
     let (every, rest) = every_of(rest)?;
-    let (zone, rest) = owned_name_of(alloc, rest)?;
-    Ok((Kind::Interval { unit, every, zone }, rest))
+    let (zone, rest) = name_of(rest)?;
+    let ((preserve, skip), rest) = interval_flags_of(version, rest)?;
+    let kind = Kind::Interval {
+        unit,
+        every,
+        zone: Text::from_str(alloc, zone)?,
+        preserve,
+        skip,
+    };
+    Ok((kind, rest))
 }
 
 /// A second, a minute or an hour.
@@ -162,15 +188,15 @@ fn daily_of(alloc: Global, bytes: &[u8]) -> Result<(Kind, &[u8]), Fault>
 }
 
 #[tactic(auto, unfolding(crate::specs::Timings::kind_at))]
-pub(crate) fn kind_of(alloc: Global, bytes: &[u8]) -> Result<(Kind, &[u8]), Fault>
-    ensures exact { Gives (λ x. (x.0, x.1.now)) result (kind_at bytes.now) }
+pub(crate) fn kind_of(alloc: Global, version: Version, bytes: &[u8]) -> Result<(Kind, &[u8]), Fault>
+    ensures exact { Gives (λ x. (x.0, x.1.now)) result (kind_at version bytes.now) }
     ensures valid { IfOk result (λ x. IsTrue (is_kind x.0)) }
 {
     let (place, rest) = u8_at(bytes)?;
     match place {
         0 => simple_of(rest),
-        1 => cron_of(alloc, rest),
-        2 => interval_of(alloc, rest),
+        1 => cron_of(alloc, version, rest),
+        2 => interval_of(alloc, version, rest),
         3 => daily_of(alloc, rest),
         _ => Err(Fault::at(bytes)),
     }
@@ -195,7 +221,7 @@ fn place_of_unit(unit: Unit) -> u8
 fn put_simple(out: &mut Vec<u8>, interval: i64, count: i64) -> Result<(), AllocError>
     requires { IsTrue (is_kind (Kind.Simple interval count)) }
     ensures bytes { OnOk result (out.new.items ≡ out.old.items ++ 0 ∷ (integer w64 interval ++ integer w64 count)) }
-    ensures valid { OnOk result (IsKind (Kind.Simple interval count)) }
+    ensures valid { OnOk result (IsKind Two (Kind.Simple interval count)) }
 {
     put_u8(out, 0)?;
     put_i64(out, interval)?;
@@ -206,7 +232,7 @@ fn put_simple(out: &mut Vec<u8>, interval: i64, count: i64) -> Result<(), AllocE
 fn put_cron(out: &mut Vec<u8>, fields: &CronFields, zone: &Text) -> Result<(), AllocError>
     requires { IsTrue (is_kind (Kind.Cron fields.now zone.now)) }
     ensures bytes { OnOk result (out.new.items ≡ out.old.items ++ 1 ∷ (cron_fields fields.now ++ text zone.now)) }
-    ensures valid { OnOk result (IsKind (Kind.Cron fields.now zone.now)) }
+    ensures valid { OnOk result (IsKind Two (Kind.Cron fields.now zone.now)) }
 {
     put_u8(out, 1)?;
     put_cron_fields(out, fields)?;
@@ -223,14 +249,23 @@ fn put_step(out: &mut Vec<u8>, unit: Unit, every: u32) -> Result<(), AllocError>
 }
 
 #[tactic(auto, using(crate::proofs::Signs::signs))]
-fn put_interval(out: &mut Vec<u8>, unit: Unit, every: u32, zone: &Text) -> Result<(), AllocError>
-    requires { IsTrue (is_kind (Kind.Interval unit every zone.now)) }
-    ensures bytes { OnOk result (out.new.items ≡ out.old.items ++ 2 ∷ unit_place unit ∷ (number w32 every ++ text zone.now)) }
-    ensures valid { OnOk result (IsKind (Kind.Interval unit every zone.now)) }
+fn put_interval(
+    out: &mut Vec<u8>,
+    unit: Unit,
+    every: u32,
+    zone: &Text,
+    preserve: bool,
+    skip: bool,
+) -> Result<(), AllocError>
+    requires { IsTrue (is_kind (Kind.Interval unit every zone.now preserve skip)) }
+    ensures bytes { OnOk result (out.new.items ≡ out.old.items ++ 2 ∷ unit_place unit ∷ (number w32 every ++ (text zone.now ++ (flag preserve ++ flag skip)))) }
+    ensures valid { OnOk result (IsKind Two (Kind.Interval unit every zone.now preserve skip)) }
 {
     put_u8(out, 2)?;
     put_step(out, unit, every)?;
-    put_name(out, zone)
+    put_name(out, zone)?;
+    put_bool(out, preserve)?;
+    put_bool(out, skip)
 }
 
 /// The seconds of the day, and the days.
@@ -246,13 +281,19 @@ fn put_times(out: &mut Vec<u8>, from: u32, to: u32, days: u8) -> Result<(), Allo
 #[tactic(auto, unfolding(crate::specs::Timings::kind), using(crate::proofs::Signs::signs))]
 pub(crate) fn put_kind(out: &mut Vec<u8>, k: &Kind) -> Result<(), AllocError>
     requires { IsTrue (is_kind k.now) }
-    ensures bytes { OnOk result (out.new.items ≡ out.old.items ++ kind k.now) }
-    ensures valid { OnOk result (IsKind k.now) }
+    ensures bytes { OnOk result (out.new.items ≡ out.old.items ++ kind Two k.now) }
+    ensures valid { OnOk result (IsKind Two k.now) }
 {
     match k {
         Kind::Simple { interval, count } => put_simple(out, *interval, *count),
         Kind::Cron { fields, zone } => put_cron(out, fields, zone),
-        Kind::Interval { unit, every, zone } => put_interval(out, *unit, *every, zone),
+        Kind::Interval {
+            unit,
+            every,
+            zone,
+            preserve,
+            skip,
+        } => put_interval(out, *unit, *every, zone, *preserve, *skip),
         Kind::Daily {
             unit,
             every,

@@ -1,8 +1,9 @@
 //! Records of single values, both ways: numbers, texts, lists, times, the fields of a cron text, timings of triggers,
 //! kinds of calendars and stretches of zones. `docs/specification/records.md` has the format.
 //!
-//! A function that writes puts the bytes of a value after those that are there. A function that reads takes a value
-//! from the front of some bytes, and answers it with the bytes after it.
+//! A function that writes puts the bytes of a value after those that are there, in version two. A function that reads
+//! takes a value from the front of some bytes, and answers it with the bytes after it. Where the versions differ it takes
+//! the version of the record.
 #![tactic(auto)]
 
 mod calendars;
@@ -14,6 +15,7 @@ mod numbers;
 mod texts;
 mod times;
 mod timings;
+mod versions;
 mod zones;
 
 pub use calendars::{calendar_kind_of, put_calendar_kind};
@@ -25,4 +27,5 @@ pub use numbers::{
 pub use texts::{make_texts, name_of, owned_name_of, put_name, put_str, str_at};
 pub use times::{is_between, put_time, span_of, time_of};
 pub use timings::{put_timing, timing_of};
+pub use versions::Version;
 pub use zones::{put_zone, zone_of};

@@ -7,19 +7,23 @@ ghost use Rattle.qz_values.specs.Lists.{list, list_at};
 ghost use Rattle.qz_values.specs.Reading.{Gives};
 ghost use Rattle.qz_values.specs.Fields.{checked, integer_at};
 ghost use Rattle.qz_values.specs.Zones as format;
+ghost use Rattle.qz_values.specs.declared.versions.Version.TheVariants.{Two};
 
 use crate::faults::Fault;
 use crate::lists::{Item, list_of, put_list};
 use crate::numbers::{i32_at, i64_at, put_i32, put_i64};
+use crate::versions::Version;
 use qz_civil::{List, STRETCH_LIMIT, Stretch, Zone, is_offset, may_begin};
 use std::alloc::{AllocError, Global};
 
 /// Where a stretch begins, right after one that begins at `before`.
-fn from_of(before: Option<i64>, bytes: &[u8]) -> Result<(i64, &[u8]), Fault>
-    ensures { Gives (λ x. (x.0, x.1.now)) result (checked (format.may_begin before) (integer_at w64) bytes.now) }
+fn from_of(version: Version, before: Option<i64>, bytes: &[u8]) -> Result<(i64, &[u8]), Fault>
+    ensures { Gives (λ x. (x.0, x.1.now)) result (checked (format.may_begin version before) (integer_at w64) bytes.now) }
 {
     match i64_at(bytes) {
-        Ok((from, _)) if !may_begin(before, from) => Err(Fault::at(bytes)),
+        Ok((from, _)) if !version.has_moment(from) || !may_begin(before, from) => Err(Fault::at(
+            bytes,
+        )),
         read => read,
     }
 }
@@ -61,29 +65,37 @@ impl Item for Stretch {
     }
 
     #[tactic(auto, unfolding(crate::specs::Zones::next_stretch_at))]
-    fn item_of(before: Option<Stretch>, bytes: &[u8]) -> Result<(Stretch, &[u8]), Fault>
-        ensures { Gives (λ x. (x.0, x.1.now)) result (format.next_stretch_at before bytes.now) }
+    fn item_of(
+        version: Version,
+        before: Option<Stretch>,
+        bytes: &[u8],
+    ) -> Result<(Stretch, &[u8]), Fault>
+        ensures { Gives (λ x. (x.0, x.1.now)) result (format.next_stretch_at version before bytes.now) }
     {
-        let (from, rest) = from_of(start_of(before), bytes)?;
+        let (from, rest) = from_of(version, start_of(before), bytes)?;
         let (offset, rest) = offset_of(rest)?;
         Ok((Stretch { from, offset }, rest))
     }
 }
 
 // The stretches of a zone's table.
-fn stretches_of(alloc: Global, bytes: &[u8]) -> Result<(List<Stretch>, &[u8]), Fault>
-    ensures exact { Gives (λ x. (x.0, x.1.now)) result (list_at 1 STRETCH_LIMIT format.next_stretch_at bytes.now) }
+fn stretches_of(
+    alloc: Global,
+    version: Version,
+    bytes: &[u8],
+) -> Result<(List<Stretch>, &[u8]), Fault>
+    ensures exact { Gives (λ x. (x.0, x.1.now)) result (list_at 1 STRETCH_LIMIT (format.next_stretch_at version) bytes.now) }
     ensures valid { IfOk result (λ x. spec.bad_zone x.0 ≡ None) }
 {
-    list_of(alloc, bytes, 1, STRETCH_LIMIT as u16)
+    list_of(alloc, version, bytes, 1, STRETCH_LIMIT as u16)
 }
 
 /// A zone, by its stretches.
-pub fn zone_of(alloc: Global, bytes: &[u8]) -> Result<(Zone, &[u8]), Fault>
-    ensures exact { Gives (λ x. (x.0, x.1.now)) result (list_at 1 STRETCH_LIMIT format.next_stretch_at bytes.now) }
+pub fn zone_of(alloc: Global, version: Version, bytes: &[u8]) -> Result<(Zone, &[u8]), Fault>
+    ensures exact { Gives (λ x. (x.0, x.1.now)) result (list_at 1 STRETCH_LIMIT (format.next_stretch_at version) bytes.now) }
     ensures valid { IfOk result (λ x. spec.bad_zone x.0 ≡ None) }
 {
-    let (stretches, rest) = stretches_of(alloc, bytes)?;
+    let (stretches, rest) = stretches_of(alloc, version, bytes)?;
     match Zone::table(stretches) {
         Ok(zone) => Ok((zone, rest)),
         Err(_) => unreachable!(),
@@ -92,7 +104,8 @@ pub fn zone_of(alloc: Global, bytes: &[u8]) -> Result<(Zone, &[u8]), Fault>
 
 /// A zone, by its stretches.
 pub fn put_zone(out: &mut Vec<u8>, zone: &Zone) -> Result<(), AllocError>
-    ensures { OnOk result (out.new.items ≡ out.old.items ++ list format.stretch zone.now) }
+    ensures bytes { OnOk result (out.new.items ≡ out.old.items ++ list format.stretch zone.now) }
+    ensures valid { format.IsTable Two zone.now }
 {
     put_list(out, zone.as_slice())
 }
