@@ -15,9 +15,10 @@ use Rattle.qz_model.specs.Membership.{node_refusal}
 use Rattle.qz_model.specs.Firing.{early, next_of, fire_refusal, following, with_begun, fire_one, fire_row, fire}
 use Rattle.qz_model.specs.Invariant.{IsRowOf, is_live_state, TablesValid}
 use Rattle.qz_model.specs.Tests.{stored_job}
-use Rattle.qz_model.proofs.Changes.{HasItsTrigger, HasNextTime, passes}
-use Rattle.qz_model.proofs.RowLaws.{same_key-exact, job_of-key, All-trigger_of, All-fired_of}
+use Rattle.qz_model.proofs.Changes.{HasItsTrigger, live_next, passes}
+use Rattle.qz_model.proofs.RowLaws.{same_key-exact, job_of-key, All-fired_of}
 use Rattle.qz_model.proofs.KeptFiring.{clear_both, acquired_clear}
+use Rattle.qz_model.proofs.NextTimes.{moment_up_to_last}
 use Rattle.qz_acquire.specs.Prepared.{committed}
 use Rattle.qz_acquire.specs.declared.changes.Change.TheVariants.{Fire}
 
@@ -45,9 +46,9 @@ pub time_of_row : (T : SchedulerTables) (n : ℕ) (f : FiredData) (t : TriggerDa
 unfolding next_time
 time_of_row T n f t valid stored taken found = ∥∥₁_elim valid (hlevel props) (λ is.
     let row : IsRowOf f t = subst (λ o. IsSomeAnd o (IsRowOf f)) found (All-fired_of (HasItsTrigger T.triggers) n f T.fired is.acquired_match.a_trigger stored taken) in
-    let next : IsMoment T.horizon f.scheduled = subst (λ o. IsSomeAnd o (IsMoment T.horizon)) row.next (All-trigger_of (HasNextTime T.horizon) f.trigger t T.triggers is.next_times.next found (ap is_live_state row.state)) in
+    let next : IsMoment T.horizon f.scheduled = subst (λ o. IsSomeAnd o (IsMoment T.horizon)) row.next (live_next T f.trigger t is found (ap is_live_state row.state)) in
     let time : unwrap_or t.next (pos 0) ≡ f.scheduled = ap (λ o. unwrap_or o (pos 0)) row.next in
-    subst (λ h. IsMoment h (unwrap_or t.next (pos 0))) is.references_and_limits.limits.horizon (subst (IsMoment T.horizon) (sym time) next))
+    subst (IsMoment LAST) (sym time) (moment_up_to_last T f.scheduled is next))
 
 -- the job of a key has this key
 key_of : (key : Key) (jobs : List JobData) (o : Option JobData) → job_of key jobs ≡ o → (stored_job key jobs).key ≡ key

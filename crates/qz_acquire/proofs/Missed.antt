@@ -1,5 +1,5 @@
 -- The next time of a misfired trigger has passed, and its move makes a valid row.
-use Rattle.std.proofs.Common.{◌≡◌, ℕ, ◌≤◌, ℤ, pos, negsuc, ◌-ℤ◌, ◌≤ℤ◌, ◌<ℤ◌, true, not, ◌&&◌, nat_le, List, [], ◌∷◌, ◌++◌, length, get_or, map, take, drop, filter, suc, ◌+◌, ◌<◌, Option, Some, None, IsTrue, IsSomeAnd, unwrap_or, refl, sym, ap, ◌∙◌, subst, arith}
+use Rattle.std.proofs.Common.{◌≡◌, ℕ, ◌≤◌, ℤ, pos, negsuc, ◌-ℤ◌, ◌≤ℤ◌, ◌<ℤ◌, true, not, ◌&&◌, nat_le, List, [], ◌∷◌, ◌++◌, length, get_or, map, take, drop, filter, suc, ◌+◌, ◌<◌, Option, Some, None, IsTrue, IfSome, unwrap_or, refl, sym, ap, ◌∙◌, subst, arith}
 use Rattle.std.proofs.Math.Logic.{∥∥₁_elim}
 use Rattle.std.proofs.Props.{props}
 use Rattle.std.specs.List.{AllByRecursion}
@@ -20,17 +20,18 @@ use Rattle.qz_types.specs.Tables.{SchedulerTables, IsMoment}
 use Rattle.qz_model.specs.Acquiring.{next_time}
 use Rattle.qz_model.specs.Due.{is_before, is_misfired}
 use Rattle.qz_model.specs.Misfires.{misfired_triggers, move_of}
-use Rattle.qz_model.specs.Invariant.{is_live_state, TablesValid}
+use Rattle.qz_model.specs.Invariant.{TablesValid}
 use Rattle.qz_model.proofs.Apart.{All-take}
-use Rattle.qz_model.proofs.Changes.{HasNextTime}
-use Rattle.qz_model.proofs.DueLaws.{All-in_due_order, waiting_from}
+use Rattle.qz_model.proofs.Changes.{HasNextTime, each_next}
+use Rattle.qz_model.proofs.DueLaws.{All-in_due_order}
+use Rattle.qz_model.proofs.NextTimes.{moment_up_to_last}
 use Rattle.qz_model.proofs.RowPoints.{All-weaker, All-filter}
 use Rattle.qz_acquire.specs.Moves.{IsMissed, IsMovable, move_for}
 use Rattle.qz_acquire.specs.declared.changes.Move.{Move}
 use Rattle.qz_acquire.specs.Walk.{is_waiting_misfired}
 
-missed_by : (m threshold : ℤ) (horizon : ℤ) (o : Option ℤ) → pos 1 ≤ℤ threshold → is_before (m -ℤ threshold) o ≡ true → IsSomeAnd o (IsMoment horizon) → (pos 0 ≤ℤ unwrap_or o (pos 0)) × (unwrap_or o (pos 0) <ℤ m)
-missed_by m threshold horizon None positive before is = absurd is
+missed_by : (m threshold : ℤ) (horizon : ℤ) (o : Option ℤ) → pos 1 ≤ℤ threshold → is_before (m -ℤ threshold) o ≡ true → IfSome o (IsMoment horizon) → (pos 0 ≤ℤ unwrap_or o (pos 0)) × (unwrap_or o (pos 0) <ℤ m)
+missed_by m threshold horizon None positive before is = absurd (cc)
 missed_by m threshold horizon (Some n) positive before is = (is.low, grind (arith, ints))
 
 missed_at : (T : SchedulerTables) (m : ℤ) (t : TriggerData) → IsTrue (is_interval T.threshold) → HasNextTime T.horizon t → is_waiting_misfired T m t ≡ true → IsMissed m t
@@ -38,7 +39,7 @@ unfolding is_misfired next_time
 missed_at T m t interval has passes =
     let parts = and_parts (is_waiting t.state) (is_misfired T m t) passes in
     let late = (and_parts (not (int_eq t.spec.timing.misfire (negsuc 0))) (is_before (m -ℤ T.threshold) t.next) parts.1).1 in
-    let both = missed_by m T.threshold T.horizon t.next (grind (arith, ints)) late (has (ap is_live_state (waiting_from t.state parts.0))) in
+    let both = missed_by m T.threshold T.horizon t.next (grind (arith, ints)) late has.1 in
     record { low = both.0; before = both.1 }
 
 missed_each : (T : SchedulerTables) (m : ℤ) → TablesValid T → AllByRecursion (IsMissed m) (misfired_triggers T m)
@@ -48,7 +49,7 @@ missed_each T m valid =
     (All-in_due_order (IsMissed m) (filter (is_waiting_misfired T m) T.triggers)
     (All-filter (IsMissed m) (is_waiting_misfired T m) T.triggers
     (All-weaker (HasNextTime T.horizon) (λ t. is_waiting_misfired T m t ≡ true → IsMissed m t) T.triggers
-    (λ t has passes. missed_at T m t valid.references_and_limits.limits.threshold has passes) valid.next_times.next)))
+    (λ t has passes. missed_at T m t valid.references_and_limits.limits.threshold has passes) (each_next T valid))))
 
 missed_prop : (m : ℤ) (ts : List TriggerData) → IsProp (AllByRecursion (IsMissed m) ts)
 missed_prop m [] = hlevel props
@@ -59,7 +60,7 @@ all_missed T m valid = ∥∥₁_elim valid (missed_prop m (misfired_triggers T 
 
 -- a moment is up to the last timestamp
 pub up_to_last : (T : SchedulerTables) (m : ℤ) → ∥ TablesValid T ∥₁ → IsMoment T.horizon m → m ≤ℤ LAST
-up_to_last T m valid is = ∥∥₁_elim valid (hlevel props) (λ v. subst (λ (h : ℤ). m ≤ℤ h) v.references_and_limits.limits.horizon is.high)
+up_to_last T m valid is = ∥∥₁_elim valid (hlevel props) (λ v. (moment_up_to_last T m v is).high)
 
 -- a valid trigger stays valid with a valid timing
 pub fits : (t : TriggerData) (move : Moved) → IsTrue (is_trigger t) → IsTrue (is_timing (moved_timing move t.spec.timing)) → move.times ≤ TIMES_LIMIT → IsTrue (is_trigger (moved_trigger move t))

@@ -1,5 +1,5 @@
 -- What the deletion of a trigger comes to, step by step.
-use Rattle.std.proofs.Common.{◌≡◌, Option, Some, None, refl, sym, ap, ◌∙◌}
+use Rattle.std.proofs.Common.{◌≡◌, Some, None, refl, sym, ap, ◌∙◌}
 use Rattle.qz_types.specs.Rows.{TriggerData}
 use Rattle.qz_types.specs.declared.keys.Key.{Key}
 use Rattle.qz_types.specs.Changes.{without_acquired}

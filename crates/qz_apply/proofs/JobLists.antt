@@ -6,7 +6,7 @@ use Rattle.std.specs.Iterator.{YieldsFirstRef}
 use Rattle.std.proofs.lemmas.List.Sorted.{length_permutation}
 use Rattle.qz_types.specs.Rows.{JobData, TriggerData}
 use Rattle.qz_types.specs.declared.keys.Key.{Key}
-use Rattle.qz_types.specs.Words.{same_key, job_of, trigger_of}
+use Rattle.qz_types.specs.Words.{job_of, trigger_of}
 use Rattle.qz_tables.specs.Jobs.{triggers_of}
 use Rattle.qz_model.specs.Tests.{is_trigger_of}
 use Rattle.qz_model.proofs.RowLaws.{same_key-exact, job_of-key, trigger_of-key}

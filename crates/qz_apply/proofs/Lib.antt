@@ -5,3 +5,4 @@ pub mod JobLists
 pub mod Moves
 pub mod Refused
 pub mod Searches
+pub mod UpToHorizon

@@ -1,5 +1,5 @@
 -- A trigger that a misfire moves stays valid.
-use Rattle.std.proofs.Common.{◌≡◌, ◌&&◌, ◌≤◌, ◌^◌, inl, inr, refl, subst, Bool, true, List, Option, Some, None, IfSome, ℕ, ℤ, pos, negsuc, false, ◌≤ℤ◌, unsigned_abs, IsTrue, arith}
+use Rattle.std.proofs.Common.{◌≡◌, ◌&&◌, ◌≤◌, ◌^◌, inl, inr, refl, subst, Bool, true, List, Option, Some, None, IfSome, ℕ, ℤ, pos, negsuc, false, ◌≤ℤ◌, unsigned_abs, unwrap_or, IsTrue, ◌∙◌, arith}
 use Rattle.std.specs.Prelude.{nat_le}
 use Rattle.std.specs.Ordering.{int_eq}
 use Rattle.std.proofs.lemmas.Int.{ints}
@@ -19,19 +19,24 @@ use Rattle.qz_plan.proofs.Plan.{fire_time_within}
 use Rattle.qz_types.specs.Changes.{counting, moved_timing}
 use Rattle.qz_types.specs.Rows.{TriggerData, is_calendar, is_key, is_trigger, is_trigger_spec}
 use Rattle.qz_types.specs.declared.limits.TheConstants.{TIMES_LIMIT}
+use Rattle.qz_types.specs.Tables.{SchedulerTables}
+use Rattle.qz_model.specs.Acquiring.{next_time}
+use Rattle.qz_model.specs.Misfires.{move_of}
+use Rattle.qz_model.specs.Plan.{within, next_after, stretches_for, zone_named_by, zoned_chain}
+use Rattle.qz_apply.proofs.UpToHorizon.{within-too}
 
 -- the same count again changes no kind
 counting-same : (kind : Kind) → counting (count_of kind) kind ≡ kind
 counting-same (Simple interval count) = refl
 counting-same (Cron fields zone) = refl
-counting-same (Interval unit every zone) = refl
+counting-same (Interval unit every zone preserve skip) = refl
 counting-same (Daily unit every from to days zone) = refl
 
 -- and another count leaves its instructions
 counting-misfire : (count : ℤ) (kind : Kind) (code : ℤ) → is_misfire (counting count kind) code ≡ is_misfire kind code
 counting-misfire count (Simple interval old) code = refl
 counting-misfire count (Cron fields zone) code = refl
-counting-misfire count (Interval unit every zone) code = refl
+counting-misfire count (Interval unit every zone preserve skip) code = refl
 counting-misfire count (Daily unit every from to days zone) code = refl
 
 simple-fewer : (interval count : ℤ) (left : ℕ) → IsTrue (is_simple interval count) → int_eq count (negsuc 0) ≡ false → int_eq count (pos 0) ≡ false → left ≤ unsigned_abs count → IsTrue (is_simple interval (pos left))
@@ -40,7 +45,7 @@ simple-fewer interval count left valid endless once fewer = grind (arith, ints)
 counting-fewer : (kind : Kind) (count : ℤ) → IsTrue (is_kind kind) → IsFewer (count_of kind) count → IsTrue (is_kind (counting count kind))
 counting-fewer (Simple interval old) count valid less = rw less.is (simple-fewer interval old less.number valid less.endless less.once less.fewer)
 counting-fewer (Cron fields zone) count valid less = valid
-counting-fewer (Interval unit every zone) count valid less = valid
+counting-fewer (Interval unit every zone preserve skip) count valid less = valid
 counting-fewer (Daily unit every from to days zone) count valid less = valid
 
 -- a timestamp is a span
@@ -101,10 +106,19 @@ known_after timing zone chain t (Some s) low is =
     let within = fire_time_within timing zone chain t s (omega (arith, ints)) is in
     (omega (arith, ints, within.0), within.1)
 
-pub moved-by : (timing : Timing) (zone : List Stretch) (chain : List ZonedCalendar) (next moment : ℤ) (times : ℕ) (move : Moved) → times ≤ 2 ^ 63 → pos 0 ≤ℤ moment → moment ≤ℤ LAST
-    → move ≡ moved timing (fire_time_after timing zone chain moment) next times moment → IsMove timing move
-moved-by timing zone chain next moment times move few low high is =
-    rw is (moved-move timing times few (fire_time_after timing zone chain moment) next moment (low, high) (known_after timing zone chain moment _ low refl))
+pub moved-by : (timing : Timing) (zone : List Stretch) (chain : List ZonedCalendar) (horizon next moment : ℤ) (times : ℕ) (move : Moved) → times ≤ 2 ^ 63 → pos 0 ≤ℤ moment → moment ≤ℤ LAST
+    → move ≡ moved timing (within horizon (fire_time_after timing zone chain moment)) next times moment → IsMove timing move
+moved-by timing zone chain horizon next moment times move few low high is =
+    rw is (moved-move timing times few (within horizon (fire_time_after timing zone chain moment)) next moment (low, high)
+    (within-too IsTimestamp horizon (fire_time_after timing zone chain moment) (known_after timing zone chain moment _ low refl)))
 
 pub moved-row : (t row : TriggerData) (move : Moved) → t ≡ row → IsTrue (is_timing t.spec.timing) → IsMove t.spec.timing move → IsTrue (is_timing (moved_timing move row.spec.timing))
 moved-row t row move is valid moves = subst (λ (r : TriggerData). IsTrue (is_timing (moved_timing move r.spec.timing))) is (moved-valid t.spec.timing move valid moves)
+
+-- the parts by which a move is made are those of the definition
+pub moved-as : (T : SchedulerTables) (m : ℤ) (t row : TriggerData) (zone : List Stretch) (chain : List ZonedCalendar) (calendar : Option (List ℕ)) (next : ℤ) (move : Moved) → t ≡ row
+    → zone ≡ stretches_for T.zones (zone_named_by t.spec.timing.kind) → chain ≡ zoned_chain T calendar → calendar ≡ t.spec.calendar → next ≡ unwrap_or t.next (pos 0)
+    → move ≡ moved t.spec.timing (within T.horizon (fire_time_after t.spec.timing zone chain m)) next t.times m → move ≡ move_of T m row
+unfolding move_of next_after next_time
+moved-as T m t row zone chain calendar next move seen shown chained named time is =
+    subst (λ (r : TriggerData). move ≡ move_of T m r) seen (is ∙ rw (shown, chained, named, time) refl)

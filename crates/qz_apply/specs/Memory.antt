@@ -1,7 +1,7 @@
 -- Which commands take memory.
 use Rattle.std.specs.Prelude.{Bool, true, false}
 use Rattle.qz_types.specs.declared.commands.Command.{Command}
-use Rattle.qz_types.specs.declared.commands.Command.TheVariants.{DeleteJob, DeleteTrigger, PauseTrigger, ResumeTrigger, ResumeGroup, DeleteCalendar, DeleteZone, Threshold, Leave, Release, Complete}
+use Rattle.qz_types.specs.declared.commands.Command.TheVariants.{DeleteJob, DeleteTrigger, PauseTrigger, ResumeTrigger, ResumeGroup, DeleteCalendar, DeleteZone, Threshold, Leave, Release, Complete, Upgrade, ResetTrigger, ResumeJobGroup}
 
 -- the command copies something or adds a row, so memory may run out for it
 abbrev pub takes_memory : Command → Bool
@@ -16,4 +16,7 @@ takes_memory (Threshold ms) = false
 takes_memory Leave = false
 takes_memory (Release entry) = false
 takes_memory (Complete entry code) = false
+takes_memory Upgrade = false
+takes_memory (ResetTrigger key) = false
+takes_memory (ResumeJobGroup group) = false
 takes_memory command = true

@@ -9,9 +9,12 @@ ghost use Rattle.qz_model.specs.Acquiring.{next_time};
 ghost use Rattle.qz_model.specs.Misfires.{move_of};
 ghost use Rattle.qz_model.specs.Plan.{is_utc, next_after, stretches_for, stretches_named, zone_named_by, zoned, zoned_chain};
 
+use crate::horizons::{UpTo, within};
 use crate::same_text;
 use qz_calendar::{CHAIN_LIMIT, Chain};
 use qz_civil::{Kind, LAST, Moved, Zone};
+use qz_misfire::after_misfire;
+use qz_plan::FireTimes;
 use qz_tables::Tables;
 use qz_types::{CalendarRow, TIMES_LIMIT, Text, TriggerRow, TriggerSpec};
 
@@ -52,6 +55,8 @@ fn zone_for<'a>(tables: &'a Tables, utc: &'a Zone, kind: &Kind) -> &'a Zone
             unit: _,
             every: _,
             zone,
+            preserve: _,
+            skip: _,
         } => zone_named(tables, utc, zone),
         Kind::Daily {
             unit: _,
@@ -111,7 +116,7 @@ fn zoned_chain<'a>(tables: &'a Tables, utc: &'a Zone, calendar: Option<&Text>) -
 }
 
 /// The trigger's least fire time after `t`, which is a timestamp or -1, in its zone and with its calendars. Both are in ms
-/// since 1970-01-01T00:00:00Z, and the answer is `None` where there is none up to `LAST`.
+/// since 1970-01-01T00:00:00Z, and the answer is `None` where there is none up to the horizon of the tables.
 #[tactic(auto, unfolding(qz_model::specs::Plan::next_after))]
 pub fn next_after(tables: &Tables, spec: &TriggerSpec, t: i64) -> Option<i64>
     requires spec { IsTrue (is_trigger_spec spec.now) }
@@ -123,11 +128,13 @@ pub fn next_after(tables: &Tables, spec: &TriggerSpec, t: i64) -> Option<i64>
     let utc = Zone::utc();
     let zone = zone_for(tables, &utc, &spec.timing.kind);
     let chain = zoned_chain(tables, &utc, spec.calendar.as_ref());
-    qz_plan::after(&spec.timing, zone, &chain, t)
+    let next = qz_plan::after(&spec.timing, zone, &chain, t);
+    within(tables.horizon(), next)
 }
 
-/// What the misfire table makes of a trigger whose next time lies before this moment, in ms since 1970-01-01T00:00:00Z. The
-/// trigger that is moved so is valid again. Whether it is misfired, by the threshold, is for the caller to say.
+/// What the misfire table makes of a trigger whose next time lies before this moment, in ms since 1970-01-01T00:00:00Z. Its
+/// later fire times are those up to the horizon of the tables. The trigger that is moved so is valid again. Whether it is
+/// misfired, by the threshold, is for the caller to say.
 #[tactic(auto, unfolding(qz_model::specs::Misfires::move_of, qz_model::specs::Plan::next_after, qz_model::specs::Acquiring::next_time))]
 pub fn move_of(tables: &Tables, trigger: &TriggerRow, moment: i64) -> Moved
     requires next { pos 0 ≤ℤ next_time trigger.now }
@@ -143,5 +150,9 @@ pub fn move_of(tables: &Tables, trigger: &TriggerRow, moment: i64) -> Moved
     let zone = zone_for(tables, &utc, &timing.kind);
     let chain = zoned_chain(tables, &utc, trigger.spec.calendar.as_ref());
     let next = trigger.next.unwrap_or(0);
-    qz_plan::misfired(timing, zone, &chain, next, trigger.times, moment)
+    let later = UpTo {
+        times: FireTimes::new(timing, zone, &chain),
+        horizon: tables.horizon(),
+    };
+    after_misfire(timing, &later, next, trigger.times, moment)
 }

@@ -3,7 +3,7 @@ use Rattle.std.proofs.Common.{◌≡◌, ℕ, ℤ, List, Option, Some, None, IsT
 use Rattle.qz_types.specs.Rows.{MemberData}
 use Rattle.qz_types.specs.Entries.{EntryData}
 use Rattle.qz_types.specs.declared.commands.Command.{Command}
-use Rattle.qz_types.specs.declared.commands.Command.TheVariants.{AddJob, DeleteJob, AddTrigger, DeleteTrigger, PauseTrigger, ResumeTrigger, PauseGroup, ResumeGroup, AddCalendar, DeleteCalendar, AddZone, DeleteZone, TriggerNow, Threshold, Join, Leave, Acquire, Release, Fire, Complete, Misfires, Recover}
+use Rattle.qz_types.specs.declared.commands.Command.TheVariants.{AddJob, DeleteJob, AddTrigger, DeleteTrigger, PauseTrigger, ResumeTrigger, PauseGroup, ResumeGroup, AddCalendar, DeleteCalendar, AddZone, DeleteZone, TriggerNow, Threshold, Join, Leave, Acquire, Release, Fire, Complete, Misfires, Recover, Upgrade, ResetTrigger, PauseJobGroup, ResumeJobGroup}
 use Rattle.qz_types.specs.declared.commands.Actor.{Actor}
 use Rattle.qz_types.specs.declared.commands.Actor.TheVariants.{Client, Node}
 use Rattle.qz_types.specs.declared.replies.Reply.{Reply}
@@ -15,11 +15,13 @@ use Rattle.qz_types.specs.Words.{job_of, trigger_of, member_of}
 use Rattle.qz_model.specs.Calendars.{add_calendar_refusal, delete_calendar_refusal, add_zone_refusal, delete_zone_refusal}
 use Rattle.qz_model.specs.Jobs.{add_job_refusal, unknown_job}
 use Rattle.qz_model.specs.Membership.{node_refusal}
-use Rattle.qz_model.specs.Pausing.{pause_group_refusal}
+use Rattle.qz_model.specs.Pausing.{pause_group_refusal, pause_job_group_refusal}
 use Rattle.qz_model.specs.Recovery.{leave_refusal, leave, join_refusal, joined, recovery_refusal, recover_member, recover}
+use Rattle.qz_model.specs.Resetting.{reset_refusal}
 use Rattle.qz_model.specs.Tests.{or_refusal}
 use Rattle.qz_model.specs.Triggers.{add_trigger_refusal, unknown_trigger, manual_trigger, trigger_now_refusal}
 use Rattle.qz_model.specs.Transaction.{as_node, by_command, transaction}
+use Rattle.qz_model.specs.Upgrading.{upgrade_refusal}
 use Rattle.qz_tables.specs.Contents.{TablesData}
 use Rattle.qz_schedule.specs.Commands.{is_scheduling}
 use Rattle.qz_schedule.specs.Preparing.{change_for, Prepares as schedule_prepares}
@@ -55,6 +57,10 @@ by_change T m actor (AddZone zone) is = copies-unless None (add_zone_refusal T z
 by_change T m actor (DeleteZone name) is = copies-unless None (delete_zone_refusal T name) _ refl
 by_change T m actor (TriggerNow job) is = copies-unless (Some (Triggered (manual_trigger m T.next_entry job).key m)) (trigger_now_refusal T job) _ refl
 by_change T m actor (Threshold ms) is = refl
+by_change T m actor Upgrade is = copies-unless None (upgrade_refusal T) _ refl
+by_change T m actor (ResetTrigger key) is = copies-unless None (reset_refusal (trigger_of key T.triggers)) _ refl
+by_change T m actor (PauseJobGroup group) is = copies-unless None (pause_job_group_refusal T group) _ refl
+by_change T m actor (ResumeJobGroup group) is = refl
 by_change T m actor (Join node) is = absurd cc
 by_change T m actor Leave is = absurd cc
 by_change T m actor (Acquire no_later window max) is = absurd cc

@@ -31,6 +31,10 @@ pub fn refusal(tables: &Tables, entry: &Entry) -> Option<Refusal>
         Command::DeleteZone { .. } => qz_schedule::refusal(tables, entry),
         Command::TriggerNow { .. } => qz_schedule::refusal(tables, entry),
         Command::Threshold { .. } => qz_schedule::refusal(tables, entry),
+        Command::Upgrade => qz_schedule::refusal(tables, entry),
+        Command::ResetTrigger { .. } => qz_schedule::refusal(tables, entry),
+        Command::PauseJobGroup { .. } => qz_schedule::refusal(tables, entry),
+        Command::ResumeJobGroup { .. } => qz_schedule::refusal(tables, entry),
         Command::Join { .. } => qz_recover::refusal(tables, entry),
         Command::Leave => qz_recover::refusal(tables, entry),
         Command::Recover { .. } => qz_recover::refusal(tables, entry),
@@ -74,6 +78,16 @@ pub fn prepare(tables: &mut Tables, entry: &Entry) -> Result<Prepared, StepRefus
         Command::DeleteZone { .. } => Ok(Prepared::Schedule(qz_schedule::prepare(tables, entry)?)),
         Command::TriggerNow { .. } => Ok(Prepared::Schedule(qz_schedule::prepare(tables, entry)?)),
         Command::Threshold { .. } => Ok(Prepared::Schedule(qz_schedule::prepare(tables, entry)?)),
+        Command::Upgrade => Ok(Prepared::Schedule(qz_schedule::prepare(tables, entry)?)),
+        Command::ResetTrigger { .. } => Ok(Prepared::Schedule(qz_schedule::prepare(
+            tables, entry,
+        )?)),
+        Command::PauseJobGroup { .. } => Ok(Prepared::Schedule(qz_schedule::prepare(
+            tables, entry,
+        )?)),
+        Command::ResumeJobGroup { .. } => Ok(Prepared::Schedule(qz_schedule::prepare(
+            tables, entry,
+        )?)),
         Command::Join { .. } => Ok(Prepared::Recover(qz_recover::prepare(tables, entry)?)),
         Command::Leave => Ok(Prepared::Recover(qz_recover::prepare(tables, entry)?)),
         Command::Recover { .. } => Ok(Prepared::Recover(qz_recover::prepare(tables, entry)?)),

@@ -2,7 +2,7 @@
 ghost use Rattle.std.specs.Prelude.{◌≡◌, ◌≤ℤ◌, pos, IsTrue, Err, IfOk, IfErr, OnOk, OnErr, MatchOption};
 ghost use Rattle.qz_types.specs.Entries.{is_entry};
 ghost use Rattle.qz_types.specs.Outcomes.{accepted, refused, IsAccepted, IsErrorOf};
-ghost use Rattle.qz_types.specs.Tables.{new_tables};
+ghost use Rattle.qz_types.specs.Tables.{empty};
 ghost use Rattle.qz_model.specs.Invariant.{TablesValid};
 ghost use Rattle.qz_model.specs.Transaction.{transaction};
 ghost use Rattle.qz_apply.specs.Memory.{takes_memory};
@@ -35,12 +35,12 @@ impl Model for PlainStore {
 }
 
 impl PlainStore {
-    /// A new store, without rows.
-    pub fn new(alloc: Global) -> Self
-        ensures { result.tables ≡ new_tables }
+    /// A new store of this format version, 1 or 2, without rows.
+    pub fn new(alloc: Global, version: u8) -> Self
+        ensures { result.tables ≡ empty version }
     {
         PlainStore {
-            tables: Tables::new(alloc),
+            tables: Tables::new(alloc, version),
         }
     }
 

@@ -34,31 +34,31 @@ record IsUnused (ts : List TriggerData) (f : FiredData) : Type 0 where
   unused : AllByRecursion (IsNotOf f.entry) ts
 
 -- the recovery trigger has no key of these
-key_unused : (groups : List (List ℕ)) (ts : List TriggerData) (f : FiredData) → IsUnused ts f → AllByRecursion (λ u. same_key (recovery_trigger groups f).spec.key u.spec.key ≡ false) ts
+key_unused : (groups job_groups : List (List ℕ)) (ts : List TriggerData) (f : FiredData) → IsUnused ts f → AllByRecursion (λ u. same_key (recovery_trigger groups job_groups f).spec.key u.spec.key ≡ false) ts
 unfolding recovery_trigger is_reserved same_text
-key_unused groups ts f is =
-    All-weaker (IsNotOf f.entry) (λ u. same_key (recovery_trigger groups f).spec.key u.spec.key ≡ false) ts
-    (λ u other. false_from_ne_true (same_key (recovery_trigger groups f).spec.key u.spec.key) (λ alike.
-    let same = same_key-exact (recovery_trigger groups f).spec.key u.spec.key alike in
+key_unused groups job_groups ts f is =
+    All-weaker (IsNotOf f.entry) (λ u. same_key (recovery_trigger groups job_groups f).spec.key u.spec.key ≡ false) ts
+    (λ u other. false_from_ne_true (same_key (recovery_trigger groups job_groups f).spec.key u.spec.key) (λ alike.
+    let same = same_key-exact (recovery_trigger groups job_groups f).spec.key u.spec.key alike in
     other (subst (λ k. is_reserved k.group ≡ true) same refl) (subst (λ k. EndsIn k.name f.entry) same (codes "recover_" ++ f.node, refl)))) is.unused
 
 -- a row of a greater number stays unused
-later_unused : (groups : List (List ℕ)) (ts : List TriggerData) (f g : FiredData) → IsUnused ts f → IsUnused ts g → f.entry < g.entry → IsUnused (put_trigger (recovery_trigger groups f) ts) g
+later_unused : (groups job_groups : List (List ℕ)) (ts : List TriggerData) (f g : FiredData) → IsUnused ts f → IsUnused ts g → f.entry < g.entry → IsUnused (put_trigger (recovery_trigger groups job_groups f) ts) g
 unfolding recovery_trigger
-later_unused groups ts f g one other less = record {
+later_unused groups job_groups ts f g one other less = record {
   small = other.small;
-  unused = All-put_trigger (IsNotOf g.entry) (recovery_trigger groups f) ts
+  unused = All-put_trigger (IsNotOf g.entry) (recovery_trigger groups job_groups f) ts
       (λ reserved ends.
-      let same : f.entry ≡ g.entry = one_number (recovery_trigger groups f).spec.key.name f.entry g.entry one.small other.small (codes "recover_" ++ f.node, refl) ends in
+      let same : f.entry ≡ g.entry = one_number (recovery_trigger groups job_groups f).spec.key.name f.entry g.entry one.small other.small (codes "recover_" ++ f.node, refl) ends in
       omega arith) other.unused;
 }
 
-each_new : (groups : List (List ℕ)) (ts : List TriggerData) (fs : List FiredData) → IsAscending nat_cmp (λ r. r.entry) fs → AllByRecursion (IsUnused ts) fs → AreNew ts (map (recovery_trigger groups) fs)
-each_new groups ts [] ordered each = tt
-each_new groups ts (f ∷ fs) ordered each = (
-  trigger_of-none (recovery_trigger groups f).spec.key ts (key_unused groups ts f each.0),
-  each_new groups (put_trigger (recovery_trigger groups f) ts) fs ordered.1
-      (All-both (IsUnused ts) (λ g. f.entry < g.entry) (IsUnused (put_trigger (recovery_trigger groups f) ts)) fs (λ g is less. later_unused groups ts f g each.0 is less) each.1 (under f.entry fs ordered.0)),
+each_new : (groups job_groups : List (List ℕ)) (ts : List TriggerData) (fs : List FiredData) → IsAscending nat_cmp (λ r. r.entry) fs → AllByRecursion (IsUnused ts) fs → AreNew ts (map (recovery_trigger groups job_groups) fs)
+each_new groups job_groups ts [] ordered each = tt
+each_new groups job_groups ts (f ∷ fs) ordered each = (
+  trigger_of-none (recovery_trigger groups job_groups f).spec.key ts (key_unused groups job_groups ts f each.0),
+  each_new groups job_groups (put_trigger (recovery_trigger groups job_groups f) ts) fs ordered.1
+      (All-both (IsUnused ts) (λ g. f.entry < g.entry) (IsUnused (put_trigger (recovery_trigger groups job_groups f) ts)) fs (λ g is less. later_unused groups job_groups ts f g each.0 is less) each.1 (under f.entry fs ordered.0)),
 )
 
 module _ (T : SchedulerTables) (member : MemberData) (valid : ∥ TablesValid T ∥₁) where
@@ -92,7 +92,7 @@ module _ (T : SchedulerTables) (member : MemberData) (valid : ∥ TablesValid T 
   pub new_recoveries : AreNew triggers_free (recoveries T member)
   unfolding recoveries lost_of
   new_recoveries =
-      each_new T.paused_groups triggers_free (filter (asks T.jobs) (lost_of member T.fired))
+      each_new T.paused_groups T.paused_job_groups triggers_free (filter (asks T.jobs) (lost_of member T.fired))
       (IsAscending-filter nat_cmp (λ r. r.entry) nat_cmp_total (asks T.jobs) (lost_of member T.fired)
       (IsAscending-filter nat_cmp (λ r. r.entry) nat_cmp_total (λ f. not (is_acquired f.state) && is_of member f) T.fired (fired_ordered T valid)))
       (All-filter (IsUnused triggers_free) (asks T.jobs) (lost_of member T.fired)

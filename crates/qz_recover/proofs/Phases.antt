@@ -26,6 +26,7 @@ keeps_on first then = record {
   calendars = omega (arith, first.calendars, then.calendars);
   zones = omega (arith, first.zones, then.zones);
   paused_groups = omega (arith, first.paused_groups, then.paused_groups);
+  paused_job_groups = omega (arith, first.paused_job_groups, then.paused_job_groups);
   members = omega (arith, first.members, then.members);
   fired = omega (arith, first.fired, then.fired);
 }

@@ -1,9 +1,10 @@
 -- The walks over the fired rows that find a member's executions.
-use Rattle.std.proofs.Common.{◌≡◌, ℕ, ℤ, ◌≤ℤ◌, zero, suc, ◌+◌, ◌<◌, ◌≤◌, ◌&&◌, Bool, true, false, not, cond, List, [], ◌∷◌, ◌++◌, take, filter, map, length, Some, refl, sym, ap, ◌∙◌, subst, arith, add-one}
+use Rattle.std.proofs.Common.{◌≡◌, ℕ, ℤ, ◌≤ℤ◌, zero, suc, ◌+◌, ◌<◌, ◌≤◌, ◌&&◌, Bool, true, false, not, cond, List, [], ◌∷◌, ◌++◌, take, filter, map, length, Some, refl, sym, ap, ◌∙◌, arith, add-one}
 use Rattle.std.proofs.Math.Logic.{∥∥₁_elim}
 use Rattle.std.proofs.Math.Bool.{Bool-set}
 use Rattle.std.proofs.Props.{props}
 use Rattle.std.proofs.lemmas.Bool.{and_parts, not-true}
+use Rattle.std.proofs.lemmas.Int.{ints}
 use Rattle.std.proofs.lemmas.List.{append-nil, take_all, length-map}
 use Rattle.std.specs.List.{slice_get}
 use Rattle.qz_civil.specs.Timings.{is_span}
@@ -17,6 +18,7 @@ use Rattle.qz_types.specs.Tables.{SchedulerTables}
 use Rattle.qz_model.specs.Invariant.{TablesValid, HasTimes}
 use Rattle.qz_model.specs.Recovery.{asks, lost_of, recoveries, recovery_trigger}
 use Rattle.qz_model.specs.Tests.{is_of}
+use Rattle.qz_model.proofs.NextTimes.{horizon_of_valid}
 use Rattle.qz_apply.proofs.Moves.{span}
 use Rattle.qz_recover.specs.Recovering.{is_execution_of, is_recovered_by}
 use Rattle.qz_recover.proofs.Walk.{All-at}
@@ -52,12 +54,12 @@ filter-both p q (x ∷ rows) = elim (p x) as (λ b. cond (b && q x) (x ∷ filte
 ]
 
 -- the triggers that are added are those of the rows that pass the test
-pub recoveries_passed : (T : SchedulerTables) (member : MemberData) → map (recovery_trigger T.paused_groups) (filter (is_recovered_by T.jobs member) T.fired) ≡ recoveries T member
+pub recoveries_passed : (T : SchedulerTables) (member : MemberData) → map (recovery_trigger T.paused_groups T.paused_job_groups) (filter (is_recovered_by T.jobs member) T.fired) ≡ recoveries T member
 unfolding recoveries lost_of
-recoveries_passed T member = ap (map (recovery_trigger T.paused_groups)) (filter-both (is_execution_of member) (asks T.jobs) T.fired)
+recoveries_passed T member = ap (map (recovery_trigger T.paused_groups T.paused_job_groups)) (filter-both (is_execution_of member) (asks T.jobs) T.fired)
 
 pub count_passed : (T : SchedulerTables) (member : MemberData) → length (filter (is_recovered_by T.jobs member) T.fired) ≡ length (recoveries T member)
-count_passed T member = sym (length-map (filter (is_recovered_by T.jobs member) T.fired) (recovery_trigger T.paused_groups)) ∙ ap length (recoveries_passed T member)
+count_passed T member = sym (length-map (filter (is_recovered_by T.jobs member) T.fired) (recovery_trigger T.paused_groups T.paused_job_groups)) ∙ ap length (recoveries_passed T member)
 
 -- those of the executions
 pub executions_passed : (member : MemberData) (rows : List FiredData) → filter (is_execution_of member) rows ≡ lost_of member rows
@@ -70,14 +72,14 @@ recovered_begun jobs member f passes =
     let begun = and_parts (not (is_acquired f.state)) (is_of member f) (and_parts (is_execution_of member f) (asks jobs f) passes).0 in
     not-true (is_acquired f.state) begun.0
 
-executing_span : (horizon : ℤ) (f : FiredData) (s : FiredState) → horizon ≡ LAST → is_acquired s ≡ false → HasTimes horizon f s → is_span f.scheduled ≡ true
+executing_span : (horizon : ℤ) (f : FiredData) (s : FiredState) → horizon ≤ℤ LAST → is_acquired s ≡ false → HasTimes horizon f s → is_span f.scheduled ≡ true
 executing_span horizon f row.Acquired last begun times = absurd (cc)
-executing_span horizon f row.Executing last begun times = span f.scheduled (times.0.low, subst (λ h. f.scheduled ≤ℤ h) last times.0.high)
+executing_span horizon f row.Executing last begun times = span f.scheduled (times.0.low, omega (arith, ints, times.0.high, last))
 
 -- the scheduled time of an execution is a start that a trigger may have
 pub execution_span : (T : SchedulerTables) (place : ℕ) (f : FiredData) → ∥ TablesValid T ∥₁ → slice_get T.fired place ≡ Some f → is_acquired f.state ≡ false → is_span f.scheduled ≡ true
 execution_span T place f valid at begun = ∥∥₁_elim valid (hlevel Bool-set) (λ is.
-    executing_span T.horizon f f.state is.references_and_limits.limits.horizon begun (All-at (λ g. HasTimes T.horizon g g.state) T.fired place f is.row_times.rows at))
+    executing_span T.horizon f f.state (horizon_of_valid T is).high begun (All-at (λ g. HasTimes T.horizon g g.state) T.fired place f is.row_times.rows at))
 
 -- the entry number of a row is within the limit
 pub row_number : (T : SchedulerTables) (place : ℕ) (f : FiredData) → ∥ TablesValid T ∥₁ → slice_get T.fired place ≡ Some f → f.entry < NUMBER_LIMIT

@@ -4,12 +4,13 @@ ghost use Rattle.qz_civil.specs.Timings.{is_span};
 ghost use Rattle.qz_types.specs.declared.limits.TheConstants.{NUMBER_LIMIT};
 ghost use Rattle.qz_types.specs.Rows.{is_trigger_spec};
 ghost use Rattle.qz_types.specs.States.{first_state};
-ghost use Rattle.qz_types.specs.Words.{is_paused};
 ghost use Rattle.qz_model.specs.Invariant.{TablesValid};
 ghost use Rattle.qz_model.specs.Recovery.{asks, lost_of, recoveries, recovery_trigger};
+ghost use Rattle.qz_model.specs.Triggers.{is_in_paused};
 ghost use Rattle.qz_recover.specs.Recovering.{is_recovered_by};
 
 use crate::leaving::is_execution_of;
+use qz_apply::is_in_paused;
 use qz_tables::Tables;
 use qz_types::{
     FiredRow, Key, Kind, MemberRow, Text, Timing, TriggerRow, TriggerSpec, TriggerState,
@@ -87,7 +88,7 @@ fn asks(tables: &Tables, row: &FiredRow) -> bool
 fn recovery_trigger(tables: &Tables, row: &FiredRow) -> Result<TriggerRow, AllocError>
     requires scheduled { IsTrue (is_span row.now.scheduled) }
     requires number { row.now.entry < NUMBER_LIMIT }
-    ensures { IfOk result (λ trigger. trigger ≡ recovery_trigger tables.now.tables.paused_groups row.now) }
+    ensures { IfOk result (λ trigger. trigger ≡ recovery_trigger tables.now.tables.paused_groups tables.now.tables.paused_job_groups row.now) }
 {
     let spec = recovery_spec(tables.allocator(), row)?;
     Ok(recovery_row(tables, spec, row.scheduled))
@@ -101,10 +102,10 @@ fn recovery_row(tables: &Tables, spec: TriggerSpec, next: i64) -> TriggerRow
       next = Some next;
       prev = None;
       times = 0;
-      state = first_state (is_paused spec.key.group tables.now.tables.paused_groups) false;
+      state = first_state (is_in_paused tables.now.tables spec) false;
     } }
 {
-    let state = first_state(tables, &spec.key.group);
+    let state = first_state(is_in_paused(tables, &spec));
     TriggerRow {
         spec,
         next: Some(next),
@@ -114,20 +115,21 @@ fn recovery_row(tables: &Tables, spec: TriggerSpec, next: i64) -> TriggerRow
     }
 }
 
-// The state of a trigger of this group that is stored now.
-fn first_state(tables: &Tables, group: &Text) -> TriggerState
-    ensures { result ≡ first_state (is_paused group.now tables.now.tables.paused_groups) false }
+// Its state, by whether it is paused with a group.
+fn first_state(paused: bool) -> TriggerState
+    ensures { result ≡ first_state paused false }
 {
-    match tables.get_group(group) {
-        Some(_) => TriggerState::Paused,
-        None => TriggerState::Waiting,
+    if paused {
+        TriggerState::Paused
+    } else {
+        TriggerState::Waiting
     }
 }
 
 // What the trigger is stored with.
 #[tactic(auto, unfolding(qz_model::specs::Recovery::recovery_trigger))]
 fn recovery_spec(alloc: Global, row: &FiredRow) -> Result<TriggerSpec, AllocError>
-    ensures { (groups : List (List ℕ)) → IfOk result (λ spec. spec ≡ (recovery_trigger groups row.now).spec) }
+    ensures { (groups job_groups : List (List ℕ)) → IfOk result (λ spec. spec ≡ (recovery_trigger groups job_groups row.now).spec) }
 {
     let name = recovery_name(alloc, &row.node, row.entry)?;
     let key = Key::new(alloc, "RECOVERING_JOBS", name.as_str())?;

@@ -27,6 +27,6 @@ pub no_more : {R : Type 0} (p : R → Bool) (rows : List R) (place : ℕ) (row :
 no_more p rows place row is fails = count_by_more_no p rows place row (slice_get_within rows place row is) (ap p (at_place rows place row is) ∙ fails)
 
 -- the rows that are counted are few
-pub few_uses : (T : SchedulerTables) (p : TriggerData → Bool) (q : CalendarData → Bool) → ∥ TablesValid T ∥₁ → count_by p T.triggers + count_by q T.calendars ≤ 266240
+pub few_uses : (T : SchedulerTables) (p : TriggerData → Bool) (q : CalendarData → Bool) → ∥ TablesValid T ∥₁ → count_by p T.triggers + count_by q T.calendars ≤ 1052672
 few_uses T p q valid = ∥∥₁_elim valid (hlevel props) (λ is.
     omega (arith, count_by-le-length p T.triggers, count_by-le-length q T.calendars, is.references_and_limits.limits.triggers, is.references_and_limits.limits.calendars))

@@ -19,6 +19,7 @@ use Rattle.qz_model.specs.Invariant.{TablesValid}
 use Rattle.qz_model.specs.Triggers.{manual_trigger, new_trigger, trigger_now_refusal}
 use Rattle.qz_model.proofs.Changes.{moment_within}
 use Rattle.qz_model.proofs.KeptTriggers.{manual_absent as absent_in_valid}
+use Rattle.qz_model.proofs.NextTimes.{moment_up_to_last}
 use Rattle.qz_model.proofs.Refusals.{not_refused}
 
 -- a new trigger is as it was given
@@ -75,9 +76,8 @@ span_of t low high = and_from (int_le (pos 0) t) (int_le t LONGEST) (le_from (po
 -- the recorded moment is a start that a trigger may have
 pub moment_is_span : (T : SchedulerTables) (at : ℤ) → ∥ TablesValid T ∥₁ → is_span (recorded_moment T at) ≡ true
 moment_is_span T at valid = ∥∥₁_elim valid (hlevel Bool-set) (λ is.
-    let within : IsMoment T.horizon (recorded_moment T at) = moment_within T at is.next_times.moment in
-    let last : T.horizon ≡ LAST = is.references_and_limits.limits.horizon in
-    span_of (recorded_moment T at) within.low (subst (λ h. recorded_moment T at ≤ℤ h) last within.high))
+    let within : IsMoment LAST (recorded_moment T at) = moment_up_to_last T (recorded_moment T at) is (moment_within T at is.next_times.moment) in
+    span_of (recorded_moment T at) within.low within.high)
 
 -- a time that is there
 pub some_time : (o : Option ℤ) → is_none o ≡ false → IsSome o

@@ -3,4 +3,6 @@ mod ChainWalks
 mod Committed
 mod Counting
 mod Facts
+mod Resets
 mod Steps
+mod Upgrades

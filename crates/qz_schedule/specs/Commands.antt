@@ -1,7 +1,7 @@
 -- The commands of clients, which are applied here.
 use Rattle.std.specs.Prelude.{Bool, true, false}
 use Rattle.qz_types.specs.declared.commands.Command.{Command}
-use Rattle.qz_types.specs.declared.commands.Command.TheVariants.{AddJob, DeleteJob, AddTrigger, DeleteTrigger, PauseTrigger, ResumeTrigger, PauseGroup, ResumeGroup, AddCalendar, DeleteCalendar, AddZone, DeleteZone, TriggerNow, Threshold}
+use Rattle.qz_types.specs.declared.commands.Command.TheVariants.{AddJob, DeleteJob, AddTrigger, DeleteTrigger, PauseTrigger, ResumeTrigger, PauseGroup, ResumeGroup, AddCalendar, DeleteCalendar, AddZone, DeleteZone, TriggerNow, Threshold, Upgrade, ResetTrigger, PauseJobGroup, ResumeJobGroup}
 
 abbrev pub is_scheduling : Command → Bool
 is_scheduling (AddJob job replace) = true
@@ -18,4 +18,8 @@ is_scheduling (AddZone zone) = true
 is_scheduling (DeleteZone name) = true
 is_scheduling (TriggerNow job) = true
 is_scheduling (Threshold ms) = true
+is_scheduling Upgrade = true
+is_scheduling (ResetTrigger key) = true
+is_scheduling (PauseJobGroup group) = true
+is_scheduling (ResumeJobGroup group) = true
 is_scheduling c = false

@@ -2,7 +2,7 @@
 use Rattle.std.specs.Prelude.{◌≡◌, ⊤, ℤ, Bool, true, false, IsTrue, Some}
 use Rattle.qz_types.specs.Entries.{EntryData}
 use Rattle.qz_types.specs.declared.commands.Command.{Command}
-use Rattle.qz_types.specs.declared.commands.Command.TheVariants.{AddJob, AddTrigger, PauseGroup, AddCalendar, AddZone, TriggerNow}
+use Rattle.qz_types.specs.declared.commands.Command.TheVariants.{AddJob, AddTrigger, PauseGroup, PauseJobGroup, AddCalendar, AddZone, TriggerNow}
 use Rattle.qz_types.specs.Outcomes.{IsAccepted}
 use Rattle.qz_types.specs.Tables.{SchedulerTables, recorded_moment}
 use Rattle.qz_model.specs.Plan.{first_time}
@@ -11,12 +11,13 @@ use Rattle.qz_model.specs.Triggers.{new_trigger, manual_trigger}
 use Rattle.qz_tables.specs.Contents.{Spare, TablesData, HasSpare}
 use Rattle.qz_schedule.specs.Commands.{is_scheduling}
 use Rattle.qz_schedule.specs.declared.changes.Change.{Change}
-use Rattle.qz_schedule.specs.declared.changes.Change.TheVariants.{InPlace, Job, Trigger, Group, Calendar, Zone, Manual}
+use Rattle.qz_schedule.specs.declared.changes.Change.TheVariants.{InPlace, Job, Trigger, Group, JobGroup, Calendar, Zone, Manual}
 
 -- the command stores something, and no fire time is searched for it
 abbrev pub is_copied : Command → Bool
 is_copied (AddJob job replace) = true
 is_copied (PauseGroup group) = true
+is_copied (PauseJobGroup group) = true
 is_copied (AddCalendar calendar replace) = true
 is_copied (AddZone zone) = true
 is_copied (TriggerNow job) = true
@@ -27,6 +28,7 @@ abbrev pub change_for : SchedulerTables → ℤ → Command → Change
 change_for T m (AddJob job replace) = Job job
 change_for T m (AddTrigger spec replace) = Trigger (new_trigger T spec (first_time T spec))
 change_for T m (PauseGroup group) = Group group
+change_for T m (PauseJobGroup group) = JobGroup group
 change_for T m (AddCalendar calendar replace) = Calendar calendar
 change_for T m (AddZone zone) = Zone zone
 change_for T m (TriggerNow job) = Manual (new_trigger T (manual_trigger m T.next_entry job) (Some m)) (manual_trigger m T.next_entry job).key

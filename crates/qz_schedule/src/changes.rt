@@ -12,6 +12,8 @@ pub enum Change {
     Trigger(TriggerRow),
     /// The group that a PauseGroup pauses.
     Group(Text),
+    /// The group that a PauseJobGroup pauses.
+    JobGroup(Text),
     /// The calendar that an AddCalendar stores.
     Calendar(CalendarRow),
     /// The zone that an AddZone stores.

@@ -10,11 +10,14 @@ ghost use Rattle.qz_schedule.specs.Preparing.{Prepares};
 
 use crate::calendars::{add_calendar, delete_calendar};
 use crate::changes::Change;
+use crate::job_groups::{pause_job_group, resume_job_group};
 use crate::jobs::{add_job, delete_job};
 use crate::manual::trigger_now;
 use crate::pausing::{pause_group, pause_trigger, resume_group, resume_trigger};
+use crate::resetting::reset_trigger;
 use crate::threshold::set_threshold;
 use crate::triggers::{add_trigger, delete_trigger};
+use crate::upgrading::upgrade;
 use crate::zones::{add_zone, delete_zone};
 use qz_apply::recorded_moment;
 use qz_tables::Tables;
@@ -34,6 +37,7 @@ pub fn commit(tables: &mut Tables, entry: &Entry, change: Change) -> Reply
         Change::Job(job) => add_job(tables, moment, job),
         Change::Trigger(row) => add_trigger(tables, moment, row),
         Change::Group(group) => pause_group(tables, moment, group),
+        Change::JobGroup(group) => pause_job_group(tables, moment, group),
         Change::Calendar(calendar) => add_calendar(tables, moment, calendar),
         Change::Zone(zone) => add_zone(tables, moment, zone),
         Change::Manual { row, key } => trigger_now(tables, moment, row, key),
@@ -54,9 +58,12 @@ fn commit_in_place(tables: &mut Tables, entry: &Entry) -> Reply
         Command::PauseTrigger { key } => pause_trigger(tables, moment, key),
         Command::ResumeTrigger { key } => resume_trigger(tables, moment, key),
         Command::ResumeGroup { group } => resume_group(tables, moment, group),
+        Command::ResumeJobGroup { group } => resume_job_group(tables, moment, group),
+        Command::ResetTrigger { key } => reset_trigger(tables, moment, key),
         Command::DeleteCalendar { name } => delete_calendar(tables, moment, name),
         Command::DeleteZone { name } => delete_zone(tables, moment, name),
         Command::Threshold { ms } => set_threshold(tables, moment, *ms),
+        Command::Upgrade => upgrade(tables, moment),
         _ => unreachable!(),
     }
 }

@@ -8,14 +8,17 @@ mod calendars;
 mod chains;
 mod changes;
 mod committing;
+mod job_groups;
 mod jobs;
 mod known;
 mod manual;
 mod pausing;
 mod preparing;
 mod refusals;
+mod resetting;
 mod threshold;
 mod triggers;
+mod upgrading;
 mod uses;
 mod zones;
 

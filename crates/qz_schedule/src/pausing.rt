@@ -5,7 +5,7 @@ ghost use Rattle.qz_types.specs.Words.{trigger_of, is_paused, put_group, without
 ghost use Rattle.qz_model.specs.Pausing.{pause_trigger, resume_trigger, pause_group_refusal, pause_group, resume_group};
 ghost use Rattle.qz_model.specs.Triggers.{unknown_trigger};
 
-use crate::triggers::is_paused;
+use qz_apply::is_paused;
 use qz_tables::{StateChange, Tables};
 use qz_types::{GROUP_LIMIT, Key, Refusal, Reply, Text};
 
@@ -68,14 +68,14 @@ fn put_group(tables: &mut Tables, group: Text)
     tables.insert_group(group);
 }
 
-/// Resumes the group. None of its triggers stays paused, whether it was paused with the group or alone. The moment is in ms
-/// since 1970-01-01T00:00:00Z.
+/// Resumes the group. None of its triggers stays paused, whether it was paused with the group or alone, but those whose job's
+/// group is paused. The moment is in ms since 1970-01-01T00:00:00Z.
 pub fn resume_group(tables: &mut Tables, moment: i64, group: &Text) -> Reply
     ensures { resume_group tables.old.tables moment group.now ≡ accepted tables.new.tables result }
 {
     let removed = tables.remove_group(group);
     drop(removed);
-    tables.change_group_states(group, StateChange::Resume);
+    tables.resume_group_states(group);
     tables.set_last_moment(moment);
     Reply::Done
 }

@@ -51,6 +51,7 @@ fn is_copied(command: &Command) -> bool
         command,
         Command::AddJob { .. }
             | Command::PauseGroup { .. }
+            | Command::PauseJobGroup { .. }
             | Command::AddCalendar { .. }
             | Command::AddZone { .. }
             | Command::TriggerNow { .. }
@@ -69,6 +70,7 @@ fn copy(tables: &Tables, entry: &Entry) -> Result<Change, AllocError>
     match &entry.command {
         Command::AddJob { job, .. } => Ok(Change::Job(job.copy()?)),
         Command::PauseGroup { group } => Ok(Change::Group(group.clone()?)),
+        Command::PauseJobGroup { group } => Ok(Change::JobGroup(group.clone()?)),
         Command::AddCalendar { calendar, .. } => Ok(Change::Calendar(calendar.copy()?)),
         Command::AddZone { zone } => Ok(Change::Zone(zone.copy()?)),
         Command::TriggerNow { job } => copy_manual(tables, recorded_moment(tables, entry.at), job),

@@ -6,10 +6,13 @@ ghost use Rattle.qz_model.specs.Transaction.{transaction};
 ghost use Rattle.qz_schedule.specs.Commands.{is_scheduling};
 
 use crate::calendars::{add_calendar_refusal, delete_calendar_refusal};
+use crate::job_groups::pause_job_group_refusal;
 use crate::jobs::{add_job_refusal, delete_job_refusal};
 use crate::manual::trigger_now_refusal;
 use crate::pausing::pause_group_refusal;
+use crate::resetting::reset_refusal;
 use crate::triggers::{add_trigger_refusal, unknown_trigger};
+use crate::upgrading::upgrade_refusal;
 use crate::zones::{add_zone_refusal, delete_zone_refusal};
 use qz_tables::Tables;
 use qz_types::{Command, Entry, Refusal};
@@ -30,6 +33,9 @@ pub fn refusal(tables: &Tables, entry: &Entry) -> Option<Refusal>
         | Command::ResumeTrigger { key } => unknown_trigger(tables, key),
         Command::PauseGroup { group } => pause_group_refusal(tables, group),
         Command::ResumeGroup { .. } => None,
+        Command::PauseJobGroup { group } => pause_job_group_refusal(tables, group),
+        Command::ResumeJobGroup { .. } => None,
+        Command::ResetTrigger { key } => reset_refusal(tables, key),
         Command::AddCalendar { calendar, replace } => add_calendar_refusal(
             tables, calendar, *replace,
         ),
@@ -38,6 +44,7 @@ pub fn refusal(tables: &Tables, entry: &Entry) -> Option<Refusal>
         Command::DeleteZone { name } => delete_zone_refusal(tables, name),
         Command::TriggerNow { job } => trigger_now_refusal(tables, job),
         Command::Threshold { .. } => None,
+        Command::Upgrade => upgrade_refusal(tables),
         _ => unreachable!(),
     }
 }

@@ -3,14 +3,16 @@ ghost use Rattle.std.specs.Prelude.{◌≡◌, ◌≤◌, ℤ, Bool, Some, None,
 ghost use Rattle.qz_types.specs.Rows.{is_trigger_spec};
 ghost use Rattle.qz_types.specs.States.{first_state};
 ghost use Rattle.qz_types.specs.Outcomes.{accepted, IsErrorOf};
-ghost use Rattle.qz_types.specs.Words.{is_paused, trigger_of};
+ghost use Rattle.qz_types.specs.Words.{trigger_of};
 ghost use Rattle.qz_model.specs.Plan.{first_time};
-ghost use Rattle.qz_model.specs.Triggers.{is_reserved, naming_refusal, add_trigger_refusal, new_trigger, with_new_trigger, add_trigger, unknown_trigger, delete_trigger};
+ghost use Rattle.qz_model.specs.Triggers.{is_reserved, naming_refusal, add_trigger_refusal, new_state, new_trigger, with_new_trigger, add_trigger, unknown_trigger, delete_trigger};
 ghost use Rattle.qz_tables.specs.Contents.{HasSpare};
 
 use crate::changes::Change;
 use crate::known::{has_known_zone, is_known_calendar};
-use qz_apply::{is_busy, next_after, remove_orphan, remove_trigger_and_orphan, same_text};
+use qz_apply::{
+    is_busy, is_in_paused, next_after, remove_orphan, remove_trigger_and_orphan, same_text,
+};
 use qz_tables::Tables;
 use qz_types::{
     Key, Refusal, Reply, StepRefused, TRIGGER_LIMIT, Text, TriggerRow, TriggerSpec, TriggerState,
@@ -157,10 +159,7 @@ pub fn new_trigger(tables: &Tables, spec: TriggerSpec, next: Option<i64>) -> Tri
     requires { IsTrue (is_trigger_spec spec) }
     ensures { result ≡ new_trigger tables.now.tables spec next }
 {
-    let state = first_state(
-        is_paused(tables, &spec.key.group),
-        is_busy(tables, &spec.job),
-    );
+    let state = new_state(tables, &spec);
     TriggerRow {
         spec,
         next,
@@ -170,14 +169,15 @@ pub fn new_trigger(tables: &Tables, spec: TriggerSpec, next: Option<i64>) -> Tri
     }
 }
 
-/// Whether the group is paused.
-pub fn is_paused(tables: &Tables, group: &Text) -> bool
-    ensures { result ≡ is_paused group.now tables.now.tables.paused_groups }
+/// The state of a trigger that is stored now.
+#[tactic(auto, unfolding(qz_model::specs::Triggers::new_state))]
+pub fn new_state(tables: &Tables, spec: &TriggerSpec) -> TriggerState
+    ensures { result ≡ new_state tables.now.tables spec.now }
 {
-    tables.get_group(group).is_some()
+    first_state(is_in_paused(tables, spec), is_busy(tables, &spec.job))
 }
 
-// The state of a trigger that is stored now.
+// The same by whether it is paused with a group, and whether an execution excludes others of its job.
 fn first_state(paused: bool, busy: bool) -> TriggerState
     ensures { result ≡ first_state paused busy }
 {

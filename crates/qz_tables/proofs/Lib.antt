@@ -14,3 +14,4 @@ mod NthEdits
 pub mod Places
 pub mod SlotEdits
 pub mod SortLaws
+mod YearLaws

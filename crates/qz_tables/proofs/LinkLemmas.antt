@@ -11,7 +11,7 @@ use Rattle.qz_types.specs.declared.keys.Key.{Key}
 use Rattle.qz_tables.specs.Slots.{rows_at, with_found, AreFilled, AreEdited, IsWritten}
 use Rattle.qz_tables.specs.Changes.{trigger_edited}
 use Rattle.qz_tables.specs.declared.edits.TriggerEdit.{TriggerEdit}
-use Rattle.qz_tables.specs.declared.edits.TriggerEdit.TheVariants.{State, Fire, Move}
+use Rattle.qz_tables.specs.declared.edits.TriggerEdit.TheVariants.{State, Fire, Move, Years}
 use Rattle.qz_tables.specs.Linking.{keys_of, links_of, times, AreLinkedOnce}
 use Rattle.qz_tables.specs.Links.{linked, KeepsLinks, IsTakenOut, IsLinked, IsUnlinked, IsMoved}
 use Rattle.qz_tables.proofs.Filled.{Keep, rows-kept, rows-remove, nth_slot, rows_at-append}
@@ -243,6 +243,8 @@ edited_tie (Fire next state) None = refl
 edited_tie (Fire next state) (Some r) = refl
 edited_tie (Move moved) None = refl
 edited_tie (Move moved) (Some r) = refl
+edited_tie (Years change) None = refl
+edited_tie (Years change) (Some r) = refl
 
 -- an edit of a trigger keeps its key and its job
 pub alike-edited : (e : TriggerEdit) (old new : List (Option TriggerData)) → AreEdited (λ o n. n ≡ option_map (trigger_edited e) o) old new → AreAlike old new

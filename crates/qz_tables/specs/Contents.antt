@@ -10,6 +10,7 @@ pub record Spare : Type 0 where
   pub calendars : ℕ
   pub zones : ℕ
   pub paused_groups : ℕ
+  pub paused_job_groups : ℕ
   pub members : ℕ
   pub fired : ℕ
 
@@ -26,6 +27,7 @@ pub record KeepsSpare (old new : Spare) : Type 0 where
   pub calendars : old.calendars ≤ new.calendars
   pub zones : old.zones ≤ new.zones
   pub paused_groups : old.paused_groups ≤ new.paused_groups
+  pub paused_job_groups : old.paused_job_groups ≤ new.paused_job_groups
   pub members : old.members ≤ new.members
   pub fired : old.fired ≤ new.fired
 
@@ -36,6 +38,7 @@ pub record HasSpare (rows : ℕ) (spare : Spare) : Type 0 where
   pub calendars : rows ≤ spare.calendars
   pub zones : rows ≤ spare.zones
   pub paused_groups : rows ≤ spare.paused_groups
+  pub paused_job_groups : rows ≤ spare.paused_job_groups
   pub members : rows ≤ spare.members
   pub fired : rows ≤ spare.fired
 
@@ -54,6 +57,9 @@ one_zone s = record s { zones = s.zones + 1 }
 
 abbrev pub one_group : Spare → Spare
 one_group s = record s { paused_groups = s.paused_groups + 1 }
+
+abbrev pub one_job_group : Spare → Spare
+one_job_group s = record s { paused_job_groups = s.paused_job_groups + 1 }
 
 abbrev pub one_member : Spare → Spare
 one_member s = record s { members = s.members + 1 }

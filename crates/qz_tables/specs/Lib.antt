@@ -7,3 +7,4 @@ pub mod Jobs
 pub mod Linking
 pub mod Links
 pub mod Slots
+pub mod Years

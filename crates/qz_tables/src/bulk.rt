@@ -1,14 +1,20 @@
 //! Changes of the rows that pass a test, which take no memory.
-ghost use Rattle.std.specs.Prelude.{◌≡◌, ◌&&◌, ◌==◌, not, filter, length, IfSome, IsTrue};
+ghost use Rattle.std.specs.Prelude.{◌≡◌, ◌&&◌, ◌==◌, not, filter, map, length, IfSome, IsTrue};
+ghost use Rattle.qz_civil.specs.Fields.{is_year_set};
 ghost use Rattle.qz_types.specs.Changes.{with_state, with_states, moved_trigger, without_acquired};
 ghost use Rattle.qz_types.specs.Rows.{is_trigger};
-ghost use Rattle.qz_types.specs.Words.{same_key, same_text, trigger_of, with_trigger};
+ghost use Rattle.qz_types.specs.States.{resumed};
+ghost use Rattle.qz_types.specs.Words.{is_paused, same_key, same_text, trigger_of, with_trigger};
 ghost use Rattle.qz_tables.specs.Changes.{changed};
 ghost use Rattle.qz_tables.specs.Contents.{KeepsSpare};
 ghost use Rattle.qz_tables.specs.Links.{KeepsLinks, KeepsOtherLinks};
+ghost use Rattle.qz_tables.specs.Years.{trigger_with_years, calendar_with_years};
 
-use crate::edits::{StateChange, TriggerEdit};
-use crate::row_tests::{AcquiredOf, AcquiredOfGroup, AcquiredOfJob, OfGroup, OfJob, OfMember};
+use crate::edits::{StateChange, TriggerEdit, YearChange};
+use crate::row_tests::{
+    AcquiredOf, AcquiredOfGroup, AcquiredOfJob, AcquiredOfJobGroup, OfGroup, OfGroupOnly, OfJob,
+    OfJobGroup, OfJobGroupOnly, OfMember,
+};
 use crate::tables::Tables;
 use qz_civil::Moved;
 use qz_types::{Key, Text};
@@ -44,6 +50,60 @@ impl Tables {
         ensures spare { KeepsSpare self.old.spare self.new.spare }
     {
         self.triggers.change_states(&OfGroup { group }, change);
+    }
+
+    /// Resumes the triggers of a group, but those whose job's group is paused.
+    ///
+    /// It looks at every trigger.
+    pub fn resume_group_states(&mut self, group: &Text)
+        ensures tables { self.new.tables ≡ record self.old.tables { triggers = with_states resumed (λ t. same_text group.now t.spec.key.group && not (is_paused t.spec.job.group self.old.tables.paused_job_groups)) self.old.tables.triggers } }
+        ensures links { KeepsLinks self.old.links self.new.links }
+        ensures spare { KeepsSpare self.old.spare self.new.spare }
+    {
+        let test = OfGroupOnly {
+            group,
+            paused_job_groups: &self.paused_job_groups,
+        };
+        self.triggers.change_states(&test, StateChange::Resume);
+    }
+
+    /// Changes the states of the triggers of a group's jobs.
+    ///
+    /// It looks at every trigger.
+    pub fn change_job_group_states(&mut self, group: &Text, change: StateChange)
+        ensures tables { self.new.tables ≡ record self.old.tables { triggers = with_states (changed change) (λ t. same_text group.now t.spec.job.group) self.old.tables.triggers } }
+        ensures links { KeepsLinks self.old.links self.new.links }
+        ensures spare { KeepsSpare self.old.spare self.new.spare }
+    {
+        self.triggers.change_states(&OfJobGroup { group }, change);
+    }
+
+    /// Resumes the triggers of a group's jobs, but those whose own group is paused.
+    ///
+    /// It looks at every trigger.
+    pub fn resume_job_group_states(&mut self, group: &Text)
+        ensures tables { self.new.tables ≡ record self.old.tables { triggers = with_states resumed (λ t. same_text group.now t.spec.job.group && not (is_paused t.spec.key.group self.old.tables.paused_groups)) self.old.tables.triggers } }
+        ensures links { KeepsLinks self.old.links self.new.links }
+        ensures spare { KeepsSpare self.old.spare self.new.spare }
+    {
+        let test = OfJobGroupOnly {
+            group,
+            paused_groups: &self.paused_groups,
+        };
+        self.triggers.change_states(&test, StateChange::Resume);
+    }
+
+    /// Gives the cron triggers and cron calendars that have just the old years the new ones.
+    ///
+    /// It looks at every trigger and every calendar.
+    pub fn change_years(&mut self, change: &YearChange)
+        requires { IsTrue (is_year_set change.now.new) }
+        ensures tables { self.new.tables ≡ record self.old.tables { triggers = map (trigger_with_years change.now) self.old.tables.triggers; calendars = map (calendar_with_years change.now) self.old.tables.calendars } }
+        ensures links { KeepsLinks self.old.links self.new.links }
+        ensures spare { KeepsSpare self.old.spare self.new.spare }
+    {
+        self.triggers.edit_all(&TriggerEdit::Years(*change));
+        self.calendars.edit_all(change);
     }
 
     /// A misfire makes this of the trigger of this key, if it is stored.
@@ -106,6 +166,18 @@ impl Tables {
         ensures spare { KeepsSpare self.old.spare self.new.spare }
     {
         self.fired.remove_all(&AcquiredOfGroup { group });
+    }
+
+    /// Takes out the fired rows of the triggers of this group's jobs that are acquired.
+    ///
+    /// It looks at every fired row.
+    #[tactic(auto, unfolding(qz_types::specs::Changes::without_acquired))]
+    pub fn remove_acquired_of_job_group(&mut self, group: &Text)
+        ensures tables { self.new.tables ≡ record self.old.tables { fired = without_acquired (λ f. same_text group.now f.job.group) self.old.tables.fired } }
+        ensures links { self.new.links ≡ self.old.links }
+        ensures spare { KeepsSpare self.old.spare self.new.spare }
+    {
+        self.fired.remove_all(&AcquiredOfJobGroup { group });
     }
 
     /// Takes out the fired rows of a member.

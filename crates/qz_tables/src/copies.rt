@@ -54,6 +54,7 @@ impl Tables {
             calendars: self.calendars.copy()?,
             zones: self.zones.copy()?,
             paused_groups: self.paused_groups.copy()?,
+            paused_job_groups: self.paused_job_groups.copy()?,
             members: self.members.copy()?,
             fired: self.fired.copy()?,
             next_entry: self.next_entry,

@@ -1,14 +1,17 @@
-//! Changes of triggers and fired rows in place, which take no memory.
+//! Changes of triggers, fired rows and calendars in place, which take no memory.
 ghost use Rattle.std.specs.Prelude.{◌≡◌, refl, IsTrue, ⊤};
+ghost use Rattle.qz_civil.specs.Fields.{is_year_set};
 ghost use Rattle.qz_types.specs.Changes.{after_fire, begun, moved_trigger, counting};
 ghost use Rattle.qz_types.specs.Rows.{TriggerData, is_trigger};
 ghost use Rattle.qz_types.specs.States.{paused, resumed, blocked, unblocked};
 ghost use Rattle.qz_tables.specs.Changes.{changed, trigger_edited, IsFit};
-ghost use Rattle.qz_tables.specs.declared.edits.TriggerEdit.TheVariants.{State, Fire, Move};
+ghost use Rattle.qz_tables.specs.Years.{with_years, kind_with_years, calendar_kind_with_years, calendar_with_years};
+ghost use Rattle.qz_tables.specs.declared.edits.TriggerEdit.TheVariants.{State, Fire, Move, Years};
 
 use crate::indexed::Edit;
-use qz_civil::{Kind, Moved};
-use qz_types::{FiredRow, FiredState, TIMES_LIMIT, TriggerRow, TriggerState};
+use qz_civil::{CalendarKind, CronFields, Kind, Moved};
+use qz_types::{CalendarRow, FiredRow, FiredState, TIMES_LIMIT, TriggerRow, TriggerState};
+use std::cmp::Ordering;
 
 /// What a command makes of a trigger's state.
 #[derive(Clone, Copy)]
@@ -88,6 +91,8 @@ pub enum TriggerEdit {
     },
     /// A misfire makes this of it.
     Move(Moved),
+    /// The years of its cron fields change so.
+    Years(YearChange),
 }
 
 impl Edit<TriggerRow> for TriggerEdit {
@@ -100,10 +105,11 @@ impl Edit<TriggerRow> for TriggerEdit {
             TriggerEdit::State(change) => row.state = change.apply(row.state),
             TriggerEdit::Fire { next, state } => fire(row, next, state),
             TriggerEdit::Move(moved) => move_to(row, moved),
+            TriggerEdit::Years(change) => change.change_kind(&mut row.spec.timing.kind),
         }
     }
 
-    ghost keeps_id = { λ e r. elim e as (λ e. (trigger_edited e r).spec.key ≡ r.spec.key) [ State change ↦ refl | Fire next state ↦ refl | Move moved ↦ refl ] };
+    ghost keeps_id = { λ e r. elim e as (λ e. (trigger_edited e r).spec.key ≡ r.spec.key) [ State change ↦ refl | Fire next state ↦ refl | Move moved ↦ refl | Years change ↦ refl ] };
 }
 
 fn fire(row: &mut TriggerRow, next: Option<i64>, state: TriggerState)
@@ -135,6 +141,55 @@ fn set_count(kind: &mut Kind, count: i64)
     if let Kind::Simple { count: old, .. } = kind {
         *old = count;
     }
+}
+
+/// Cron fields that have just the old years get the new ones. Both are sets as those of `CronFields::years`.
+#[derive(Clone, Copy)]
+pub struct YearChange {
+    pub old: [u64; 4],
+    pub new: [u64; 4],
+}
+
+impl YearChange {
+    // Changes the years of cron fields.
+    #[tactic(auto, unfolding(crate::specs::Years::with_years, qz_types::specs::Words::same_text))]
+    fn change_fields(&self, fields: &mut CronFields)
+        ensures { fields.new ≡ with_years self.now fields.old }
+    {
+        if fields.years.cmp(&self.old) == Ordering::Equal {
+            fields.years = self.new;
+        }
+    }
+
+    // Changes the years of a cron trigger.
+    fn change_kind(&self, kind: &mut Kind)
+        ensures { kind.new ≡ kind_with_years self.now kind.old }
+    {
+        if let Kind::Cron { fields, .. } = kind {
+            self.change_fields(fields);
+        }
+    }
+
+    // Changes the years of a cron calendar.
+    fn change_calendar_kind(&self, kind: &mut CalendarKind)
+        ensures { kind.new ≡ calendar_kind_with_years self.now kind.old }
+    {
+        if let CalendarKind::Cron { fields } = kind {
+            self.change_fields(fields);
+        }
+    }
+}
+
+impl Edit<CalendarRow> for YearChange {
+    ghost edited = { calendar_with_years };
+
+    ghost IsFit = { λ e r. IsTrue (is_year_set e.new) };
+
+    fn edit(&self, row: &mut CalendarRow) {
+        self.change_calendar_kind(&mut row.kind);
+    }
+
+    ghost keeps_id = { λ e r. refl };
 }
 
 /// An execution begins.

@@ -1,4 +1,4 @@
-//! The paused groups of the tables.
+//! The paused groups of triggers of the tables.
 ghost use Rattle.std.specs.Prelude.{◌≡◌, ◌≤◌, ◌<◌, ◌+◌, None, Some, IsSome, IfSome, IfNone, OnSome, IfOk, option_copied, length, map, slice_get};
 ghost use Rattle.qz_types.specs.Sorted.{IsAscending};
 ghost use Rattle.qz_types.specs.Words.{text_cmp, group_of, put_group, without_group};

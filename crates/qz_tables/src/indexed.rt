@@ -323,6 +323,20 @@ impl<R: Keyed> Indexed<R> {
         edit.edit(row);
     }
 
+    /// Changes each row in place.
+    pub fn edit_all<E: Edit<R>>(&mut self, edit: &E)
+        requires { (row : R) → E.IsFit edit.now row }
+        ensures rows { self.new.rows ≡ map (E.edited edit.now) self.old.rows }
+        ensures spare { self.old.spare ≤ self.new.spare }
+    {
+        let count = self.len();
+        let mut place = 0;
+        while place < count {
+            self.edit_nth(place, edit);
+            place += 1;
+        }
+    }
+
     /// Takes out the row at this place, counted from 0, with the slot that it had.
     pub fn take_nth(&mut self, place: usize) -> (usize, R)
         requires { place < length self.old.rows }

@@ -1,4 +1,4 @@
-//! The tables of the trigger store: rows of seven kinds, each in the order of its ids, numbers, and the order in which
+//! The tables of the trigger store: rows of eight kinds, each in the order of its ids, numbers, and the order in which
 //! triggers were linked to their jobs.
 #![tactic(auto)]
 
@@ -10,6 +10,7 @@ mod edits;
 mod fired;
 mod groups;
 mod indexed;
+mod job_groups;
 mod job_triggers;
 mod jobs;
 mod linked;
@@ -19,6 +20,6 @@ mod tables;
 mod triggers;
 mod zones;
 
-pub use edits::{Begin, StateChange};
+pub use edits::{Begin, StateChange, YearChange};
 pub use job_triggers::JobTriggers;
 pub use tables::Tables;

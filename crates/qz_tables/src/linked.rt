@@ -190,6 +190,21 @@ impl Linked {
         }
     }
 
+    /// Changes each trigger in place.
+    pub fn edit_all(&mut self, edit: &TriggerEdit)
+        requires { (row : TriggerData) → IsFit edit.now row }
+        ensures rows { self.new.rows ≡ map (trigger_edited edit.now) self.old.rows }
+        ensures links { KeepsLinks self.old.links self.new.links }
+        ensures spare { self.old.spare ≤ self.new.spare }
+    {
+        let count = self.len();
+        let mut place = 0;
+        while place < count {
+            self.edit_nth(place, edit);
+            place += 1;
+        }
+    }
+
     fn edit_nth(&mut self, place: usize, edit: &TriggerEdit)
         requires present { place < length self.old.rows }
         requires fit { (row : TriggerData) → slice_get self.old.rows place ≡ Some row → IsFit edit.now row }

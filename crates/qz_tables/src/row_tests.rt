@@ -1,9 +1,9 @@
 //! Which rows a bulk change is of.
-ghost use Rattle.std.specs.Prelude.{◌≡◌, ◌&&◌, ◌==◌};
+ghost use Rattle.std.specs.Prelude.{◌≡◌, ◌&&◌, ◌==◌, not, option_copied};
 ghost use Rattle.qz_types.specs.States.{is_acquired, is_acquired_for};
-ghost use Rattle.qz_types.specs.Words.{same_key, same_text};
+ghost use Rattle.qz_types.specs.Words.{is_paused, same_key, same_text};
 
-use crate::indexed::Test;
+use crate::indexed::{Indexed, Test};
 use qz_types::{FiredRow, FiredState, Key, Text, TriggerRow};
 use std::cmp::Ordering;
 
@@ -19,6 +19,13 @@ fn is_same_text(a: &Text, b: &Text) -> bool
     ensures { result ≡ same_text a.now b.now }
 {
     a.cmp(b) == Ordering::Equal
+}
+
+#[tactic(auto, unfolding(qz_types::specs::Words::group_of))]
+fn is_paused(groups: &Indexed<Text>, group: &Text) -> bool
+    ensures { result ≡ is_paused group.now groups.now.rows }
+{
+    groups.get(group).is_some()
 }
 
 fn is_acquired(state: FiredState) -> bool
@@ -52,6 +59,52 @@ impl<'a> Test<TriggerRow> for OfGroup<'a> {
 
     fn passes(&self, row: &TriggerRow) -> bool {
         is_same_text(self.group, &row.spec.key.group)
+    }
+}
+
+/// The triggers of a group's jobs.
+#[derive(Clone, Copy)]
+pub struct OfJobGroup<'a> {
+    pub group: &'a Text,
+}
+
+impl<'a> Test<TriggerRow> for OfJobGroup<'a> {
+    ghost test = { λ t row. same_text t.group.now row.spec.job.group };
+
+    fn passes(&self, row: &TriggerRow) -> bool {
+        is_same_text(self.group, &row.spec.job.group)
+    }
+}
+
+/// The triggers of a group, but those whose job's group is a paused one.
+#[derive(Clone, Copy)]
+pub struct OfGroupOnly<'a> {
+    pub group: &'a Text,
+    pub paused_job_groups: &'a Indexed<Text>,
+}
+
+impl<'a> Test<TriggerRow> for OfGroupOnly<'a> {
+    ghost test = { λ t row. same_text t.group.now row.spec.key.group && not (is_paused row.spec.job.group t.paused_job_groups.now.rows) };
+
+    fn passes(&self, row: &TriggerRow) -> bool {
+        is_same_text(self.group, &row.spec.key.group)
+            && !is_paused(self.paused_job_groups, &row.spec.job.group)
+    }
+}
+
+/// The triggers of a group's jobs, but those whose own group is a paused one.
+#[derive(Clone, Copy)]
+pub struct OfJobGroupOnly<'a> {
+    pub group: &'a Text,
+    pub paused_groups: &'a Indexed<Text>,
+}
+
+impl<'a> Test<TriggerRow> for OfJobGroupOnly<'a> {
+    ghost test = { λ t row. same_text t.group.now row.spec.job.group && not (is_paused row.spec.key.group t.paused_groups.now.rows) };
+
+    fn passes(&self, row: &TriggerRow) -> bool {
+        is_same_text(self.group, &row.spec.job.group)
+            && !is_paused(self.paused_groups, &row.spec.key.group)
     }
 }
 
@@ -94,6 +147,20 @@ impl<'a> Test<FiredRow> for AcquiredOfGroup<'a> {
 
     fn passes(&self, row: &FiredRow) -> bool {
         is_acquired(row.state) && is_same_text(self.group, &row.trigger.group)
+    }
+}
+
+/// The rows of the acquired triggers of a group's jobs.
+#[derive(Clone, Copy)]
+pub struct AcquiredOfJobGroup<'a> {
+    pub group: &'a Text,
+}
+
+impl<'a> Test<FiredRow> for AcquiredOfJobGroup<'a> {
+    ghost test = { λ t row. is_acquired row.state && same_text t.group.now row.job.group };
+
+    fn passes(&self, row: &FiredRow) -> bool {
+        is_acquired(row.state) && is_same_text(self.group, &row.job.group)
     }
 }
 

@@ -1,17 +1,18 @@
 //! The tables whole: their numbers, and the room for rows.
 ghost use Rattle.std.specs.Prelude.{◌≡◌, [], IsOk, OnOk};
-ghost use Rattle.qz_types.specs.Tables.{new_tables};
+ghost use Rattle.qz_types.specs.Tables.{empty};
 ghost use Rattle.qz_tables.specs.Contents.{KeepsSpare, HasSpare};
 
 use crate::indexed::Indexed;
 use crate::linked::Linked;
 use qz_types::{
-    CalendarRow, FIRST_THRESHOLD, FiredRow, JobRow, LAST, MemberRow, NoMemory, Text, ZoneRow,
+    CalendarRow, FIRST_THRESHOLD, FiredRow, JobRow, LAST, MemberRow, NoMemory, Text,
+    VERSION_ONE_LAST, ZoneRow,
 };
 use std::alloc::Global;
 use std::marker::Model;
 
-/// The tables of the trigger store: rows of seven kinds, each in the order of its ids, and numbers.
+/// The tables of the trigger store: rows of eight kinds, each in the order of its ids, and numbers.
 ///
 /// A row is found by binary search. Of all calls only `reserve`, those that give sorted rows and `clone_rows` take
 /// memory: rows are put in where `reserve` made room before.
@@ -22,6 +23,7 @@ pub struct Tables {
     pub(crate) calendars: Indexed<CalendarRow>,
     pub(crate) zones: Indexed<ZoneRow>,
     pub(crate) paused_groups: Indexed<Text>,
+    pub(crate) paused_job_groups: Indexed<Text>,
     pub(crate) members: Indexed<MemberRow>,
     pub(crate) fired: Indexed<FiredRow>,
     pub(crate) next_entry: u64,
@@ -43,6 +45,7 @@ impl Model for Tables {
         calendars = a.calendars.rows;
         zones = a.zones.rows;
         paused_groups = a.paused_groups.rows;
+        paused_job_groups = a.paused_job_groups.rows;
         members = a.members.rows;
         fired = a.fired.rows;
         next_entry = a.next_entry;
@@ -58,6 +61,7 @@ impl Model for Tables {
         calendars = a.calendars.spare;
         zones = a.zones.spare;
         paused_groups = a.paused_groups.spare;
+        paused_job_groups = a.paused_job_groups.spare;
         members = a.members.spare;
         fired = a.fired.spare;
       };
@@ -65,10 +69,9 @@ impl Model for Tables {
 }
 
 impl Tables {
-    /// The tables of a new store.
-    #[tactic(auto, unfolding(qz_types::specs::Tables::new_tables))]
-    pub fn new(alloc: Global) -> Self
-        ensures tables { result.tables ≡ new_tables }
+    /// The tables of a new store of this format version, 1 or 2. They differ in the horizon alone.
+    pub fn new(alloc: Global, version: u8) -> Self
+        ensures tables { result.tables ≡ empty version }
         ensures links { result.links ≡ [] }
     {
         Tables {
@@ -77,13 +80,14 @@ impl Tables {
             calendars: Indexed::new(alloc),
             zones: Indexed::new(alloc),
             paused_groups: Indexed::new(alloc),
+            paused_job_groups: Indexed::new(alloc),
             members: Indexed::new(alloc),
             fired: Indexed::new(alloc),
             next_entry: 1,
             next_epoch: 1,
             threshold: FIRST_THRESHOLD,
             last_moment: 0,
-            horizon: LAST,
+            horizon: if version == 1 { VERSION_ONE_LAST } else { LAST },
         }
     }
 
@@ -100,6 +104,7 @@ impl Tables {
         self.calendars.reserve(rows)?;
         self.zones.reserve(rows)?;
         self.paused_groups.reserve(rows)?;
+        self.paused_job_groups.reserve(rows)?;
         self.members.reserve(rows)?;
         self.fired.reserve(rows)?;
         Ok(())

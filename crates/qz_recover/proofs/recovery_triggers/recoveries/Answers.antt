@@ -32,17 +32,17 @@ loop-place-preserved c =
     elim c.if-is_recovered_by.branch [
       | then-is_recovered_by+in_ok-trigger+in_ok-push w ↦
           let passes : p f ≡ true = cc in
-          let grown : c.if-is_recovered_by.triggers.items ≡ c.loop-place.triggers.items ++ recovery_trigger T.paused_groups f ∷ [] = grind (arith, common_steps) in
-          grown ∙ ap (λ (ts : List TriggerData). ts ++ recovery_trigger T.paused_groups f ∷ []) c.loop-place.invariant ∙ sym (taken_one p (recovery_trigger T.paused_groups) T.fired c.loop-place.place f is passes)
+          let grown : c.if-is_recovered_by.triggers.items ≡ c.loop-place.triggers.items ++ recovery_trigger T.paused_groups T.paused_job_groups f ∷ [] = grind (arith, common_steps) in
+          grown ∙ ap (λ (ts : List TriggerData). ts ++ recovery_trigger T.paused_groups T.paused_job_groups f ∷ []) c.loop-place.invariant ∙ sym (taken_one p (recovery_trigger T.paused_groups T.paused_job_groups) T.fired c.loop-place.place f is passes)
       | else-is_recovered_by w ↦
           let fails : p f ≡ false = cc in
           let same : c.if-is_recovered_by.triggers.items ≡ c.loop-place.triggers.items = cc in
-          same ∙ c.loop-place.invariant ∙ sym (passed_one p (recovery_trigger T.paused_groups) T.fired c.loop-place.place f is fails)
+          same ∙ c.loop-place.invariant ∙ sym (passed_one p (recovery_trigger T.paused_groups T.paused_job_groups) T.fired c.loop-place.place f is fails)
     ]
 
 pub returns : goal.returns
 returns c =
     let T = c.args.tables.now.tables in
     c.loop-place.invariant
-    ∙ taken_all (is_recovered_by T.jobs c.args.member.now) (recovery_trigger T.paused_groups) T.fired c.loop-place.place (omega (arith, c.loop-place-test.false, c.len_fired-place-end.ensures))
+    ∙ taken_all (is_recovered_by T.jobs c.args.member.now) (recovery_trigger T.paused_groups T.paused_job_groups) T.fired c.loop-place.place (omega (arith, c.loop-place-test.false, c.len_fired-place-end.ensures))
     ∙ recoveries_passed T c.args.member.now

@@ -21,6 +21,11 @@ returns-in-Group-clause-valid c =
     let ok : transaction c.args.tables.now.tables c.args.entry.now ≡ accepted c.pause_group.new.tables.tables c.pause_group.result = search rules in
     stays_valid c.args.tables.now.tables c.pause_group.new.tables.tables c.args.entry.now c.pause_group.result c.requires.entry c.requires.valid ok
 
+pub returns-in-JobGroup-clause-valid : goal.returns-in-JobGroup-clause-valid
+returns-in-JobGroup-clause-valid c =
+    let ok : transaction c.args.tables.now.tables c.args.entry.now ≡ accepted c.pause_job_group.new.tables.tables c.pause_job_group.result = search rules in
+    stays_valid c.args.tables.now.tables c.pause_job_group.new.tables.tables c.args.entry.now c.pause_job_group.result c.requires.entry c.requires.valid ok
+
 pub returns-in-Calendar-clause-valid : goal.returns-in-Calendar-clause-valid
 returns-in-Calendar-clause-valid c =
     let ok : transaction c.args.tables.now.tables c.args.entry.now ≡ accepted c.add_calendar.new.tables.tables c.add_calendar.result = search rules in
