@@ -1,6 +1,9 @@
 -- What a transaction of the rows is to their kind of store.
 use Rattle.std.proofs.Common.{◌≡◌, ℕ, refl, sym, ap, subst}
-use Rattle.std.specs.Prelude.{Result, Option, Some, None, Ok, IsOk}
+use Rattle.std.specs.Prelude.{Result, Option, Some, None, Ok, Err, IsOk}
+use Rattle.qz_codec.specs.Reading.{Answers}
+use Rattle.qz_codec.specs.declared.errors.ReadError.{ReadError}
+use Rattle.qz_codec.specs.declared.errors.ReadError.TheVariants as errors
 use Rattle.qz_types.specs.Entries.{StateEntryData}
 use Rattle.qz_types.specs.declared.replies.Refusal.{Refusal}
 use Rattle.qz_stores.specs.Kinds.{IsRefusalOf as IsRefusalOfKind}
@@ -30,6 +33,12 @@ left_as T U o is = sym (ap (rows_left T) is)
 pub refusal_as : (T : StateTables) (e : StateEntryData) (o : Option Refusal) → IsRefusalOf T e o → IsRefusalOfKind state_kind T e o
 refusal_as T e None is = passes (state_transaction T e) is
 refusal_as T e (Some x) is = ap answer_of is
+
+-- bytes that are no record aren't read as an entry
+pub not_read : (x : ReadError) (at : ℕ) (e : StateEntryData) → x ≡ errors.BadRecord at → Answers (Err x) (Ok e) → ⊥
+not_read x at e x_is answers =
+    let no : ◌≡◌ {A = Result StateEntryData ℕ} (Ok e) (Err at) = subst (λ (y : ReadError). Answers (Err y) (Ok e)) x_is answers in
+    absurd cc
 
 -- the entry that a payload is the record of, and it alone, was refused
 pub refused_unfit : (T : StateTables) (e f : StateEntryData) → ◌≡◌ {A = Result StateEntryData ℕ} (Ok e) (Ok f) → (IsAccepted (state_transaction T f) → ⊥) → IsOk (answer_of (state_transaction T e)) → ⊥

@@ -1,7 +1,6 @@
 -- Which bytes are those of which history.
 use Rattle.std.specs.Prelude.{ℕ, List, Option}
 use Rattle.qz_types.specs.Entries.{StateEntryData}
-use Rattle.qz_journal.specs.View.{version}
 use Rattle.qz_stores.specs.Kinds.{history_of as kind_history}
 use Rattle.qz_stores.specs.Bytes as store
 use Rattle.qz_checkin.specs.History.{StateHistory}
@@ -12,19 +11,19 @@ use Rattle.qz_checkin.specs.Kinds.{state_kind}
 abbrev pub Encode : List (List ℕ) → List StateEntryData → Type 0
 Encode payloads entries = store.Encode state_kind payloads entries
 
--- the bytes are a store of states, and its payloads are the records of these entries
-abbrev pub HoldEntries : List ℕ → List StateEntryData → Type 0
-HoldEntries bytes entries = store.HoldEntries state_kind bytes entries
+-- the bytes are a store of states of this format version, and its payloads are records of these entries
+abbrev pub HoldEntries : ℕ → List ℕ → List StateEntryData → Type 0
+HoldEntries version bytes entries = store.HoldEntries state_kind version bytes entries
 
--- the history of these entries from a new store on
+-- the history of these entries from a new store on, which is the same in either version
 abbrev pub history_of : List StateEntryData → StateHistory
-history_of entries = kind_history state_kind entries
+history_of entries = kind_history state_kind 2 entries
 
--- the history begins with a new store
-abbrev pub BeginsNew : StateHistory → Type 0
-BeginsNew h = store.BeginsNew state_kind version h
+-- the history begins with a new store of this format version
+abbrev pub BeginsNew : ℕ → StateHistory → Type 0
+BeginsNew version h = store.BeginsNew state_kind version h
 
--- The bytes are those of this history: it begins with a new store, and the payloads are the records of its entries.
+-- The bytes are those of this history: it begins with a new store, and the payloads are records of its entries.
 abbrev pub Stands : List ℕ → StateHistory → Type 0
 Stands bytes h = store.Stands state_kind bytes h
 

@@ -3,8 +3,9 @@ use Rattle.std.specs.Prelude.{⊤, ◌≡◌, ℕ, List, true, false, length, Op
 use Rattle.std.specs.declared.result.Result.{Result}
 use Rattle.qz_types.specs.Entries.{StateEntryData}
 use Rattle.qz_types.specs.declared.replies.Refusal.{Refusal}
-use Rattle.qz_codec.specs.Layout.{recorded}
-use Rattle.qz_codec.specs.States.{state_entry}
+use Rattle.qz_values.specs.declared.versions.Version.TheVariants.{Two}
+use Rattle.qz_codec.specs.Records.{recorded}
+use Rattle.qz_codec.specs.States.{state_fields, IsStateRecord}
 use Rattle.qz_types.specs.declared.errors.SubmitError.{SubmitError}
 use Rattle.qz_types.specs.declared.errors.SubmitError.TheVariants as submit
 use Rattle.qz_stores.specs.Stores.{EntryKind, StoreState}
@@ -16,9 +17,9 @@ abbrev pub answer_of : StateOutcome → Result ⊤ Refusal
 answer_of (accepted T) = Ok tt
 answer_of (refused refusal) = Err refusal
 
--- the record of an entry
+-- the record of an entry, as it is written: in version two
 abbrev pub state_record_of : StateEntryData → List ℕ
-state_record_of e = recorded state_entry e
+state_record_of e = recorded state_fields Two e
 
 -- An entry is answered as the transaction at the rows that the history leaves.
 abbrev pub of_states : EntryKind StateHistory StateEntryData ⊤
@@ -26,6 +27,7 @@ of_states = record {
   answer = λ h e. answer_of (state_transaction (replay_states h) e);
   with_entry = with_state_entry;
   size = λ e. length (state_record_of e);
+  IsWritten = λ e. IsStateRecord (state_record_of e) e;
 }
 
 -- a state store at one moment

@@ -1,9 +1,9 @@
 -- The state store as a kind of store.
-use Rattle.std.specs.Prelude.{⊤, ◌≡◌}
+use Rattle.std.specs.Prelude.{⊤, ◌≡◌, None}
 use Rattle.std.proofs.Props.{props}
 use Rattle.qz_types.specs.Entries.{StateEntryData}
 use Rattle.qz_journal.specs.declared.layout.TheConstants.{STATES}
-use Rattle.qz_codec.specs.States.{IsStateEntry}
+use Rattle.qz_codec.specs.States.{IsStateRecord}
 use Rattle.qz_stores.specs.Kinds.{StoreKind}
 use Rattle.qz_checkin.specs.Rows.{StateTables, new_state_tables, state_transaction}
 use Rattle.qz_checkin.specs.Valid.{StatesValid}
@@ -13,17 +13,18 @@ use Rattle.qz_checkin.specs.Entries.{answer_of, state_record_of}
 pub rows_once : (T U : StateTables) → IsProp (T ≡ U)
 rows_once T U = hlevel props
 
--- Each entry may be submitted; it is answered as the transaction at the rows, and leaves what that leaves.
+-- Each entry may be submitted; it is answered as the transaction at the rows, and leaves what that leaves. A state store is
+-- the same in either version.
 abbrev pub state_kind : StoreKind StateHistory StateTables StateEntryData ⊤
 state_kind = record {
   number = STATES;
   record_of = state_record_of;
-  IsEntry = IsStateEntry;
+  IsRecordOf = IsStateRecord;
   IsProper = λ e. ⊤;
   empty = λ version. new_state_tables;
-  new_state = new_state_tables;
   IsValid = StatesValid;
   states_once = rows_once;
+  version_refusal = λ T e. None;
   answer = λ T e. answer_of (state_transaction T e);
   after = λ T e. rows_left T (state_transaction T e);
   replay_from = replay_from;

@@ -3,17 +3,12 @@ use Rattle.std.proofs.Common.{◌≡◌, List, [], ◌∷◌, ◌++◌, refl}
 use Rattle.std.proofs.Props.{props}
 use Rattle.std.specs.Prelude.{IsOk}
 use Rattle.qz_types.specs.Entries.{StateEntryData}
-use Rattle.qz_codec.specs.States.{IsStateEntry}
-use Rattle.qz_codec.proofs.RecordFormats.{record_unique}
-use Rattle.qz_codec.proofs.StateFormats.{state_entry_format}
+use Rattle.qz_codec.proofs.StateRecords.{state_record_unique}
 use Rattle.qz_stores.specs.Kinds.{IsLawful}
 use Rattle.qz_checkin.specs.Rows.{StateTables, StateOutcome, accepted, refused, IsAccepted, state_transaction}
 use Rattle.qz_checkin.specs.History.{rows_left, IsLegalFrom, replay_from}
-use Rattle.qz_checkin.specs.Entries.{answer_of, state_record_of}
+use Rattle.qz_checkin.specs.Entries.{answer_of}
 use Rattle.qz_checkin.specs.Kinds.{state_kind}
-
-entries_once : (e f : StateEntryData) → IsStateEntry e → IsStateEntry f → state_record_of e ≡ state_record_of f → e ≡ f
-entries_once e f e_is f_is same = record_unique state_entry_format e f e_is f_is same
 
 lists_once : (es fs : List StateEntryData) → IsProp (es ≡ fs)
 lists_once es fs = hlevel props
@@ -40,9 +35,8 @@ legal_at T (x ∷ es) e fs legal = legal_at (rows_left T (state_transaction T x)
 
 pub state_lawful : IsLawful state_kind
 state_lawful = record {
-  entries_once = entries_once;
+  records_once = state_record_unique;
   lists_once = lists_once;
-  new_is = refl;
   replay_none = λ T. refl;
   replay_more = replay_more;
   legal_none = λ T. tt;

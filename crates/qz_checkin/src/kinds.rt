@@ -43,7 +43,7 @@ impl Kind for States {
         STATES
     }
 
-    fn new(alloc: Global) -> States {
+    fn new(alloc: Global, _version: u8) -> States {
         States {
             rows: Vec::new(alloc),
             last_moment: 0,
@@ -63,6 +63,10 @@ impl Kind for States {
                 Err(error)
             }
         }
+    }
+
+    fn version_refusal(&self, _entry: &StateEntry) -> Option<Refusal> {
+        None
     }
 
     fn refusal(&self, entry: &StateEntry) -> Option<Refusal> {

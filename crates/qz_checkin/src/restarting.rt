@@ -1,6 +1,7 @@
 //! A restart, in three calls.
 ghost use Rattle.std.specs.Prelude.{◌≡◌, ◌⊎◌, Err, IfOk, IfErr, OnOk};
 ghost use Rattle.qz_civil.specs.Causes.{Rose, HasCause};
+ghost use Rattle.qz_disk.specs.Disk.{Restarts};
 ghost use Rattle.qz_journal.specs.Through.{OnlyReads};
 ghost use Rattle.qz_stores.specs.Stores.{Shuts, IsDecided, Opens};
 ghost use Rattle.qz_stores.specs.Restarting.{read_of, IsReread};
@@ -20,6 +21,7 @@ impl<D: Disk> StateStore<D> {
     pub fn crash(&mut self) -> Result<(), Failed>
         ensures shut { Shuts (view self.old) (view self.new) }
         ensures cause { HasCause (view self.old).faults (view self.new).faults result }
+        ensures restarts { D.honest → Restarts result (disk_state self.old) (disk_state self.new) }
         ensures any_moment { D.honest → LeavesEither self.old self.new }
     {
         self.store.crash()
@@ -32,7 +34,7 @@ impl<D: Disk> StateStore<D> {
     pub fn reread(&mut self) -> Result<Reread, MountError>
         ensures shut { Shuts (view self.old) (view self.new) }
         ensures kept { entries_of self.new ≡ entries_of self.old }
-        ensures read { IfOk result (λ reread. IsReread (read_of reread) self.new.store) }
+        ensures read { IfOk result (λ reread. IsReread reread self.new.store) }
         ensures decided { D.honest → IfOk result (λ reread. IsDecided of_states (view self.old).history (view self.old).undecided (history_of (read_of reread))) }
         ensures stands { D.honest → IfOk result (λ reread. Stands (disk_state self.old).content (history_of (read_of reread))) }
         // An honest disk has the history, or that with the undecided entry, so it or memory fails.
@@ -46,7 +48,7 @@ impl<D: Disk> StateStore<D> {
 
     /// Opens the store with what was read. It makes no device call, takes no memory, and can't fail.
     pub fn open(&mut self, reread: Reread)
-        requires { IsReread (read_of reread) self.old.store }
+        requires { IsReread reread self.old.store }
         ensures opens { Opens of_states D.honest (view self.old) (view self.new) }
         ensures opened { IsOpened (view self.new) }
         ensures history { (view self.new).history ≡ history_of (read_of reread) }

@@ -22,6 +22,8 @@ use Rattle.qz_trigger_store.specs.Entries.{answer_of}
 use Rattle.qz_checkin.specs.Rows.{StateTables, StateOutcome, state_transaction}
 use Rattle.qz_checkin.specs.Rows as rows
 use Rattle.qz_checkin.specs.Entries.{answer_of as answer_of_states}
+use Rattle.qz_model.specs.Upgrading.{version_refusal}
+use Rattle.qz_stores.specs.Kinds.{unless_refused}
 use Rattle.qz_cluster.specs.Script.{StepEffect, held_after_command, entry_of, check_in_entry, forget_entry, member_refusal, done, refuse, unless, effect_of, submit, effect_of_states, submit_state, as_holder, effect_of_command, step_effect}
 use Rattle.qz_cluster.specs.Steps.{ClusterState, is_restart, is_show, is_unheld, rows_of, command_refusal, first_refusal, state_entry_of_step, entry_of_member, entry_of_step, held_after}
 
@@ -44,15 +46,26 @@ effect_refused : (e : EntryData) (held : List MemberData) (after : Reply → Lis
 effect_refused e held after (accepted T x) y is = absurd cc
 effect_refused e held after (refused x) y is = let same : x ≡ y = cc in ap (λ (z : Refusal). refuse z held) same
 
-pub submit_accepted : (T : SchedulerTables) (held : List MemberData) (e : EntryData) (after : Reply → List MemberData) (y : Reply) → answer_of (transaction T e) ≡ Ok y
+-- what is submitted, where this is refused before
+submitted_accepted : (v : Option Refusal) (e : EntryData) (held : List MemberData) (after : Reply → List MemberData) (o : Outcome) (y : Reply) → unless_refused v (answer_of o) ≡ Ok y
+    → unless v held (effect_of e held after o) ≡ record { reply = step_reply.Ok y; entry = Some e; state_entry = None; held = after y }
+submitted_accepted None e held after o y is = effect_accepted e held after o y is
+submitted_accepted (Some x) e held after o y is = let no : ◌≡◌ {A = Result Reply Refusal} (Err x) (Ok y) = is in absurd cc
+
+submitted_refused : (v : Option Refusal) (e : EntryData) (held : List MemberData) (after : Reply → List MemberData) (o : Outcome) (y : Refusal) → unless_refused v (answer_of o) ≡ Err y
+    → unless v held (effect_of e held after o) ≡ refuse y held
+submitted_refused None e held after o y is = effect_refused e held after o y is
+submitted_refused (Some x) e held after o y is = let same : x ≡ y = cc in ap (λ (z : Refusal). refuse z held) same
+
+pub submit_accepted : (T : SchedulerTables) (held : List MemberData) (e : EntryData) (after : Reply → List MemberData) (y : Reply) → unless_refused (version_refusal T e.command) (answer_of (transaction T e)) ≡ Ok y
     → submit T held e after ≡ record { reply = step_reply.Ok y; entry = Some e; state_entry = None; held = after y }
 unfolding submit
-submit_accepted T held e after y is = effect_accepted e held after (transaction T e) y is
+submit_accepted T held e after y is = submitted_accepted (version_refusal T e.command) e held after (transaction T e) y is
 
-pub submit_refused : (T : SchedulerTables) (held : List MemberData) (e : EntryData) (after : Reply → List MemberData) (y : Refusal) → answer_of (transaction T e) ≡ Err y
+pub submit_refused : (T : SchedulerTables) (held : List MemberData) (e : EntryData) (after : Reply → List MemberData) (y : Refusal) → unless_refused (version_refusal T e.command) (answer_of (transaction T e)) ≡ Err y
     → submit T held e after ≡ refuse y held
 unfolding submit
-submit_refused T held e after y is = effect_refused e held after (transaction T e) y is
+submit_refused T held e after y is = submitted_refused (version_refusal T e.command) e held after (transaction T e) y is
 
 -- At the state store, which is first.
 
@@ -118,6 +131,10 @@ command_effect S node me (command.Release entry) at = refl
 command_effect S node me (command.Fire entry) at = refl
 command_effect S node me (command.Complete entry code) at = refl
 command_effect S node me command.Misfires at = refl
+command_effect S node me command.Upgrade at = refl
+command_effect S node me (command.ResetTrigger key) at = refl
+command_effect S node me (command.PauseJobGroup group) at = refl
+command_effect S node me (command.ResumeJobGroup group) at = refl
 
 node_effect : (S : ClusterState) (node : List ℕ) (c : Command) (at : ℤ) (m : Option MemberData)
     → as_holder S.held m (λ me. effect_of_command (replay S.triggers.history) (rows_of S) S.held node me c at)

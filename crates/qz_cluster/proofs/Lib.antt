@@ -3,6 +3,7 @@ pub mod Closings
 pub mod Counts
 pub mod Effects
 pub mod FoundRows
+pub mod Leaving
 pub mod Plain
 pub mod Restarts
 pub mod Scripts

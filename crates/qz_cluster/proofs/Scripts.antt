@@ -10,13 +10,14 @@ use Rattle.qz_steps.specs.declared.steps.Step.TheVariants.{Client, Join, CheckIn
 use Rattle.qz_types.specs.Tables.{SchedulerTables}
 use Rattle.qz_types.specs.Outcomes.{Outcome, accepted, refused, IsAccepted}
 use Rattle.qz_model.specs.Transaction.{transaction}
+use Rattle.qz_model.specs.Upgrading.{version_refusal}
 use Rattle.qz_model.specs.History.{History, IsLegal, replay}
 use Rattle.qz_model.proofs.Histories.{IsLegalFrom-entry}
 use Rattle.qz_checkin.specs.Rows.{StateTables, StateOutcome, state_transaction}
 use Rattle.qz_checkin.specs.Rows as rows
 use Rattle.qz_checkin.specs.History.{StateHistory, IsLegal as AreLegal, replay_states}
 use Rattle.qz_checkin.proofs.Histories.{IsLegalFrom-entry as states_legal_entry}
-use Rattle.qz_cluster.specs.Script.{ScriptState, TimedStep, StepEffect, effect_of, submit, effect_of_states, submit_state, with_optional, with_optional_state, effect_in, after_step, state_after, step_replies}
+use Rattle.qz_cluster.specs.Script.{ScriptState, TimedStep, StepEffect, unless, effect_of, submit, effect_of_states, submit_state, with_optional, with_optional_state, effect_in, after_step, state_after, step_replies}
 use Rattle.qz_cluster.specs.Steps.{ClusterState, is_restart, is_show, is_unheld, first_refusal, state_entry_of_step, entry_of_step, held_after}
 use Rattle.qz_cluster.proofs.Effects.{onto_triggers, onto_states, plain_effect, effect_at, effect_is}
 
@@ -47,10 +48,14 @@ effect_of_fit : (T : SchedulerTables) (R : StateTables) (e : EntryData) (held : 
 effect_of_fit T R e held after (accepted U r) is = (subst IsAccepted (sym is) tt, tt)
 effect_of_fit T R e held after (refused x) is = (tt, tt)
 
+unless_fit : (T : SchedulerTables) (R : StateTables) (x : Option Refusal) (held : List MemberData) (effect : StepEffect) → IsFit T R effect → IsFit T R (unless x held effect)
+unless_fit T R None held effect fit = fit
+unless_fit T R (Some y) held effect fit = (tt, tt)
+
 onto_triggers_fit : (T : SchedulerTables) (R : StateTables) (held : List MemberData) (o : Option EntryData) (after : Reply → List MemberData) → IsFit T R (onto_triggers T held o after)
 unfolding submit
 onto_triggers_fit T R held None after = (tt, tt)
-onto_triggers_fit T R held (Some e) after = effect_of_fit T R e held after (transaction T e) refl
+onto_triggers_fit T R held (Some e) after = unless_fit T R (version_refusal T e.command) held _ (effect_of_fit T R e held after (transaction T e) refl)
 
 effect_of_states_fit : (T : SchedulerTables) (R : StateTables) (e : StateEntryData) (held : List MemberData) (o : StateOutcome) (effect : StepEffect)
     → state_transaction R e ≡ o → IsFit T R effect → IsFit T R (effect_of_states e held o effect)

@@ -1,17 +1,19 @@
 -- The case of a step, by where it ends and by what its entry came to there.
-use Rattle.std.proofs.Common.{◌≡◌, ◌||◌, inl, inr, true, false, not, refl}
-use Rattle.std.specs.Prelude.{Bool, ℕ, ℤ, IsTrue, List, Some, Ok, Err, IfOk, IfErr}
+use Rattle.std.proofs.Common.{◌≡◌, ◌||◌, inl, inr, true, false, not, to_z, of_z, w64, SFits, refl, sym, subst}
+use Rattle.std.proofs.lemmas.Int.{to_z-of_z}
+use Rattle.std.specs.Prelude.{Bool, ℕ, ℤ, IsTrue, List, Option, Some, None, is_none, is_some, option_map, Ok, Err, IfOk, IfErr}
 use Rattle.std.specs.declared.result.Result.{Result}
 use Rattle.qz_types.specs.Entries.{StateEntryData}
 use Rattle.qz_steps.specs.declared.steps.StepReply.{StepReply}
 use Rattle.qz_steps.specs.declared.steps.StepReply.TheVariants as reply
-use Rattle.qz_stores.specs.Stores.{Same}
+use Rattle.qz_stores.specs.Stores.{StoreState, Same}
 use Rattle.qz_checkin.specs.Entries.{of_states}
 use Rattle.qz_steps.specs.Steps.{is_step}
-use Rattle.qz_steps.specs.declared.steps.Step.TheVariants.{Join}
+use Rattle.qz_steps.specs.declared.steps.Step.TheVariants.{Join, CheckIn}
 use Rattle.qz_cluster.specs.Script.{TimedStep, check_in_entry}
-use Rattle.qz_cluster.specs.Steps.{ClusterState, is_closed, IsStep, IsCutShort, Submits, StepCase, EndCase, state_entry_of_step}
-use Rattle.qz_cluster.specs.Submitting.{Declined, Unsubmitted}
+use Rattle.qz_cluster.specs.Steps.{ClusterState, is_closed, is_closed_for, is_unheld, IsStep, IsCutShort, Submits, StepCase, EndCase, state_entry_of_step}
+use Rattle.qz_cluster.specs.Submitting.{Declined, StatesSubmitted, Unsubmitted}
+use Rattle.qz_cluster.proofs.Unaccepted.{same_here}
 use Rattle.qz_cluster.specs.declared.errors.StepEnd.{StepEnd}
 use Rattle.qz_cluster.specs.declared.errors.StepEnd.TheVariants as ends
 
@@ -80,6 +82,49 @@ pub join_cut : (honest : Type 0) (node : List ℕ) (interval at : ℤ) (result :
 join_cut honest node interval at result S new ready way triggers held =
     states_ended honest (record { step = Join node interval; at = at }) (check_in_entry node interval at) result S new (join_submits node interval at S ready) refl
     way triggers held
+
+-- A step of a member that checks in.
+
+check_in_submits : (node : List ℕ) (interval at : ℤ) (S : ClusterState) → not S.states.is_open ≡ false → is_unheld (CheckIn node interval) S.held ≡ false → Submits (record { step = CheckIn node interval; at = at }) S
+check_in_submits node interval at S ready holds = record { allowed = record { needs_open = ready; is_held = holds; works = refl; acts = refl }; unrefused = refl }
+
+is_ready : (b : Bool) → not b ≡ false → b ≡ true
+is_ready true is = refl
+is_ready false is = cc
+
+-- numbers that went through bits are those that they were
+pub the_same : (P : ℤ → ℤ → Type 0) (i at : ℤ) → SFits w64 i → SFits w64 at → P (to_z w64 (of_z w64 i)) (to_z w64 (of_z w64 at)) → P i at
+the_same P i at fits fit is = subst (P i) (to_z-of_z w64 at fit) (subst (λ x. P x (to_z w64 (of_z w64 at))) (to_z-of_z w64 i fits) is)
+
+-- a node whose epoch was found holds one
+pub holds_one : {A B : Type 0} (f : A → B) (x : Option A) (y : Option B) → option_map f x ≡ y → is_some x ≡ true → is_none y ≡ false
+holds_one f (Some a) y is some = subst (λ z. is_none z ≡ false) is refl
+holds_one f None y is some = cc
+
+-- a store that nobody touched
+pub untouched : {A H E : Type 0} (f : A → StoreState H E) (a b : A) → b ≡ a → Same (f a) (f b)
+untouched f a b is = subst (λ x. Same (f a) (f x)) (sym is) (same_here (f a))
+
+pub checked_in : (honest : Type 0) (node : List ℕ) (interval at : ℤ) (result : Result StepReply StepEnd) (S new : ClusterState) → not S.states.is_open ≡ false → is_unheld (CheckIn node interval) S.held ≡ false
+    → IfOk result (λ r. StatesSubmitted (check_in_entry node interval at) r S.states new.states) → Same S.triggers new.triggers → new.held ≡ S.held
+    → IfOk result (λ r. StepCase honest (record { step = CheckIn node interval; at = at }) r S new)
+checked_in honest node interval at (Ok (reply.Ok r)) S new ready holds way triggers held =
+    record { submits = check_in_submits node interval at S ready holds; states = way.0; triggers = (triggers, way.1); held = held }
+checked_in honest node interval at (Ok (reply.Refused refusal)) S new ready holds way triggers held =
+    declined honest _ (check_in_entry node interval at) (reply.Refused refusal) S new (check_in_submits node interval at S ready holds) refl (is_ready S.states.is_open ready) way triggers held
+checked_in honest node interval at (Ok reply.Fault) S new ready holds way triggers held =
+    declined honest _ (check_in_entry node interval at) reply.Fault S new (check_in_submits node interval at S ready holds) refl (is_ready S.states.is_open ready) way triggers held
+checked_in honest node interval at (Ok reply.Closed) S new ready holds way triggers held = not_closed S.states.is_open (is_ready S.states.is_open ready) way.was_closed
+checked_in honest node interval at (Ok reply.Stopped) S new ready holds way triggers held = absurd way
+checked_in honest node interval at (Ok reply.Restarted) S new ready holds way triggers held = absurd way
+checked_in honest node interval at (Ok (reply.Shown shown)) S new ready holds way triggers held = absurd way
+checked_in honest node interval at (Err end) S new ready holds way triggers held = tt
+
+pub check_in_cut : (honest : Type 0) (node : List ℕ) (interval at : ℤ) (result : Result StepReply StepEnd) (S new : ClusterState) → not S.states.is_open ≡ false → is_unheld (CheckIn node interval) S.held ≡ false
+    → IfErr result (λ end. Unsubmitted of_states (check_in_entry node interval at) end S.states new.states) → Same S.triggers new.triggers → new.held ≡ S.held
+    → IfErr result (λ end. EndCase honest (record { step = CheckIn node interval; at = at }) end S new)
+check_in_cut honest node interval at result S new ready holds way triggers held =
+    states_ended honest (record { step = CheckIn node interval; at = at }) (check_in_entry node interval at) result S new (check_in_submits node interval at S ready holds) refl way triggers held
 
 pub steps_of : (honest : Type 0) (t : TimedStep) (result : Result StepReply StepEnd) (S new : ClusterState) → IsTrue (is_step t.step) → IfOk result (λ r. StepCase honest t r S new) → IfOk result (λ r. IsStep honest t r S new)
 steps_of honest t (Ok r) S new valid case = record { valid = valid; case = case }

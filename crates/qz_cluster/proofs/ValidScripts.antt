@@ -11,13 +11,14 @@ use Rattle.qz_steps.specs.declared.steps.Step.TheVariants.{Client, Join, CheckIn
 use Rattle.qz_types.specs.Tables.{SchedulerTables}
 use Rattle.qz_types.specs.Outcomes.{Outcome, accepted, refused}
 use Rattle.qz_model.specs.Transaction.{transaction}
+use Rattle.qz_model.specs.Upgrading.{version_refusal}
 use Rattle.qz_model.specs.History.{History, replay}
 use Rattle.qz_model.specs.Invariant.{TablesValid}
 use Rattle.qz_model.proofs.Histories.{replay_from-append, valid-left}
 use Rattle.qz_checkin.specs.Rows.{StateTables, StateOutcome, state_transaction}
 use Rattle.qz_checkin.specs.Rows as rows
 use Rattle.qz_checkin.specs.History.{StateHistory, replay_states}
-use Rattle.qz_cluster.specs.Script.{ScriptState, TimedStep, StepEffect, effect_of, submit, effect_of_states, submit_state, with_optional, with_optional_state, effect_in, after_step, state_after}
+use Rattle.qz_cluster.specs.Script.{ScriptState, TimedStep, StepEffect, unless, effect_of, submit, effect_of_states, submit_state, with_optional, with_optional_state, effect_in, after_step, state_after}
 use Rattle.qz_cluster.specs.Steps.{ClusterState, is_restart, is_show, is_unheld, first_refusal, state_entry_of_step, entry_of_step, held_after}
 use Rattle.qz_cluster.proofs.Effects.{onto_triggers, onto_states, plain_effect, effect_at, effect_is}
 use Rattle.qz_cluster.proofs.Scripts.{as_cluster}
@@ -37,10 +38,14 @@ effect_of_valid : (e : EntryData) (held : List MemberData) (after : Reply → Li
 effect_of_valid e held after (accepted T r) good = (good, tt)
 effect_of_valid e held after (refused x) good = (tt, tt)
 
+unless_valid : (x : Option Refusal) (held : List MemberData) (effect : StepEffect) → AppendsValid effect → AppendsValid (unless x held effect)
+unless_valid None held effect valid = valid
+unless_valid (Some y) held effect valid = (tt, tt)
+
 onto_triggers_valid : (T : SchedulerTables) (held : List MemberData) (o : Option EntryData) (after : Reply → List MemberData) → IfSome o Good → AppendsValid (onto_triggers T held o after)
 unfolding submit
 onto_triggers_valid T held None after good = (tt, tt)
-onto_triggers_valid T held (Some e) after good = effect_of_valid e held after (transaction T e) good
+onto_triggers_valid T held (Some e) after good = unless_valid (version_refusal T e.command) held _ (effect_of_valid e held after (transaction T e) good)
 
 effect_of_states_valid : (e : StateEntryData) (held : List MemberData) (o : StateOutcome) (effect : StepEffect) → GoodState e → AppendsValid effect → AppendsValid (effect_of_states e held o effect)
 effect_of_states_valid e held (rows.accepted S) effect good valid = (valid.0, good)

@@ -1,4 +1,4 @@
--- A script's steps, one after the other, along one history of each store: what a scheduler replies that knows no disk.
+-- A script's steps, one after the other, along one history of each store: what a scheduler that knows no disk replies.
 use Rattle.std.specs.Prelude.{ℕ, ℤ, List, [], ◌∷◌, Option, Some, None, is_some, if◌then◌else◌}
 use Rattle.qz_types.specs.Rows.{MemberData}
 use Rattle.qz_types.specs.Entries.{EntryData, StateEntryData}
@@ -20,7 +20,8 @@ use Rattle.qz_steps.specs.declared.steps.Step.TheVariants.{Client, Join, CheckIn
 use Rattle.qz_steps.specs.declared.steps.StepReply.{StepReply}
 use Rattle.qz_steps.specs.declared.steps.StepReply.TheVariants as step_reply
 use Rattle.qz_model.specs.Transaction.{transaction}
-use Rattle.qz_model.specs.History.{History, new_history, with_entry, replay}
+use Rattle.qz_model.specs.Upgrading.{version_refusal}
+use Rattle.qz_model.specs.History.{History, history_of_version, with_entry, replay}
 use Rattle.qz_checkin.specs.Rows.{StateTables, StateOutcome, state_of, state_moment, state_transaction}
 use Rattle.qz_checkin.specs.Rows as rows
 use Rattle.qz_checkin.specs.Lateness.{last_of, fresh_refusal}
@@ -33,17 +34,17 @@ pub record ScriptState : Type 0 where
   pub states : StateHistory
   pub held : List MemberData
 
--- a script on new stores
-abbrev pub new_script : ScriptState
-new_script = record { history = new_history; states = new_state_history; held = [] }
+-- a script on new stores of this format version
+abbrev pub new_script : ℕ → ScriptState
+new_script version = record { history = history_of_version version; states = new_state_history; held = [] }
 
 -- a step with the reading of the clock that it is done at
 pub record TimedStep : Type 0 where
   pub step : Step
   pub at : ℤ
 
--- What a step comes to: its reply, the entry that it appends to each history, if it appends one, and the epochs that
--- are held then.
+-- The effect of a step: its reply, the entry that it appends to each history, if it appends one, and the epochs that
+-- are held after it.
 pub record StepEffect : Type 0 where
   pub reply : StepReply
   pub entry : Option EntryData
@@ -105,8 +106,9 @@ abbrev pub effect_of : EntryData → List MemberData → (Reply → List MemberD
 effect_of e held held_after (accepted T r) = record { reply = step_reply.Ok r; entry = Some e; state_entry = None; held = held_after r }
 effect_of e held held_after (refused refusal) = refuse refusal held
 
+-- The same, where the version of the store doesn't refuse it before.
 unfoldable pub submit : SchedulerTables → List MemberData → EntryData → (Reply → List MemberData) → StepEffect
-submit T held e held_after = effect_of e held held_after (transaction T e)
+submit T held e held_after = unless (version_refusal T e.command) held (effect_of e held held_after (transaction T e))
 
 -- the same of the state store; where it is accepted, the step goes on
 abbrev pub effect_of_states : StateEntryData → List MemberData → StateOutcome → StepEffect → StepEffect

@@ -13,7 +13,9 @@ use Rattle.qz_types.specs.declared.triggers.TriggerSpec.{TriggerSpec}
 use Rattle.qz_types.specs.declared.replies.Reply.{Reply}
 use Rattle.qz_model.specs.Calendars.{add_calendar_refusal, add_calendar, delete_calendar_refusal, delete_calendar, add_zone_refusal, add_zone, delete_zone_refusal, delete_zone}
 use Rattle.qz_model.specs.Jobs.{add_job_refusal, add_job, unknown_job, delete_job}
-use Rattle.qz_model.specs.Pausing.{pause_trigger, resume_trigger, is_row_of_group, pause_group_refusal, pause_group, resume_group}
+use Rattle.qz_model.specs.Pausing.{pause_trigger, resume_trigger, is_row_of_group, pause_group_refusal, pause_group, resume_group, pause_job_group, pause_job_group_refusal, resume_job_group, is_row_of_job_group}
+use Rattle.qz_model.specs.Resetting.{reset_refusal, reset_trigger}
+use Rattle.qz_model.specs.Upgrading.{upgrade, upgrade_refusal}
 use Rattle.qz_model.specs.Tests.{is_row_of_job, is_row_of_trigger}
 use Rattle.qz_model.specs.Triggers.{new_trigger, add_trigger_refusal, with_new_trigger, add_trigger, unknown_trigger, without_trigger_and_orphan, delete_trigger, trigger_now_refusal, trigger_now, set_threshold}
 use Rattle.qz_model.specs.Plan.{first_time}
@@ -74,6 +76,18 @@ module _ (T T' : SchedulerTables) (who : Actor) (c : Command) (r : Reply) where
 
   pub facts-resume_group : (m : ℤ) (group : List ℕ) → resume_group T m group ≡ accepted T' r → ExecutionFacts T who c r T'
   facts-resume_group m group e = all_stay _ _ e refl refl
+
+  pub facts-pause_job_group : (m : ℤ) (group : List ℕ) → pause_job_group T m group ≡ accepted T' r → ExecutionFacts T who c r T'
+  facts-pause_job_group m group e = acquired_go _ _ (passes (pause_job_group_refusal T group) _ T' r e).outcome refl (is_row_of_job_group group) refl
+
+  pub facts-resume_job_group : (m : ℤ) (group : List ℕ) → resume_job_group T m group ≡ accepted T' r → ExecutionFacts T who c r T'
+  facts-resume_job_group m group e = all_stay _ _ e refl refl
+
+  pub facts-reset_trigger : (m : ℤ) (key : Key) → reset_trigger T m key ≡ accepted T' r → ExecutionFacts T who c r T'
+  facts-reset_trigger m key e = all_stay _ _ (passes (reset_refusal (trigger_of key T.triggers)) _ T' r e).outcome refl refl
+
+  pub facts-upgrade : (m : ℤ) → upgrade T m ≡ accepted T' r → ExecutionFacts T who c r T'
+  facts-upgrade m e = all_stay _ _ (passes (upgrade_refusal T) _ T' r e).outcome refl refl
 
   pub facts-add_calendar : (m : ℤ) (calendar : CalendarData) (replace : Bool) → add_calendar T m calendar replace ≡ accepted T' r → ExecutionFacts T who c r T'
   facts-add_calendar m calendar replace e = all_stay _ _ (passes (add_calendar_refusal T calendar replace) _ T' r e).outcome refl refl

@@ -2,7 +2,7 @@
 use Rattle.std.proofs.Common.{◌≡◌, ℤ}
 use Rattle.qz_types.specs.Entries.{EntryData}
 use Rattle.qz_types.specs.declared.commands.Command.{Command}
-use Rattle.qz_types.specs.declared.commands.Command.TheVariants.{AddJob, DeleteJob, AddTrigger, DeleteTrigger, PauseTrigger, ResumeTrigger, PauseGroup, ResumeGroup, AddCalendar, DeleteCalendar, AddZone, DeleteZone, TriggerNow, Threshold, Join, Leave, Acquire, Release, Fire, Complete, Misfires, Recover}
+use Rattle.qz_types.specs.declared.commands.Command.TheVariants.{AddJob, DeleteJob, AddTrigger, DeleteTrigger, PauseTrigger, ResumeTrigger, PauseGroup, ResumeGroup, AddCalendar, DeleteCalendar, AddZone, DeleteZone, TriggerNow, Threshold, Join, Leave, Acquire, Release, Fire, Complete, Misfires, Recover, Upgrade, ResetTrigger, PauseJobGroup, ResumeJobGroup}
 use Rattle.qz_types.specs.declared.commands.Actor.{Actor}
 use Rattle.qz_types.specs.declared.commands.Actor.TheVariants.{Client, Node}
 use Rattle.qz_types.specs.declared.replies.Reply.{Reply}
@@ -11,7 +11,7 @@ use Rattle.qz_types.specs.Outcomes.{accepted}
 use Rattle.qz_model.specs.Invariant.{TablesValid}
 use Rattle.qz_model.specs.Transaction.{by_command, transaction}
 use Rattle.qz_open.proofs.Facts.{ExecutionFacts}
-use Rattle.qz_open.proofs.Clients.{facts-add_job, facts-delete_job, facts-add_trigger, facts-delete_trigger, facts-trigger_now, facts-set_threshold, facts-pause_trigger, facts-resume_trigger, facts-pause_group, facts-resume_group, facts-add_calendar, facts-delete_calendar, facts-add_zone, facts-delete_zone}
+use Rattle.qz_open.proofs.Clients.{facts-add_job, facts-delete_job, facts-add_trigger, facts-delete_trigger, facts-trigger_now, facts-set_threshold, facts-pause_trigger, facts-resume_trigger, facts-pause_group, facts-resume_group, facts-pause_job_group, facts-resume_job_group, facts-reset_trigger, facts-upgrade, facts-add_calendar, facts-delete_calendar, facts-add_zone, facts-delete_zone}
 use Rattle.qz_open.proofs.Nodes.{facts-acquire, facts-release, facts-fire, facts-complete, facts-misfires, facts-leave, facts-recover, facts-join}
 
 facts-by_command : (T T' : SchedulerTables) (m : ℤ) (who : Actor) (c : Command) (r : Reply) → TablesValid T → by_command T m who c ≡ accepted T' r → ExecutionFacts T who c r T'
@@ -29,6 +29,10 @@ facts-by_command T T' m who (AddZone zone) r valid e = facts-add_zone T T' who _
 facts-by_command T T' m who (DeleteZone name) r valid e = facts-delete_zone T T' who _ r m name e
 facts-by_command T T' m who (TriggerNow job) r valid e = facts-trigger_now T T' who _ r m job e
 facts-by_command T T' m who (Threshold ms) r valid e = facts-set_threshold T T' who _ r m ms e
+facts-by_command T T' m who Upgrade r valid e = facts-upgrade T T' who _ r m e
+facts-by_command T T' m who (ResetTrigger key) r valid e = facts-reset_trigger T T' who _ r m key e
+facts-by_command T T' m who (PauseJobGroup group) r valid e = facts-pause_job_group T T' who _ r m group e
+facts-by_command T T' m who (ResumeJobGroup group) r valid e = facts-resume_job_group T T' who _ r m group e
 facts-by_command T T' m who (Join node) r valid e = facts-join T T' who m node r e
 facts-by_command T T' m Client Leave r valid e = absurd (cc)
 facts-by_command T T' m (Node me) Leave r valid e = facts-leave T T' _ _ m me r e

@@ -22,6 +22,7 @@ use Rattle.qz_model.proofs.NamedRows.{same_text_laws}
 use Rattle.qz_model.proofs.RowPoints.{All-weaker, All-filter, count_by-left_le}
 use Rattle.qz_stores.specs.Stores.{Same, Appends}
 use Rattle.qz_trigger_store.specs.Entries.{answer_of, trigger_entry}
+use Rattle.qz_trigger_store.proofs.Horizons.{accepted_anyway}
 use Rattle.qz_cluster.specs.Asking.{held_after_resume}
 use Rattle.qz_cluster.specs.Script.{entry_of, held_after_join}
 use Rattle.qz_cluster.specs.Steps.{ClusterState}
@@ -142,7 +143,7 @@ module _ (S S' : ClusterState) (os : List Execution) (e : EntryData) (r : Reply)
   pub way : transaction before e ≡ accepted after r
   way =
       let tables : after ≡ tables_left before (transaction before e) = ap replay on.history ∙ replay_from-append S.triggers.history.base S.triggers.history.entries (e ∷ []) in
-      subst (λ (T : SchedulerTables). transaction before e ≡ accepted T r) (sym tables) (accepted_as before (transaction before e) r on.accepted_as)
+      subst (λ (T : SchedulerTables). transaction before e ≡ accepted T r) (sym tables) (accepted_as before (transaction before e) r (accepted_anyway before e r on.accepted_as))
 
   pub entry_facts : ExecutionFacts before e.actor e.command r after
   entry_facts = facts before after e r h.valid way

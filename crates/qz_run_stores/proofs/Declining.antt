@@ -1,5 +1,5 @@
 -- What a store's error says to a run.
-use Rattle.std.proofs.Common.{◌≡◌, ℕ, ℤ, ◌≤ℤ◌, length, sym, ap, ◌∙◌, subst}
+use Rattle.std.proofs.Common.{◌≡◌, false, ℕ, ℤ, ◌≤ℤ◌, length, sym, ap, ◌∙◌, subst}
 use Rattle.std.specs.Prelude.{Err, IsOk}
 use Rattle.qz_types.specs.Entries.{EntryData}
 use Rattle.qz_types.specs.Outcomes.{Outcome, accepted, refused}
@@ -10,7 +10,8 @@ use Rattle.qz_codec.specs.Layout.{record_of}
 use Rattle.qz_model.specs.History.{History, replay}
 use Rattle.qz_model.specs.Invariant.{TablesValid}
 use Rattle.qz_stores.specs.Stores.{EntryKind, StoreState, Same, LacksRoom, Submits}
-use Rattle.qz_trigger_store.specs.Entries.{TriggerState, answer_of, trigger_entry}
+use Rattle.qz_trigger_store.specs.Entries.{TriggerState, answer_of, is_old, trigger_entry}
+use Rattle.qz_trigger_store.proofs.Horizons.{answered_by_transaction}
 use Rattle.qz_run.specs.declared.commands.NodeCommand.{NodeCommand}
 use Rattle.qz_run.specs.Stores.{IsTime, CanAsk}
 use Rattle.qz_seen.specs.Asking.{entry_of}
@@ -18,6 +19,7 @@ use Rattle.qz_seen.specs.Effects.{IsTooMany}
 use Rattle.qz_seen.specs.Seen.{seen}
 use Rattle.qz_seen.proofs.Effects.{refuses}
 use Rattle.qz_run_stores.specs.Declining.{DeclinesEntry, IsDeclinable, declined_of}
+use Rattle.qz_run_stores.proofs.Times.{is_moment}
 
 -- an error leaves the history as it was
 pub same_history : {H E R : Type 0} (kind : EntryKind H E R) (e : E) (x : SubmitError) (s t : StoreState H E) → Submits kind e (Err x) s t → t.history ≡ s.history
@@ -57,10 +59,10 @@ module _ (e : EntryData) (s t : TriggerState) (many : (r : Refusal) → trigger_
   declines submit.Fault is = is.is_open
 
 -- why the trigger store declines what a node may ask
-module _ (s t : TriggerState) (at : ℤ) (n : ℕ) (command : NodeCommand) (valid : TablesValid (replay s.history)) (time : IsTime at) (later : (replay s.history).last_moment ≤ℤ at)
+module _ (s t : TriggerState) (at : ℤ) (n : ℕ) (command : NodeCommand) (current : is_old (replay s.history) ≡ false) (valid : TablesValid (replay s.history)) (time : IsTime at) (later : (replay s.history).last_moment ≤ℤ at)
     (can : CanAsk n at command (seen (replay s.history))) where
   limits : (r : Refusal) → trigger_entry.answer s.history (entry_of (replay s.history) at n command) ≡ Err r → IsTooMany r
-  limits r is = refuses (replay s.history) n at command r valid time later can (refused_by _ r is)
+  limits r is = refuses (replay s.history) n at command r valid (is_moment (replay s.history) at valid current time) later can (refused_by _ r (sym (answered_by_transaction (replay s.history) (entry_of (replay s.history) at n command) _ current) ∙ is))
 
   pub entry_declinable : (x : SubmitError) → Submits trigger_entry (entry_of (replay s.history) at n command) (Err x) s t → IsDeclinable x
   entry_declinable x is = declinable (entry_of (replay s.history) at n command) s t limits x is

@@ -1,6 +1,6 @@
 -- The first waiting trigger in due order has the least next time.
 use Rattle.std.proofs.Common.{◌≡◌, ℤ, ◌≤ℤ◌, ◌<ℤ◌, int_le, Bool, true, false, ◌&&◌, ◌||◌, List, [], ◌∷◌, filter, count_by, Option, Some, None, IsSomeAnd, refl, sym, ap, ◌∙◌, subst, arith}
-use Rattle.std.specs.Prelude.{⊤}
+use Rattle.std.specs.Prelude.{⊤, IsSome}
 use Rattle.std.specs.List.{AllByRecursion, list_any, slice_get}
 use Rattle.std.specs.Ordering.{MatchOrdering, int_cmp, ordering_then, is_gt}
 use Rattle.std.specs.declared.cmp.Ordering.{Ordering}
@@ -10,10 +10,9 @@ use Rattle.std.proofs.lemmas.Cmp.{int_ranked}
 use Rattle.std.proofs.lemmas.Int.{ints}
 use Rattle.qz_types.specs.Due.{is_waiting, next_cmp, due_cmp, in_due_order}
 use Rattle.qz_types.specs.Rows.{TriggerData}
-use Rattle.qz_types.specs.Tables.{SchedulerTables, IsMoment}
+use Rattle.qz_types.specs.Tables.{SchedulerTables}
 use Rattle.qz_model.specs.Due.{is_up_to, IsInDueOrder}
 use Rattle.qz_model.specs.Invariant.{is_live_state, TablesValid}
-use Rattle.qz_model.proofs.Changes.{HasNextTime}
 use Rattle.qz_model.proofs.DueLaws.{All-in_due_order, waiting_from}
 use Rattle.qz_model.proofs.RowPoints.{All-weaker, All-filter, any-filter, any-alike, any_from_counts, any_none}
 use Rattle.qz_tables.specs.Due.{waits_after, waiting, due_first}
@@ -111,8 +110,8 @@ module _ (T : SchedulerTables) (valid : TablesValid T) (sorted : (ts : List Trig
       ∙ sym (any-filter (is_by time) (waits_after None) T.triggers)
       ∙ any_from_counts (is_by time) (filter (waits_after None) T.triggers) (in_due_order (filter (waits_after None) T.triggers)) (sym (same (is_by time) (filter (waits_after None) T.triggers)))
 
-  some_next : (o : Option ℤ) → IsSomeAnd o (IsMoment T.horizon) → IsSomeAnd o (λ n. ⊤)
-  some_next None is = is
+  some_next : (o : Option ℤ) → IsSome o → IsSomeAnd o (λ n. ⊤)
+  some_next None is = absurd (cc)
   some_next (Some n) is = tt
 
   each_has : AllByRecursion HasNext (waiting None T.triggers)
@@ -120,7 +119,7 @@ module _ (T : SchedulerTables) (valid : TablesValid T) (sorted : (ts : List Trig
   each_has =
       All-in_due_order HasNext (filter (waits_after None) T.triggers)
       (All-filter HasNext (waits_after None) T.triggers
-      (All-weaker (HasNextTime T.horizon) (λ t. waits_after None t ≡ true → HasNext t) T.triggers
+      (All-weaker (λ t. is_live_state t.state ≡ true → IsSome t.next) (λ t. waits_after None t ≡ true → HasNext t) T.triggers
       (λ t has waits. some_next t.next (has (ap is_live_state (waiting_from t.state (and_parts (is_waiting t.state) true waits).0)))) valid.next_times.next))
 
   ordered : IsInDueOrder (waiting None T.triggers)

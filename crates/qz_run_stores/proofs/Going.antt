@@ -1,5 +1,5 @@
 -- Each call of a store lets it go on.
-use Rattle.std.proofs.Common.{◌≡◌, ◌≤◌, ◌∷◌, ◌++◌, [], List, true, false, Bool, length, take, drop, sym, refl, ap, ◌∙◌, arith}
+use Rattle.std.proofs.Common.{◌≡◌, ◌≤◌, ◌∷◌, ◌++◌, [], List, true, false, Bool, length, take, drop, sym, refl, ap, ◌∙◌, subst, arith}
 use Rattle.std.proofs.lemmas.List.{append-nil, take-append-le, take-append-drop}
 use Rattle.std.specs.Prelude.{⊤, ℕ, Result, Ok, Err}
 use Rattle.qz_civil.specs.Causes.{Rose}
@@ -10,8 +10,10 @@ use Rattle.qz_types.specs.declared.errors.SubmitError.{SubmitError}
 use Rattle.qz_types.specs.declared.errors.SubmitError.TheVariants as submit
 use Rattle.qz_stores.specs.Stores.{EntryKind, StoreState, Same, Submits}
 use Rattle.qz_model.specs.History.{History, replay}
-use Rattle.qz_trigger_store.specs.Entries.{TriggerState, trigger_entry}
-use Rattle.qz_trigger_store.specs.View.{view, found_of}
+use Rattle.qz_trigger_store.specs.Entries.{TriggerState, is_old, trigger_entry}
+use Rattle.qz_trigger_store.proofs.Horizons.{stays_current}
+use Rattle.qz_run_stores.proofs.Declining.{same_history}
+use Rattle.qz_trigger_store.specs.View.{view, version_of, found_of}
 use Rattle.qz_trigger_store.specs.declared.stores.TriggerStore.{TriggerStore}
 use Rattle.qz_checkin.specs.Entries.{StatesState, of_states}
 use Rattle.qz_checkin.specs.History.{StateHistory}
@@ -84,6 +86,11 @@ module _ {H E R : Type 0} (kind : EntryKind H E R) (entries : H → List E) (gro
       let more = submit_adds e r s t done in
       ap (take n) more.1 ∙ take-append-le n (entries s.history) more.0 within ∙ same
 
+-- A store that isn't old doesn't become so, whatever it answers.
+pub current_then : (e : EntryData) (r : Result Reply SubmitError) (s t : TriggerState) → is_old (replay s.history) ≡ false → Submits trigger_entry e r s t → is_old (replay t.history) ≡ false
+current_then e (Ok r) s t new is = stays_current e r s t new is
+current_then e (Err x) s t new is = subst (λ (h : History). is_old (replay h) ≡ false) (sym (same_history trigger_entry e x s t is)) new
+
 pub stay_then : (n : ℕ) (before : List StateEntryData) (e : StateEntryData) (r : Result ⊤ SubmitError) (s t : StatesState) → Submits of_states e r s t → n ≤ length s.history.entries
     → take n s.history.entries ≡ before → take n t.history.entries ≡ before
 stay_then = stay_by of_states (λ (h : StateHistory). h.entries) (λ e h. refl)
@@ -98,11 +105,11 @@ went_on_with n before es stay = sym (take-append-drop n es) ∙ ap (λ xs. xs ++
 
 -- How the stores went on, in one.
 module _ {D : Type 0} {g : Ghosts D} where
-  pub triggers_went : (n : ℕ) (b s : TriggerStore D g) → found_of s ≡ found_of b → take n (view s).history.entries ≡ (view b).history.entries → ∥ AreAsked (replay (view b).history) (drop n (view s).history.entries) ∥₁ → ∥ KeepsTriggers b s ∥₁
+  pub triggers_went : (n : ℕ) (b s : TriggerStore D g) → version_of s ≡ version_of b → found_of s ≡ found_of b → take n (view s).history.entries ≡ (view b).history.entries → ∥ AreAsked (replay (view b).history) (drop n (view s).history.entries) ∥₁ → ∥ KeepsTriggers b s ∥₁
       → (view b).faults ≤ (view s).faults → ((view b).is_open ≡ true → (view s).is_open ≡ false → Rose (view b).faults (view s).faults) → TriggersWent b s
-  triggers_went n b s found stay asked kept later closes =
+  triggers_went n b s version found stay asked kept later closes =
       let es = (view s).history.entries in
-      record { went = record { later = later; closes = closes }; found = found; added = drop n es; entries = went_on_with n _ es stay; asked = asked; kept = kept }
+      record { went = record { later = later; closes = closes }; version = version; found = found; added = drop n es; entries = went_on_with n _ es stay; asked = asked; kept = kept }
 
   pub states_went : (n : ℕ) (b s : StateStore D g) → take n (states_view s).history.entries ≡ (states_view b).history.entries → ∥ KeepsStates b s ∥₁ → (states_view b).faults ≤ (states_view s).faults
       → ((states_view b).is_open ≡ true → (states_view s).is_open ≡ false → Rose (states_view b).faults (states_view s).faults) → StatesWent b s

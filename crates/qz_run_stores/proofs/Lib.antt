@@ -7,4 +7,5 @@ pub mod Logs
 pub mod NodeNames
 pub mod Rows
 pub mod Telling
+pub mod Times
 pub mod Ways

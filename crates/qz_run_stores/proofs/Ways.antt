@@ -80,10 +80,10 @@ longer es e = omega (arith, length-append es (e ∷ []))
 
 module _ {D : Type 0} {g : Ghosts D} where
   pub triggers_begin : ((d : D) → g.honest → IsLawful (g.state d)) → (s : TriggerStore D g) → ∥ KeepsTriggers s s ∥₁
-  triggers_begin lawful s = ∣ (λ honest. started (disk_state s) _ (lawful (disk_of s) honest) (λ bytes is. inr (may_be _ _ bytes (s.store.images honest bytes is)))) ∣₁
+  triggers_begin lawful s = ∣ (λ honest. started (disk_state s) _ (lawful (disk_of s) honest) (λ bytes is. inr (may_be _ _ _ bytes (s.store.images honest bytes is)))) ∣₁
 
   pub states_begin : ((d : D) → g.honest → IsLawful (g.state d)) → (s : StateStore D g) → ∥ KeepsStates s s ∥₁
-  states_begin lawful s = ∣ (λ honest. started (states_disk_state s) _ (lawful (states_disk_of s) honest) (λ bytes is. inr (states_may_be _ _ bytes (s.store.images honest bytes is)))) ∣₁
+  states_begin lawful s = ∣ (λ honest. started (states_disk_state s) _ (lawful (states_disk_of s) honest) (λ bytes is. inr (states_may_be _ _ _ bytes (s.store.images honest bytes is)))) ∣₁
 
   pub triggers_kept : (b s t : TriggerStore D g) (e : EntryData) (r : Result Reply SubmitError) → length (view b).history.entries ≤ length (view s).history.entries → Submits trigger_entry e r (view s) (view t)
       → (g.honest → LeavesEither s t) → ∥ KeepsTriggers b s ∥₁ → ∥ KeepsTriggers b t ∥₁

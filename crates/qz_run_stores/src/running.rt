@@ -1,5 +1,7 @@
 //! The stores, as a run asks them.
-ghost use Rattle.std.specs.Prelude.{◌≡◌, [], length};
+ghost use Rattle.std.specs.Prelude.{◌≡◌, false, [], length};
+ghost use Rattle.qz_model.specs.History.{replay};
+ghost use Rattle.qz_trigger_store.specs.Entries.{is_old};
 ghost use Rattle.qz_trigger_store.specs.View.{view};
 ghost use Rattle.qz_checkin.specs.View.{view as states_view};
 ghost use Rattle.qz_run_stores.specs.View.{triggers_of, states_of, origin, entries_before, rows_before, run_state};
@@ -18,8 +20,9 @@ use std::alloc::Global;
 use std::snapshot::Snapshot;
 
 impl<D: Disk> RunStores<D> {
-    /// Begins a run on these stores.
+    /// Begins a run on these stores. A trigger store of version 1 has to be upgraded before.
     pub fn new(alloc: Global, triggers: TriggerStore<D>, states: StateStore<D>) -> RunStores<D>
+        requires { is_old (replay (view triggers).history) ≡ false }
         ensures stores { (triggers_of result ≡ triggers) × (states_of result ≡ states) }
         ensures begun { origin result ≡ record { triggers = triggers; states = states } }
         ensures begins { (entries_before result ≡ length (view triggers).history.entries) × (rows_before result ≡ length (states_view states).history.entries) }

@@ -2,7 +2,8 @@
 ghost use Rattle.std.specs.Prelude.{◌≡◌, ◌≤◌, length, take, drop, true, false};
 ghost use Rattle.qz_civil.specs.Causes.{Rose};
 ghost use Rattle.qz_model.specs.History.{replay};
-ghost use Rattle.qz_trigger_store.specs.View.{view, found_of};
+ghost use Rattle.qz_trigger_store.specs.Entries.{is_old};
+ghost use Rattle.qz_trigger_store.specs.View.{view, version_of, found_of};
 ghost use Rattle.qz_checkin.specs.View.{view as states_view};
 ghost use Rattle.qz_run_stores.specs.Asked.{AreAsked};
 ghost use Rattle.qz_run_stores.specs.Ways.{KeepsTriggers, KeepsStates};
@@ -25,10 +26,12 @@ pub struct RunStores<D: Disk> {
     // the stores as the run found them, which contracts alone see
     pub(crate) triggers_begun: Snapshot<TriggerStore<D>>,
     pub(crate) states_begun: Snapshot<StateStore<D>>,
+    ghost current: { is_old (replay (view triggers).history) ≡ false },
     ghost entries_within: { entries_before ≤ length (view triggers).history.entries },
     ghost rows_within: { rows_before ≤ length (states_view states).history.entries },
     ghost entries_counted: { entries_before ≡ length (view triggers_begun.value).history.entries },
     ghost rows_counted: { rows_before ≡ length (states_view states_begun.value).history.entries },
+    ghost version_stays: { version_of triggers ≡ version_of triggers_begun.value },
     ghost found_stays: { found_of triggers ≡ found_of triggers_begun.value },
     ghost entries_stay: { take entries_before (view triggers).history.entries ≡ (view triggers_begun.value).history.entries },
     ghost asked: { ∥ AreAsked (replay (view triggers_begun.value).history) (drop entries_before (view triggers).history.entries) ∥₁ },

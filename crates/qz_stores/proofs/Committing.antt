@@ -1,7 +1,7 @@
 -- What a commit makes of a store.
-use Rattle.std.proofs.Common.{◌≡◌, ◌≤◌, ℕ, ◌+◌, List, length, true, false, sym, ◌∙◌, subst, arith}
+use Rattle.std.proofs.Common.{◌≡◌, ◌≤◌, ℕ, ◌+◌, List, length, true, false, sym, ◌∙◌, ap, subst, arith}
 use Rattle.std.proofs.Math.Logic.{◌↔◌}
-use Rattle.std.specs.Prelude.{Option, Some, None, Ok, Err}
+use Rattle.std.specs.Prelude.{Option, Some, None, Ok, Err, IsOk}
 use Rattle.std.specs.declared.result.Result.{Result}
 use Rattle.qz_civil.specs.Causes.{Rose}
 use Rattle.qz_journal.specs.Commits.{IsFull, need_of, room_of}
@@ -10,23 +10,43 @@ use Rattle.qz_journal.specs.declared.errors.AppendError.TheVariants as journal
 use Rattle.qz_types.specs.declared.errors.SubmitError.{SubmitError}
 use Rattle.qz_types.specs.declared.errors.SubmitError.TheVariants as submit
 use Rattle.qz_stores.specs.Stores.{StoreState, HasRoom, Appends, Fails, Submits}
-use Rattle.qz_stores.specs.Kinds.{StoreKind, IsLawful, IsAccepted, replay, history_of, with_entry, entry_kind}
+use Rattle.qz_types.specs.declared.replies.Refusal.{Refusal}
+use Rattle.qz_stores.specs.Kinds.{StoreKind, IsLawful, IsAccepted, unless_refused, submitted, replay, history_of, with_entry, entry_kind}
 
 module _ {H S E R : Type 0} (k : StoreKind H S E R) where
   -- what the history of these entries leaves
-  pub replay_is : IsLawful k → (es : List E) → replay k (history_of k es) ≡ k.replay_from k.new_state es
-  replay_is lawful es = λ i. k.replay_from (lawful.base_is 0 k.new_state es i) (lawful.entries_are 0 k.new_state es i)
+  pub replay_is : IsLawful k → (version : ℕ) (es : List E) → replay k (history_of k version es) ≡ k.replay_from (k.empty version) es
+  replay_is lawful version es = λ i. k.replay_from (lawful.base_is 0 (k.empty version) es i) (lawful.entries_are 0 (k.empty version) es i)
 
-  pub state_is : IsLawful k → (T : S) (es : List E) → T ≡ k.replay_from k.new_state es → T ≡ replay k (history_of k es)
-  state_is lawful T es is = is ∙ sym (replay_is lawful es)
+  pub state_is : IsLawful k → (version : ℕ) (T : S) (es : List E) → T ≡ k.replay_from (k.empty version) es → T ≡ replay k (history_of k version es)
+  state_is lawful version T es is = is ∙ sym (replay_is lawful version es)
+
+  -- an entry that the version of the store lets through is answered as its transaction
+  pub current : (x : Option Refusal) (a : Result R Refusal) → x ≡ None → unless_refused x a ≡ a
+  current x a none = ap (λ (y : Option Refusal). unless_refused y a) none
+
+  pub current_answer : (T U : S) (e : E) (a : Result R Refusal) → T ≡ U → k.version_refusal T e ≡ None → k.answer T e ≡ a → submitted k U e ≡ a
+  current_answer T U e a state none is = subst (λ (V : S). submitted k V e ≡ a) state (current _ _ none ∙ is)
+
+  pub current_passes : (T U : S) (e : E) → T ≡ U → k.version_refusal T e ≡ None → IsAccepted k T e → IsOk (submitted k U e)
+  current_passes T U e state none is = subst (λ (V : S). IsOk (submitted k V e)) state (subst IsOk (sym (current _ _ none)) is)
+
+  -- what is accepted when it is submitted is accepted by its transaction
+  let_through : (x : Option Refusal) (a : Result R Refusal) (r : R) → unless_refused x a ≡ Ok r → a ≡ Ok r
+  let_through None a r is = is
+  let_through (Some y) a r is = let no : ◌≡◌ {A = Result R Refusal} (Err y) (Ok r) = is in absurd cc
+
+  pub accepted_anyway : (T : S) (e : E) (r : R) → submitted k T e ≡ Ok r → k.answer T e ≡ Ok r
+  accepted_anyway T e r is = let_through (k.version_refusal T e) (k.answer T e) r is
 
   -- the record is on the disk
-  pub appends : (T : S) (s t : StoreState H E) (e : E) (r : R) (b : List ℕ) → T ≡ replay k s.history → k.answer T e ≡ Ok r → b ≡ k.record_of e → s.is_open ≡ true
+  pub appends : (T : S) (s t : StoreState H E) (e : E) (r : R) (b : List ℕ) → T ≡ replay k s.history → k.version_refusal T e ≡ None → k.answer T e ≡ Ok r → k.IsRecordOf (k.record_of e) e → b ≡ k.record_of e → s.is_open ≡ true
       → HasRoom (length b) s → t.history ≡ with_entry k e s.history → t.gate ≡ s.gate + need_of (length b) → t.payloads ≡ s.payloads + 1 → t.is_open ≡ true → t.undecided ≡ None → s.faults ≤ t.faults
       → Appends (entry_kind k) e r s t
-  appends T s t e r b state is record_is is_open room history gate payloads stays settled later = record {
+  appends T s t e r b state none is written record_is is_open room history gate payloads stays settled later = record {
     was_open = is_open;
-    accepted_as = subst (λ (U : S). k.answer U e ≡ Ok r) state is;
+    accepted_as = current_answer T (replay k s.history) e (Ok r) state none is;
+    written = written;
     room = subst (λ (x : List ℕ). HasRoom (length x) s) record_is room;
     history = history;
     gate = subst (λ (x : List ℕ). t.gate ≡ s.gate + need_of (length x)) record_is gate;
@@ -37,13 +57,13 @@ module _ {H S E R : Type 0} (k : StoreKind H S E R) where
   }
 
   -- the disk failed
-  pub fails : (T : S) (s t : StoreState H E) (e : E) (b : List ℕ) (y : SubmitError) → T ≡ replay k s.history → IsAccepted k T e → b ≡ k.record_of e → s.is_open ≡ true
+  pub fails : (T : S) (s t : StoreState H E) (e : E) (b : List ℕ) (y : SubmitError) → T ≡ replay k s.history → k.version_refusal T e ≡ None → IsAccepted k T e → b ≡ k.record_of e → s.is_open ≡ true
       → HasRoom (length b) s → t.history ≡ s.history → t.gate ≡ s.gate → t.payloads ≡ s.payloads → t.is_open ≡ false → t.undecided ≡ Some e → Rose s.faults t.faults → s.faults ≤ t.faults → y ≡ submit.Fault
       → Submits (entry_kind k) e (Err y) s t
-  fails T s t e b y state is record_is is_open room history gate payloads shut undecided rose later error =
+  fails T s t e b y state none is record_is is_open room history gate payloads shut undecided rose later error =
       let failed : Fails (entry_kind k) e s t = record {
         was_open = is_open;
-        passes = subst (λ (U : S). IsAccepted k U e) state is;
+        passes = current_passes T (replay k s.history) e state none is;
         room = subst (λ (x : List ℕ). HasRoom (length x) s) record_is room;
         history = history;
         gate = gate;

@@ -1,11 +1,11 @@
 -- What a restart finds on a disk whose images stand for a history, or for it with the undecided entry.
-use Rattle.std.proofs.Common.{◌≡◌, ◌⊎◌, inl, inr, ℕ, List, [], ◌∷◌, ◌++◌, refl, sym, ◌∙◌, ap, subst}
-use Rattle.std.proofs.Math.Logic.{∥∥₁_elim, ∥∥₁_map}
-use Rattle.std.specs.Prelude.{Option, Some, None, IfOk, IfErr}
+use Rattle.std.proofs.Common.{◌≡◌, ◌⊎◌, inl, inr, ℕ, List, [], ◌∷◌, ◌++◌, refl, sym, ◌∙◌, subst}
+use Rattle.std.proofs.Math.Logic.{∥∥₁_elim}
+use Rattle.std.specs.Prelude.{Option, Some, None, Ok, Err, IfOk, IfErr}
 use Rattle.std.specs.declared.result.Result.{Result}
-use Rattle.std.proofs.lemmas.Result.{IfOk-weaker, IfErr-weaker}
-use Rattle.std.specs.List.{AllByRecursion}
+use Rattle.std.proofs.lemmas.Result.{IfErr-weaker}
 use Rattle.qz_journal.specs.Layout.{Holds}
+use Rattle.qz_journal.proofs.Once.{version_once}
 use Rattle.qz_journal.specs.declared.errors.MountError.{MountError}
 use Rattle.qz_journal.specs.declared.errors.MountError.TheVariants as mount
 use Rattle.qz_stores.specs.Stores.{IsDecided}
@@ -14,68 +14,83 @@ use Rattle.qz_stores.specs.Bytes.{Encode, HoldEntries, MayHold, MayFollow, Stand
 use Rattle.qz_stores.specs.Opening.{IsStopped, AreReplayed}
 use Rattle.qz_stores.proofs.Appending.{holding, stands_as, entry_more}
 use Rattle.qz_stores.proofs.Once.{entries_unique, never_unfit}
-use Rattle.qz_stores.proofs.Blocks.{All-pushed}
 
 module _ {H S E R : Type 0} (k : StoreKind H S E R) (lawful : IsLawful k) where
-  -- bytes hold one list of entries that have records
-  same_entries : (b : List ℕ) (es fs : List E) → HoldEntries k b es → HoldEntries k b fs → ∥ AllByRecursion k.IsEntry es ∥₁ → ∥ AllByRecursion k.IsEntry fs ∥₁ → fs ≡ es
-  same_entries b es fs p q es_valid fs_valid =
+  -- bytes hold one list of entries, in one version
+  same_entries : (version : ℕ) (b : List ℕ) (es fs : List E) → HoldEntries k version b es → HoldEntries k version b fs → fs ≡ es
+  same_entries version b es fs p q =
       let ps = p.store.0 in
-      ∥∥₁_elim es_valid (lawful.lists_once fs es) (λ x. ∥∥₁_elim fs_valid (lawful.lists_once fs es) (λ y.
-      entries_unique k lawful ps fs es (q.encode ps p.store.1) (p.encode ps p.store.1) y x))
+      entries_unique k lawful ps fs es (q.encode ps p.store.1) (p.encode ps p.store.1)
 
-  with_one : (es : List E) (e : E) (T : S) → ∥ AllByRecursion k.IsEntry es ∥₁ → ∥ MayFollow k T (Some e) ∥₁ → ∥ AllByRecursion k.IsEntry (es ++ e ∷ []) ∥₁
-  with_one es e T valid passed = ∥∥₁_elim valid squash₁ (λ v. ∥∥₁_map passed (λ p. All-pushed k.IsEntry es e v p.0))
+  same_version : (v w : ℕ) (b : List ℕ) (es fs : List E) → HoldEntries k v b es → HoldEntries k w b fs → w ≡ v
+  same_version v w b es fs p q = version_once b w v k.number q.store.0 p.store.0 q.store.1 p.store.1
 
-  pub decided : (es fs : List E) (u : Option E) (T : S) (b : List ℕ) → ∥ AllByRecursion k.IsEntry es ∥₁ → ∥ AllByRecursion k.IsEntry fs ∥₁ → ∥ MayFollow k T u ∥₁
-      → HoldEntries k b fs → MayHold k es u b → IsDecided (entry_kind k) (history_of k es) u (history_of k fs)
-  decided es fs None T b es_valid fs_valid passed held may = ap (history_of k) (same_entries b es fs may held es_valid fs_valid)
-  decided es fs (Some e) T b es_valid fs_valid passed held (inl before) = inl (ap (history_of k) (same_entries b es fs before held es_valid fs_valid))
-  decided es fs (Some e) T b es_valid fs_valid passed held (inr after) =
-      inr (ap (history_of k) (same_entries b (es ++ e ∷ []) fs after held (with_one es e T es_valid passed) fs_valid) ∙ sym (entry_more k lawful es e))
+  same_history : (v w : ℕ) (b : List ℕ) (es fs : List E) → HoldEntries k v b es → HoldEntries k w b fs → history_of k w fs ≡ history_of k v es
+  same_history v w b es fs p q =
+      let version : w ≡ v = same_version v w b es fs p q in
+      let list : fs ≡ es = same_entries v b es fs p (subst (λ (n : ℕ). HoldEntries k n b fs) version q) in
+      λ i. history_of k (version i) (list i)
+
+  -- the payloads that are there have the version in which the store began
+  in_version : (v w : ℕ) (es : List E) (u : Option E) (payloads : List (List ℕ)) (b : List ℕ) → Holds b w k.number payloads → MayHold k v es u b → w ≡ v
+  in_version v w es None payloads b holds may = version_once b w v k.number payloads may.store.0 holds may.store.1
+  in_version v w es (Some e) payloads b holds (inl before) = version_once b w v k.number payloads before.store.0 holds before.store.1
+  in_version v w es (Some e) payloads b holds (inr after) = version_once b w v k.number payloads after.store.0 holds after.store.1
+
+  pub decided : (v w : ℕ) (es fs : List E) (u : Option E) (b : List ℕ) → HoldEntries k w b fs → MayHold k v es u b → IsDecided (entry_kind k) (history_of k v es) u (history_of k w fs)
+  decided v w es fs None b held may = same_history v w b es fs may held
+  decided v w es fs (Some e) b held (inl before) = inl (same_history v w b es fs before held)
+  decided v w es fs (Some e) b held (inr after) = inr (same_history v w b (es ++ e ∷ []) fs after held ∙ sym (entry_more k v lawful es e))
 
   -- the entries that bytes hold can be replayed
-  record Replayable (payloads : List (List ℕ)) : Type 0 where
+  record Replayable (version : ℕ) (payloads : List (List ℕ)) : Type 0 where
     entries : List E
     encode : Encode k payloads entries
-    valid : AllByRecursion k.IsEntry entries
-    legal : k.IsLegalFrom k.new_state entries
+    legal : k.IsLegalFrom (k.empty version) entries
 
-  replayable : (es : List E) (u : Option E) (T : S) (payloads : List (List ℕ)) (b : List ℕ) → T ≡ k.replay_from k.new_state es → k.IsLegalFrom k.new_state es
-      → AllByRecursion k.IsEntry es → MayFollow k T u → Holds b k.number payloads → MayHold k es u b → Replayable payloads
-  replayable es None T payloads b state legal valid passed holds may = record { entries = es; encode = may.encode payloads holds; valid = valid; legal = legal }
-  replayable es (Some e) T payloads b state legal valid passed holds (inl before) = record { entries = es; encode = before.encode payloads holds; valid = valid; legal = legal }
-  replayable es (Some e) T payloads b state legal valid passed holds (inr after) = record {
+  replayable : (version : ℕ) (es : List E) (u : Option E) (T : S) (payloads : List (List ℕ)) (b : List ℕ) → T ≡ k.replay_from (k.empty version) es → k.IsLegalFrom (k.empty version) es
+      → MayFollow k T u → Holds b version k.number payloads → MayHold k version es u b → Replayable version payloads
+  replayable version es None T payloads b state legal passed holds may = record { entries = es; encode = may.encode payloads holds; legal = legal }
+  replayable version es (Some e) T payloads b state legal passed holds (inl before) = record { entries = es; encode = before.encode payloads holds; legal = legal }
+  replayable version es (Some e) T payloads b state legal passed holds (inr after) = record {
     entries = es ++ e ∷ [];
     encode = after.encode payloads holds;
-    valid = All-pushed k.IsEntry es e valid passed.0;
-    legal = lawful.legal_more k.new_state es e legal (subst (λ (U : S). IsAccepted k U e) state passed.1);
+    legal = lawful.legal_more (k.empty version) es e legal (subst (λ (U : S). IsAccepted k U e) state passed.1);
   }
 
   -- why they aren't: memory ran out
-  starved : (es : List E) (u : Option E) (T : S) (payloads : List (List ℕ)) (b : List ℕ) (e : MountError) → T ≡ k.replay_from k.new_state es → ∥ k.IsLegalFrom k.new_state es ∥₁
-      → ∥ AllByRecursion k.IsEntry es ∥₁ → ∥ MayFollow k T u ∥₁ → Holds b k.number payloads → MayHold k es u b → IsStopped k payloads e → (e ≡ mount.Fault) ⊎ (e ≡ mount.NoMemory)
-  starved es u T payloads b mount.NoMemory state legal valid passed holds may stopped = inr refl
-  starved es u T payloads b mount.NotAStore state legal valid passed holds may stopped = absurd stopped
-  starved es u T payloads b mount.Fault state legal valid passed holds may stopped = absurd stopped
-  starved es u T payloads b (mount.Damaged at) state legal valid passed holds may stopped =
-      absurd (∥∥₁_elim legal (λ x y. absurd x) (λ l. ∥∥₁_elim valid (λ x y. absurd x) (λ v. ∥∥₁_elim passed (λ x y. absurd x) (λ p.
-      let r = replayable es u T payloads b state l v p holds may in
-      never_unfit k lawful payloads r.entries at r.encode r.valid r.legal stopped))))
+  starved_in : (version : ℕ) (es : List E) (u : Option E) (T : S) (payloads : List (List ℕ)) (b : List ℕ) (e : MountError) → T ≡ k.replay_from (k.empty version) es
+      → ∥ k.IsLegalFrom (k.empty version) es ∥₁ → ∥ MayFollow k T u ∥₁ → Holds b version k.number payloads → MayHold k version es u b → IsStopped k version payloads e
+      → (e ≡ mount.Fault) ⊎ (e ≡ mount.NoMemory)
+  starved_in version es u T payloads b mount.NoMemory state legal passed holds may stopped = inr refl
+  starved_in version es u T payloads b mount.NotAStore state legal passed holds may stopped = absurd stopped
+  starved_in version es u T payloads b mount.Fault state legal passed holds may stopped = absurd stopped
+  starved_in version es u T payloads b (mount.Damaged at) state legal passed holds may stopped =
+      absurd (∥∥₁_elim legal (λ x y. absurd x) (λ l. ∥∥₁_elim passed (λ x y. absurd x) (λ p.
+      let r = replayable version es u T payloads b state l p holds may in
+      never_unfit k lawful version payloads r.entries at r.encode r.legal stopped)))
 
-  -- what a replay of the disk came to, whose result has these entries
-  module _ {X : Type 0} (entries_of : X → List E) (es : List E) (u : Option E) (T : S) (state : T ≡ k.replay_from k.new_state es) (legal : ∥ k.IsLegalFrom k.new_state es ∥₁)
-      (valid : ∥ AllByRecursion k.IsEntry es ∥₁) (passed : ∥ MayFollow k T u ∥₁) (payloads : List (List ℕ)) (b : List ℕ) (holds : Holds b k.number payloads) where
-    pub replay_decided : (result : Result X MountError) → MayHold k es u b → IfOk result (λ r. AreReplayed k payloads (entries_of r))
-        → IfOk result (λ r. IsDecided (entry_kind k) (history_of k es) u (history_of k (entries_of r)))
-    replay_decided result may = IfOk-weaker result _ _ (λ r is. decided es (entries_of r) u T b valid ∣ is.valid ∣₁ passed (holding k b payloads (entries_of r) holds is.encode) may)
+  -- What a replay of the disk came to, whose result has these entries and this version. The store began in version v, and
+  -- the header has w.
+  module _ {X : Type 0} (entries_of : X → List E) (version_of : X → ℕ) (v w : ℕ) (es : List E) (u : Option E) (T : S) (state : T ≡ k.replay_from (k.empty v) es)
+      (legal : ∥ k.IsLegalFrom (k.empty v) es ∥₁) (passed : ∥ MayFollow k T u ∥₁) (payloads : List (List ℕ)) (b : List ℕ) (holds : Holds b w k.number payloads) where
+    pub replay_decided : (result : Result X MountError) → MayHold k v es u b → IfOk result (λ r. version_of r ≡ w) → IfOk result (λ r. AreReplayed k w payloads (entries_of r))
+        → IfOk result (λ r. IsDecided (entry_kind k) (history_of k v es) u (history_of k (version_of r) (entries_of r)))
+    replay_decided (Ok r) may same is =
+        subst (λ (n : ℕ). IsDecided (entry_kind k) (history_of k v es) u (history_of k n (entries_of r))) (sym same) (decided v w es (entries_of r) u b (holding k w b payloads (entries_of r) holds is.encode) may)
+    replay_decided (Err e) may same is = tt
 
-    pub replay_stands : (result : Result X MountError) → IfOk result (λ r. AreReplayed k payloads (entries_of r)) → IfOk result (λ r. Stands k b (history_of k (entries_of r)))
-    replay_stands result = IfOk-weaker result _ _ (λ r is. stands_as k lawful (entries_of r) b (holding k b payloads (entries_of r) holds is.encode))
+    pub replay_stands : (result : Result X MountError) → IfOk result (λ r. version_of r ≡ w) → IfOk result (λ r. AreReplayed k w payloads (entries_of r))
+        → IfOk result (λ r. Stands k b (history_of k (version_of r) (entries_of r)))
+    replay_stands (Ok r) same is = subst (λ (n : ℕ). Stands k b (history_of k n (entries_of r))) (sym same) (stands_as k w lawful (entries_of r) b (holding k w b payloads (entries_of r) holds is.encode))
+    replay_stands (Err e) same is = tt
 
-    pub replay_starved : (result : Result X MountError) → MayHold k es u b → IfErr result (IsStopped k payloads) → IfErr result (λ e. (e ≡ mount.Fault) ⊎ (e ≡ mount.NoMemory))
-    replay_starved result may = IfErr-weaker result _ _ (λ e stopped. starved es u T payloads b e state legal valid passed holds may stopped)
+    pub replay_starved : (result : Result X MountError) → MayHold k v es u b → IfErr result (IsStopped k w payloads) → IfErr result (λ e. (e ≡ mount.Fault) ⊎ (e ≡ mount.NoMemory))
+    replay_starved result may =
+        let same : w ≡ v = in_version v w es u payloads b holds may in
+        IfErr-weaker result _ _ (λ e stopped. starved_in v es u T payloads b e state legal passed (subst (λ (n : ℕ). Holds b n k.number payloads) same holds) may
+        (subst (λ (n : ℕ). IsStopped k n payloads e) same stopped))
 
 -- the bytes that a remount read, which are those before it
-pub held_now : (number wanted : ℕ) (new : List ℕ) (payloads : List (List ℕ)) (old : List ℕ) → number ≡ wanted → new ≡ old → Holds new number payloads → Holds old wanted payloads
-held_now number wanted new payloads old number_is same holds = subst (λ (n : ℕ). Holds old n payloads) number_is (subst (λ (b : List ℕ). Holds b number payloads) same holds)
+pub held_now : (number wanted version : ℕ) (new : List ℕ) (payloads : List (List ℕ)) (old : List ℕ) → number ≡ wanted → new ≡ old → Holds new version number payloads → Holds old version wanted payloads
+held_now number wanted version new payloads old number_is same holds = subst (λ (n : ℕ). Holds old version n payloads) number_is (subst (λ (b : List ℕ). Holds b version number payloads) same holds)

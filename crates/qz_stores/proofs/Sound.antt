@@ -7,21 +7,22 @@ use Rattle.qz_types.specs.declared.errors.SubmitError.{SubmitError}
 use Rattle.qz_types.specs.declared.errors.SubmitError.TheVariants as submit
 use Rattle.qz_types.specs.declared.replies.Refusal.{Refusal}
 use Rattle.qz_journal.specs.Layout.{end_of}
-use Rattle.qz_journal.specs.View.{version}
+use Rattle.qz_journal.specs.Layout.{is_version}
 use Rattle.qz_journal.proofs.Stands.{end_of-push}
 use Rattle.qz_stores.specs.Stores.{StoreState, Same, Appends, Submits, Shuts, Opens}
-use Rattle.qz_stores.specs.Kinds.{StoreKind, IsLawful, StaysValid, IsLegal, replay, history_of, with_entry, entry_kind}
+use Rattle.qz_stores.specs.Kinds.{StoreKind, HasRecord, IsLawful, StaysValid, IsLegal, replay, history_of, with_entry, entry_kind}
 use Rattle.qz_stores.specs.Bytes.{Encode, BeginsNew, IsPlaced}
 use Rattle.qz_stores.specs.Opening.{IsSound, IsOpened, AreReplayed}
 use Rattle.qz_stores.proofs.Appending.{begins_new}
-use Rattle.qz_stores.proofs.Committing.{replay_is}
+use Rattle.qz_stores.proofs.Committing.{replay_is, accepted_anyway}
 use Rattle.qz_stores.proofs.Replays.{Encode-pushed}
 
 module _ {H S E R : Type 0} (k : StoreKind H S E R) where
   -- the same history, and what an open store shows of its journal
   sound_as : (s t : StoreState H E) → t.history ≡ s.history → (t.is_open ≡ true → IsPlaced k t) → IsSound k s → IsSound k t
   sound_as s t history placed sound = record {
-    begins = subst (BeginsNew k version) (sym history) sound.begins;
+    version = sound.version;
+    begins = subst (BeginsNew k sound.version) (sym history) sound.begins;
     legal = subst (IsLegal k) (sym history) sound.legal;
     state = subst (λ (h : H). ∥ k.IsValid (replay k h) ∥₁) (sym history) sound.state;
     placed = placed;
@@ -63,21 +64,23 @@ module _ {H S E R : Type 0} (k : StoreKind H S E R) where
         let list : k.entries (with_entry k e h) ≡ es ++ e ∷ [] = lawful.entries_are n B (es ++ e ∷ []) in
         let state : replay k (with_entry k e h) ≡ k.after (replay k h) e =
         (λ i. k.replay_from (base i) (list i)) ∙ lawful.replay_more B es e in
-        let begins : BeginsNew k version (with_entry k e h) = record {
+        let begins : BeginsNew k sound.version (with_entry k e h) = record {
+          known = sound.begins.known;
           count = lawful.base_count_is n B (es ++ e ∷ []) ∙ sound.begins.count;
           base = base ∙ sound.begins.base;
         } in
         let legal : IsLegal k (with_entry k e h) =
         subst (λ (T : S). k.IsLegalFrom T (k.entries (with_entry k e h))) (sym base)
-        (subst (k.IsLegalFrom B) (sym list) (lawful.legal_more B es e sound.legal (accepted_by _ r appends.accepted_as))) in
+        (subst (k.IsLegalFrom B) (sym list) (lawful.legal_more B es e sound.legal (accepted_by _ r (accepted_anyway k (replay k h) e r appends.accepted_as)))) in
         record {
-          begins = subst (BeginsNew k version) (sym appends.history) begins;
+          version = sound.version;
+          begins = subst (BeginsNew k sound.version) (sym appends.history) begins;
           legal = subst (IsLegal k) (sym appends.history) legal;
           state = subst (λ (g : H). ∥ k.IsValid (replay k g) ∥₁) (sym appends.history) (∥∥₁_map sound.state (λ valid. subst k.IsValid (sym state) (stays (replay k h) e proper valid)));
           placed = λ _. record {
             payloads = placed.payloads ++ k.record_of e ∷ [];
             encode = subst (λ (g : H). Encode k (placed.payloads ++ k.record_of e ∷ []) (k.entries g)) (sym appends.history)
-                (subst (Encode k (placed.payloads ++ k.record_of e ∷ [])) (sym list) (Encode-pushed k placed.payloads es (k.record_of e) e placed.encode refl));
+                (subst (Encode k (placed.payloads ++ k.record_of e ∷ [])) (sym list) (Encode-pushed k placed.payloads es (k.record_of e) e placed.encode appends.written));
             gate = omega (arith, appends.gate, placed.gate, end_of-push placed.payloads (k.record_of e));
             count = omega (arith, appends.payloads, placed.count, length-append placed.payloads (k.record_of e ∷ []));
           };
@@ -92,18 +95,20 @@ module _ {H S E R : Type 0} (k : StoreKind H S E R) where
     submitted_sound stays e (Err submit.Fault) s t proper is sound = sound_as s t is.history (none_open t is.is_open) sound
 
     -- a store that was just opened, on these payloads
-    pub opened_on : (s : StoreState H E) (payloads : List (List ℕ)) (es : List E) (T : S) → s.history ≡ history_of k es → s.gate ≡ end_of payloads → s.payloads ≡ length payloads
-        → s.is_open ≡ true → s.undecided ≡ None → AreReplayed k payloads es → T ≡ k.replay_from k.new_state es → ∥ k.IsValid T ∥₁ → IsOpened k s
-    opened_on s payloads es T history gate count is_open settled replayed state valid =
-        let list : k.entries (history_of k es) ≡ es = lawful.entries_are 0 k.new_state es in
-        let base : k.base (history_of k es) ≡ k.new_state = lawful.base_is 0 k.new_state es in
+    pub opened_on : (version : ℕ) (s : StoreState H E) (payloads : List (List ℕ)) (es : List E) (T : S) → is_version version ≡ true → s.history ≡ history_of k version es → s.gate ≡ end_of payloads
+        → s.payloads ≡ length payloads → s.is_open ≡ true → s.undecided ≡ None → AreReplayed k version payloads es → T ≡ k.replay_from (k.empty version) es → ∥ k.IsValid T ∥₁ → IsOpened k s
+    opened_on version s payloads es T known history gate count is_open settled replayed state valid =
+        let N = k.empty version in
+        let list : k.entries (history_of k version es) ≡ es = lawful.entries_are 0 N es in
+        let base : k.base (history_of k version es) ≡ N = lawful.base_is 0 N es in
         record {
           is_open = is_open;
           settled = settled;
           sound = record {
-            begins = subst (BeginsNew k version) (sym history) (begins_new k lawful es);
-            legal = subst (IsLegal k) (sym history) (subst (λ (U : S). k.IsLegalFrom U (k.entries (history_of k es))) (sym base) (subst (k.IsLegalFrom k.new_state) (sym list) replayed.legal));
-            state = subst (λ (h : H). ∥ k.IsValid (replay k h) ∥₁) (sym history) (subst (λ (U : S). ∥ k.IsValid U ∥₁) (state ∙ sym (replay_is k lawful es)) valid);
+            version = version;
+            begins = subst (BeginsNew k version) (sym history) (begins_new k version lawful known es);
+            legal = subst (IsLegal k) (sym history) (subst (λ (U : S). k.IsLegalFrom U (k.entries (history_of k version es))) (sym base) (subst (k.IsLegalFrom N) (sym list) replayed.legal));
+            state = subst (λ (h : H). ∥ k.IsValid (replay k h) ∥₁) (sym history) (subst (λ (U : S). ∥ k.IsValid U ∥₁) (state ∙ sym (replay_is k lawful version es)) valid);
             placed = λ _. record {
               payloads = payloads;
               encode = subst (λ (h : H). Encode k payloads (k.entries h)) (sym history) (subst (Encode k payloads) (sym list) replayed.encode);
@@ -111,5 +116,5 @@ module _ {H S E R : Type 0} (k : StoreKind H S E R) where
               count = count;
             };
           };
-          valid = subst (λ (h : H). AllByRecursion k.IsEntry (k.entries h)) (sym history) (subst (AllByRecursion k.IsEntry) (sym list) replayed.valid);
+          valid = subst (λ (h : H). AllByRecursion (HasRecord k) (k.entries h)) (sym history) (subst (AllByRecursion (HasRecord k)) (sym list) replayed.valid);
         }

@@ -5,25 +5,27 @@ use Rattle.std.specs.declared.result.Result.{Result}
 use Rattle.qz_types.specs.declared.replies.Refusal.{Refusal}
 use Rattle.qz_types.specs.declared.errors.StepRefused.{StepRefused}
 use Rattle.qz_types.specs.declared.errors.StepRefused.TheVariants as step
-use Rattle.qz_journal.specs.View.{version}
 use Rattle.qz_stores.specs.Stores.{EntryKind}
 
 -- A kind, by the types of its histories, its states, its entries and the replies to them.
 pub record StoreKind (H S E R : Type 0) : Type 1 where
   -- as the header of a file has it
   pub number : ℕ
-  -- the record of an entry, and which entries have one
+  -- the record of an entry, as it is written
   pub record_of : E → List ℕ
-  pub IsEntry : E → Type 0
+  -- The bytes are a record of the entry, in a version that is read. An entry may have a record of each version.
+  pub IsRecordOf : List ℕ → E → Type 0
   -- the entries that a caller may submit
   pub IsProper : E → Type 0
-  -- the state of a new store of this format version, and of one of the version that is written
+  -- the state of a new store of this format version
   pub empty : ℕ → S
-  pub new_state : S
   -- what holds of each state that a store comes to
   pub IsValid : S → Type 0
   -- that two states are the same is known in one way at most
   pub states_once : (T U : S) → IsProp (T ≡ U)
+  -- Why the version of the store refuses an entry that is submitted at this state, if it does. It has no say over the
+  -- entries of a history, which were accepted before.
+  pub version_refusal : S → E → Option Refusal
   -- what an entry comes to at a state, which is its reply or why it is refused; and the state that it leaves
   pub answer : S → E → Result R Refusal
   pub after : S → E → S
@@ -35,6 +37,10 @@ pub record StoreKind (H S E R : Type 0) : Type 1 where
   pub base_count : H → ℕ
   pub base : H → S
   pub entries : H → List E
+
+-- the entry has a record
+abbrev pub HasRecord : {H S E R : Type 0} → StoreKind H S E R → E → Type 0
+HasRecord k e = (bytes : List ℕ) × k.IsRecordOf bytes e
 
 -- the entry is accepted at this state
 abbrev pub IsAccepted : {H S E R : Type 0} → StoreKind H S E R → S → E → Type 0
@@ -50,6 +56,15 @@ abbrev pub IsErrorOf : {H S E R : Type 0} → StoreKind H S E R → S → E → 
 IsErrorOf k T e (step.Refused refusal) = k.answer T e ≡ Err refusal
 IsErrorOf k T e step.NoMemory = IsAccepted k T e
 
+-- this refusal, or the answer where there is none
+abbrev pub unless_refused : {R : Type 0} → Option Refusal → Result R Refusal → Result R Refusal
+unless_refused None answer = answer
+unless_refused (Some refusal) answer = Err refusal
+
+-- what an entry that is submitted at this state is answered: the version of the store is asked first
+abbrev pub submitted : {H S E R : Type 0} → StoreKind H S E R → S → E → Result R Refusal
+submitted k T e = unless_refused (k.version_refusal T e) (k.answer T e)
+
 -- the state after the last entry of a history, and that it is legal
 abbrev pub replay : {H S E R : Type 0} → StoreKind H S E R → H → S
 replay k h = k.replay_from (k.base h) (k.entries h)
@@ -61,26 +76,25 @@ IsLegal k h = k.IsLegalFrom (k.base h) (k.entries h)
 abbrev pub with_entry : {H S E R : Type 0} → StoreKind H S E R → E → H → H
 with_entry k e h = k.history (k.base_count h) (k.base h) (k.entries h ++ e ∷ [])
 
--- the history of these entries from a new store on
-abbrev pub history_of : {H S E R : Type 0} → StoreKind H S E R → List E → H
-history_of k entries = k.history 0 k.new_state entries
+-- the history of these entries from a new store of this format version on
+abbrev pub history_of : {H S E R : Type 0} → StoreKind H S E R → ℕ → List E → H
+history_of k version entries = k.history 0 (k.empty version) entries
 
 -- what the entries of a store of this kind are to it
 abbrev pub entry_kind : {H S E R : Type 0} → StoreKind H S E R → EntryKind H E R
 entry_kind k = record {
-  answer = λ h e. k.answer (replay k h) e;
+  answer = λ h e. submitted k (replay k h) e;
   with_entry = with_entry k;
   size = λ e. length (k.record_of e);
+  IsWritten = λ e. k.IsRecordOf (k.record_of e) e;
 }
 
 -- What has to hold of a kind, so that a store can be kept of it.
 pub record IsLawful {H S E R : Type 0} (k : StoreKind H S E R) : Type 0 where
-  -- a record is that of one entry at most
-  pub entries_once : (e f : E) → k.IsEntry e → k.IsEntry f → k.record_of e ≡ k.record_of f → e ≡ f
+  -- bytes are a record of one entry at most
+  pub records_once : (bytes : List ℕ) (e f : E) → k.IsRecordOf bytes e → k.IsRecordOf bytes f → e ≡ f
   -- that two lists of entries are the same is known in one way at most
   pub lists_once : (es fs : List E) → IsProp (es ≡ fs)
-  -- the version that is written is that of the journal
-  pub new_is : k.new_state ≡ k.empty version
   -- entries are replayed one by one
   pub replay_none : (T : S) → k.replay_from T [] ≡ T
   pub replay_more : (T : S) (es : List E) (e : E) → k.replay_from T (es ++ e ∷ []) ≡ k.after (k.replay_from T es) e

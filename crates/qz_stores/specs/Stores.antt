@@ -7,12 +7,14 @@ use Rattle.qz_journal.specs.Commits.{IsFull, need_of, room_of}
 use Rattle.qz_types.specs.declared.errors.SubmitError.{SubmitError}
 use Rattle.qz_types.specs.declared.errors.SubmitError.TheVariants as submit
 
--- What the entries of a store are to it: what one comes to behind a history, which is its reply or why it is refused;
--- the history with it; and the length of its record in bytes.
-pub record EntryKind (H E R : Type 0) : Type 0 where
+-- What the entries of a store are to it: what one that is submitted comes to after a history, which is its reply or why
+-- it is refused; the history with it; the length of its record in bytes; and that it has this record.
+pub record EntryKind (H E R : Type 0) : Type 1 where
   pub answer : H → E → Result R Refusal
   pub with_entry : E → H → H
   pub size : E → ℕ
+  -- that what is written of it is a record of it
+  pub IsWritten : E → Type 0
 
 -- A store at one moment: its history, the offset of the closed gate, the number of payloads before that gate, whether it
 -- is open, the entry of which it isn't known whether the disk has it, and its disk's count of faults. Its bytes aren't
@@ -46,6 +48,7 @@ pub record Same {H E : Type 0} (s t : StoreState H E) : Type 0 where
 pub record Appends {H E R : Type 0} (kind : EntryKind H E R) (e : E) (reply : R) (s t : StoreState H E) : Type 0 where
   pub was_open : s.is_open ≡ true
   pub accepted_as : kind.answer s.history e ≡ Ok reply
+  pub written : kind.IsWritten e
   pub room : HasRoom (kind.size e) s
   pub history : t.history ≡ kind.with_entry e s.history
   pub gate : t.gate ≡ s.gate + need_of (kind.size e)

@@ -17,6 +17,10 @@ found_of s = s.found.items
 abbrev pub added_of : {D K E R C : Type 0} {g : Ghosts D} {k : Kinds K E R C} → Store D K E R C g k → List E
 added_of s = s.added.items
 
+-- the version of the format that its history began in
+abbrev pub version_of : {D K E R C : Type 0} {g : Ghosts D} {k : Kinds K E R C} → Store D K E R C g k → ℕ
+version_of s = s.version
+
 -- what it keeps in memory
 abbrev pub kept_of : {D K E R C : Type 0} {g : Ghosts D} {k : Kinds K E R C} → Store D K E R C g k → K
 kept_of s = s.state
@@ -36,7 +40,7 @@ disk_state {g = g} s = g.state (disk_of s)
 -- the store at this moment
 abbrev pub view : {D K E R C : Type 0} {g : Ghosts D} {k : Kinds K E R C} → Store D K E R C g k → StoreState k.History E
 view {g = g} {k = k} s = record {
-  history = history_of k.kind (found_of s ++ added_of s);
+  history = history_of k.kind s.version (found_of s ++ added_of s);
   gate = gate_of s.journal;
   payloads = count_of s.journal;
   is_open = s.is_open;
@@ -55,5 +59,5 @@ LeavesEither {k = k} s t = LeavesOnly (disk_state s) (disk_state t) (IsOfEither 
 -- Nothing of the store, of what it keeps and of its disk has changed, whatever room it has.
 abbrev pub IsAsBefore : {D K E R C : Type 0} {g : Ghosts D} {k : Kinds K E R C} → Store D K E R C g k → Store D K E R C g k → Type 0
 IsAsBefore s t =
-    (t.journal ≡ s.journal) × (t.count ≡ s.count) × (state_of t ≡ state_of s) × (found_of t ≡ found_of s) × (added_of t ≡ added_of s)
+    (t.journal ≡ s.journal) × (t.version ≡ s.version) × (t.count ≡ s.count) × (state_of t ≡ state_of s) × (found_of t ≡ found_of s) × (added_of t ≡ added_of s)
     × (t.is_open ≡ s.is_open) × (t.undecided ≡ s.undecided)

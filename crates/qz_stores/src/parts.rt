@@ -1,12 +1,21 @@
 //! What a store shows of itself.
-ghost use Rattle.std.specs.Prelude.{◌≡◌, ◌++◌, length, not};
+ghost use Rattle.std.specs.Prelude.{◌≡◌, true, ◌++◌, length, not};
+ghost use Rattle.qz_journal.specs.Layout.{is_version};
 ghost use Rattle.qz_stores.specs.Kinds.{replay};
-ghost use Rattle.qz_stores.specs.View.{view, found_of, added_of, kept_of, disk_of};
+ghost use Rattle.qz_stores.specs.View.{view, version_of, found_of, added_of, kept_of, disk_of};
 
 use crate::{Kind, Store};
 use qz_disk::Disk;
 
 impl<D: Disk, K: Kind> Store<D, K> {
+    /// The version of the format that the store has: 1 or 2.
+    pub fn version(&self) -> u8
+        ensures value { result ≡ version_of self.now }
+        ensures known { is_version result ≡ true }
+    {
+        self.version
+    }
+
     /// How many entries the history has.
     pub fn history_len(&self) -> u64
         ensures { result ≡ length (found_of self.now ++ added_of self.now) }
@@ -43,6 +52,7 @@ impl<D: Disk, K: Kind> Store<D, K> {
         let Store {
             alloc: _,
             journal,
+            version: _,
             count: _,
             state: _,
             found: _,

@@ -1,16 +1,16 @@
 //! One entry more.
-ghost use Rattle.std.specs.Prelude.{◌≡◌, ◌≢◌, ◌++◌, ◌∷◌, [], length, IsOk, IfOk, OnOk, OnErr, IfErr, Ok, Err, Some, true, false};
+ghost use Rattle.std.specs.Prelude.{◌≡◌, ◌≢◌, ◌++◌, ◌∷◌, [], length, IsOk, IfOk, OnOk, OnErr, IfErr, Ok, Err, Some, None, true, false, MatchOption};
 ghost use Rattle.qz_journal.specs.Layout.{IsPayload};
 ghost use Rattle.qz_stores.specs.Stores.{HasRoom, IsUnwritten, Appends, Submits};
-ghost use Rattle.qz_stores.specs.Kinds.{IsAccepted, entry_kind};
-ghost use Rattle.qz_stores.specs.View.{view, found_of, added_of, kept_of, state_of, IsAsBefore, LeavesEither};
+ghost use Rattle.qz_stores.specs.Kinds.{IsAccepted, submitted, entry_kind};
+ghost use Rattle.qz_stores.specs.View.{view, version_of, found_of, added_of, kept_of, state_of, IsAsBefore, LeavesEither};
 
 use crate::{Kind, Store};
 use qz_civil::List;
 use qz_disk::Disk;
 use qz_journal::{JournalFull, fits};
 use qz_logs::Log;
-use qz_types::SubmitError;
+use qz_types::{Refusal, SubmitError};
 use std::mem;
 
 /// All that an accepted entry needs, so that nothing but the disk can fail.
@@ -22,16 +22,17 @@ pub struct Ready<C: Drop> {
 
 impl<D: Disk, K: Kind> Store<D, K> {
     /// Does one transaction, and answers its reply once its record is on the disk. The errors are decided in their
-    /// order, `Closed` and `Refused` without memory; `NoMemory` comes only where the transaction would be accepted,
+    /// order, `Closed` and `Refused` without memory, and of the refusals first what the version of the store refuses; `NoMemory` comes only where the transaction would be accepted,
     /// and there it may come before `JournalFull`. All memory is taken before the first device call. After an error
     /// other than `Fault` all is as it was, and no device call was made.
     pub fn submit(&mut self, entry: K::Entry) -> Result<K::Reply, SubmitError>
         requires { K.kind.IsProper entry }
         ensures one { Submits (entry_kind K.kind) entry result (view self.old) (view self.new) }
         ensures unchanged { result ≢ Err SubmitError.Fault → OnErr result (IsAsBefore self.old self.new) }
+        ensures version { version_of self.new ≡ version_of self.old }
         ensures found { found_of self.new ≡ found_of self.old }
         ensures entries { OnOk result (added_of self.new ≡ added_of self.old ++ entry ∷ []) }
-        ensures recorded { OnOk result (K.kind.IsEntry entry) }
+        ensures recorded { OnOk result (K.kind.IsRecordOf (K.kind.record_of entry) entry) }
         ensures any_moment { D.honest → LeavesEither self.old self.new }
     {
         match self.prepare(&entry) {
@@ -58,9 +59,19 @@ impl<D: Disk, K: Kind> Store<D, K> {
             let at = self.journal.gate();
             return Err(SubmitError::Closed { at });
         }
-        match self.state.refusal(entry) {
+        match self.refusal(entry) {
             None => Ok(()),
             Some(refusal) => Err(SubmitError::Refused(refusal)),
+        }
+    }
+
+    // Why an open store refuses an entry, or None where it accepts it.
+    fn refusal(&self, entry: &K::Entry) -> Option<Refusal>
+        ensures { MatchOption result (IsOk (submitted K.kind (state_of self.now) entry.now)) (λ x. submitted K.kind (state_of self.now) entry.now ≡ Err x) }
+    {
+        match self.state.version_refusal(entry) {
+            None => self.state.refusal(entry),
+            refused => refused,
         }
     }
 
@@ -70,9 +81,10 @@ impl<D: Disk, K: Kind> Store<D, K> {
         requires { K.kind.IsProper entry.now }
         ensures open { OnOk result (self.old.is_open ≡ true) }
         ensures ready { IfOk result (λ r. K.Prepares (kept_of self.new) entry.now r.change) }
+        ensures current { OnOk result (K.kind.version_refusal (state_of self.old) entry.now ≡ None) }
         ensures accepted { OnOk result (IsAccepted K.kind (state_of self.old) entry.now) }
         ensures record { IfOk result (λ r. (r.record ≡ K.kind.record_of entry.now) × IsPayload r.record) }
-        ensures recorded { OnOk result (K.kind.IsEntry entry.now) }
+        ensures recorded { OnOk result (K.kind.IsRecordOf (K.kind.record_of entry.now) entry.now) }
         ensures fits { IfOk result (λ r. HasRoom (length r.record) (view self.old)) }
         ensures err { IfErr result (λ e. Submits (entry_kind K.kind) entry.now (Err e) (view self.old) (view self.old)) }
         ensures same { IsAsBefore self.old self.new }
@@ -80,6 +92,9 @@ impl<D: Disk, K: Kind> Store<D, K> {
         if !self.is_open {
             let at = self.journal.gate();
             return Err(SubmitError::Closed { at });
+        }
+        if let Some(refusal) = self.state.version_refusal(entry) {
+            return Err(SubmitError::Refused(refusal));
         }
         let change = self.state.prepare(entry)?;
         match self.record(entry) {
@@ -95,7 +110,7 @@ impl<D: Disk, K: Kind> Store<D, K> {
     fn record(&self, entry: &K::Entry) -> Result<List<u8>, SubmitError>
         requires { K.kind.IsProper entry.now }
         ensures record { IfOk result (λ r. (r ≡ K.kind.record_of entry.now) × IsPayload r) }
-        ensures recorded { OnOk result (K.kind.IsEntry entry.now) }
+        ensures recorded { OnOk result (K.kind.IsRecordOf (K.kind.record_of entry.now) entry.now) }
         ensures fits { IfOk result (λ r. HasRoom (length r) (view self.now)) }
         ensures err { IfErr result (IsUnwritten (length (K.kind.record_of entry.now)) (view self.now)) }
     {
@@ -124,14 +139,16 @@ impl<D: Disk, K: Kind> Store<D, K> {
         requires proper { K.kind.IsProper entry }
         requires open { self.old.is_open ≡ true }
         requires ready { K.Prepares (kept_of self.old) entry ready.change }
+        requires current { K.kind.version_refusal (state_of self.old) entry ≡ None }
         requires accepted { IsAccepted K.kind (state_of self.old) entry }
         requires record { (ready.record ≡ K.kind.record_of entry) × IsPayload ready.record }
-        requires recorded { K.kind.IsEntry entry }
+        requires recorded { K.kind.IsRecordOf (K.kind.record_of entry) entry }
         requires fits { HasRoom (length ready.record) (view self.old) }
         ensures ok { IfOk result (λ r. (r.0 ≡ entry) × Appends (entry_kind K.kind) entry r.1 (view self.old) (view self.new)) }
         ensures err { IfErr result (λ e. (e ≡ SubmitError.Fault) × Submits (entry_kind K.kind) entry (Err e) (view self.old) (view self.new)) }
         ensures answered { IfOk result (λ r. K.kind.answer (state_of self.old) entry ≡ Ok r.1) }
         ensures state { OnOk result (state_of self.new ≡ K.kind.after (state_of self.old) entry) }
+        ensures version { version_of self.new ≡ version_of self.old }
         ensures found { found_of self.new ≡ found_of self.old }
         ensures entries { OnOk result (added_of self.new ≡ added_of self.old ++ entry ∷ []) }
         ensures same { OnErr result (added_of self.new ≡ added_of self.old) }

@@ -21,7 +21,9 @@ use Rattle.qz_model.specs.Completing.{complete_refusal, complete_one, complete_r
 use Rattle.qz_model.specs.Firing.{fire_refusal, with_begun, fire_one, fire_row}
 use Rattle.qz_model.specs.Jobs.{add_job_refusal, unknown_job}
 use Rattle.qz_model.specs.Membership.{node_refusal}
-use Rattle.qz_model.specs.Pausing.{pause_group_refusal}
+use Rattle.qz_model.specs.Resetting.{reset_refusal}
+use Rattle.qz_model.specs.Upgrading.{upgrade_refusal}
+use Rattle.qz_model.specs.Pausing.{pause_job_group_refusal, pause_group_refusal}
 use Rattle.qz_model.specs.Recovery.{recovery_refusal, recover_member, join_refusal, joined, leave_refusal}
 use Rattle.qz_model.specs.Tests.{or_refusal}
 use Rattle.qz_model.specs.Triggers.{add_trigger_refusal, unknown_trigger, trigger_now_refusal}
@@ -83,6 +85,10 @@ by_command-records T m actor (command.AddZone zone) = unless-records m (add_zone
 by_command-records T m actor (command.DeleteZone name) = unless-records m (delete_zone_refusal T name) _ refl
 by_command-records T m actor (command.TriggerNow job) = unless-records m (trigger_now_refusal T job) _ refl
 by_command-records T m actor (command.Threshold ms) = refl
+by_command-records T m actor command.Upgrade = unless-records m (upgrade_refusal T) _ refl
+by_command-records T m actor (command.ResetTrigger key) = unless-records m (reset_refusal (trigger_of key T.triggers)) _ refl
+by_command-records T m actor (command.PauseJobGroup group) = unless-records m (pause_job_group_refusal T group) _ refl
+by_command-records T m actor (command.ResumeJobGroup group) = refl
 by_command-records T m actor (command.Join node) =
     unless-records m (join_refusal T (member_of node T.members)) _ (joined-records T m node (member_of node T.members))
 by_command-records T m Client command.Leave = tt

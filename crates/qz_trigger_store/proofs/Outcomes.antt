@@ -1,19 +1,22 @@
 -- What a transaction of the tables is to their kind of store.
 use Rattle.std.proofs.Common.{◌≡◌, refl, sym, ap, subst, ◌∙◌, ℕ}
-use Rattle.std.specs.Prelude.{Result, Option, Some, None, Ok, IsOk, IfErr, MatchOption}
+use Rattle.std.specs.Prelude.{Result, Option, Some, None, Ok, Err, IsOk, IfErr, MatchOption}
 use Rattle.std.specs.declared.result.Result.{Result as Answer}
 use Rattle.std.proofs.lemmas.Result.{IfErr-weaker}
 use Rattle.qz_types.specs.Entries.{EntryData}
 use Rattle.qz_types.specs.Outcomes.{Outcome, accepted, refused, IsAccepted, IsErrorOf}
-use Rattle.qz_types.specs.Tables.{SchedulerTables, new_tables}
+use Rattle.qz_types.specs.Tables.{SchedulerTables, empty}
 use Rattle.qz_types.specs.declared.errors.StepRefused.{StepRefused}
 use Rattle.qz_types.specs.declared.errors.StepRefused.TheVariants as step
 use Rattle.qz_types.specs.declared.replies.Refusal.{Refusal}
 use Rattle.qz_types.specs.declared.replies.Reply.{Reply}
+use Rattle.qz_codec.specs.Reading.{Answers}
+use Rattle.qz_codec.specs.declared.errors.ReadError.{ReadError}
+use Rattle.qz_codec.specs.declared.errors.ReadError.TheVariants as errors
 use Rattle.qz_model.specs.History.{tables_left}
 use Rattle.qz_model.specs.Invariant.{TablesValid}
 use Rattle.qz_model.specs.Transaction.{transaction}
-use Rattle.qz_model.proofs.Kept.{valid-new_tables}
+use Rattle.qz_model.proofs.Kept.{valid-empty}
 use Rattle.qz_stores.specs.Kinds.{IsRefusalOf, IsErrorOf as IsErrorOfKind}
 use Rattle.qz_trigger_store.specs.Entries.{answer_of}
 use Rattle.qz_trigger_store.specs.Kinds.{trigger_kind}
@@ -50,11 +53,18 @@ refusal_as T e (Some x) is = ap answer_of is
 pub by_cause : (o : Outcome) (cause : StepRefused) (x : Refusal) → cause ≡ step.Refused x → IsErrorOf o cause → o ≡ refused x
 by_cause o cause x is why = subst (IsErrorOf o) is why
 
+-- what reads a record of an entry doesn't call the record bad
+not_bad : (place : ℕ) (e : EntryData) → Answers {A = EntryData} (Err (errors.BadRecord place)) (Ok e) → ⊥
+not_bad place e is = cc
+
+pub not_read : (x : ReadError) (place : ℕ) (e : EntryData) → x ≡ errors.BadRecord place → Answers {A = EntryData} (Err x) (Ok e) → ⊥
+not_read x place e why is = not_bad place e (subst (λ (y : ReadError). Answers {A = EntryData} (Err y) (Ok e)) why is)
+
 -- the entry that a payload is the record of, and it alone, was refused
 pub refused_unfit : (T : SchedulerTables) (e f : EntryData) (x : Refusal) → ◌≡◌ {A = Result EntryData ℕ} (Ok e) (Ok f) → transaction T f ≡ refused x → IsOk (answer_of (transaction T e)) → ⊥
 refused_unfit T e f x same way =
     let one : e ≡ f = cc in
     λ is. subst IsAccepted (ap (transaction T) one ∙ way) (accepted_by (transaction T e) is)
 
-pub new_valid : (T : SchedulerTables) → T ≡ new_tables → ∥ TablesValid T ∥₁
-new_valid T is = subst (λ (U : SchedulerTables). ∥ TablesValid U ∥₁) (sym is) ∣ valid-new_tables ∣₁
+pub new_valid : (version : ℕ) (T : SchedulerTables) → T ≡ empty version → ∥ TablesValid T ∥₁
+new_valid version T is = subst (λ (U : SchedulerTables). ∥ TablesValid U ∥₁) (sym is) ∣ valid-empty version ∣₁

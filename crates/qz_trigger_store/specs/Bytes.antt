@@ -6,20 +6,20 @@ use Rattle.qz_stores.specs.Bytes as store
 use Rattle.qz_trigger_store.specs.Entries.{TriggerState}
 use Rattle.qz_trigger_store.specs.Kinds.{trigger_kind}
 
--- each payload is the record of an entry, in order
+-- each payload is a record of an entry, in order
 abbrev pub Encode : List (List ℕ) → List EntryData → Type 0
 Encode payloads entries = store.Encode trigger_kind payloads entries
 
--- the bytes are a store of triggers, and its payloads are the records of these entries
-abbrev pub HoldEntries : List ℕ → List EntryData → Type 0
-HoldEntries bytes entries = store.HoldEntries trigger_kind bytes entries
+-- the bytes are a store of triggers of this format version, and its payloads are records of these entries
+abbrev pub HoldEntries : ℕ → List ℕ → List EntryData → Type 0
+HoldEntries version bytes entries = store.HoldEntries trigger_kind version bytes entries
 
 -- the history begins with a new store of this format version
 abbrev pub BeginsNew : ℕ → History → Type 0
 BeginsNew version h = store.BeginsNew trigger_kind version h
 
 -- The bytes are those of this history: it begins with a new store of the version that the header has, and the payloads
--- are the records of its entries.
+-- are records of its entries.
 abbrev pub Stands : List ℕ → History → Type 0
 Stands bytes h = store.Stands trigger_kind bytes h
 

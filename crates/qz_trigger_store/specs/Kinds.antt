@@ -2,16 +2,16 @@
 use Rattle.std.specs.Prelude.{◌≡◌, IsTrue}
 use Rattle.std.proofs.Props.{props}
 use Rattle.qz_types.specs.Entries.{EntryData, is_entry}
-use Rattle.qz_types.specs.Tables.{SchedulerTables, new_tables, empty}
+use Rattle.qz_types.specs.Tables.{SchedulerTables, empty}
 use Rattle.qz_types.specs.declared.replies.Reply.{Reply}
 use Rattle.qz_journal.specs.declared.layout.TheConstants.{TRIGGERS}
 use Rattle.qz_codec.specs.Layout.{record_of}
-use Rattle.qz_codec.specs.Values.{IsEntry}
+use Rattle.qz_model.specs.Upgrading.{version_refusal}
 use Rattle.qz_model.specs.History.{History, tables_left, IsLegalFrom, replay_from}
 use Rattle.qz_model.specs.Invariant.{TablesValid}
 use Rattle.qz_model.specs.Transaction.{transaction}
 use Rattle.qz_stores.specs.Kinds.{StoreKind}
-use Rattle.qz_trigger_store.specs.Entries.{answer_of}
+use Rattle.qz_trigger_store.specs.Entries.{IsRecordOf, answer_of}
 
 pub tables_once : (T U : SchedulerTables) → IsProp (T ≡ U)
 tables_once T U = hlevel props
@@ -22,12 +22,12 @@ abbrev pub trigger_kind : StoreKind History SchedulerTables EntryData Reply
 trigger_kind = record {
   number = TRIGGERS;
   record_of = record_of;
-  IsEntry = IsEntry;
+  IsRecordOf = IsRecordOf;
   IsProper = λ e. IsTrue (is_entry e);
   empty = empty;
-  new_state = new_tables;
   IsValid = TablesValid;
   states_once = tables_once;
+  version_refusal = λ T e. version_refusal T e.command;
   answer = λ T e. answer_of (transaction T e);
   after = λ T e. tables_left T (transaction T e);
   replay_from = replay_from;

@@ -4,8 +4,7 @@ use Rattle.std.proofs.Props.{props}
 use Rattle.std.specs.Prelude.{IsOk}
 use Rattle.qz_types.specs.Entries.{EntryData}
 use Rattle.qz_types.specs.Outcomes.{Outcome, accepted, refused, IsAccepted}
-use Rattle.qz_types.specs.Tables.{SchedulerTables, new_tables, empty}
-use Rattle.qz_journal.specs.View.{version}
+use Rattle.qz_types.specs.Tables.{SchedulerTables}
 use Rattle.qz_codec.proofs.EntryFormats.{entry_record_unique}
 use Rattle.qz_model.specs.History.{tables_left, IsLegalFrom, replay_from}
 use Rattle.qz_model.specs.Transaction.{transaction}
@@ -16,10 +15,6 @@ use Rattle.qz_trigger_store.specs.Kinds.{trigger_kind}
 
 lists_once : (es fs : List EntryData) → IsProp (es ≡ fs)
 lists_once es fs = hlevel props
-
-new_is : new_tables ≡ empty version
-unfolding new_tables
-new_is = refl
 
 accepted_by : (o : Outcome) → IsOk (answer_of o) → IsAccepted o
 accepted_by (accepted T r) is = tt
@@ -35,9 +30,8 @@ legal_at T (x ∷ es) e fs legal = legal_at (tables_left T (transaction T x)) es
 
 pub trigger_lawful : IsLawful trigger_kind
 trigger_lawful = record {
-  entries_once = entry_record_unique;
+  records_once = entry_record_unique;
   lists_once = lists_once;
-  new_is = new_is;
   replay_none = λ T. refl;
   replay_more = λ T es e. replay_from-append T es (e ∷ []);
   legal_none = λ T. tt;

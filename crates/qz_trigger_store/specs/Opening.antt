@@ -5,8 +5,8 @@ use Rattle.qz_stores.specs.Opening as store
 use Rattle.qz_trigger_store.specs.Entries.{TriggerState}
 use Rattle.qz_trigger_store.specs.Kinds.{trigger_kind}
 
--- What holds of a store at each moment, whatever its disk tells: its history is legal and begins with a new store, and
--- its tables are valid. Its gate comes after the records of its entries while it is open: the journal of a closed one may
+-- What holds of a store at each moment, whatever its disk tells: its history is legal and begins with a new store of
+-- either format version, and its tables are valid. Its gate comes after the records of its entries while it is open: the journal of a closed one may
 -- have been read anew.
 abbrev pub IsSound : TriggerState → Type 0
 IsSound s = store.IsSound trigger_kind s

@@ -10,6 +10,10 @@ use Rattle.qz_trigger_store.specs.Entries.{TriggerState}
 use Rattle.qz_trigger_store.specs.Kinds.{trigger_kind}
 use Rattle.qz_trigger_store.specs.declared.stores.TriggerStore.{TriggerStore}
 
+-- the version of the format that its history began in
+abbrev pub version_of : {D : Type 0} {g : Ghosts D} → TriggerStore D g → ℕ
+version_of s = store.version_of s.store
+
 -- the entries that the disk had at the mount
 abbrev pub found_of : {D : Type 0} {g : Ghosts D} → TriggerStore D g → List EntryData
 found_of s = store.found_of s.store

@@ -1,17 +1,20 @@
 //! The trigger store as a kind of store.
+ghost use Rattle.std.specs.Prelude.{◌≡◌};
+ghost use Rattle.qz_model.specs.Upgrading.{is_upgrade};
+
 use crate::triggers::Triggers;
 use qz_civil::List;
 use qz_codec::{ReadError, get_command, put_command};
 use qz_journal::TRIGGERS;
 use qz_plain::{PlainStore, Prepared};
 use qz_stores::{Kind, TakeError};
-use qz_types::{Entry, NoMemory, Refusal, Reply, StepRefused};
+use qz_types::{Command, Entry, NoMemory, Refusal, Reply, StepRefused};
 use std::alloc::Global;
 
 /// A history that was read from a disk, from a new store on, and the tables that it leaves.
 pub type Reread = qz_stores::Reread<Triggers>;
 
-#[tactic(auto, using(crate::proofs::Outcomes::new_valid, crate::proofs::Outcomes::error_as, crate::proofs::Outcomes::refusal_as, crate::proofs::Outcomes::passes, crate::proofs::Outcomes::passes_as, crate::proofs::Outcomes::answered, crate::proofs::Outcomes::left_as))]
+#[tactic(auto, unfolding(qz_model::specs::Upgrading::version_refusal), using(crate::proofs::Outcomes::new_valid, crate::proofs::Outcomes::error_as, crate::proofs::Outcomes::refusal_as, crate::proofs::Outcomes::passes, crate::proofs::Outcomes::passes_as, crate::proofs::Outcomes::answered, crate::proofs::Outcomes::left_as))]
 impl Kind for Triggers {
     type Entry = Entry;
 
@@ -39,9 +42,9 @@ impl Kind for Triggers {
         TRIGGERS
     }
 
-    fn new(alloc: Global) -> Triggers {
+    fn new(alloc: Global, version: u8) -> Triggers {
         Triggers {
-            tables: PlainStore::new(alloc),
+            tables: PlainStore::new(alloc, version),
         }
     }
 
@@ -68,6 +71,13 @@ impl Kind for Triggers {
         }
     }
 
+    fn version_refusal(&self, entry: &Entry) -> Option<Refusal> {
+        if self.is_old() && !is_upgrade(&entry.command) {
+            return Some(Refusal::OldStore);
+        }
+        None
+    }
+
     fn refusal(&self, entry: &Entry) -> Option<Refusal> {
         self.tables.refusal(entry)
     }
@@ -87,4 +97,11 @@ impl Kind for Triggers {
     ghost lawful = { trigger_lawful };
 
     ghost valid = { λ s. s.valid };
+}
+
+// What a store of version one does take.
+fn is_upgrade(command: &Command) -> bool
+    ensures { result ≡ is_upgrade command.now }
+{
+    matches!(command, Command::Upgrade)
 }

@@ -1,5 +1,10 @@
 //! Laws of the store's definitions.
-ghost use Rattle.std.specs.Prelude.{IsTrue, Result as Answer};
+ghost use Rattle.std.specs.Prelude.{◌≡◌, IsTrue, IfSome, Result as Answer};
+ghost use Rattle.std.specs.List.{AllByRecursion};
+ghost use Rattle.qz_civil.specs.declared.limits.TheConstants.{VERSION_ONE_LAST};
+ghost use Rattle.qz_types.specs.Rows.{TriggerData};
+ghost use Rattle.qz_types.specs.Tables.{IsMoment};
+ghost use Rattle.qz_model.specs.History.{replay};
 ghost use Rattle.qz_types.specs.Entries.{EntryData, is_entry};
 ghost use Rattle.qz_types.specs.declared.errors.SubmitError.{SubmitError as Error};
 ghost use Rattle.qz_types.specs.declared.replies.Reply.{Reply as Answered};
@@ -21,4 +26,10 @@ pub fn restarting_keeps_stores_sound()
     ensures shut { (s t : TriggerState) → Shuts s t → IsSound s → IsSound t }
     // also on a disk of which nothing is known
     ensures opened { (s t : TriggerState) → Opens trigger_entry ⊥ s t → IsOpened t → IsSound t }
+{}
+
+/// No next time of a store of version 1 passes the last millisecond of 2099, until the store is upgraded. It does nothing:
+/// its contract says so.
+pub fn old_stores_fire_until_2099()
+    ensures { (s : TriggerState) → IsSound s → (replay s.history).horizon ≡ VERSION_ONE_LAST → ∥ AllByRecursion (λ (t : TriggerData). IfSome t.next (IsMoment VERSION_ONE_LAST)) (replay s.history).triggers ∥₁ }
 {}

@@ -12,7 +12,9 @@ mod submitting;
 mod triggers;
 
 pub use kinds::Reread;
-pub use laws::{restarting_keeps_stores_sound, submitting_keeps_stores_sound};
+pub use laws::{
+    old_stores_fire_until_2099, restarting_keeps_stores_sound, submitting_keeps_stores_sound,
+};
 pub use qz_journal::MountError;
 pub use qz_types::SubmitError;
 pub use stores::TriggerStore;

@@ -15,7 +15,7 @@ use qz_stores::Store;
 use std::alloc::Global;
 
 impl<D: Disk> TriggerStore<D> {
-    /// Opens the store that is on a disk, and replays its history. It syncs first, so that what it reads is what a
+    /// Opens the store that is on a disk, of the version that its header has, and replays its history. It syncs first, so that what it reads is what a
     /// crash leaves, and writes nothing. An `Err` hands the disk back. `NotAStore` is returned where the header isn't a
     /// trigger store's, `Damaged` also at the gate of the first payload that is no record or whose command is refused,
     /// and `Fault` only where the disk's count of faults rose.

@@ -1,10 +1,13 @@
 //! What a store shows of itself.
 ghost use Rattle.std.specs.Prelude.{◌≡◌, length, not, is_some};
-ghost use Rattle.qz_types.specs.Tables.{new_tables};
+ghost use Rattle.std.specs.Prelude.{true};
+ghost use Rattle.qz_journal.specs.Layout.{is_version};
+ghost use Rattle.qz_types.specs.Tables.{empty};
 ghost use Rattle.qz_types.specs.Words.{member_of};
 ghost use Rattle.qz_model.specs.History.{replay, replay_from, replies_from, moments_from};
 ghost use Rattle.qz_model.specs.Invariant.{TablesValid};
-ghost use Rattle.qz_trigger_store.specs.View.{view, found_of, added_of, moments_of, replies_of, tables_of, disk_of};
+ghost use Rattle.qz_trigger_store.specs.Entries.{is_old};
+ghost use Rattle.qz_trigger_store.specs.View.{view, version_of, found_of, added_of, moments_of, replies_of, tables_of, disk_of};
 
 use crate::TriggerStore;
 use qz_disk::Disk;
@@ -12,6 +15,22 @@ use qz_tables::Tables;
 use qz_types::{Entry, Reply, Text};
 
 impl<D: Disk> TriggerStore<D> {
+    /// The version of the format that the store's header has: 1 or 2. A store of version 1 stays one when it is upgraded.
+    pub fn version(&self) -> u8
+        ensures value { result ≡ version_of self.now }
+        ensures known { is_version result ≡ true }
+    {
+        self.store.version()
+    }
+
+    /// Whether the store is one of version 1 that wasn't upgraded. It takes no command but an Upgrade, and no fire time
+    /// passes 2099.
+    pub fn is_old(&self) -> bool
+        ensures { result ≡ is_old (replay (view self.now).history) }
+    {
+        self.store.state().is_old()
+    }
+
     /// How many entries the history has.
     pub fn history_len(&self) -> u64
         ensures { result ≡ length (view self.now).history.entries }
@@ -52,7 +71,7 @@ impl<D: Disk> TriggerStore<D> {
     /// The recorded moments of the entries accepted since the mount, in ms since 1970-01-01T00:00:00Z.
     pub fn moments(&self) -> &[i64]
         ensures kept { result.now ≡ moments_of self.now }
-        ensures value { result.now ≡ moments_from (replay_from new_tables (found_of self.now)) (added_of self.now) }
+        ensures value { result.now ≡ moments_from (replay_from (empty (version_of self.now)) (found_of self.now)) (added_of self.now) }
     {
         self.accepted.moments.as_slice()
     }
@@ -60,7 +79,7 @@ impl<D: Disk> TriggerStore<D> {
     /// The replies to the entries accepted since the mount.
     pub fn replies(&self) -> &[Reply]
         ensures kept { result.now ≡ replies_of self.now }
-        ensures value { result.now ≡ replies_from (replay_from new_tables (found_of self.now)) (added_of self.now) }
+        ensures value { result.now ≡ replies_from (replay_from (empty (version_of self.now)) (found_of self.now)) (added_of self.now) }
     {
         self.accepted.replies.as_slice()
     }

@@ -1,20 +1,20 @@
 //! One entry more.
-ghost use Rattle.std.specs.Prelude.{◌≡◌, ◌≢◌, ◌++◌, ◌∷◌, [], length, IsTrue, IsOk, IfOk, OnOk, OnErr, IfErr, Err, true};
+ghost use Rattle.std.specs.Prelude.{◌≡◌, ◌≢◌, ◌++◌, ◌∷◌, [], length, IsTrue, IsOk, IfOk, OnOk, OnErr, IfErr, Err, None, true};
 ghost use Rattle.qz_codec.specs.Layout.{record_of};
-ghost use Rattle.qz_codec.specs.Values.{IsEntry};
 ghost use Rattle.qz_journal.specs.Layout.{IsPayload};
 ghost use Rattle.qz_types.specs.Entries.{is_entry};
 ghost use Rattle.qz_types.specs.Outcomes.{IsAccepted};
 ghost use Rattle.qz_types.specs.Tables.{recorded_moment};
 ghost use Rattle.qz_model.specs.Transaction.{transaction};
+ghost use Rattle.qz_model.specs.Upgrading.{version_refusal};
 ghost use Rattle.qz_schedule_law.specs.Following.{FollowsSchedules};
 ghost use Rattle.qz_plain.specs.Prepared.{Prepares};
 ghost use Rattle.qz_plain.specs.Replies.{CopiesReply};
 ghost use Rattle.qz_stores.specs.Stores.{HasRoom, Submits};
 ghost use Rattle.qz_stores.specs.View.{kept_of};
 ghost use Rattle.qz_trigger_store.specs.Accepted.{HasRoomForOne};
-ghost use Rattle.qz_trigger_store.specs.Entries.{trigger_entry};
-ghost use Rattle.qz_trigger_store.specs.View.{view, found_of, added_of, moments_of, replies_of, tables_of, IsAsBefore, LeavesEither};
+ghost use Rattle.qz_trigger_store.specs.Entries.{IsRecordOf, trigger_entry};
+ghost use Rattle.qz_trigger_store.specs.View.{view, version_of, found_of, added_of, moments_of, replies_of, tables_of, IsAsBefore, LeavesEither};
 
 use crate::TriggerStore;
 use qz_disk::Disk;
@@ -33,17 +33,19 @@ struct Whole {
 #[tactic(auto, using(crate::proofs::Outcomes::accepted_by, crate::proofs::Outcomes::passes, crate::proofs::Accepting::copied))]
 impl<D: Disk> TriggerStore<D> {
     /// Does one transaction, and answers its reply once its record is on the disk. The errors are decided in their
-    /// order, `Closed` and `Refused` without memory; `NoMemory` comes only where the transaction would be accepted,
+    /// order, `Closed` and `Refused` without memory: a store of version 1 that wasn't upgraded refuses all but an Upgrade
+    /// with `OldStore`, before the transaction is asked; `NoMemory` comes only where the transaction would be accepted,
     /// and there it may come before `JournalFull`. All memory is taken before the first device call. After an error
     /// other than `Fault` all is as it was, and no device call was made.
     pub fn submit(&mut self, entry: Entry) -> Result<Reply, SubmitError>
         ensures one { Submits trigger_entry entry result (view self.old) (view self.new) }
         ensures unchanged { result ≢ Err SubmitError.Fault → OnErr result (IsAsBefore self.old self.new) }
+        ensures version { version_of self.new ≡ version_of self.old }
         ensures found { found_of self.new ≡ found_of self.old }
         ensures entries { OnOk result (added_of self.new ≡ added_of self.old ++ entry ∷ []) }
         ensures moments { OnOk result (moments_of self.new ≡ moments_of self.old ++ recorded_moment (tables_of self.old) entry.at ∷ []) }
         ensures replies { IfOk result (λ reply. replies_of self.new ≡ replies_of self.old ++ reply ∷ []) }
-        ensures recorded { OnOk result (IsEntry entry) }
+        ensures recorded { OnOk result (IsRecordOf (record_of entry) entry) }
         ensures any_moment { D.honest → LeavesEither self.old self.new }
         // Triggers that weren't disturbed have fired for the first times of their schedules.
         ensures schedules { FollowsSchedules (view self.new).history }
@@ -72,10 +74,11 @@ impl<D: Disk> TriggerStore<D> {
         requires { IsTrue (is_entry entry.now) }
         ensures open { OnOk result ((view self.old).is_open ≡ true) }
         ensures prepared { IfOk result (λ w. Prepares (kept_of self.new.store).tables entry.now w.ready.change) }
+        ensures current { OnOk result (version_refusal (tables_of self.old) entry.now.command ≡ None) }
         ensures accepted { OnOk result (IsAccepted (transaction (tables_of self.old) entry.now)) }
         ensures copy { IfOk result (λ w. CopiesReply w.copy (transaction (tables_of self.old) entry.now)) }
         ensures record { IfOk result (λ w. (w.ready.record ≡ record_of entry.now) × IsPayload w.ready.record) }
-        ensures recorded { OnOk result (IsEntry entry.now) }
+        ensures recorded { OnOk result (IsRecordOf (record_of entry.now) entry.now) }
         ensures fits { IfOk result (λ w. HasRoom (length w.ready.record) (view self.old)) }
         ensures room { OnOk result (HasRoomForOne self.new.accepted) }
         ensures err { IfErr result (λ e. Submits trigger_entry entry.now (Err e) (view self.old) (view self.old)) }
@@ -108,14 +111,16 @@ impl<D: Disk> TriggerStore<D> {
     fn commit(&mut self, entry: Entry, whole: Whole) -> Result<Reply, SubmitError>
         requires open { (view self.old).is_open ≡ true }
         requires prepared { Prepares (kept_of self.old.store).tables entry whole.ready.change }
+        requires current { version_refusal (tables_of self.old) entry.command ≡ None }
         requires accepted { IsAccepted (transaction (tables_of self.old) entry) }
         requires copy { CopiesReply whole.copy (transaction (tables_of self.old) entry) }
         requires record { (whole.ready.record ≡ record_of entry) × IsPayload whole.ready.record }
-        requires recorded { IsEntry entry }
+        requires recorded { IsRecordOf (record_of entry) entry }
         requires fits { HasRoom (length whole.ready.record) (view self.old) }
         requires room { HasRoomForOne self.old.accepted }
         ensures one { Submits trigger_entry entry result (view self.old) (view self.new) }
         ensures only_fault { IfErr result (λ e. e ≡ SubmitError.Fault) }
+        ensures version { version_of self.new ≡ version_of self.old }
         ensures found { found_of self.new ≡ found_of self.old }
         ensures entries { OnOk result (added_of self.new ≡ added_of self.old ++ entry ∷ []) }
         ensures moments { OnOk result (moments_of self.new ≡ moments_of self.old ++ recorded_moment (tables_of self.old) entry.at ∷ []) }

@@ -1,6 +1,5 @@
 use Rattle.std.proofs.Common.{◌≡◌, ◌∙◌, ◌+◌, ◌<◌, List, ℕ, Err, length, get_or, sym, ap, subst, arith}
 use Rattle.qz_journal.specs.Commits.{need_of}
-use Rattle.qz_stores.specs.Bytes.{IsRecord}
 use Rattle.qz_stores.proofs.Blocks.{gate_fits, taken_gate}
 use Rattle.qz_stores.proofs.Replays.{taken_none, taken_more, grown, stops_at}
 use Rattle.qz_stores.proofs.replaying.replay.Goals as goal
@@ -10,8 +9,8 @@ loop-payload-init g c =
     let k = g.K.Kind.kind in
     let lawful = g.met.K.Kind.lawful in
     record {
-      replayed = taken_none k lawful c.args.payloads.now _ c.new-entries.ensures;
-      state_is = c.new-state.ensures ∙ sym (lawful.replay_none k.new_state) ∙ ap (k.replay_from k.new_state) (sym c.new-entries.ensures);
+      replayed = taken_none k c.args.version lawful c.args.payloads.now _ c.new-entries.ensures;
+      state_is = c.new-state.ensures ∙ sym (lawful.replay_none (k.empty c.args.version)) ∙ ap (k.replay_from (k.empty c.args.version)) (sym c.new-entries.ensures);
       gate_is = c.first_gate-gate.ensures;
     }
 
@@ -33,11 +32,11 @@ loop-payload-preserved g c =
     let below = subst (λ (l : List (List ℕ)). w.payload-index < length l) c.as_slice-payload-items.ensures c.loop-payload-test.true in
     let here = subst (λ (l : List (List ℕ)). p ≡ get_or l w.payload-index p) c.as_slice-payload-items.ensures c.payload-item.is in
     let more = c.and-entries.ensures in
-    let is = subst (λ (x : List ℕ). IsRecord k x c.in-Ok.entry) c.as_slice.ensures c.in-Ok.ensures.is_record in
+    let is = subst (λ (x : List ℕ). k.IsRecordOf x c.in-Ok.entry) c.as_slice.ensures c.in-Ok.ensures.is_record in
     let gate_now : c.gate_after-gate.result ≡ w.gate + need_of (length p) = c.gate_after-gate.ensures ∙ ap (λ (x : List ℕ). w.gate + need_of (length x)) c.as_slice-in-loop-payload.ensures in
     record {
-      replayed = taken_more k lawful c.args.payloads.now w.payload-index p _ w.entries.items _ c.in-Ok.entry below here more w.invariant.state_is is c.in-Ok.ensures.accepted w.invariant.replayed;
-      state_is = grown k lawful _ _ w.entries.items _ c.in-Ok.entry more w.invariant.state_is c.in-Ok.ensures.state;
+      replayed = taken_more k c.args.version lawful c.args.payloads.now w.payload-index p _ w.entries.items _ c.in-Ok.entry below here more w.invariant.state_is is c.in-Ok.ensures.accepted w.invariant.replayed;
+      state_is = grown k c.args.version lawful _ _ w.entries.items _ c.in-Ok.entry more w.invariant.state_is c.in-Ok.ensures.state;
       gate_is = gate_now ∙ taken_gate c.args.payloads.now w.payload-index p w.gate below here w.invariant.gate_is;
     }
 
@@ -48,5 +47,5 @@ returns-in-Err-Unfit-clause-stopped g c =
     let p = c.payload-item.result in
     let below = subst (λ (l : List (List ℕ)). w.payload-index < length l) c.as_slice-payload-items.ensures c.loop-payload-test.true in
     let here = subst (λ (l : List (List ℕ)). p ≡ get_or l w.payload-index p) c.as_slice-payload-items.ensures c.payload-item.is in
-    stops_at k c.args.payloads.now w.payload-index p w.gate _ w.entries.items below here w.invariant.gate_is w.invariant.state_is w.invariant.replayed
-    (λ e is passes. c.in-Err-Unfit.ensures.unfit (ap Err c.in-Err-Unfit.field-0-is) e (subst (λ (x : List ℕ). IsRecord k x e) (sym c.as_slice.ensures) is) passes)
+    stops_at k c.args.version c.args.payloads.now w.payload-index p w.gate _ w.entries.items below here w.invariant.gate_is w.invariant.state_is w.invariant.replayed
+    (λ e is passes. c.in-Err-Unfit.ensures.unfit (ap Err c.in-Err-Unfit.field-0-is) e (subst (λ (x : List ℕ). k.IsRecordOf x e) (sym c.as_slice.ensures) is) passes)

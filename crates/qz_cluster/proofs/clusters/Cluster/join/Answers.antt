@@ -1,7 +1,10 @@
 use Rattle.std.proofs.Common.{refl, sym, ◌∙◌}
+use Rattle.std.specs.Prelude.{IfOk, IfErr}
+use Rattle.qz_steps.specs.declared.steps.Step.TheVariants.{Join}
+use Rattle.qz_cluster.specs.Steps.{StepCase, EndCase}
 use Rattle.qz_cluster.specs.View.{view}
 use Rattle.qz_cluster.proofs.AtRest.{rests}
-use Rattle.qz_cluster.proofs.StepCases.{join_declined, join_cut}
+use Rattle.qz_cluster.proofs.StepCases.{join_declined, join_cut, the_same}
 use Rattle.qz_cluster.proofs.Unaccepted.{all_joined_too, same_here}
 use Rattle.qz_cluster.proofs.clusters.Cluster.join.Goals as goal
 
@@ -26,3 +29,14 @@ returns-in-Err-clause-err g c =
 
 pub returns-in-Err-clause-keeps : goal.returns-in-Err-clause-keeps
 returns-in-Err-clause-keeps g c = all_joined_too c.decide_check_in.result _ _ c.decide_check_in.ensures.keeps
+
+-- the node's epoch has room
+pub returns-in-Ok-clause-ok : goal.returns-in-Ok-clause-ok
+returns-in-Ok-clause-ok g c =
+    the_same (λ i at. IfOk c.join_in_room.result (λ r. StepCase g.D.Disk.honest (record { step = Join c.args.node i; at = at }) r (view c.args.self.now) (view c.join_in_room.new.self)))
+    c.args.interval c.args.at c.ranges.interval c.ranges.at c.join_in_room.ensures.ok
+
+pub returns-in-Ok-clause-err : goal.returns-in-Ok-clause-err
+returns-in-Ok-clause-err g c =
+    the_same (λ i at. IfErr c.join_in_room.result (λ e. EndCase g.D.Disk.honest (record { step = Join c.args.node i; at = at }) e (view c.args.self.now) (view c.join_in_room.new.self)))
+    c.args.interval c.args.at c.ranges.interval c.ranges.at c.join_in_room.ensures.err

@@ -1,6 +1,6 @@
 use Rattle.std.proofs.Common.{◌∙◌, ◌+◌, ℕ, List, ◌++◌, length, refl, sym, ap, subst}
 use Rattle.qz_stores.specs.Stores.{HasRoom}
-use Rattle.qz_stores.specs.Kinds.{history_of}
+use Rattle.qz_stores.specs.Kinds.{HasRecord, history_of}
 use Rattle.qz_stores.specs.View.{view}
 use Rattle.qz_stores.proofs.Appending
 use Rattle.qz_stores.proofs.Committing
@@ -18,18 +18,18 @@ invariant_of-self-clause-counted g c =
 pub invariant_of-self-clause-legal : goal.invariant_of-self-clause-legal
 invariant_of-self-clause-legal g c =
     let s = c.args.self.now in
-    Appending.legal_with g.K.Kind.kind g.met.K.Kind.lawful (g.K.Kind.state s.state) s.found.items s.added.items _ c.args.entry c.and.ensures s.replayed c.requires.accepted s.legal
+    Appending.legal_with g.K.Kind.kind g.met.K.Kind.lawful (g.K.Kind.kind.empty s.version) (g.K.Kind.state s.state) s.found.items s.added.items _ c.args.entry c.and.ensures s.replayed c.requires.accepted s.legal
 
 pub invariant_of-self-clause-replayed : goal.invariant_of-self-clause-replayed
 invariant_of-self-clause-replayed g c =
     let s = c.args.self.now in
-    Replays.grown g.K.Kind.kind g.met.K.Kind.lawful (g.K.Kind.state s.state) _ (s.found.items ++ s.added.items) _ c.args.entry (Appending.more s.found.items s.added.items _ c.args.entry c.and.ensures) s.replayed
+    Replays.grown g.K.Kind.kind s.version g.met.K.Kind.lawful (g.K.Kind.state s.state) _ (s.found.items ++ s.added.items) _ c.args.entry (Appending.more s.found.items s.added.items _ c.args.entry c.and.ensures) s.replayed
     c.commit-reply.ensures.state
 
 pub invariant_of-self-clause-recorded : goal.invariant_of-self-clause-recorded
 invariant_of-self-clause-recorded g c =
     let s = c.args.self.now in
-    Appending.recorded_with g.K.Kind.kind.IsEntry s.found.items s.added.items _ c.args.entry c.and.ensures s.recorded c.requires.recorded
+    Appending.recorded_with (HasRecord g.K.Kind.kind) s.found.items s.added.items _ c.args.entry c.and.ensures s.recorded (_, c.requires.recorded)
 
 pub invariant_of-self-clause-passed : goal.invariant_of-self-clause-passed
 invariant_of-self-clause-passed g c = Appending.none_follows g.K.Kind.kind _ _ (c.args.self.now.settled c.requires.open)
@@ -37,22 +37,22 @@ invariant_of-self-clause-passed g c = Appending.none_follows g.K.Kind.kind _ _ (
 pub invariant_of-self-clause-stands : goal.invariant_of-self-clause-stands
 invariant_of-self-clause-stands g c honest now =
     let s = c.args.self.now in
-    Appending.holds_with g.K.Kind.kind s.journal.kind s.found.items s.added.items _ c.args.entry c.as_slice.result.now _ _ s.number c.and.ensures
-    (c.as_slice.ensures ∙ c.requires.record.0) (c.in-Ok.ensures.stands honest) (s.stands honest now)
+    Appending.holds_with g.K.Kind.kind s.version s.journal.version s.journal.kind s.found.items s.added.items _ c.args.entry c.as_slice.result.now _ _ (s.in_version c.requires.open) s.number c.and.ensures
+    (subst (λ (b : List ℕ). g.K.Kind.kind.IsRecordOf b c.args.entry) (sym (c.as_slice.ensures ∙ c.requires.record.0)) c.requires.recorded) (c.in-Ok.ensures.stands honest) (s.stands honest now)
 
 pub invariant_of-self-clause-images : goal.invariant_of-self-clause-images
 invariant_of-self-clause-images g c honest =
     let s = c.args.self.now in
-    Appending.images_of g.K.Kind.kind _ s.undecided (g.D.Disk.state c.append.new.self.disk) (s.settled c.requires.open) (c.in-Ok.ensures.durable honest)
-    (Appending.holds_with g.K.Kind.kind s.journal.kind s.found.items s.added.items _ c.args.entry c.as_slice.result.now _ _ s.number c.and.ensures
-    (c.as_slice.ensures ∙ c.requires.record.0) (c.in-Ok.ensures.stands honest) (s.stands honest c.requires.open))
+    Appending.images_of g.K.Kind.kind s.version _ s.undecided (g.D.Disk.state c.append.new.self.disk) (s.settled c.requires.open) (c.in-Ok.ensures.durable honest)
+    (Appending.holds_with g.K.Kind.kind s.version s.journal.version s.journal.kind s.found.items s.added.items _ c.args.entry c.as_slice.result.now _ _ (s.in_version c.requires.open) s.number c.and.ensures
+    (subst (λ (b : List ℕ). g.K.Kind.kind.IsRecordOf b c.args.entry) (sym (c.as_slice.ensures ∙ c.requires.record.0)) c.requires.recorded) (c.in-Ok.ensures.stands honest) (s.stands honest c.requires.open))
 
 pub returns-in-Ok-clause-any_moment : goal.returns-in-Ok-clause-any_moment
 returns-in-Ok-clause-any_moment g c honest =
     let s = c.args.self.now in
-    let leaves = Appending.leaves_one g.K.Kind.kind s.journal.kind (s.found.items ++ s.added.items) c.args.entry c.as_slice.result.now _ _ _ s.number (c.as_slice.ensures ∙ c.requires.record.0)
+    let leaves = Appending.leaves_one g.K.Kind.kind s.version s.journal.version s.journal.kind (s.found.items ++ s.added.items) c.args.entry c.as_slice.result.now _ _ _ (s.in_version c.requires.open) s.number (subst (λ (b : List ℕ). g.K.Kind.kind.IsRecordOf b c.args.entry) (sym (c.as_slice.ensures ∙ c.requires.record.0)) c.requires.recorded)
     (s.stands honest c.requires.open) (c.append.ensures.any_moment honest (s.ready c.requires.open)) in
-    Appending.leaves_with g.K.Kind.kind g.met.K.Kind.lawful s.found.items s.added.items _ c.args.entry _ _ s.undecided s.undecided c.and.ensures (s.settled c.requires.open) (s.settled c.requires.open) leaves
+    Appending.leaves_with g.K.Kind.kind s.version g.met.K.Kind.lawful s.found.items s.added.items _ c.args.entry _ _ s.undecided s.undecided c.and.ensures (s.settled c.requires.open) (s.settled c.requires.open) leaves
 
 pub returns-in-Ok-clause-ok : goal.returns-in-Ok-clause-ok
 returns-in-Ok-clause-ok g c =
@@ -61,10 +61,10 @@ returns-in-Ok-clause-ok g c =
     let s = c.args.self.now in
     let ok = c.in-Ok.ensures.ok in
     let es = s.found.items ++ s.added.items in
-    let done = Committing.appends k (g.K.Kind.state s.state) (view s) _ c.args.entry c.commit-reply.result c.as_slice.result.now (Committing.state_is k lawful (g.K.Kind.state s.state) es s.replayed) c.commit-reply.ensures.accepted
+    let done = Committing.appends k (g.K.Kind.state s.state) (view s) _ c.args.entry c.commit-reply.result c.as_slice.result.now (Committing.state_is k lawful s.version (g.K.Kind.state s.state) es s.replayed) c.requires.current c.commit-reply.ensures.accepted c.requires.recorded
     (c.as_slice.ensures ∙ c.requires.record.0) c.requires.open
     (subst (λ (b : List ℕ). HasRoom (length b) (view s)) (sym c.as_slice.ensures) c.requires.fits)
-    (ap (history_of k) (Appending.more s.found.items s.added.items _ c.args.entry c.and.ensures) ∙ sym (Appending.entry_more k lawful es c.args.entry))
+    (ap (history_of k s.version) (Appending.more s.found.items s.added.items _ c.args.entry c.and.ensures) ∙ sym (Appending.entry_more k s.version lawful es c.args.entry))
     ok.1 ok.2 c.requires.open (s.settled c.requires.open) c.append.ensures.later in
     (refl, done)
 
@@ -77,25 +77,25 @@ returns-in-Err-clause-err g c =
     let es = s.found.items ++ s.added.items in
     let room : HasRoom (length c.as_slice.result.now) (view s) = subst (λ (b : List ℕ). HasRoom (length b) (view s)) (sym c.as_slice.ensures) c.requires.fits in
     let failed = Committing.fault_only c.in-Err.field-0 c.append.result s.journal.closed s.journal.gate s.journal.count (length c.as_slice.result.now) c.in-Err.is (s.ready c.requires.open) room c.append.ensures.closed c.append.ensures.full in
-    let fails = Committing.fails k (g.K.Kind.state s.state) (view s) _ c.args.entry c.as_slice.result.now c.close.result (Committing.state_is k g.met.K.Kind.lawful (g.K.Kind.state s.state) es s.replayed) c.requires.accepted
+    let fails = Committing.fails k (g.K.Kind.state s.state) (view s) _ c.args.entry c.as_slice.result.now c.close.result (Committing.state_is k g.met.K.Kind.lawful s.version (g.K.Kind.state s.state) es s.replayed) c.requires.current c.requires.accepted
     (c.as_slice.ensures ∙ c.requires.record.0) c.requires.open room refl c.in-Err.ensures.same_place.0 c.in-Err.ensures.same_place.1 c.close.ensures.closed c.close.ensures.undecided
     (c.append.ensures.fault failed).0 c.append.ensures.later c.close.ensures.fault in
     (c.close.ensures.fault, fails)
 
 pub invariant_of-self-in-Err-clause-passed : goal.invariant_of-self-in-Err-clause-passed
 invariant_of-self-in-Err-clause-passed g c =
-    Appending.one_follows g.K.Kind.kind (g.K.Kind.state c.args.self.now.state) _ c.args.entry c.close.ensures.undecided c.requires.recorded c.requires.accepted
+    Appending.one_follows g.K.Kind.kind (g.K.Kind.state c.args.self.now.state) _ c.args.entry c.close.ensures.undecided (_, c.requires.recorded) c.requires.accepted
 
 pub invariant_of-self-in-Err-clause-images : goal.invariant_of-self-in-Err-clause-images
 invariant_of-self-in-Err-clause-images g c honest =
     let s = c.args.self.now in
-    let leaves = Appending.leaves_one g.K.Kind.kind s.journal.kind (s.found.items ++ s.added.items) c.args.entry c.as_slice.result.now _ _ _ s.number (c.as_slice.ensures ∙ c.requires.record.0)
+    let leaves = Appending.leaves_one g.K.Kind.kind s.version s.journal.version s.journal.kind (s.found.items ++ s.added.items) c.args.entry c.as_slice.result.now _ _ _ (s.in_version c.requires.open) s.number (subst (λ (b : List ℕ). g.K.Kind.kind.IsRecordOf b c.args.entry) (sym (c.as_slice.ensures ∙ c.requires.record.0)) c.requires.recorded)
     (s.stands honest c.requires.open) (c.append.ensures.any_moment honest (s.ready c.requires.open)) in
-    Appending.images_undecided g.K.Kind.kind (s.found.items ++ s.added.items) _ c.args.entry _ _ c.close.ensures.undecided (g.met.D.Disk.lawful honest c.append.new.self.disk) leaves
+    Appending.images_undecided g.K.Kind.kind s.version (s.found.items ++ s.added.items) _ c.args.entry _ _ c.close.ensures.undecided (g.met.D.Disk.lawful honest c.append.new.self.disk) leaves
 
 pub returns-in-Err-clause-any_moment : goal.returns-in-Err-clause-any_moment
 returns-in-Err-clause-any_moment g c honest =
     let s = c.args.self.now in
-    let leaves = Appending.leaves_one g.K.Kind.kind s.journal.kind (s.found.items ++ s.added.items) c.args.entry c.as_slice.result.now _ _ _ s.number (c.as_slice.ensures ∙ c.requires.record.0)
+    let leaves = Appending.leaves_one g.K.Kind.kind s.version s.journal.version s.journal.kind (s.found.items ++ s.added.items) c.args.entry c.as_slice.result.now _ _ _ (s.in_version c.requires.open) s.number (subst (λ (b : List ℕ). g.K.Kind.kind.IsRecordOf b c.args.entry) (sym (c.as_slice.ensures ∙ c.requires.record.0)) c.requires.recorded)
     (s.stands honest c.requires.open) (c.append.ensures.any_moment honest (s.ready c.requires.open)) in
-    Appending.leaves_undecided g.K.Kind.kind g.met.K.Kind.lawful (s.found.items ++ s.added.items) c.args.entry _ _ s.undecided _ c.close.ensures.undecided leaves
+    Appending.leaves_undecided g.K.Kind.kind s.version g.met.K.Kind.lawful (s.found.items ++ s.added.items) c.args.entry _ _ s.undecided _ c.close.ensures.undecided leaves

@@ -8,7 +8,7 @@ pub returns-in-Err-clause-any_moment : goal.returns-in-Err-clause-any_moment
 returns-in-Err-clause-any_moment g c honest =
     let s = c.args.self.now.store in
     let t = c.prepare.new.self.store in
-    leaves_same (g.D.Disk.state s.journal.disk) (g.D.Disk.state t.journal.disk) (s.found.items ++ s.added.items) (t.found.items ++ t.added.items) s.undecided t.undecided
+    leaves_same s.version t.version (g.D.Disk.state s.journal.disk) (g.D.Disk.state t.journal.disk) (s.found.items ++ s.added.items) (t.found.items ++ t.added.items) s.undecided t.undecided
     (g.met.D.Disk.lawful honest s.journal.disk) (ap (λ j. g.D.Disk.state j.disk) c.prepare.ensures.same.0.0) (s.images honest)
 
 pub returns-in-Ok-clause-schedules : goal.returns-in-Ok-clause-schedules
