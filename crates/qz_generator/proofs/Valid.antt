@@ -36,7 +36,7 @@ with_sets minutes hours = record {
   day = days.Set 2147483647;
   months = 4095;
   week = weeks.Any;
-  years = 18446744073709551615 ∷ 18446744073709551615 ∷ 3 ∷ 0 ∷ [];
+  years = 18446744073709551615 ∷ 18446744073709551615 ∷ 18446744073709551615 ∷ 274877906943 ∷ [];
 }
 
 -- the fields as they are made, by bits that are shifted within their words

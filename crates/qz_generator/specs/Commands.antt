@@ -1,5 +1,5 @@
 -- The commands that a seed gives: all jobs, and then a trigger for each.
-use Rattle.std.specs.Prelude.{ℕ, zero, suc, ◌*◌, ◌^◌, ◌-◌, pos, negsuc, List, [], ◌∷◌, ◌++◌, false, None, codes}
+use Rattle.std.specs.Prelude.{ℕ, zero, suc, ◌*◌, ◌^◌, ◌-◌, pos, negsuc, List, [], ◌∷◌, ◌++◌, true, false, None, codes}
 use Rattle.std.specs.Fmt.{decimal}
 use Rattle.qz_civil.specs.declared.fields.CronFields.{CronFields}
 use Rattle.qz_civil.specs.declared.fields.DayField.TheVariants as days
@@ -39,14 +39,14 @@ daily_fields minute hour = record {
   day = days.Set (2 ^ 31 - 1);
   months = 2 ^ 12 - 1;
   week = weeks.Any;
-  years = (2 ^ 64 - 1) ∷ (2 ^ 64 - 1) ∷ 3 ∷ 0 ∷ [];
+  years = (2 ^ 64 - 1) ∷ (2 ^ 64 - 1) ∷ (2 ^ 64 - 1) ∷ (2 ^ 38 - 1) ∷ [];
 }
 
 -- the kind of a trigger with this schedule: without end, in the zone UTC, and a daily one on all days from 00:00:00 to 23:59:59
 abbrev pub kind_of : Schedule → Kind
 kind_of (Simple minutes) = kind.Simple (pos (60000 * minutes)) (negsuc 0)
 kind_of (Cron minute hour) = kind.Cron (daily_fields minute hour) (codes "UTC")
-kind_of (Interval hours) = kind.Interval Hour hours (codes "UTC")
+kind_of (Interval hours) = kind.Interval Hour hours (codes "UTC") true true
 kind_of (Daily minutes) = kind.Daily Minute minutes 0 86399 127 (codes "UTC")
 
 -- the job of this number

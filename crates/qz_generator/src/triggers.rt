@@ -38,7 +38,7 @@ fn daily_fields(minute: u32, hour: u32) -> CronFields
         day: DayField::Set(0x7FFF_FFFF),
         months: 0xFFF,
         week: WeekField::Any,
-        years: [u64::MAX, u64::MAX, 3, 0],
+        years: [u64::MAX, u64::MAX, u64::MAX, 274877906943],
     }
 }
 
@@ -61,6 +61,8 @@ fn make_kind(alloc: Global, schedule: Schedule) -> Result<Kind, AllocError>
             unit: Unit::Hour,
             every: hours,
             zone: Text::from_str(alloc, "UTC")?,
+            preserve: true,
+            skip: true,
         }),
         Schedule::Daily { minutes } => Ok(Kind::Daily {
             unit: Unit::Minute,

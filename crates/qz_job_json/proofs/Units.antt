@@ -9,5 +9,5 @@ use Rattle.qz_job_json.specs.Schedules.{last_of}
 pub misfires_to_last : (k : Kind) (code : ℤ) → is_misfire k code ≡ is_within (negsuc 0) (last_of k) code
 misfires_to_last (kind.Simple interval count) code = refl
 misfires_to_last (kind.Cron fields zone) code = refl
-misfires_to_last (kind.Interval unit every zone) code = refl
+misfires_to_last (kind.Interval unit every zone preserve skip) code = refl
 misfires_to_last (kind.Daily unit every from to days zone) code = refl

@@ -11,9 +11,9 @@ use Rattle.qz_types.specs.declared.commands.Command.TheVariants as command
 use Rattle.qz_types.specs.declared.keys.Key.{Key}
 use Rattle.qz_types.specs.declared.limits.TheConstants.{ACQUIRE_LIMIT, INTERVAL_LIMIT}
 use Rattle.qz_job_json.specs.declared.words.KeyWord.{KeyWord}
-use Rattle.qz_job_json.specs.declared.words.KeyWord.TheVariants.{DeleteJob, DeleteTrigger, PauseTrigger, ResumeTrigger, TriggerNow}
+use Rattle.qz_job_json.specs.declared.words.KeyWord.TheVariants.{DeleteJob, DeleteTrigger, PauseTrigger, ResumeTrigger, ResetTrigger, TriggerNow}
 use Rattle.qz_job_json.specs.declared.words.GroupWord.{GroupWord}
-use Rattle.qz_job_json.specs.declared.words.GroupWord.TheVariants.{PauseGroup, ResumeGroup}
+use Rattle.qz_job_json.specs.declared.words.GroupWord.TheVariants.{PauseGroup, ResumeGroup, PauseJobGroup, ResumeJobGroup}
 use Rattle.qz_job_json.specs.declared.words.NameWord.{NameWord}
 use Rattle.qz_job_json.specs.declared.words.NameWord.TheVariants.{DeleteCalendar, DeleteZone}
 use Rattle.qz_job_json.specs.declared.words.ClientWord.{ClientWord}
@@ -64,11 +64,14 @@ of_key DeleteJob key = command.DeleteJob key
 of_key DeleteTrigger key = command.DeleteTrigger key
 of_key PauseTrigger key = command.PauseTrigger key
 of_key ResumeTrigger key = command.ResumeTrigger key
+of_key ResetTrigger key = command.ResetTrigger key
 of_key TriggerNow key = command.TriggerNow key
 
 abbrev pub of_group : GroupWord → List ℕ → Command
 of_group PauseGroup group = command.PauseGroup group
 of_group ResumeGroup group = command.ResumeGroup group
+of_group PauseJobGroup group = command.PauseJobGroup group
+of_group ResumeJobGroup group = command.ResumeJobGroup group
 
 abbrev pub of_name : NameWord → List ℕ → Command
 of_name DeleteCalendar name = command.DeleteCalendar name

@@ -86,7 +86,7 @@ shared =
 abbrev pub own : KindWord → List (List ℕ)
 own Simple = codes "interval" ∷ codes "count" ∷ []
 own Cron = codes "cron" ∷ codes "zone" ∷ []
-own Interval = codes "unit" ∷ codes "every" ∷ codes "zone" ∷ []
+own Interval = codes "unit" ∷ codes "every" ∷ codes "zone" ∷ codes "preserveHourOfDay" ∷ codes "skipDayIfHourDoesNotExist" ∷ []
 own Daily = codes "unit" ∷ codes "every" ∷ codes "from" ∷ codes "to" ∷ codes "days" ∷ codes "zone" ∷ []
 
 -- the members of a calendar, of whichever kind

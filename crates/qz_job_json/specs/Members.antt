@@ -102,6 +102,10 @@ optional_span_at name d = said_if span_of (get name d)
 abbrev pub optional_name_at : List ℕ → Data → Option (Option (List ℕ))
 optional_name_at name d = said_if name_of (get name d)
 
--- a truth value, false only where there is no such member
+-- a truth value; the other one is taken where there is no such member
+abbrev pub flag_or : Bool → List ℕ → Data → Option Bool
+flag_or otherwise name d = said_or otherwise as_bool (get name d)
+
+-- the same, false where there is no such member
 abbrev pub flag_at : List ℕ → Data → Option Bool
-flag_at name d = said_or false as_bool (get name d)
+flag_at name d = flag_or false name d

@@ -1,5 +1,5 @@
 -- The triggers in lines. The members are read in this order up to the first fault, and the cron text last.
-use Rattle.std.specs.Prelude.{ℕ, ℤ, pos, negsuc, List, if◌then◌else◌, Option, Some, None, Result, Ok, Err, option_and_then, codes}
+use Rattle.std.specs.Prelude.{ℕ, ℤ, pos, negsuc, true, List, if◌then◌else◌, Option, Some, None, Result, Ok, Err, option_and_then, codes}
 use Rattle.serde_json.specs.Data.{Data}
 use Rattle.qz_civil.specs.declared.fields.CronFields.{CronFields}
 use Rattle.qz_civil.specs.declared.timings.Unit.{Unit}
@@ -20,7 +20,7 @@ use Rattle.qz_job_json.specs.declared.faults.LineFault.TheVariants as fault
 use Rattle.qz_job_json.specs.Clocks.{second_or, days_at}
 use Rattle.qz_job_json.specs.Faults.{◌>>=◌, or_shape}
 use Rattle.qz_job_json.specs.Forms.{members_of, kind_word_of}
-use Rattle.qz_job_json.specs.Members.{is_text, has_only, kept, text_at, number_at, span_at, name_or, integer_or, optional_span_at, optional_name_at}
+use Rattle.qz_job_json.specs.Members.{is_text, has_only, kept, text_at, number_at, span_at, name_or, integer_or, optional_span_at, optional_name_at, flag_or}
 use Rattle.qz_job_json.specs.Objects.{trigger_key, job_key}
 
 -- a cron text with a fault has that fault
@@ -80,7 +80,9 @@ interval_of d =
     or_shape (unit_at d) >>= λ unit.
     or_shape (every_at d) >>= λ every.
     or_shape (zone_at d) >>= λ zone.
-    Ok (kind.Interval unit every zone)
+    or_shape (flag_or true (codes "preserveHourOfDay") d) >>= λ preserve.
+    or_shape (flag_or true (codes "skipDayIfHourDoesNotExist") d) >>= λ skip.
+    Ok (kind.Interval unit every zone preserve skip)
 
 unfoldable pub daily_of : Data → Result Kind LineFault
 daily_of d =
@@ -110,7 +112,7 @@ last_misfire Daily = pos 2
 abbrev pub last_of : Kind → ℤ
 last_of (kind.Simple interval count) = pos 5
 last_of (kind.Cron fields zone) = pos 2
-last_of (kind.Interval unit every zone) = pos 2
+last_of (kind.Interval unit every zone preserve skip) = pos 2
 last_of (kind.Daily unit every from to days zone) = pos 2
 
 abbrev pub misfire_at : KindWord → Data → Option ℤ

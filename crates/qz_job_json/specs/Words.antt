@@ -3,8 +3,8 @@ use Rattle.std.specs.Prelude.{ℕ, List, if◌then◌else◌, Option, Some, None
 use Rattle.qz_types.specs.declared.commands.Code.{Code}
 use Rattle.qz_types.specs.declared.commands.Code.TheVariants as code
 use Rattle.qz_job_json.specs.Members.{is_text}
-use Rattle.qz_job_json.specs.declared.words.KeyWord.TheVariants.{DeleteJob, DeleteTrigger, PauseTrigger, ResumeTrigger, TriggerNow}
-use Rattle.qz_job_json.specs.declared.words.GroupWord.TheVariants.{PauseGroup, ResumeGroup}
+use Rattle.qz_job_json.specs.declared.words.KeyWord.TheVariants.{DeleteJob, DeleteTrigger, PauseTrigger, ResumeTrigger, ResetTrigger, TriggerNow}
+use Rattle.qz_job_json.specs.declared.words.GroupWord.TheVariants.{PauseGroup, ResumeGroup, PauseJobGroup, ResumeJobGroup}
 use Rattle.qz_job_json.specs.declared.words.NameWord.TheVariants.{DeleteCalendar, DeleteZone}
 use Rattle.qz_job_json.specs.declared.words.ClientWord.{ClientWord}
 use Rattle.qz_job_json.specs.declared.words.ClientWord.TheVariants.{AddJob, AddTrigger, AddCalendar, AddZone, OfKey, OfGroup, OfName, Threshold}
@@ -28,9 +28,12 @@ client_word_of text =
     else if is_text text (codes "delete_trigger") then Some (OfKey DeleteTrigger)
     else if is_text text (codes "pause_trigger") then Some (OfKey PauseTrigger)
     else if is_text text (codes "resume_trigger") then Some (OfKey ResumeTrigger)
+    else if is_text text (codes "reset_trigger") then Some (OfKey ResetTrigger)
     else if is_text text (codes "trigger_now") then Some (OfKey TriggerNow)
     else if is_text text (codes "pause_group") then Some (OfGroup PauseGroup)
     else if is_text text (codes "resume_group") then Some (OfGroup ResumeGroup)
+    else if is_text text (codes "pause_job_group") then Some (OfGroup PauseJobGroup)
+    else if is_text text (codes "resume_job_group") then Some (OfGroup ResumeJobGroup)
     else if is_text text (codes "delete_calendar") then Some (OfName DeleteCalendar)
     else if is_text text (codes "delete_zone") then Some (OfName DeleteZone)
     else if is_text text (codes "threshold") then Some Threshold

@@ -76,6 +76,7 @@ fn of_key(word: KeyWord, key: Key) -> Command
         KeyWord::DeleteTrigger => Command::DeleteTrigger { key },
         KeyWord::PauseTrigger => Command::PauseTrigger { key },
         KeyWord::ResumeTrigger => Command::ResumeTrigger { key },
+        KeyWord::ResetTrigger => Command::ResetTrigger { key },
         KeyWord::TriggerNow => Command::TriggerNow { job: key },
     }
 }
@@ -88,6 +89,8 @@ fn of_group(word: GroupWord, group: Text) -> Command
     match word {
         GroupWord::PauseGroup => Command::PauseGroup { group },
         GroupWord::ResumeGroup => Command::ResumeGroup { group },
+        GroupWord::PauseJobGroup => Command::PauseJobGroup { group },
+        GroupWord::ResumeJobGroup => Command::ResumeJobGroup { group },
     }
 }
 

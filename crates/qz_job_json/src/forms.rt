@@ -36,7 +36,10 @@ impl KindWord {
         match self {
             KindWord::Simple => matches!(name, "interval" | "count"),
             KindWord::Cron => matches!(name, "cron" | "zone"),
-            KindWord::Interval => matches!(name, "unit" | "every" | "zone"),
+            KindWord::Interval => matches!(
+                name,
+                "unit" | "every" | "zone" | "preserveHourOfDay" | "skipDayIfHourDoesNotExist"
+            ),
             KindWord::Daily => {
                 matches!(name, "unit" | "every" | "from" | "to" | "days" | "zone")
             }

@@ -6,7 +6,7 @@ ghost use Rattle.serde_json.specs.View.{view};
 ghost use Rattle.qz_civil.specs.Timings.{is_span, is_name, is_end};
 ghost use Rattle.qz_types.specs.Rows.{is_calendar, is_node};
 ghost use Rattle.qz_job_json.specs.Forms.{members_of};
-ghost use Rattle.qz_job_json.specs.Members.{is_among, has_only, text_at, number_at, span_at, name_at, node_at, name_or, group_at, integer_in, integer_or, optional_integer_at, optional_span_at, optional_name_at, flag_at};
+ghost use Rattle.qz_job_json.specs.Members.{is_among, has_only, text_at, number_at, span_at, name_at, node_at, name_or, group_at, integer_in, integer_or, optional_integer_at, optional_span_at, optional_name_at, flag_or, flag_at};
 
 use crate::forms::Form;
 use qz_types::{LONGEST, NAME_LIMIT, NODE_LIMIT};
@@ -168,12 +168,19 @@ pub(crate) fn optional_name_at<'v>(value: &'v Value, name: &str) -> Option<Optio
     }
 }
 
-/// The truth value under this name, false where there is no such member. None is a member that is none.
-pub(crate) fn flag_at(value: &Value, name: &str) -> Option<bool>
-    ensures { result ≡ flag_at name.now (view value.now) }
+/// The truth value under this name, `otherwise` where there is no such member. None is a member that is none.
+pub(crate) fn flag_or(value: &Value, name: &str, otherwise: bool) -> Option<bool>
+    ensures { result ≡ flag_or otherwise name.now (view value.now) }
 {
     match value.get(name) {
         Some(member) => member.as_bool(),
-        None => Some(false),
+        None => Some(otherwise),
     }
+}
+
+/// The same, false where there is no such member.
+pub(crate) fn flag_at(value: &Value, name: &str) -> Option<bool>
+    ensures { result ≡ flag_at name.now (view value.now) }
+{
+    flag_or(value, name, false)
 }

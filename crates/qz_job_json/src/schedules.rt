@@ -11,7 +11,8 @@ use crate::clocks::{days_at, second_or};
 use crate::faults::{LineError, LineFault};
 use crate::forms::{Form, KindWord};
 use crate::members::{
-    has_only, integer_or, name_or, number_at, optional_name_at, optional_span_at, span_at, text_at,
+    flag_or, has_only, integer_or, name_or, number_at, optional_name_at, optional_span_at, span_at,
+    text_at,
 };
 use crate::objects::{make_keys, names_at};
 use qz_civil::{COUNT_LIMIT, DAY_SECONDS, EVERY_LIMIT, Kind, LONGEST, Timing, Unit, beside};
@@ -96,8 +97,16 @@ fn interval_of(alloc: Global, value: &Value) -> Result<Kind, LineError>
     let unit = unit_at(value).ok_or(LineFault::Shape)?;
     let every = every_at(value).ok_or(LineFault::Shape)?;
     let zone = zone_at(value).ok_or(LineFault::Shape)?;
+    let preserve = flag_or(value, "preserveHourOfDay", true).ok_or(LineFault::Shape)?;
+    let skip = flag_or(value, "skipDayIfHourDoesNotExist", true).ok_or(LineFault::Shape)?;
     let zone = Text::from_str(alloc, zone)?;
-    Ok(Kind::Interval { unit, every, zone })
+    Ok(Kind::Interval {
+        unit,
+        every,
+        zone,
+        preserve,
+        skip,
+    })
 }
 
 /// Whether the step is one of a second to a day, and the times are in their order.

@@ -11,6 +11,7 @@ pub(crate) enum KeyWord {
     DeleteTrigger,
     PauseTrigger,
     ResumeTrigger,
+    ResetTrigger,
     TriggerNow,
 }
 
@@ -19,6 +20,8 @@ pub(crate) enum KeyWord {
 pub(crate) enum GroupWord {
     PauseGroup,
     ResumeGroup,
+    PauseJobGroup,
+    ResumeJobGroup,
 }
 
 /// The lines that name a calendar or a zone.
@@ -55,9 +58,12 @@ impl ClientWord {
             "delete_trigger" => Some(ClientWord::OfKey(KeyWord::DeleteTrigger)),
             "pause_trigger" => Some(ClientWord::OfKey(KeyWord::PauseTrigger)),
             "resume_trigger" => Some(ClientWord::OfKey(KeyWord::ResumeTrigger)),
+            "reset_trigger" => Some(ClientWord::OfKey(KeyWord::ResetTrigger)),
             "trigger_now" => Some(ClientWord::OfKey(KeyWord::TriggerNow)),
             "pause_group" => Some(ClientWord::OfGroup(GroupWord::PauseGroup)),
             "resume_group" => Some(ClientWord::OfGroup(GroupWord::ResumeGroup)),
+            "pause_job_group" => Some(ClientWord::OfGroup(GroupWord::PauseJobGroup)),
+            "resume_job_group" => Some(ClientWord::OfGroup(GroupWord::ResumeJobGroup)),
             "delete_calendar" => Some(ClientWord::OfName(NameWord::DeleteCalendar)),
             "delete_zone" => Some(ClientWord::OfName(NameWord::DeleteZone)),
             "threshold" => Some(ClientWord::Threshold),

@@ -38,6 +38,9 @@ trigger_line t = trigger_text t ++ 10 ∷ []
 abbrev pub group_line : List ℕ → List ℕ
 group_line group = codes "paused " ++ escaped group ++ 10 ∷ []
 
+unfoldable pub job_group_line : List ℕ → List ℕ
+job_group_line group = codes "paused_jobs " ++ escaped group ++ 10 ∷ []
+
 abbrev pub member_line : MemberData → List ℕ
 member_line m = codes "member " ++ escaped m.node ++ 32 ∷ decimal m.epoch ++ 10 ∷ []
 

@@ -7,6 +7,7 @@ pub const HELP: &str = "usage: qz_sched < LINES           a script on new stores
        qz_sched script < LINES    a script on the stores of the current folder
        qz_sched load < DOCUMENT   jobs and triggers into the stores of the current folder
        qz_sched list              what the stores of the current folder hold
+       qz_sched migrate           takes a trigger store of format version 1 to version 2
        qz_sched run NODES FROM UNTIL [BUDGET]
                                   nodes work on the stores of the current folder, on a
                                   clock that begins at FROM, up to UNTIL
@@ -38,12 +39,12 @@ for ever, so list the changes of all years that you need. This one has those of 
 The stores are the files qz-triggers.store and qz-states.store. One program at a time may
 work on them. Standard error says what ended a call early:
 
-  status 1  bad words                  status 6   no store, or a damaged one
-  status 2  a bad line                 status 7   the journal is full
-  status 3  read fault                 status 8   the budget of a run is spent
-  status 4  write fault                status 9   no memory
-  status 5  disk fault                 status 10  the stores exist already
-                                       status 11  too many rows
+  status 1  bad words                  status 7   the journal is full
+  status 2  a bad line                 status 8   the budget of a run is spent
+  status 3  read fault                 status 9   no memory
+  status 4  write fault                status 10  the stores exist already
+  status 5  disk fault                 status 11  too many rows
+  status 6  no store, or a damaged one status 12  an old store: see migrate
 
 --help and --version, as the only word, print this text and the version.
 ";

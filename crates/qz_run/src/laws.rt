@@ -13,9 +13,9 @@ pub fn jobs_tell_their_calls()
     ensures { (class : List ℕ) (log : List Event) (before after : List JobMeaning) → Ran log before after → Grows (asked class log) (told class before) (told class after) }
 {}
 
-/// The numbers that definitions of a run cite by name: 16 nodes at most, 4194304 entries, and a check-in interval of 15000 ms.
+/// The numbers that definitions of a run cite by name: 16 nodes at most, 8388608 entries, and a check-in interval of 15000 ms.
 pub fn run_numbers_are()
     ensures nodes { NODES ≡ 16 }
-    ensures room { ROOM ≡ 4194304 }
+    ensures room { ROOM ≡ 8388608 }
     ensures interval { CHECK_IN_INTERVAL ≡ pos 15000 }
 {}

@@ -3,7 +3,7 @@ use crate::{Declined, NodeCommand};
 use qz_types::Reply;
 
 /// How many entries a trigger store accepts at most while it is open.
-pub const ROOM: usize = 4194304;
+pub const ROOM: usize = 8388608;
 
 /// How many nodes a run has at most.
 pub const NODES: u32 = 16;

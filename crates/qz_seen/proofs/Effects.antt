@@ -3,7 +3,7 @@ use Rattle.std.proofs.Common.{◌≡◌, ◌≢◌, ◌⊎◌, inl, inr, ◌^◌
 use Rattle.std.specs.List.{list_any}
 use Rattle.std.proofs.lemmas.Int.{ints}
 use Rattle.qz_types.specs.Rows.{MemberData}
-use Rattle.qz_types.specs.Tables.{SchedulerTables, recorded_moment}
+use Rattle.qz_types.specs.Tables.{SchedulerTables, IsMoment, recorded_moment}
 use Rattle.qz_types.specs.Outcomes.{Outcome, accepted, refused}
 use Rattle.qz_types.specs.Words.{same_text, member_of, without_member}
 use Rattle.qz_types.specs.declared.commands.Code.{Code}
@@ -23,7 +23,7 @@ use Rattle.qz_model.specs.Transaction.{by_command, transaction}
 use Rattle.qz_model.proofs.RowLaws.{member_of-without_member, member_of-without_own}
 use Rattle.qz_run.specs.declared.commands.NodeCommand.{NodeCommand}
 use Rattle.qz_run.specs.declared.commands.NodeCommand.TheVariants as asks
-use Rattle.qz_run.specs.Stores.{KeepsAll, Effect, CanAsk, IsTime}
+use Rattle.qz_run.specs.Stores.{KeepsAll, Effect, CanAsk}
 use Rattle.qz_seen.specs.Asking.{epoch_of, actor_of, command_of, entry_of}
 use Rattle.qz_seen.specs.Effects.{LeavesOthers, Does, IsTooMany}
 use Rattle.qz_seen.specs.Seen.{node_name, rows_of, some_due, some_misfired, is_due_by, seen}
@@ -176,10 +176,9 @@ module _ (T T' : SchedulerTables) (n : ℕ) (m : ℤ) (r : Reply) (small : n < 2
         → Does n m (asks.Complete entry code) r (seen T) (seen T')
     does-complete entry code next one e = by_end entry code next one (completes T T' m me entry r code e)
 
--- the moment of an entry that doesn't lie before the last one
-pub moment_is : (T : SchedulerTables) (at : ℤ) → TablesValid T → IsTime at → T.last_moment ≤ℤ at → recorded_moment T at ≡ at
-moment_is T at valid time later =
-    let horizon = valid.references_and_limits.limits.horizon in
+-- the moment of an entry that doesn't lie before the last one, nor after the horizon
+pub moment_is : (T : SchedulerTables) (at : ℤ) → IsMoment T.horizon at → T.last_moment ≤ℤ at → recorded_moment T at ≡ at
+moment_is T at time later =
     let low = time.low in
     let high = time.high in
     grind (arith, ints)
@@ -198,10 +197,10 @@ does_at T T' n m (asks.Fire entry) r small valid can e = does-fire T T' n m r sm
 does_at T T' n m (asks.Complete entry code) r small valid can e = does-complete T T' n m r small valid (me_of T n) refl entry code can.next can.row e
 
 -- An accepted entry does to the node's part of the tables what its reply says, and leaves the others.
-pub does : (T T' : SchedulerTables) (n : ℕ) (at : ℤ) (command : NodeCommand) (r : Reply) → n < 2 ^ 32 → TablesValid T → IsTime at → T.last_moment ≤ℤ at → CanAsk n at command (seen T)
+pub does : (T T' : SchedulerTables) (n : ℕ) (at : ℤ) (command : NodeCommand) (r : Reply) → n < 2 ^ 32 → TablesValid T → IsMoment T.horizon at → T.last_moment ≤ℤ at → CanAsk n at command (seen T)
     → transaction T (entry_of T at n command) ≡ accepted T' r → Does n at command r (seen T) (seen T')
 does T T' n at command r small valid time later can e =
-    does_at T T' n at command r small valid can (subst (λ (m : ℤ). asked_at T m n command ≡ accepted T' r) (moment_is T at valid time later) e)
+    does_at T T' n at command r small valid can (subst (λ (m : ℤ). asked_at T m n command ≡ accepted T' r) (moment_is T at time later) e)
 
 -- Of what a node may ask, only a Join or an Acquire is refused, and only where a limit is in the way.
 refused_at : (T : SchedulerTables) (n : ℕ) (m : ℤ) (command : NodeCommand) (x : Refusal) → TablesValid T → CanAsk n m command (seen T) → asked_at T m n command ≡ refused x → IsTooMany x
@@ -212,7 +211,7 @@ refused_at T n m (asks.Acquire no_later) x valid can e = refused_acquire T m (me
 refused_at T n m (asks.Fire entry) x valid can e = absurd (no_refused_fire T m can.next (me_of T n) entry x valid (is_live T n can.member) can.row can.due e)
 refused_at T n m (asks.Complete entry code) x valid can e = absurd (no_refused_complete T m can.next (me_of T n) entry code x valid (is_live T n can.member) can.row e)
 
-pub refuses : (T : SchedulerTables) (n : ℕ) (at : ℤ) (command : NodeCommand) (x : Refusal) → TablesValid T → IsTime at → T.last_moment ≤ℤ at → CanAsk n at command (seen T)
+pub refuses : (T : SchedulerTables) (n : ℕ) (at : ℤ) (command : NodeCommand) (x : Refusal) → TablesValid T → IsMoment T.horizon at → T.last_moment ≤ℤ at → CanAsk n at command (seen T)
     → transaction T (entry_of T at n command) ≡ refused x → IsTooMany x
 refuses T n at command x valid time later can e =
-    refused_at T n at command x valid can (subst (λ (m : ℤ). asked_at T m n command ≡ refused x) (moment_is T at valid time later) e)
+    refused_at T n at command x valid can (subst (λ (m : ℤ). asked_at T m n command ≡ refused x) (moment_is T at time later) e)

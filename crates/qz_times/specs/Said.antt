@@ -8,6 +8,7 @@ use Rattle.qz_types.specs.declared.commands.Command.TheVariants as command
 use Rattle.qz_types.specs.Entries.{EntryData}
 use Rattle.qz_types.specs.Outcomes.{Outcome, accepted, refused}
 use Rattle.qz_types.specs.declared.replies.Refusal.{Refusal}
+use Rattle.qz_types.specs.declared.replies.Reply.{Reply}
 use Rattle.qz_types.specs.declared.replies.Refusal.TheVariants.{UnknownCalendar, UnknownZone}
 use Rattle.qz_steps.specs.declared.steps.StepReply.TheVariants as reply
 use Rattle.qz_types.specs.declared.triggers.TriggerSpec.{TriggerSpec}
@@ -35,6 +36,10 @@ entry_of command = record { at = pos 0; actor = Client; seat = 0; command = comm
 abbrev pub Obeyed : Outcome → Known → List ℕ → Known → Type 0
 Obeyed (accepted next done) known text known' = (text ≡ reply_text (reply.Ok done)) × (known' ≡ next)
 Obeyed (refused refusal) known text known' = (text ≡ reply_text (reply.Refused refusal)) × (known' ≡ known)
+
+-- Wherever the command is accepted, fire times may go on to the same moment as before.
+abbrev pub KeepsHorizon : Command → Type 0
+KeepsHorizon c = (T T' : Known) (r : Reply) → transaction T (entry_of c) ≡ accepted T' r → T'.horizon ≡ T.horizon
 
 -- The fire times of a trigger.
 

@@ -1,23 +1,12 @@
 //! What lines have stored.
 ghost use Rattle.std.specs.Prelude.{◌≡◌};
-ghost use Rattle.qz_times.specs.Known.{kept, nothing};
+ghost use Rattle.qz_civil.specs.declared.limits.TheConstants.{LAST};
 
 use qz_plain::PlainStore;
-use std::alloc::Global;
 
-/// What lines have stored: tables of the trigger store, of which only zones and calendars have rows.
+/// What lines have stored: tables of the trigger store, of which only zones and calendars have rows. Fire times may go on to `LAST`.
 #[derive(Drop)]
 pub(crate) struct Known {
     pub(crate) store: PlainStore,
-}
-
-impl Known {
-    /// What is known before the first line.
-    pub(crate) fn nothing(alloc: Global) -> Known
-        ensures { kept result ≡ nothing }
-    {
-        Known {
-            store: PlainStore::new(alloc),
-        }
-    }
+    ghost reaches: { store.tables.horizon ≡ LAST },
 }

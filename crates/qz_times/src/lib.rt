@@ -2,6 +2,7 @@
 #![tactic(auto)]
 
 mod answers;
+mod beginning;
 mod ends;
 mod known;
 mod obeying;

@@ -3,7 +3,7 @@ ghost use Rattle.std.specs.Prelude.{IsTrue, IfOk};
 ghost use Rattle.qz_types.specs.Entries.{is_entry};
 ghost use Rattle.qz_model.specs.Transaction.{transaction};
 ghost use Rattle.qz_times.specs.Known.{kept};
-ghost use Rattle.qz_times.specs.Said.{Obeyed, entry_of};
+ghost use Rattle.qz_times.specs.Said.{KeepsHorizon, Obeyed, entry_of};
 
 use crate::known::Known;
 use crate::reply_lines::line_of;
@@ -15,7 +15,8 @@ use std::alloc::Global;
 /// Does what a client asks for, by the transaction of the trigger store. Where there is no memory, what is known is not to be
 /// used further.
 pub(crate) fn obey(alloc: Global, known: &mut Known, command: Command) -> Result<Text, NoMemory>
-    requires { IsTrue (is_entry (entry_of command)) }
+    requires valid { IsTrue (is_entry (entry_of command)) }
+    requires keeps { KeepsHorizon command }
     ensures { IfOk result (λ text. Obeyed (transaction (kept known.old) (entry_of command)) (kept known.old) text (kept known.new)) }
 {
     let entry = Entry {

@@ -24,7 +24,7 @@ use qz_types::{Command, Refusal, TriggerSpec};
 use std::alloc::Global;
 
 /// Says what a line asks for. Where there is no memory, what is known is not to be used further.
-#[tactic(auto, unfolding(qz_types::specs::Entries::is_entry))]
+#[tactic(auto, unfolding(qz_types::specs::Entries::is_entry), using(crate::proofs::NextLaws::zone_keeps, crate::proofs::NextLaws::calendar_keeps))]
 pub(crate) fn say(
     alloc: Global,
     asked: Asked,

@@ -3,7 +3,7 @@ use Rattle.std.proofs.Common.{ℕ, ℤ, List, [], refl}
 use Rattle.std.specs.Prelude.{Bool, true, ⊤}
 use Rattle.qz_io.specs.Outside.{Outside}
 use Rattle.qz_steps.specs.declared.steps.StepReply.{StepReply}
-use Rattle.qz_model.proofs.Kept.{valid-new_tables}
+use Rattle.qz_model.proofs.Kept.{valid-empty}
 use Rattle.qz_trigger_store.specs.Opening.{IsSound}
 use Rattle.qz_trigger_store.proofs.Appending.{begins_new}
 use Rattle.qz_cluster.specs.Steps.{ClusterState}
@@ -28,10 +28,11 @@ module _ (honest : Type 0) (s : Status) (is_own : Bool) (S : ClusterState) (afte
 -- New stores are like stores that were just opened.
 new_sound : (m n : ℕ) → IsSound (new_cluster m n).triggers
 new_sound m n = record {
-  begins = begins_new;
+  version = 2;
+  begins = begins_new 2 refl;
   legal = tt;
-  state = ∣ valid-new_tables ∣₁;
-  placed = λ is. record { payloads = []; encode = tt; gate = refl; count = refl };
+  state = ∣ valid-empty 2 ∣₁;
+  placed = λ is. record { payloads = []; encode = ∣ tt ∣₁; gate = refl; count = refl };
 }
 
 new_start : (m n : ℕ) → IsStart (new_cluster m n)

@@ -47,6 +47,7 @@ caused_at status.NoMemory v w old new same words read write disk = tt
 caused_at status.Exists v w old new same words read write disk = tt
 caused_at (status.Budget firings) v w old new same words read write disk = tt
 caused_at (status.TooMany count) v w old new same words read write disk = tt
+caused_at status.OldStore v w old new same words read write disk = tt
 
 -- Statuses that some calls don't end with.
 
@@ -71,7 +72,8 @@ script_words triggers states e old new fault (inr none) is = not_of_opening none
 
 pub run_words : {D : Type 0} {g : Ghosts D} (p : Plan) (jobs jobs' : List JobMeaning) (triggers states : D) (e : Ended D g) (old new : Outside) (fault : WordFault)
     → RanNodes p jobs jobs' triggers states e old new → e.status ≡ status.BadWords fault → ⊥
-run_words p jobs jobs' triggers states e old new fault (inl ran) is = told_no_words p ran.work e.status fault jobs jobs' ran.opened ran.end ran.told is ran.worked
+run_words p jobs jobs' triggers states e old new fault (inl (inl ran)) is = told_no_words p ran.work e.status fault jobs jobs' ran.opened ran.end ran.told is ran.worked
+run_words p jobs jobs' triggers states e old new fault (inl (inr was)) is = let found : status.BadWords fault ≡ status.OldStore = sym is ∙ was.0.status_is in absurd cc
 run_words p jobs jobs' triggers states e old new fault (inr none) is = not_of_opening none.0.store none.0.error fault (sym none.0.status_is ∙ is)
 
 pub times_words : (s : Status) (fault : WordFault) → IsOfTimes s → s ≡ status.BadWords fault → ⊥

@@ -237,6 +237,7 @@ module _ {D K C : Type 0} (g : Ghosts D) (k : sink.Ghosts K) (c : clock.Ghosts C
   IsRun-whole status.Exists closed i j a b out m n lines tells finishes = absurd finishes
   IsRun-whole (status.Budget firings) closed i j a b out m n lines tells finishes = absurd finishes
   IsRun-whole (status.TooMany count) closed i j a b out m n lines tells finishes = absurd finishes
+  IsRun-whole status.OldStore closed i j a b out m n lines tells finishes = absurd finishes
 
   -- the output's count of faults while lines are done
   pub faults_later : (i j : Option (List ℕ)) (a b : State) → HandlesLines (Does {g = g} k c) (Ok tt) i j a b → k.faults a.out ≤ k.faults b.out
@@ -274,3 +275,4 @@ finish_called status.NoMemory closed old new m n finishes = absurd finishes
 finish_called status.Exists closed old new m n finishes = absurd finishes
 finish_called (status.Budget firings) closed old new m n finishes = absurd finishes
 finish_called (status.TooMany count) closed old new m n finishes = absurd finishes
+finish_called status.OldStore closed old new m n finishes = absurd finishes

@@ -8,7 +8,7 @@ use Rattle.qz_disk.specs.declared.disk.Disk.{Ghosts}
 use Rattle.qz_disk.proofs.Moments.{then_leaves}
 use Rattle.qz_io.specs.Outside.{Outside}
 use Rattle.qz_types.specs.Entries.{EntryData}
-use Rattle.qz_types.specs.Tables.{SchedulerTables, new_tables}
+use Rattle.qz_types.specs.Tables.{SchedulerTables, empty}
 use Rattle.qz_types.specs.declared.commands.Actor.TheVariants as actor
 use Rattle.qz_types.specs.declared.commands.Command.{Command}
 use Rattle.qz_types.specs.declared.errors.SubmitError.{SubmitError}
@@ -25,7 +25,7 @@ use Rattle.qz_stores.specs.Stores.{Same, Submits}
 use Rattle.qz_node.specs.Jobs.{JobMeaning}
 use Rattle.qz_trigger_store.specs.Bytes.{Stands, MayBe}
 use Rattle.qz_trigger_store.specs.Entries.{TriggerState, trigger_entry}
-use Rattle.qz_trigger_store.specs.View.{view, found_of, added_of, replies_of, disk_state}
+use Rattle.qz_trigger_store.specs.View.{view, version_of, found_of, added_of, replies_of, disk_state}
 use Rattle.qz_trigger_store.specs.declared.stores.TriggerStore.{TriggerStore}
 use Rattle.qz_checkin.specs.Entries.{StatesState}
 use Rattle.qz_cluster.specs.Script.{entry_of}
@@ -193,9 +193,10 @@ module _ {D : Type 0} {g : Ghosts D} where
   sums_up : (t : TriggerStore D g) → found_of t ≡ [] → summary_text (summary_of (added_of t) (replies_of t) (replay (view t).history)) ≡ summary_line_of (view t).history
   sums_up t none =
       let T : SchedulerTables = replay (view t).history in
-      let replied : replies_of t ≡ replies_from new_tables (added_of t) = t.replies ∙ ap (λ (es : List EntryData). replies_from (replay_from new_tables es) (added_of t)) none in
+      let new : SchedulerTables = empty (version_of t) in
+      let replied : replies_of t ≡ replies_from new (added_of t) = t.replies ∙ ap (λ (es : List EntryData). replies_from (replay_from new es) (added_of t)) none in
       ap (λ (rs : List Reply). summary_text (summary_of (added_of t) rs T)) replied
-      ∙ ap (λ (es : List EntryData). summary_text (summary_of (es ++ added_of t) (replies_from new_tables (es ++ added_of t)) T)) (sym none)
+      ∙ ap (λ (es : List EntryData). summary_text (summary_of (es ++ added_of t) (replies_from new (es ++ added_of t)) T)) (sym none)
 
   pub told_whole : (t : TriggerStore D g) (s : Status) (old new : Outside) → found_of t ≡ [] → WritesRun s (summary_text (summary_of (added_of t) (replies_of t) (replay (view t).history))) old new
       → WritesRun s (summary_line_of (view t).history) old new
@@ -213,8 +214,9 @@ entries_grow s t e (Err submit.Fault) done = let same = ap (λ (h : History). le
 
 module _ {D : Type 0} {g : Ghosts D} where
   -- the first entries of a history are those of the one that it went on from
-  first_of_both : (b c : TriggerStore D g) (added : List EntryData) (k : ℕ) → (view c).history.entries ≡ (view b).history.entries ++ added → k ≤ length (view b).history.entries → first_entries k (view c).history ≡ first_entries k (view b).history
-  first_of_both b c added k entries within i = record (view b).history { entries = (ap (take k) entries ∙ take-append-le k (view b).history.entries added within) i }
+  first_of_both : (b c : TriggerStore D g) (added : List EntryData) (k : ℕ) → version_of c ≡ version_of b → (view c).history.entries ≡ (view b).history.entries ++ added → k ≤ length (view b).history.entries → first_entries k (view c).history ≡ first_entries k (view b).history
+  first_of_both b c added k version entries within i =
+      record (view b).history { base = empty (version i); entries = (ap (take k) entries ∙ take-append-le k (view b).history.entries added within) i }
 
   whole_of : (b : TriggerStore D g) → first_entries (length (view b).history.entries) (view b).history ≡ (view b).history
   whole_of b i = record (view b).history { entries = take-length (view b).history.entries i }
@@ -223,26 +225,26 @@ module _ {D : Type 0} {g : Ghosts D} where
   stands_of : (b : TriggerStore D g) (bytes : List ℕ) → (view b).is_open ≡ true → MayBe (view b).history (view b).undecided bytes → Stands bytes (view b).history
   stands_of b bytes opened may = subst (λ (u : Option EntryData). MayBe (view b).history u bytes) (b.store.settled opened) may
 
-  first_way : (a b c : TriggerStore D g) (added : List EntryData) (bytes : List ℕ) → (view b).is_open ≡ true → length (view a).history.entries ≤ length (view b).history.entries
+  first_way : (a b c : TriggerStore D g) (added : List EntryData) (bytes : List ℕ) → version_of c ≡ version_of b → (view b).is_open ≡ true → length (view a).history.entries ≤ length (view b).history.entries
       → (view c).history.entries ≡ (view b).history.entries ++ added → HasOnTheWay (view a) (view b) bytes → HasOnTheWay (view a) (view c) bytes
-  first_way a b c added bytes opened within entries (inl on) =
+  first_way a b c added bytes version opened within entries (inl on) =
       let longer : length (view b).history.entries ≤ length (view c).history.entries = omega (arith, ap length entries, length-append (view b).history.entries added) in
-      inl (on.0, on.1, omega (arith, on.2, longer), subst (Stands bytes) (sym (first_of_both b c added on.0 entries on.2)) on.3)
-  first_way a b c added bytes opened within entries (inr may) =
+      inl (on.0, on.1, omega (arith, on.2, longer), subst (Stands bytes) (sym (first_of_both b c added on.0 version entries on.2)) on.3)
+  first_way a b c added bytes version opened within entries (inr may) =
       let longer : length (view b).history.entries ≤ length (view c).history.entries = omega (arith, ap length entries, length-append (view b).history.entries added) in
       let n : ℕ = length (view b).history.entries in
-      inl (n, within, longer, subst (Stands bytes) (sym (first_of_both b c added n entries (omega arith) ∙ whole_of b)) (stands_of b bytes opened may))
+      inl (n, within, longer, subst (Stands bytes) (sym (first_of_both b c added n version entries (omega arith) ∙ whole_of b)) (stands_of b bytes opened may))
 
   second_way : (a b c : TriggerStore D g) (bytes : List ℕ) → length (view a).history.entries ≤ length (view b).history.entries → HasOnTheWay (view b) (view c) bytes → HasOnTheWay (view a) (view c) bytes
   second_way a b c bytes within (inl on) = inl (on.0, omega (arith, within, on.1), on.2, on.3)
   second_way a b c bytes within (inr may) = inr may
 
   -- the nodes' work comes after the commands
-  pub kept_on : (a b c : TriggerStore D g) (added : List EntryData) → (view b).is_open ≡ true → length (view a).history.entries ≤ length (view b).history.entries
+  pub kept_on : (a b c : TriggerStore D g) (added : List EntryData) → version_of c ≡ version_of b → (view b).is_open ≡ true → length (view a).history.entries ≤ length (view b).history.entries
       → (view c).history.entries ≡ (view b).history.entries ++ added → ∥ KeepsTriggers a b ∥₁ → ∥ KeepsTriggers b c ∥₁ → ∥ KeepsTriggers a c ∥₁
-  kept_on a b c added opened within entries first second =
+  kept_on a b c added version opened within entries first second =
       ∥∥₁_elim first squash₁ (λ p. ∥∥₁_map second (λ q honest. then_leaves (disk_state a) (disk_state b) (disk_state c) _ _ _ (p honest) (q honest)
-      (λ bytes was. first_way a b c added bytes opened within entries was) (λ bytes is. second_way a b c bytes within is)))
+      (λ bytes was. first_way a b c added bytes version opened within entries was) (λ bytes is. second_way a b c bytes within is)))
 
 -- Statuses that `gen` doesn't end with.
 
@@ -264,7 +266,8 @@ pub gen_words : {D : Type 0} {g : Ghosts D} (w : Workload) (jobs jobs' : List Jo
 gen_words {g = g} w jobs jobs' triggers states e old new fault (inl ran) is = did ran.did where
   did : Generated g.honest w e.status jobs jobs' ran.opened ran.end old new → ⊥
   did (inl had) = let exists : status.BadWords fault ≡ status.Exists = sym is ∙ had.exists in cc
-  did (inr (inl part)) =
+  did (inr (inl was)) = let found : status.BadWords fault ≡ status.OldStore = sym is ∙ was.status_is in cc
+  did (inr (inr (inl part))) =
       fill_no_words g.honest fault (generated w.seed w.jobs) ran.opened ran.end (subst (λ (s : Status). FillEnded g.honest s (generated w.seed w.jobs) ran.opened ran.end) is part.ended)
-  did (inr (inr whole)) = told_no_words (plan_of w.days) whole.work e.status fault jobs jobs' whole.between ran.end whole.told is whole.worked
+  did (inr (inr (inr whole))) = told_no_words (plan_of w.days) whole.work e.status fault jobs jobs' whole.between ran.end whole.told is whole.worked
 gen_words w jobs jobs' triggers states e old new fault (inr none) is = not_of_opening none.0.store none.0.error fault (sym none.0.status_is ∙ is)

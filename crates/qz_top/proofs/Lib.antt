@@ -9,6 +9,7 @@ pub mod LineLaws
 pub mod LoadLaws
 pub mod LossLaws
 pub mod MakingLaws
+pub mod MigratingLaws
 pub mod MomentLaws
 pub mod NodeRunLaws
 pub mod OpenedLaws

@@ -9,16 +9,19 @@ use Rattle.qz_steps.specs.declared.steps.StepReply.TheVariants as reply
 use Rattle.qz_types.specs.Rows.{MemberData}
 use Rattle.qz_types.specs.Entries.{EntryData, StateEntryData, is_entry}
 use Rattle.qz_types.specs.Outcomes.{Outcome, accepted, refused, IsAccepted}
-use Rattle.qz_types.specs.Tables.{new_tables}
+use Rattle.qz_types.specs.Tables.{empty}
 use Rattle.qz_types.specs.declared.replies.Reply.{Reply}
 use Rattle.qz_model.specs.History.{History, IsLegal, with_entry}
 use Rattle.qz_model.specs.Invariant.{TablesValid}
 use Rattle.qz_model.proofs.Histories.{IsLegalFrom-entry}
-use Rattle.qz_model.proofs.Kept.{valid-new_tables}
+use Rattle.qz_model.proofs.Kept.{valid-empty}
 use Rattle.qz_model.proofs.RowPoints.{All-weaker}
 use Rattle.qz_laws.proofs.Histories.{exact}
+use Rattle.qz_stores.specs.Kinds.{HasRecord}
 use Rattle.qz_stores.specs.Stores.{Appends}
 use Rattle.qz_trigger_store.specs.Entries.{TriggerState, answer_of, trigger_entry}
+use Rattle.qz_trigger_store.proofs.Horizons.{accepted_anyway}
+use Rattle.qz_trigger_store.specs.Kinds.{trigger_kind}
 use Rattle.qz_trigger_store.specs.Opening.{IsOpened}
 use Rattle.qz_stores.proofs.Blocks.{All-pushed}
 use Rattle.qz_checkin.specs.Entries.{StatesState}
@@ -37,11 +40,12 @@ use Rattle.qz_top.specs.declared.statuses.Status.TheVariants as status
 use Rattle.qz_top.proofs.Courses.{CourseEnd, Course}
 use Rattle.qz_top.proofs.OpenedLaws.{end_trail}
 use Rattle.qz_top.proofs.RunLaws.{fault_is}
-use Rattle.qz_codec.proofs.ValidEntries.{entries_valid}
+use Rattle.qz_codec.proofs.ValidEntries.{entry_valid}
 
--- The history begins with a new store, and each of its entries is valid and was accepted.
+-- The history begins with a new store of some version, and each of its entries is valid and was accepted.
 record IsLawful (h : History) : Type 0 where
-  pub begins : h.base ≡ new_tables
+  pub version : ℕ
+  pub begins : h.base ≡ empty version
   pub valid : AllByRecursion (λ e. IsTrue (is_entry e)) h.entries
   pub legal : IsLegal h
 
@@ -49,12 +53,16 @@ abbrev HasLawful : ClusterState → Type 0
 HasLawful S = IsLawful S.triggers.history
 
 recovers : (S : ClusterState) → HasLawful S → RecoversLosses S
-recovers S lawful = exact S.triggers.history.base S.triggers.history.entries (subst TablesValid (sym lawful.begins) valid-new_tables) lawful.valid lawful.legal
+recovers S lawful = exact S.triggers.history.base S.triggers.history.entries (subst TablesValid (sym lawful.begins) (valid-empty lawful.version)) lawful.valid lawful.legal
+
+-- an entry that has a record is proper
+each_proper : (es : List EntryData) → AllByRecursion (HasRecord trigger_kind) es → AllByRecursion (λ e. IsTrue (is_entry e)) es
+each_proper [] all = tt
+each_proper (e ∷ es) all = (entry_valid all.0.1.version e all.0.1.has, each_proper es all.1)
 
 -- of a store that was just opened
 opened_lawful : (s : TriggerState) → IsOpened s → IsLawful s.history
-unfolding new_tables
-opened_lawful s opened = record { begins = opened.sound.begins.base; valid = entries_valid s.history.entries opened.valid; legal = opened.sound.legal }
+opened_lawful s opened = record { version = opened.sound.version; begins = opened.sound.begins.base; valid = each_proper s.history.entries opened.valid; legal = opened.sound.legal }
 
 -- Steps.
 
@@ -69,9 +77,10 @@ appended_lawful : (e : EntryData) (r : Reply) (s t : TriggerState) → IsTrue (i
 appended_lawful e r s t good appends lawful =
     let h = s.history in
     same_lawful (with_entry e h) t.history appends.history (record {
+      version = lawful.version;
       begins = lawful.begins;
       valid = All-pushed (λ f. IsTrue (is_entry f)) h.entries e lawful.valid good;
-      legal = IsLegalFrom-entry h.base h.entries e lawful.legal (accepted_from _ r appends.accepted_as);
+      legal = IsLegalFrom-entry h.base h.entries e lawful.legal (accepted_from _ r (accepted_anyway _ e r appends.accepted_as));
     })
 
 done_lawful : (o : Option EntryData) (r : Reply) (s t : TriggerState) → ((e : EntryData) → o ≡ Some e → IsTrue (is_entry e)) → TriggersDone o r s t → IsLawful s.history → IsLawful t.history
@@ -142,6 +151,7 @@ end_keeps honest status.DiskFault left lines more last after end = same_history 
 end_keeps honest status.Exists left lines more last after end = same_history last after end
 end_keeps honest (status.Budget firings) left lines more last after end = same_history last after end
 end_keeps honest (status.TooMany count) left lines more last after end = same_history last after end
+end_keeps honest status.OldStore left lines more last after end = same_history last after end
 
 -- Runs.
 
@@ -173,10 +183,10 @@ module _ (honest : Type 0) (s : Status) (S : ClusterState) (after : RunState) (o
 module _ (m n : ℕ) (s : Status) (after : RunState) (old new : Outside) (lines : List (List ℕ)) (readings : List ℤ) (replies : List StepReply)
     (run : IsRun ⊤ s (begun true (new_cluster m n)) after old new lines readings replies) where
   pub recovered_new : AllByRecursion RecoversLosses after.trail
-  recovered_new = trail_recovers ⊤ s true (new_cluster m n) after old new lines readings replies (record { begins = refl; valid = tt; legal = tt }) run
+  recovered_new = trail_recovers ⊤ s true (new_cluster m n) after old new lines readings replies (record { version = 2; begins = refl; valid = tt; legal = tt }) run
 
   pub recovered_new_end : RecoversLosses after.cluster
-  recovered_new_end = last_recovers ⊤ s true (new_cluster m n) after old new lines readings replies (record { begins = refl; valid = tt; legal = tt }) run
+  recovered_new_end = last_recovers ⊤ s true (new_cluster m n) after old new lines readings replies (record { version = 2; begins = refl; valid = tt; legal = tt }) run
 
 -- A step in which a disk failed leaves the history of triggers.
 pub fault_keeps : (honest : Type 0) (t : TimedStep) (S S' : ClusterState) → StepCase honest t reply.Fault S S' → S'.triggers.history ≡ S.triggers.history

@@ -102,8 +102,8 @@ module _ {D : Type 0} {g : Ghosts D} where
 
   leaves_same : (lawful : (d : D) → IsLawful (g.state d)) (honest : g.honest) (c : Cluster D g) → Leaves c [] c
   leaves_same lawful honest c = (
-    started (triggers_disk c) _ (lawful (disk_of_triggers c)) (λ b is. inl (may_be _ _ b (c.triggers.store.images honest b is))),
-    started (states_disk c) _ (lawful (disk_of_states c)) (λ b is. inl (states_may_be _ _ b (c.states.store.images honest b is))),
+    started (triggers_disk c) _ (lawful (disk_of_triggers c)) (λ b is. inl (may_be _ _ _ b (c.triggers.store.images honest b is))),
+    started (states_disk c) _ (lawful (disk_of_states c)) (λ b is. inl (states_may_be _ _ _ b (c.states.store.images honest b is))),
   )
 
   leaves_last : (lawful : (d : D) → IsLawful (g.state d)) (honest : g.honest) (c end : Cluster D g) → EndsAt end c → Leaves c [] end

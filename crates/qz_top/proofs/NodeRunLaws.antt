@@ -7,13 +7,14 @@ use Rattle.std.specs.Prelude.{Result, Ok, Err, IfOk, IfErr, OnOk, OnErr}
 use Rattle.qz_civil.specs.Causes.{Rose}
 use Rattle.qz_disk.specs.declared.disk.Disk.{Ghosts}
 use Rattle.qz_types.specs.Entries.{EntryData, StateEntryData}
+use Rattle.qz_types.specs.Tables.{empty}
 use Rattle.qz_io.specs.Outside.{Outside}
 use Rattle.qz_model.specs.History.{History, replay, replay_from}
 use Rattle.qz_node.specs.Jobs.{JobMeaning}
 use Rattle.qz_trigger_store.specs.Entries.{TriggerState, history_of}
 use Rattle.qz_disk.specs.Disk.{LeavesOnly}
 use Rattle.qz_journal.specs.Through.{OnlyReads}
-use Rattle.qz_trigger_store.specs.View.{view as triggers_view, found_of, added_of, disk_of, disk_state}
+use Rattle.qz_trigger_store.specs.View.{view as triggers_view, version_of, found_of, added_of, disk_of, disk_state}
 use Rattle.qz_trigger_store.specs.declared.stores.TriggerStore.{TriggerStore}
 use Rattle.qz_checkin.specs.Entries.{StatesState}
 use Rattle.qz_checkin.specs.History.{replay_states}
@@ -84,7 +85,7 @@ called_by p (Err declined.NoMemory) log jobs jobs' ran more = more
 
 module _ {D : Type 0} {g : Ghosts D} where
   went_from : (b t : TriggerStore D g) (c u : StateStore D g) (went : TriggersWent b t) (rows : StatesWent c u) → WentOn (both b c) (both t u) went.added rows.added
-  went_from b t c u went rows = record { base = refl; entries = went.entries; rows_are = rows.entries }
+  went_from b t c u went rows = record { base = ap empty went.version; entries = went.entries; rows_are = rows.entries }
 
   -- The nodes worked on the stores, as the run tells them.
   pub worked_by : (p : Plan) (end : Result Bool Declined) (jobs jobs' : List JobMeaning) (x : RunStores D g)
@@ -133,8 +134,8 @@ module _ {D : Type 0} {g : Ghosts D} where
   found_is : (b t : TriggerStore D g) → added_of b ≡ [] → TriggersWent b t → found_of t ≡ found_of b ++ added_of b
   found_is b t none went = went.found ∙ sym (append-nil (found_of b)) ∙ ap (λ xs. found_of b ++ xs) (sym none)
 
-  pub history_is : (b t : TriggerStore D g) → added_of b ≡ [] → TriggersWent b t → history_of (found_of t) ≡ history_of (found_of b ++ added_of b)
-  history_is b t none went = ap history_of (found_is b t none went)
+  pub history_is : (b t : TriggerStore D g) → added_of b ≡ [] → TriggersWent b t → history_of (version_of t) (found_of t) ≡ history_of (version_of b) (found_of b ++ added_of b)
+  history_is b t none went i = history_of (went.version i) (found_is b t none went i)
 
   pub added_is : (b t : TriggerStore D g) (added : List EntryData) → added_of b ≡ [] → TriggersWent b t → found_of t ++ added_of t ≡ (found_of b ++ added_of b) ++ added → added_of t ≡ added
   added_is b t added none went entries =

@@ -43,7 +43,7 @@ all_honest [] = tt
 all_honest (t ∷ ts) = (λ is. tt, all_honest ts)
 
 pub plain_of : (m n : ℕ) (s : Status) (after : RunState) (old new : Outside) (lines : List (List ℕ)) (readings : List ℤ) (replies : List StepReply)
-    → IsRun ⊤ s (begun true (new_cluster m n)) after old new lines readings replies → replies ≡ step_replies (new_script) (steps_of lines readings)
+    → IsRun ⊤ s (begun true (new_cluster m n)) after old new lines readings replies → replies ≡ step_replies (new_script 2) (steps_of lines readings)
 plain_of m n s after old new lines readings replies run =
     run_plain ⊤ (new_cluster m n) (steps_of lines readings) replies run.steps.states run.steps.done (new_ready m n) (all_honest (steps_of lines readings)) (run.steps.no_fault refl)
 
@@ -82,6 +82,7 @@ end_sound honest status.DiskFault left lines more last after end not_own sound =
 end_sound honest status.Exists left lines more last after end not_own sound = same_run_sound last after end sound
 end_sound honest (status.Budget firings) left lines more last after end not_own sound = same_run_sound last after end sound
 end_sound honest (status.TooMany count) left lines more last after end not_own sound = same_run_sound last after end sound
+end_sound honest status.OldStore left lines more last after end not_own sound = same_run_sound last after end sound
 
 -- The trail stays, whatever the end left of the cluster.
 
@@ -103,6 +104,7 @@ end_trail honest status.DiskFault left lines more last after end = ap (λ (r : R
 end_trail honest status.Exists left lines more last after end = ap (λ (r : RunState). r.trail) end
 end_trail honest (status.Budget firings) left lines more last after end = ap (λ (r : RunState). r.trail) end
 end_trail honest (status.TooMany count) left lines more last after end = ap (λ (r : RunState). r.trail) end
+end_trail honest status.OldStore left lines more last after end = ap (λ (r : RunState). r.trail) end
 
 -- A run on opened stores.
 module _ (honest : Type 0) (s : Status) (S : ClusterState) (after : RunState) (old new : Outside) (lines : List (List ℕ)) (readings : List ℤ) (replies : List StepReply)

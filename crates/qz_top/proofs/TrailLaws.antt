@@ -1,8 +1,11 @@
 -- Runs of steps that go on, and new clusters.
 use Rattle.std.proofs.Common.{◌≡◌, ℕ, List, [], ◌∷◌, ◌++◌, length, true, false, refl, sym, ap, ◌∙◌, subst, append_assoc}
+use Rattle.std.proofs.Math.Logic.{∥∥₁_elim}
+use Rattle.std.proofs.Props.{props}
 use Rattle.std.proofs.lemmas.List.{append-nil}
+use Rattle.std.specs.List.{AllZip}
 use Rattle.qz_steps.specs.declared.steps.StepReply.{StepReply}
-use Rattle.qz_model.specs.History.{History, new_history}
+use Rattle.qz_model.specs.History.{History, history_of_version}
 use Rattle.qz_cluster.specs.Script.{TimedStep}
 use Rattle.qz_journal.specs.Layout.{Holds, end_of}
 use Rattle.qz_journal.specs.declared.layout.TheConstants.{STATES}
@@ -56,18 +59,24 @@ RanSteps-one t r R S step trail own no_fault =
 -- Clusters on new stores.
 
 module _ {H S E R : Type 0} (k : StoreKind H S E R) where
+  none_zipped : (ps : List (List ℕ)) (es : List E) → es ≡ [] → AllZip k.IsRecordOf ps es → ps ≡ []
+  none_zipped [] es none zipped = refl
+  none_zipped (p ∷ ps) [] none zipped = absurd zipped
+  none_zipped (p ∷ ps) (e ∷ es) none zipped = absurd cc
+
+  is_none : (ps : List (List ℕ)) → IsProp (ps ≡ [])
+  is_none ps = hlevel props
+
   none_encoded : (ps : List (List ℕ)) (es : List E) → es ≡ [] → Encode k ps es → ps ≡ []
-  none_encoded [] es none encode = refl
-  none_encoded (p ∷ ps) [] none encode = absurd encode
-  none_encoded (p ∷ ps) (e ∷ es) none encode = absurd cc
+  none_encoded ps es none encode = ∥∥₁_elim encode (is_none ps) (none_zipped ps es none)
 
-pub states_begin_new : BeginsNew new_state_history
-states_begin_new = record { count = refl; base = refl }
+pub states_begin_new : BeginsNew 2 new_state_history
+states_begin_new = record { known = refl; count = refl; base = refl }
 
-pub states_stand_new : (b : List ℕ) → Holds b STATES [] → StatesStand b new_state_history
-states_stand_new b holds = record { begins = states_begin_new; held = holding b [] [] holds tt }
+pub states_stand_new : (b : List ℕ) → Holds b 2 STATES [] → StatesStand b new_state_history
+states_stand_new b holds = record { version = 2; begins = states_begin_new; held = holding 2 b [] [] holds ∣ tt ∣₁ }
 
-pub new_state : (S : ClusterState) → S.triggers.history ≡ new_history → S.states.history ≡ new_state_history → IsOpened S.triggers → AreOpened S.states → S.held ≡ []
+pub new_state : (S : ClusterState) → S.triggers.history ≡ history_of_version 2 → S.states.history ≡ new_state_history → IsOpened S.triggers → AreOpened S.states → S.held ≡ []
     → S ≡ new_cluster S.triggers.faults S.states.faults
 new_state S history states_history opened states_opened held =
     let placed = opened.sound.placed opened.is_open in

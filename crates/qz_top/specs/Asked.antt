@@ -10,6 +10,7 @@ use Rattle.qz_words.specs.declared.wishes.Wish.TheVariants as wish
 use Rattle.qz_top.specs.Calls.{OwnDone, RanOnDisk, LoadedOnDisk, ListedOnDisk, NotOpened, trail_of}
 use Rattle.qz_top.specs.Generating.{Generates}
 use Rattle.qz_top.specs.Making.{IsInit, SaysMade}
+use Rattle.qz_top.specs.Migrating.{RanMigrate}
 use Rattle.qz_top.specs.NodeRuns.{RanNodes}
 use Rattle.qz_top.specs.Times.{TimesDone}
 use Rattle.qz_top.specs.declared.statuses.Status.TheVariants as status
@@ -60,6 +61,11 @@ pub record Listed {D : Type 0} {g : Ghosts D} (triggers states : D) (e : Ended D
   pub not_read : new.left ≡ old.left
   pub not_asked : new.readings ≡ old.readings
 
+-- The trigger store was upgraded or needed no upgrade, or it wasn't opened; the input wasn't read.
+pub record Migrated {D : Type 0} {g : Ghosts D} (triggers states : D) (e : Ended D g) (old new : Outside) : Type 0 where
+  pub ran : RanMigrate triggers states e old.readings new.readings (only_output old) (only_output new)
+  pub not_read : new.left ≡ old.left
+
 -- Fire times were told: at most so many of each trigger, after this moment.
 pub record ToldTimes {D : Type 0} {g : Ghosts D} (after : ℤ) (count : ℕ) (triggers states : D) (e : Ended D g)
     (old new : Outside) : Type 0 where
@@ -68,8 +74,8 @@ pub record ToldTimes {D : Type 0} {g : Ghosts D} (after : ℤ) (count : ℕ) (tr
   pub not_asked : new.readings ≡ old.readings
   pub disks : DisksUntouched triggers states e
 
--- The nodes of a plan worked on both stores with these jobs, or one of the stores wasn't opened; the input wasn't read and
--- the clock not asked.
+-- The nodes of a plan worked on both stores with these jobs, or the trigger store was old, or one of the stores wasn't opened;
+-- the input wasn't read and the clock not asked.
 pub record RanPlan {D : Type 0} {g : Ghosts D} (p : Plan) (jobs jobs' : List JobMeaning) (triggers states : D) (e : Ended D g)
     (old new : Outside) : Type 0 where
   pub ran : RanNodes p jobs jobs' triggers states e (only_output old) (only_output new)
@@ -99,6 +105,7 @@ DidAsAsked (Ok wish.Init) jobs jobs' triggers states e old new = RanInit trigger
 DidAsAsked (Ok wish.Script) jobs jobs' triggers states e old new = RanScript triggers states e old new
 DidAsAsked (Ok wish.Load) jobs jobs' triggers states e old new = RanLoad triggers states e old new
 DidAsAsked (Ok wish.List) jobs jobs' triggers states e old new = Listed triggers states e old new
+DidAsAsked (Ok wish.Migrate) jobs jobs' triggers states e old new = Migrated triggers states e old new
 DidAsAsked (Ok (wish.Times after count)) jobs jobs' triggers states e old new = ToldTimes after count triggers states e old new
 DidAsAsked (Ok (wish.Run nodes from until budget)) jobs jobs' triggers states e old new =
     RanPlan (record { nodes = nodes; from = from; until = until; budget = budget }) jobs jobs' triggers states e old new

@@ -9,7 +9,9 @@ use Rattle.qz_laws.specs.Losses.{AreExact}
 use Rattle.qz_journal.specs.Through.{OnlyReads}
 use Rattle.qz_journal.specs.declared.errors.MountError.{MountError}
 use Rattle.qz_journal.specs.declared.errors.MountError.TheVariants as mount
+use Rattle.qz_model.specs.History.{replay}
 use Rattle.qz_trigger_store.specs.Bytes.{Stands}
+use Rattle.qz_trigger_store.specs.Entries.{is_old}
 use Rattle.qz_trigger_store.specs.Opening.{IsOpened, IsSound}
 use Rattle.qz_checkin.specs.Bytes.{Stands as StatesStand}
 use Rattle.qz_checkin.specs.Opening.{IsOpened as AreOpened, IsSound as AreSound}
@@ -43,8 +45,8 @@ begun is_own S = record { cluster = S; trail = S ∷ []; is_own = is_own }
 abbrev pub RecoversLosses : ClusterState → Type 0
 RecoversLosses S = AreExact S.triggers.history.base S.triggers.history.entries
 
--- A script on new stores in memory was run. Its replies are those of a plain scheduler that is new and empty. Disks in
--- memory are honest.
+-- A script on new stores in memory was run. Its replies are those of a plain scheduler that is new, empty and of version 2.
+-- Disks in memory are honest.
 pub record RanInMemory (s : Status) (trail : List ClusterState)
     (old new : Outside) : Type 0 where
   pub triggers_faults : ℕ
@@ -54,7 +56,7 @@ pub record RanInMemory (s : Status) (trail : List ClusterState)
   pub readings : List ℤ
   pub replies : List StepReply
   pub run : IsRun ⊤ s (begun true (new_cluster triggers_faults states_faults)) end old new lines readings replies
-  pub plain : replies ≡ step_replies (new_script) (steps_of lines readings)
+  pub plain : replies ≡ step_replies (new_script 2) (steps_of lines readings)
   pub trail_is : trail ≡ end.trail
   -- in each of these states, and in the one at the end, lost executions are recovered once
   pub recovered : AllByRecursion RecoversLosses trail
@@ -162,6 +164,19 @@ pub record ListedOnDisk {D : Type 0} {g : Ghosts D} (triggers states : D) (e : E
   pub trail_is : trail_of e.trail ≡ opened ∷ []
   -- the disks were only read
   pub reads : g.honest → OnlyReads (g.state triggers) (g.state e.triggers) × OnlyReads (g.state states) (g.state e.states)
+
+-- The stores that stand on the disks were opened. The trigger store is one of version 1 that wasn't upgraded, and the call wants a
+-- store of version 2, so nothing was done: the disks were only read.
+pub record FoundOld {D : Type 0} {g : Ghosts D} (triggers states : D) (e : Ended D g)
+    (old new : Outside) : Type 0 where
+  pub opened : ClusterState
+  pub are_opened : IsOpened opened.triggers × AreOpened opened.states
+  pub stand : g.honest → Stands (g.state triggers).content opened.triggers.history × StatesStand (g.state states).content opened.states.history
+  pub found : is_old (replay opened.triggers.history) ≡ true
+  pub status_is : e.status ≡ status.OldStore
+  pub none : trail_of e.trail ≡ []
+  pub reads : g.honest → OnlyReads (g.state triggers) (g.state e.triggers) × OnlyReads (g.state states) (g.state e.states)
+  pub untouched : new ≡ old
 
 -- the status of a script whose store of this name wasn't opened
 abbrev pub refusal_of : Store → MountError → Status

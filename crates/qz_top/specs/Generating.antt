@@ -1,5 +1,5 @@
 -- What `gen` did: jobs and triggers that a number gives were added to an empty store, and nodes worked on it.
-use Rattle.std.specs.Prelude.{◌≡◌, ◌⊎◌, ℕ, ◌*◌, false, pos, ◌+ℤ◌, ◌-ℤ◌, List, [], ◌∷◌, ◌++◌, map, Result, Ok, Err}
+use Rattle.std.specs.Prelude.{◌≡◌, ◌⊎◌, ℕ, ◌*◌, true, false, pos, ◌+ℤ◌, ◌-ℤ◌, List, [], ◌∷◌, ◌++◌, map, Result, Ok, Err}
 use Rattle.qz_disk.specs.declared.disk.Disk.{Ghosts}
 use Rattle.qz_io.specs.Outside.{Outside}
 use Rattle.qz_types.specs.declared.commands.Command.{Command}
@@ -13,7 +13,7 @@ use Rattle.qz_generator.specs.Commands.{generated}
 use Rattle.qz_generator.specs.declared.limits.TheConstants.{FIRST_MOMENT}
 use Rattle.qz_model.specs.History.{History, IsLegal, replay, replies}
 use Rattle.qz_trigger_store.specs.Bytes.{Stands}
-use Rattle.qz_trigger_store.specs.Entries.{TriggerState}
+use Rattle.qz_trigger_store.specs.Entries.{TriggerState, is_old}
 use Rattle.qz_trigger_store.specs.Opening.{IsOpened}
 use Rattle.qz_checkin.specs.Bytes.{Stands as StatesStand}
 use Rattle.qz_checkin.specs.Entries.{StatesState}
@@ -111,17 +111,28 @@ pub record HadEntries (s : Status) (jobs jobs' : List JobMeaning) (opened end : 
   pub not_called : jobs' ≡ jobs
   pub untouched : new ≡ old
 
--- It was empty, and not all of the commands were done. No node worked, and nothing was written.
+-- It was empty, and the store is one of version 1 that wasn't upgraded. Nothing was done, called or written.
+pub record WasOld (s : Status) (jobs jobs' : List JobMeaning) (opened end : ClusterState) (old new : Outside) : Type 0 where
+  pub none : opened.triggers.history.entries ≡ []
+  pub found : is_old (replay opened.triggers.history) ≡ true
+  pub status_is : s ≡ status.OldStore
+  pub same : end ≡ opened
+  pub not_called : jobs' ≡ jobs
+  pub untouched : new ≡ old
+
+-- It was empty, the store isn't old, and not all of the commands were done. No node worked, and nothing was written.
 pub record NotFilled (honest : Type 0) (w : Workload) (s : Status) (jobs jobs' : List JobMeaning) (opened end : ClusterState) (old new : Outside) : Type 0 where
   pub none : opened.triggers.history.entries ≡ []
+  pub current : is_old (replay opened.triggers.history) ≡ false
   pub ended : FillEnded honest s (generated w.seed w.jobs) opened end
   pub not_called : jobs' ≡ jobs
   pub untouched : new ≡ old
 
--- It was empty, all of the commands were done, and then the nodes of the plan worked, which ended so. The summary line was written, which
--- counts all that was added since the opening.
+-- It was empty, the store isn't old, all of the commands were done, and then the nodes of the plan worked, which ended so. The summary
+-- line was written, which counts all that was added since the opening.
 pub record RanGenerated (honest : Type 0) (w : Workload) (s : Status) (jobs jobs' : List JobMeaning) (opened end : ClusterState) (old new : Outside) : Type 0 where
   pub none : opened.triggers.history.entries ≡ []
+  pub current : is_old (replay opened.triggers.history) ≡ false
   pub between : ClusterState
   pub filled : Filled honest (generated w.seed w.jobs) opened between
   pub is_open : is_closed between ≡ false
@@ -132,7 +143,7 @@ pub record RanGenerated (honest : Type 0) (w : Workload) (s : Status) (jobs jobs
 
 abbrev pub Generated : Type 0 → Workload → Status → List JobMeaning → List JobMeaning → ClusterState → ClusterState → Outside → Outside → Type 0
 Generated honest w s jobs jobs' opened end old new =
-    HadEntries s jobs jobs' opened end old new ⊎ NotFilled honest w s jobs jobs' opened end old new ⊎ RanGenerated honest w s jobs jobs' opened end old new
+    HadEntries s jobs jobs' opened end old new ⊎ WasOld s jobs jobs' opened end old new ⊎ NotFilled honest w s jobs jobs' opened end old new ⊎ RanGenerated honest w s jobs jobs' opened end old new
 
 -- The stores that stand on the disks were opened, and what `gen` does was done on them. A script's states aren't told.
 pub record GeneratedOnDisk {D : Type 0} {g : Ghosts D} (w : Workload) (jobs jobs' : List JobMeaning) (triggers states : D) (e : Ended D g)

@@ -10,6 +10,7 @@ pub mod Lines
 pub mod Lists
 pub mod Loads
 pub mod Making
+pub mod Migrating
 pub mod Moments
 pub mod NodeRuns
 pub mod Runs

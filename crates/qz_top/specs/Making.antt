@@ -15,11 +15,11 @@ use Rattle.qz_top.specs.declared.making.Unmade.TheVariants as unmade
 use Rattle.qz_top.specs.declared.statuses.Status.{Status}
 use Rattle.qz_top.specs.declared.statuses.Status.TheVariants as status
 
--- An empty store was made on a disk that began as no store of either kind does. A crash leaves this store. The rest of
--- the disk stays.
+-- An empty store of version 2 was made on a disk that began as no store of either kind does. A crash leaves this store. The
+-- rest of the disk stays.
 pub record IsNew (kind : ℕ) (old new : DiskState) : Type 0 where
   pub none : HasStore kind old.content → ⊥
-  pub empty : Holds new.content kind []
+  pub empty : Holds new.content 2 kind []
   pub durable : Only new.content new
   pub rest : drop 17 new.content ≡ drop 17 old.content
 

@@ -9,6 +9,7 @@ use Rattle.qz_types.specs.Tables.{SchedulerTables}
 use Rattle.qz_model.specs.History.{History, IsLegal, replay, replies_from, moments_from}
 use Rattle.qz_journal.specs.Through.{OnlyReads}
 use Rattle.qz_trigger_store.specs.Bytes.{Stands}
+use Rattle.qz_trigger_store.specs.Entries.{is_old}
 use Rattle.qz_trigger_store.specs.Opening.{IsOpened}
 use Rattle.qz_trigger_store.specs.View.{view as triggers_view}
 use Rattle.qz_trigger_store.specs.declared.stores.TriggerStore.{TriggerStore}
@@ -36,7 +37,7 @@ use Rattle.qz_run_stores.specs.Logs.{has_row}
 use Rattle.qz_run_stores.specs.Ways.{HasOnTheWay, HasRowsOnTheWay}
 use Rattle.qz_cluster.specs.Steps.{ClusterState}
 use Rattle.qz_schedule_law.specs.Following.{FollowsSchedules}
-use Rattle.qz_top.specs.Calls.{NotOpened, trail_of}
+use Rattle.qz_top.specs.Calls.{FoundOld, NotOpened, trail_of}
 use Rattle.qz_top.specs.Moments.{HasTriggers, HasStates}
 use Rattle.qz_top.specs.declared.ended.Ended.{Ended}
 use Rattle.qz_top.specs.declared.statuses.Status.{Status}
@@ -147,13 +148,15 @@ abbrev pub IsKeptOnTheWay : {D : Type 0} (g : Ghosts D) → D → D → D → D 
 IsKeptOnTheWay g triggers states triggers' states' opened end =
     g.honest → IsKept g triggers triggers' (HasOnTheWay opened.triggers end.triggers) × IsKept g states states' (HasRowsOnTheWay opened.states end.states)
 
--- The stores that stand on the disks were opened, and the nodes of the plan worked on them. A script's states aren't told.
+-- The stores that stand on the disks were opened, of which the trigger store isn't old, and the nodes of the plan worked on
+-- them. A script's states aren't told.
 pub record RanNodesOnDisk {D : Type 0} {g : Ghosts D} (p : Plan) (jobs jobs' : List JobMeaning) (triggers states : D) (e : Ended D g)
     (old new : Outside) : Type 0 where
   -- the histories that the bytes represent were opened: they begin with new stores, and they are legal
   pub opened : ClusterState
   pub are_opened : IsOpened opened.triggers × AreOpened opened.states
   pub stand : g.honest → Stands (g.state triggers).content opened.triggers.history × StatesStand (g.state states).content opened.states.history
+  pub current : is_old (replay opened.triggers.history) ≡ false
   -- the nodes' work, how that ended, and what was written of it
   pub end : ClusterState
   pub work : Status
@@ -170,6 +173,10 @@ pub record RanNodesOnDisk {D : Type 0} {g : Ghosts D} (p : Plan) (jobs jobs' : L
   -- and so it does at any moment before
   pub any_moment : ∥ IsKeptOnTheWay g triggers states e.triggers e.states opened end ∥₁
 
--- The nodes worked on both stores, or one of them wasn't opened and no job was called.
+-- The nodes worked on both stores that were opened; or the trigger store is old, and no job was called.
+abbrev pub RanOpened : {D : Type 0} {g : Ghosts D} → Plan → List JobMeaning → List JobMeaning → D → D → Ended D g → Outside → Outside → Type 0
+RanOpened p jobs jobs' triggers states e old new = RanNodesOnDisk p jobs jobs' triggers states e old new ⊎ (FoundOld triggers states e old new × (jobs' ≡ jobs))
+
+-- That was so, or one of the stores wasn't opened and no job was called.
 abbrev pub RanNodes : {D : Type 0} {g : Ghosts D} → Plan → List JobMeaning → List JobMeaning → D → D → Ended D g → Outside → Outside → Type 0
-RanNodes p jobs jobs' triggers states e old new = RanNodesOnDisk p jobs jobs' triggers states e old new ⊎ (NotOpened triggers states e old new × (jobs' ≡ jobs))
+RanNodes p jobs jobs' triggers states e old new = RanOpened p jobs jobs' triggers states e old new ⊎ (NotOpened triggers states e old new × (jobs' ≡ jobs))

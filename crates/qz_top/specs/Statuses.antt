@@ -34,6 +34,7 @@ exit_number (status.Budget firings) = 8
 exit_number status.NoMemory = 9
 exit_number status.Exists = 10
 exit_number (status.TooMany count) = 11
+exit_number status.OldStore = 12
 
 abbrev pub kind_text : BadKind → List ℕ
 kind_text TooLong = codes "too long"
@@ -68,6 +69,7 @@ error_text (status.Budget firings) = codes "qz: budget " ++ decimal firings ++ c
 error_text status.NoMemory = codes "qz: no memory\n"
 error_text status.Exists = codes "qz: store exists\n"
 error_text (status.TooMany count) = codes "qz: too many " ++ decimal count ++ codes "\n"
+error_text status.OldStore = codes "qz: old store\n"
 
 -- how a script ends whose next step was cut short so
 abbrev pub cut_status : StepEnd → Status

@@ -3,7 +3,7 @@ use Rattle.std.specs.Prelude.{◌≡◌, ℕ, true, false, Bool, List, [], ◌�
 use Rattle.std.specs.List.{AllByRecursion, flat_map}
 use Rattle.qz_steps.specs.declared.steps.StepReply.{StepReply}
 use Rattle.qz_steps.specs.declared.steps.StepReply.TheVariants as reply
-use Rattle.qz_model.specs.History.{new_history}
+use Rattle.qz_model.specs.History.{history_of_version}
 use Rattle.qz_checkin.specs.History.{new_state_history}
 use Rattle.qz_cluster.specs.Script.{TimedStep}
 use Rattle.qz_report.specs.Replies.{reply_text}
@@ -48,10 +48,10 @@ pub record RanSteps (honest : Type 0) (steps : List TimedStep) (replies : List S
   pub own : after.is_own ≡ before.is_own
   pub no_fault : before.is_own ≡ true → AllByRecursion IsNoFault replies
 
--- a cluster on new stores, whose disks failed so often before
+-- a cluster on new stores of version 2, whose disks failed so often before
 abbrev pub new_cluster : ℕ → ℕ → ClusterState
 new_cluster triggers_faults states_faults = record {
-  triggers = record { history = new_history; gate = 16; payloads = 0; is_open = true; undecided = None; faults = triggers_faults };
+  triggers = record { history = history_of_version 2; gate = 16; payloads = 0; is_open = true; undecided = None; faults = triggers_faults };
   states = record { history = new_state_history; gate = 16; payloads = 0; is_open = true; undecided = None; faults = states_faults };
   held = [];
 }

@@ -15,6 +15,7 @@ use crate::in_memory::own_script;
 use crate::list_on_disk::list_on_disk;
 use crate::load_on_disk::load_on_disk;
 use crate::making::make_stores;
+use crate::migrating::migrate;
 use crate::on_disk::script_on_disk;
 use crate::run_on_disk::run_on_disk;
 use crate::times::tell_times;
@@ -36,6 +37,9 @@ use std::alloc::Global;
 /// - `script` opens both stores and runs the lines of `input` on them.
 /// - `load` opens both stores, does the commands of the document on `input`, and writes a reply line for each.
 /// - `list` opens both stores, and writes a line for each row of theirs.
+/// - `migrate` opens the trigger store, takes it from version 1 to version 2 with one transaction, and writes `migrated`; or it
+///   writes `current` where the store needs none. The other disk isn't touched. `run` and `gen` do nothing on a store of version 1
+///   that wasn't upgraded.
 /// - `run NODES FROM UNTIL [BUDGET]` opens both stores, lets so many nodes work on them with the jobs, on a clock that begins at
 ///   FROM, until nothing is due up to UNTIL, and writes a line for each entry that they added and one that sums them up.
 /// - `gen SEED JOBS DAYS` opens both stores. Where the trigger store's history is empty, it adds jobs and triggers that SEED gives,
@@ -98,6 +102,7 @@ fn work<S: Source, K: Sink, D: Disk, C: Clock>(
         }
         Ok(Wish::Load) => load_on_disk(alloc, input, out, triggers, states, clock),
         Ok(Wish::List) => list_on_disk(alloc, out, triggers, states),
+        Ok(Wish::Migrate) => migrate(alloc, out, triggers, states, clock),
         Ok(
             Wish::Run {
                 nodes,

@@ -2,11 +2,13 @@
 ghost use Rattle.std.specs.Prelude.{◌≡◌, ◌≢◌, ◌⊎◌, ◌≤◌, [], map, false};
 ghost use Rattle.qz_civil.specs.Causes.{Rose};
 ghost use Rattle.qz_io.specs.Around.{output_alone};
+ghost use Rattle.qz_model.specs.History.{replay};
 ghost use Rattle.qz_cluster.specs.Steps.{is_closed};
 ghost use Rattle.qz_cluster.specs.View.{view as cluster_view};
 ghost use Rattle.qz_run.specs.Working.{IsPlan};
 ghost use Rattle.qz_run_stores.specs.Going.{TriggersWent, StatesWent};
 ghost use Rattle.qz_run_stores.specs.Ways.{KeepsTriggers, KeepsStates};
+ghost use Rattle.qz_trigger_store.specs.Entries.{is_old};
 ghost use Rattle.qz_trigger_store.specs.View.{view, found_of};
 ghost use Rattle.qz_checkin.specs.View.{view as states_view};
 ghost use Rattle.qz_top.specs.Generating.{GeneratedOnDisk, Generates, Generated, RanGenerated, plan_of, summary_line_of};
@@ -40,8 +42,8 @@ pub(crate) struct Workload {
     pub(crate) days: u32,
 }
 
-/// Opens both stores. Where the history of the trigger store is empty, it adds the jobs and the triggers, lets nodes work on
-/// them, and writes the summary line.
+/// Opens both stores. Where the history of the trigger store is empty and the store isn't old, it adds the jobs and the triggers,
+/// lets nodes work on them, and writes the summary line.
 pub(crate) fn gen_on_disk<K: Sink, D: Disk>(
     alloc: Global,
     workload: Workload,
@@ -124,6 +126,13 @@ fn generate<K: Sink, D: Disk>(
             states,
         };
     }
+    if triggers.is_old() {
+        return Left {
+            status: Status::OldStore,
+            triggers,
+            states,
+        };
+    }
     let mut triggers = triggers;
     match fill(alloc, workload.seed, workload.jobs, &mut triggers) {
         Ok(()) => work_and_sum(alloc, workload.days, triggers, states, out, jobs),
@@ -146,6 +155,7 @@ fn work_and_sum<K: Sink, D: Disk>(
 ) -> Left<D>
     requires some { 1 ≤ days }
     requires few { days ≤ 28 }
+    requires current { is_old (replay (view triggers).history) ≡ false }
     ensures worked { (work : WorkStatus) × IsToldAs result.status work × Worked (plan_of days) work (map means jobs.old.items) (map means jobs.new.items) (both triggers states) (both result.triggers result.states) }
     ensures written { found_of triggers ≡ [] → WritesRun result.status (summary_line_of (view result.triggers).history) (output_alone K.Sink out.old) (output_alone K.Sink out.new) }
     ensures went { TriggersWent triggers result.triggers × StatesWent states result.states }

@@ -109,7 +109,7 @@ fn new_stores(alloc: Global) -> Option<Cluster<MemDisk>>
 
 // A disk in memory that has an empty store of this kind.
 fn new_store(alloc: Global, kind: u8) -> Option<MemDisk>
-    ensures { IfSome result (λ disk. Holds (⟦<MemDisk as Disk>⟧.state disk).content kind []) }
+    ensures { IfSome result (λ disk. Holds (⟦<MemDisk as Disk>⟧.state disk).content 2 kind []) }
 {
     let mut disk = MemDisk::new(alloc);
     match create(&mut disk, kind) {

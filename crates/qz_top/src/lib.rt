@@ -13,6 +13,7 @@ mod list_on_disk;
 mod load_on_disk;
 mod loading;
 mod making;
+mod migrating;
 mod nodes;
 mod on_disk;
 mod opening;

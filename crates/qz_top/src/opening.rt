@@ -66,8 +66,8 @@ impl<D: Disk> Run<D> {
     }
 }
 
-// The status of a call whose store wasn't opened.
-fn refusal_of(fault: MountFault) -> Status
+/// The status of a call whose store wasn't opened.
+pub(crate) fn refusal_of(fault: MountFault) -> Status
     ensures { result ≡ refusal_of fault.store fault.error }
 {
     let MountFault { store, error } = fault;

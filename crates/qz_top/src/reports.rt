@@ -46,6 +46,7 @@ fn write_error<E: Sink>(status: Status, err: &mut E) -> Result<(), Failed>
         Status::NoMemory => write_all(err, b"qz: no memory\n"),
         Status::Exists => write_all(err, b"qz: store exists\n"),
         Status::TooMany { count } => write_too_many(count, err),
+        Status::OldStore => write_all(err, b"qz: old store\n"),
     }
 }
 

@@ -1,12 +1,15 @@
 //! `run`: nodes work on the stores of two disks, on a virtual clock.
-ghost use Rattle.std.specs.Prelude.{◌≡◌, ◌≢◌, ◌⊎◌, map};
+ghost use Rattle.std.specs.Prelude.{◌≡◌, ◌≢◌, ◌⊎◌, map, false};
 ghost use Rattle.qz_civil.specs.Causes.{Rose};
 ghost use Rattle.qz_io.specs.Around.{output_alone};
+ghost use Rattle.qz_model.specs.History.{replay};
 ghost use Rattle.qz_run.specs.Working.{IsPlan};
 ghost use Rattle.qz_run_stores.specs.Going.{TriggersWent, StatesWent};
+ghost use Rattle.qz_trigger_store.specs.Entries.{is_old};
+ghost use Rattle.qz_trigger_store.specs.View.{view};
 ghost use Rattle.qz_top.specs.HandingOn.{HandsOnWritten};
 ghost use Rattle.qz_top.specs.Moments.{BeginsOn};
-ghost use Rattle.qz_top.specs.NodeRuns.{both, status_of, IsOfNodes, Worked, RanNodesOnDisk, RanNodes};
+ghost use Rattle.qz_top.specs.NodeRuns.{both, status_of, IsOfNodes, Worked, RanOpened, RanNodes};
 
 use crate::Status;
 use crate::ended::{Ended, ran_no_script};
@@ -53,11 +56,11 @@ pub(crate) fn run_on_disk<K: Sink, D: Disk>(
     }
 }
 
-// The work on the stores that were opened.
+// The work on the stores that were opened. An old trigger store is left as it is.
 fn run_opened<K: Sink, D: Disk>(plan: Plan, out: &mut K, run: Run<D>, jobs: &mut Jobs) -> Ended<D>
     requires { IsPlan plan }
     ensures done { (triggers : D) → (states : D) → BeginsOn triggers states run
-        → RanNodesOnDisk plan (map means jobs.old.items) (map means jobs.new.items) triggers states result (output_alone K.Sink out.old) (output_alone K.Sink out.new) }
+        → RanOpened plan (map means jobs.old.items) (map means jobs.new.items) triggers states result (output_alone K.Sink out.old) (output_alone K.Sink out.new) }
     ensures disk { (triggers : D) → (states : D) → BeginsOn triggers states run
         → result.status ≡ Status.DiskFault → Rose (D.faults triggers) (D.faults result.triggers) ⊎ Rose (D.faults states) (D.faults result.states) }
     ensures read { result.status ≢ Status.ReadFault }
@@ -72,6 +75,14 @@ fn run_opened<K: Sink, D: Disk>(plan: Plan, out: &mut K, run: Run<D>, jobs: &mut
     } = run;
     drop(trail);
     let (triggers, states) = cluster.into_stores();
+    if triggers.is_old() {
+        return ran_no_script(
+            alloc,
+            Status::OldStore,
+            triggers.into_disk(),
+            states.into_disk(),
+        );
+    }
     let Left {
         status,
         triggers,
@@ -89,7 +100,8 @@ pub(crate) fn work_on<D: Disk>(
     states: StateStore<D>,
     jobs: &mut Jobs,
 ) -> Left<D>
-    requires { IsPlan plan.now }
+    requires plan { IsPlan plan.now }
+    requires current { is_old (replay (view triggers).history) ≡ false }
     ensures worked { Worked plan.now result.status (map means jobs.old.items) (map means jobs.new.items) (both triggers states) (both result.triggers result.states) }
     ensures triggers { TriggersWent triggers result.triggers }
     ensures states { StatesWent states result.states }

@@ -72,6 +72,9 @@ pub enum Status {
     Exists,
     /// `run` and `gen`: a transaction of one of the nodes was refused, since there would be this many rows or members.
     TooMany { count: u64 },
+    /// `run` and `gen`: the trigger store is one of version 1 that wasn't upgraded. Nothing was done or written; `migrate`
+    /// upgrades it.
+    OldStore,
 }
 
 impl Status {
@@ -93,6 +96,7 @@ impl Status {
             Status::NoMemory => 9,
             Status::Exists => 10,
             Status::TooMany { count: _ } => 11,
+            Status::OldStore => 12,
         }
     }
 }

@@ -5,7 +5,7 @@ ghost use Rattle.qz_io.specs.Around.{output_alone};
 ghost use Rattle.qz_model.specs.History.{replay};
 ghost use Rattle.qz_report.specs.Summaries as summaries;
 ghost use Rattle.qz_trigger_store.specs.Entries.{history_of};
-ghost use Rattle.qz_trigger_store.specs.View.{view, found_of, added_of, replies_of};
+ghost use Rattle.qz_trigger_store.specs.View.{view, version_of, found_of, added_of, replies_of};
 ghost use Rattle.qz_top.specs.HandingOn.{HandsOnAll, HandsOnWritten};
 ghost use Rattle.qz_top.specs.NodeRuns.{IsOfNodes, WritesRun, lines_since, text_since};
 
@@ -28,7 +28,7 @@ pub(crate) fn tell_run<K: Sink, D: Disk>(
     out: &mut K,
 ) -> Status
     requires { IsOfNodes status }
-    ensures written { WritesRun result (text_since (history_of (found_of triggers.now)) (replay (view triggers.now).history) (added_of triggers.now)) (output_alone K.Sink out.old) (output_alone K.Sink out.new) }
+    ensures written { WritesRun result (text_since (history_of (version_of triggers.now) (found_of triggers.now)) (replay (view triggers.now).history) (added_of triggers.now)) (output_alone K.Sink out.old) (output_alone K.Sink out.new) }
     ensures status { (result ≡ status) ⊎ (result ≡ Status.WriteFault) ⊎ (result ≡ Status.NoMemory) }
     ensures write { result ≡ Status.WriteFault → Rose (K.faults out.old) (K.faults out.new) }
     ensures handed { HandsOnWritten K.Sink out.old out.new }
@@ -76,7 +76,7 @@ fn tell<K: Sink>(out: &mut K, text: &str, status: Status) -> Status
 
 // The lines and the summary line.
 fn text_of<D: Disk>(alloc: Global, triggers: &TriggerStore<D>) -> Result<Text, NoMemory>
-    ensures { IfOk result (λ text. text ≡ text_since (history_of (found_of triggers.now)) (replay (view triggers.now).history) (added_of triggers.now)) }
+    ensures { IfOk result (λ text. text ≡ text_since (history_of (version_of triggers.now) (found_of triggers.now)) (replay (view triggers.now).history) (added_of triggers.now)) }
 {
     let lines = lines_of(alloc, triggers)?;
     let summary = summary_line(alloc, &summary_of(triggers))?;
@@ -85,7 +85,7 @@ fn text_of<D: Disk>(alloc: Global, triggers: &TriggerStore<D>) -> Result<Text, N
 
 // The lines of what the store accepted since it was opened. A number past 64 bits would want more memory than there is.
 fn lines_of<D: Disk>(alloc: Global, triggers: &TriggerStore<D>) -> Result<Text, NoMemory>
-    ensures { IfOk result (λ text. text ≡ lines_since (history_of (found_of triggers.now)) (added_of triggers.now)) }
+    ensures { IfOk result (λ text. text ≡ lines_since (history_of (version_of triggers.now) (found_of triggers.now)) (added_of triggers.now)) }
 {
     let added = triggers.added();
     let before = triggers.history_len() - added.len() as u64;

@@ -4,6 +4,7 @@ use Rattle.std.proofs.lemmas.Int.{to_z-of_z}
 use Rattle.qz_top.proofs.AskedLaws.{done_at, uses_at, caused_at, run_words, own_words, own_disk, script_words, times_words, times_disk, init_words, init_read, init_disk}
 use Rattle.qz_top.proofs.GeneratingLaws.{gen_words}
 use Rattle.qz_top.proofs.LoadLaws.{load_words, list_words}
+use Rattle.qz_top.proofs.MigratingLaws.{migrate_words}
 use Rattle.qz_top.proofs.commands.work.Goals as goal
 
 pub returns-in-Err-clause-done : goal.returns-in-Err-clause-done
@@ -83,6 +84,23 @@ pub returns-in-Ok-List-clause-cause : goal.returns-in-Ok-List-clause-cause
 returns-in-Ok-List-clause-cause g c =
     let list = c.list_on_disk.ensures in
     caused_at _ _ _ _ _ (rw c.in-Ok-List.field-0-is at c.in-Ok-List.ensures.value) (λ fault is. absurd (list_words _ _ _ _ _ fault list.done is)) (λ is. absurd (list.read is)) list.write list.disk
+
+pub returns-in-Ok-Migrate-clause-done : goal.returns-in-Ok-Migrate-clause-done
+returns-in-Ok-Migrate-clause-done g c =
+    done_at _ _ _ _ _ _ _ _ _ (rw c.in-Ok-Migrate.field-0-is at c.in-Ok-Migrate.ensures.value)
+    (record { ran = c.migrate.ensures.done; not_read = refl })
+
+pub returns-in-Ok-Migrate-clause-cause : goal.returns-in-Ok-Migrate-clause-cause
+returns-in-Ok-Migrate-clause-cause g c =
+    let ran = c.migrate.ensures in
+    caused_at _ _ _ _ _ (rw c.in-Ok-Migrate.field-0-is at c.in-Ok-Migrate.ensures.value) (λ fault is. absurd (migrate_words _ _ _ _ _ _ _ fault ran.done is))
+    (λ is. absurd (ran.read is)) ran.write ran.disk
+
+pub returns-in-Ok-Migrate-clause-jobs : goal.returns-in-Ok-Migrate-clause-jobs
+returns-in-Ok-Migrate-clause-jobs g c = uses_at _ _ _ _ (rw c.in-Ok-Migrate.field-0-is at c.in-Ok-Migrate.ensures.value) refl
+
+pub returns-in-Ok-Migrate-clause-handed : goal.returns-in-Ok-Migrate-clause-handed
+returns-in-Ok-Migrate-clause-handed g c = c.migrate.ensures.handed
 
 pub returns-in-Ok-Run-clause-done : goal.returns-in-Ok-Run-clause-done
 returns-in-Ok-Run-clause-done g c =

@@ -24,10 +24,13 @@ returns-in-Err-clause-grows g c = omega (arith, c.loop-command.invariant.6, c.in
 pub returns-in-Err-clause-any_moment : goal.returns-in-Err-clause-any_moment
 returns-in-Err-clause-any_moment g c = c.in-Err.ensures.any_moment c.args.triggers.now c.loop-command.invariant.6 c.loop-command.invariant.7
 
+pub returns-in-Err-clause-current : goal.returns-in-Err-clause-current
+returns-in-Err-clause-current g c current = c.in-Err.ensures.current (c.loop-command.invariant.8 current)
+
 pub loop-command-init : goal.loop-command-init
 loop-command-init g c =
     let same = c.into_iter-command-iterator.ensures.into_iter_gives.0 ∙ c.into_vec-command-items.ensures in
-    (tt, tt, subst (AllByRecursion IsOfClient) (sym same) c.requires.valid, λ u. FilledFront-none _ _ _ _ (sym same), c.requires.open, refl, omega arith, triggers_begin (λ d honest. g.met.D.Disk.lawful honest d) c.args.triggers.now)
+    (tt, tt, subst (AllByRecursion IsOfClient) (sym same) c.requires.valid, λ u. FilledFront-none _ _ _ _ (sym same), c.requires.open, refl, omega arith, triggers_begin (λ d honest. g.met.D.Disk.lawful honest d) c.args.triggers.now, λ current. current)
 
 pub loop-command-preserved : goal.loop-command-preserved
 loop-command-preserved g c =
@@ -41,4 +44,5 @@ loop-command-preserved g c =
       c.in-Ok.ensures.found ∙ before.5,
       omega (arith, before.6, c.in-Ok.ensures.grows),
       c.in-Ok.ensures.any_moment c.args.triggers.now before.6 before.7,
+      λ current. c.in-Ok.ensures.current (before.8 current),
     )

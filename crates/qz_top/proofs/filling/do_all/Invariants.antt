@@ -1,8 +1,10 @@
-use Rattle.std.proofs.Common.{◌≡◌, ◌≤◌, length, true}
+use Rattle.std.proofs.Common.{◌≡◌, ◌≤◌, length, true, false}
 use Rattle.std.specs.List.{AllByRecursion}
 use Rattle.std.specs.Vec.Iter.{into_iter_items}
 use Rattle.qz_checkin.specs.Entries.{StatesState}
+use Rattle.qz_model.specs.History.{replay}
 use Rattle.qz_run_stores.specs.Ways.{KeepsTriggers}
+use Rattle.qz_trigger_store.specs.Entries.{is_old}
 use Rattle.qz_trigger_store.specs.View.{view, found_of}
 use Rattle.qz_top.specs.Clients.{IsOfClient}
 use Rattle.qz_top.specs.Generating.{beside}
@@ -19,3 +21,4 @@ invariant-loop-command g l =
     × (found_of l.triggers ≡ found_of l.initial.triggers)
     × (length (view l.initial.triggers).history.entries ≤ length (view l.triggers).history.entries)
     × ∥ KeepsTriggers l.initial.triggers l.triggers ∥₁
+    × (is_old (replay (view l.initial.triggers).history) ≡ false → is_old (replay (view l.triggers).history) ≡ false)

@@ -28,8 +28,8 @@ returns-clause-done g c triggers states begins =
       no_trail = end.trail;
       faults = (ap g.D.Disk.faults (end.disks.0 ∙ disk), ap g.D.Disk.faults (end.disks.1 ∙ states_disk));
       images = λ honest b. (
-        λ is. may_be _ _ b (left.triggers.store.images honest b (rw (end.disks.0 ∙ disk) at is)),
-        λ is. states_may_be _ _ b (left.states.store.images honest b (rw (end.disks.1 ∙ states_disk) at is)),
+        λ is. may_be _ _ _ b (left.triggers.store.images honest b (rw (end.disks.0 ∙ disk) at is)),
+        λ is. states_may_be _ _ _ b (left.states.store.images honest b (rw (end.disks.1 ∙ states_disk) at is)),
       );
       any_moment = kept_on_the_way triggers states cluster.triggers left.triggers cluster.states left.states _ _ (end.disks.0 ∙ disk) (end.disks.1 ∙ states_disk) begins.reads generated.any_moment.0 generated.any_moment.1;
     }

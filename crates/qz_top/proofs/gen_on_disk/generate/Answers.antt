@@ -1,4 +1,4 @@
-use Rattle.std.proofs.Common.{◌≡◌, inl, inr, length, false, refl, ◌∙◌, subst, arith}
+use Rattle.std.proofs.Common.{◌≡◌, inl, inr, length, false, refl, sym, ◌∙◌, subst, arith}
 use Rattle.std.proofs.lemmas.List.{nil_from_length}
 use Rattle.qz_generator.specs.Commands.{generated}
 use Rattle.qz_trigger_store.specs.View.{view, found_of, added_of}
@@ -15,6 +15,18 @@ pub returns-then-history_len-gt0-clause-any_moment : goal.returns-then-history_l
 returns-then-history_len-gt0-clause-any_moment g c =
     (triggers_begin (λ d honest. g.met.D.Disk.lawful honest d) c.args.triggers, states_begin (λ d honest. g.met.D.Disk.lawful honest d) c.args.states)
 
+pub returns-then-is_old-clause-did : goal.returns-then-is_old-clause-did
+returns-then-is_old-clause-did g c =
+    let none : length (view c.args.triggers).history.entries ≡ 0 = omega (arith, c.history_len.ensures, c.if-history_len-gt0.false) in
+    inr (inl (record { none = nil_from_length _ none; found = sym c.is_old.ensures ∙ c.if-is_old.true; status_is = refl; same = refl; not_called = refl; untouched = refl }))
+
+pub returns-then-is_old-clause-any_moment : goal.returns-then-is_old-clause-any_moment
+returns-then-is_old-clause-any_moment g c =
+    (triggers_begin (λ d honest. g.met.D.Disk.lawful honest d) c.args.triggers, states_begin (λ d honest. g.met.D.Disk.lawful honest d) c.args.states)
+
+pub work_and_sum-requires-clause-current : goal.work_and_sum-requires-clause-current
+work_and_sum-requires-clause-current g c = c.fill.ensures.current (sym c.is_old.ensures ∙ c.if-is_old.false)
+
 pub returns-in-Ok-clause-did : goal.returns-in-Ok-clause-did
 returns-in-Ok-clause-did g c =
     let triggers = c.args.triggers in
@@ -23,8 +35,9 @@ returns-in-Ok-clause-did g c =
     let work = c.work_and_sum.ensures in
     let none : length (view triggers).history.entries ≡ 0 = omega (arith, c.history_len.ensures, c.if-history_len-gt0.false) in
     let opened = both_open (view triggers).is_open (states_view c.args.states).is_open c.requires.open in
-    inr (inr (record {
+    inr (inr (inr (record {
       none = nil_from_length _ none;
+      current = sym c.is_old.ensures ∙ c.if-is_old.false;
       between = both filled c.args.states;
       filled = fill.filled (states_view c.args.states);
       is_open = none_closed (view filled).is_open (states_view c.args.states).is_open fill.open opened.1;
@@ -32,7 +45,7 @@ returns-in-Ok-clause-did g c =
       told = work.worked.1;
       worked = work.worked.2;
       written = work.written (fill.found ∙ none_found (found_of triggers) (added_of triggers) none);
-    }))
+    })))
 
 pub returns-in-Ok-clause-disk : goal.returns-in-Ok-clause-disk
 returns-in-Ok-clause-disk g c status =
@@ -46,12 +59,12 @@ pub returns-in-Ok-clause-any_moment : goal.returns-in-Ok-clause-any_moment
 returns-in-Ok-clause-any_moment g c =
     let fill = c.in-Ok.ensures in
     let went = c.work_and_sum.ensures.went in
-    (kept_on c.args.triggers c.fill.new.triggers c.work_and_sum.result.triggers went.0.added fill.open fill.grows went.0.entries fill.any_moment went.0.kept, went.1.kept)
+    (kept_on c.args.triggers c.fill.new.triggers c.work_and_sum.result.triggers went.0.added went.0.version fill.open fill.grows went.0.entries fill.any_moment went.0.kept, went.1.kept)
 
 pub returns-in-Err-clause-did : goal.returns-in-Err-clause-did
 returns-in-Err-clause-did g c =
     let none : length (view c.args.triggers).history.entries ≡ 0 = omega (arith, c.history_len.ensures, c.if-history_len-gt0.false) in
-    inr (inl (record { none = nil_from_length _ none; ended = c.in-Err.ensures.ended (states_view c.args.states); not_called = refl; untouched = refl }))
+    inr (inr (inl (record { none = nil_from_length _ none; current = sym c.is_old.ensures ∙ c.if-is_old.false; ended = c.in-Err.ensures.ended (states_view c.args.states); not_called = refl; untouched = refl })))
 
 pub returns-in-Err-clause-disk : goal.returns-in-Err-clause-disk
 returns-in-Err-clause-disk g c status =

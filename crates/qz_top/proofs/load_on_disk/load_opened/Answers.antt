@@ -32,7 +32,7 @@ returns-clause-done g c triggers states begins =
       recovered_end = recovered_in_end _ _ _ opened.0 course;
       alone = load_alone _ _ (record { opened = opened.0; held = begins.nothing_held }) _ _ _ _ loads_now;
       faults = (ap g.D.Disk.faults end.disks.0, ap g.D.Disk.faults end.disks.1);
-      images = λ honest b. (λ is. may_be _ _ b (cluster.triggers.store.images honest b (rw end.disks.0 at is)), λ is. states_may_be _ _ b (cluster.states.store.images honest b (rw end.disks.1 at is)));
+      images = λ honest b. (λ is. may_be _ _ _ b (cluster.triggers.store.images honest b (rw end.disks.0 at is)), λ is. states_may_be _ _ _ b (cluster.states.store.images honest b (rw end.disks.1 at is)));
       opening = λ honest. rw end.shown (opened_by_reads (g.met.D.Disk.lawful honest) honest triggers states _ _ begins c.load-status.ensures.shows);
       any_moment = λ honest. rw (end.shown, end.disks.0, end.disks.1) (all_kept (g.met.D.Disk.lawful honest) honest triggers states _ _ begins c.load-status.ensures.shows);
     }

@@ -39,7 +39,7 @@ returns-clause-done g c triggers states begins =
       plain = plain_opened _ _ _ _ _ _ _ _ _ opened.0 opened.1 ran.3;
       plain_first = plain_first _ _ _ _ _ _ _ _ _ opened.0 opened.1 ran.3;
       faults = (ap g.D.Disk.faults end.disks.0, ap g.D.Disk.faults end.disks.1);
-      images = λ honest b. (λ is. may_be _ _ b (cluster.triggers.store.images honest b (rw end.disks.0 at is)), λ is. states_may_be _ _ b (cluster.states.store.images honest b (rw end.disks.1 at is)));
+      images = λ honest b. (λ is. may_be _ _ _ b (cluster.triggers.store.images honest b (rw end.disks.0 at is)), λ is. states_may_be _ _ _ b (cluster.states.store.images honest b (rw end.disks.1 at is)));
       opening = λ honest. rw end.shown (opened_by_reads (g.met.D.Disk.lawful honest) honest triggers states _ _ begins c.run_lines-status.ensures.shows);
       any_moment = λ honest. rw (end.shown, end.disks.0, end.disks.1) (all_kept (g.met.D.Disk.lawful honest) honest triggers states _ _ begins c.run_lines-status.ensures.shows);
     }

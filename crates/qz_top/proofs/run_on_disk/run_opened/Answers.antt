@@ -1,4 +1,4 @@
-use Rattle.std.proofs.Common.{◌≡◌, sym, ap, ◌∙◌}
+use Rattle.std.proofs.Common.{◌≡◌, inl, inr, sym, refl, ap, ◌∙◌}
 use Rattle.qz_trigger_store.specs.View.{added_of}
 use Rattle.qz_trigger_store.proofs.Appending.{may_be}
 use Rattle.qz_checkin.proofs.Appending.{may_be as states_may_be}
@@ -8,6 +8,31 @@ use Rattle.qz_trigger_store.proofs.Kept.{legal, schedules_kept}
 use Rattle.qz_checkin.proofs.Kept.{legal as states_legal}
 use Rattle.qz_top.proofs.run_on_disk.run_opened.Goals as goal
 
+-- an old store is given back as it was opened
+pub returns-then-is_old-clause-done : goal.returns-then-is_old-clause-done
+returns-then-is_old-clause-done g c triggers states begins =
+    let cluster = c.args.run.cluster in
+    let stores = c.into_stores-triggers.ensures in
+    let end = c.ran_no_script.ensures in
+    let disk = c.into_disk.ensures in
+    let states_disk = c.into_disk-then-is_old.ensures in
+    inr (
+      record {
+        opened = both cluster.triggers cluster.states;
+        are_opened = begins.are_opened;
+        stand = begins.stand;
+        found = rw stores.0 at (sym c.is_old.ensures ∙ c.if-is_old.true);
+        status_is = end.status;
+        none = end.trail;
+        reads = λ honest. rw (end.disks.0 ∙ disk, end.disks.1 ∙ states_disk, stores.0, stores.1) (begins.reads honest);
+        untouched = refl;
+      },
+      refl,
+    )
+
+pub work_on-status-requires-clause-current : goal.work_on-status-requires-clause-current
+work_on-status-requires-clause-current g c = sym c.is_old.ensures ∙ c.if-is_old.false
+
 pub returns-clause-done : goal.returns-clause-done
 returns-clause-done g c triggers states begins =
     let cluster = c.args.run.cluster in
@@ -15,18 +40,19 @@ returns-clause-done g c triggers states begins =
     let work = c.work_on-status.ensures in
     let left = c.work_on-status.result in
     let tell = c.tell_run-status.ensures in
-    let end = c.ran_no_script.ensures in
-    let disk = c.into_disk.ensures in
-    let states_disk = c.into_disk-2.ensures in
+    let end = c.ran_no_script-2.ensures in
+    let disk = c.into_disk-2.ensures in
+    let states_disk = c.into_disk-3.ensures in
     let went = rw stores.0 at work.triggers in
     let rows = rw stores.1 at work.states in
     let worked = rw (stores.0, stores.1) at work.worked in
     let added : added_of left.triggers ≡ worked.added = added_is cluster.triggers left.triggers worked.added begins.nothing_added went worked.went_on.entries in
     let history = history_is cluster.triggers left.triggers begins.nothing_added went in
-    record {
+    inl (record {
       opened = both cluster.triggers cluster.states;
       are_opened = begins.are_opened;
       stand = begins.stand;
+      current = rw stores.0 at (sym c.is_old.ensures ∙ c.if-is_old.false);
       end = both left.triggers left.states;
       work = left.status;
       told = told_again _ _ _ end.status tell.status;
@@ -37,11 +63,11 @@ returns-clause-done g c triggers states begins =
       no_trail = end.trail;
       faults = (ap g.D.Disk.faults (end.disks.0 ∙ disk), ap g.D.Disk.faults (end.disks.1 ∙ states_disk));
       images = λ honest b. (
-        λ is. may_be _ _ b (left.triggers.store.images honest b (rw (end.disks.0 ∙ disk) at is)),
-        λ is. states_may_be _ _ b (left.states.store.images honest b (rw (end.disks.1 ∙ states_disk) at is)),
+        λ is. may_be _ _ _ b (left.triggers.store.images honest b (rw (end.disks.0 ∙ disk) at is)),
+        λ is. states_may_be _ _ _ b (left.states.store.images honest b (rw (end.disks.1 ∙ states_disk) at is)),
       );
       any_moment = kept_on_the_way triggers states cluster.triggers left.triggers cluster.states left.states _ _ (end.disks.0 ∙ disk) (end.disks.1 ∙ states_disk) begins.reads went.kept rows.kept;
-    }
+    })
 
 pub returns-clause-disk : goal.returns-clause-disk
 returns-clause-disk g c triggers states begins status =
@@ -50,10 +76,10 @@ returns-clause-disk g c triggers states begins status =
     let work = c.work_on-status.ensures in
     let left = c.work_on-status.result in
     let tell = c.tell_run-status.ensures in
-    let end = c.ran_no_script.ensures in
+    let end = c.ran_no_script-2.ensures in
     let went = rw stores.0 at work.triggers in
     let rows = rw stores.1 at work.states in
     let worked = rw (stores.0, stores.1) at work.worked in
     let is = sym end.status ∙ status in
     let rose = told_disk_rose _ _ _ _ _ _ _ _ _ tell.status is worked begins.are_opened.0.is_open begins.are_opened.1.is_open went.went rows.went begins.no_earlier.0 begins.no_earlier.1 in
-    rw (end.disks.0 ∙ c.into_disk.ensures, end.disks.1 ∙ c.into_disk-2.ensures) rose
+    rw (end.disks.0 ∙ c.into_disk-2.ensures, end.disks.1 ∙ c.into_disk-3.ensures) rose
