@@ -146,7 +146,7 @@ const BY_TURNS: &[ChainRow] = &[
             (Cron("1/2 * * * * ?"), FARTHEST_EAST),
         ],
         0,
-        Some(4102380000000),
+        Some(7258053600000),
     ),
     (
         &[

@@ -22,7 +22,7 @@ const MIDNIGHT: CronFields = CronFields {
     day: DayField::Any,
     months: 4095,
     week: WeekField::Any,
-    years: [u64::MAX, u64::MAX, 3, 0],
+    years: [u64::MAX, u64::MAX, u64::MAX, (1 << 38) - 1],
 };
 
 // 0 0 9 * * ?
@@ -185,9 +185,9 @@ const TIMES_OF_DAY: &[CronRow] = &[
     (EACH, -1, Some(0)),
     (EACH, 0, Some(1000)),
     (EACH, 999, Some(1000)),
-    (EACH, 4102444798999, Some(4102444799000)),
-    (EACH, 4102444799000, None),
-    (EACH, 4102444799999, None),
+    (EACH, 7258118398999, Some(7258118399000)),
+    (EACH, 7258118399000, None),
+    (EACH, 7258118399999, None),
 ];
 
 // The clock goes from 2 to 3 o'clock on 31 March, and from 3 to 2 on 27 October.
@@ -250,16 +250,16 @@ const A_DAY_LOST_AND_FOUND: &[CronRow] = &[
     (LEFT_OUT, -1, None),
 ];
 
-// 18 hours from UTC the local years 1969 and 2100 are met, which no text names.
+// 18 hours from UTC the local years 1969 and 2200 are met, which no text names.
 const FARTHEST_WEST: &[CronRow] = &[
     (EACH, -1, Some(64800000)),
-    (EACH, 4102444798000, Some(4102444799000)),
+    (EACH, 7258118398000, Some(7258118399000)),
 ];
 
 const FARTHEST_EAST: &[CronRow] = &[
     (EACH, -1, Some(0)),
-    (EACH, 4102379998000, Some(4102379999000)),
-    (EACH, 4102379999000, None),
+    (EACH, 7258053598000, Some(7258053599000)),
+    (EACH, 7258053599000, None),
 ];
 
 const IN_UTC: &[&[CronRow]] = &[

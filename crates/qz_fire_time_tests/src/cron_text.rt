@@ -82,7 +82,7 @@ const OUT_OF_RANGE: &[(&str, u8, u16)] = &[
     ("0 0 0 ? * 2#6", 6, 6),
     ("0 0 0 ? * 2#0", 6, 0),
     ("0 0 0 ? * 1 1969", 7, 1969),
-    ("0 0 0 ? * 1 2099-2100", 7, 2100),
+    ("0 0 0 ? * 1 2199-2200", 7, 2200),
     ("0 0 0 ? * 1 2030-2020", 7, 2030),
     ("0 0 0 ? * 1 2030-1960", 7, 2030),
 ];
@@ -233,8 +233,8 @@ const CANONICAL: &[(&str, &str)] = &[
     ("0 0 0 ? * TUE#5", "0 0 0 ? * 3#5"),
     ("0 0 0 ? * 1 *", "0 0 0 ? * 1"),
     (
-        "0 0 0 ? * 1 2096/2,1970-2012/20",
-        "0 0 0 ? * 1 1970,1990,2010,2096,2098",
+        "0 0 0 ? * 1 2196/2,1970-2012/20",
+        "0 0 0 ? * 1 1970,1990,2010,2196,2198",
     ),
 ];
 
@@ -253,7 +253,7 @@ const EVERY_MORNING: CronFields = CronFields {
     day: DayField::Any,
     months: 0xfff,
     week: WeekField::Set(0b0111110),
-    years: [u64::MAX, u64::MAX, 3, 0],
+    years: [u64::MAX, u64::MAX, u64::MAX, (1 << 38) - 1],
 };
 
 const SOME_YEARS: CronFields = CronFields {
@@ -263,11 +263,11 @@ const SOME_YEARS: CronFields = CronFields {
     day: DayField::Nearest { day: 1 },
     months: 1,
     week: WeekField::Any,
-    years: [1, 1, 2, 0],
+    years: [1, 1, 0, 1 << 37],
 };
 
 #[test]
 fn texts_with_their_fields(rt: HostRuntime) {
     assert!(rt; parse("0 30 8 ? * MON-FRI") == Ok(EVERY_MORNING));
-    assert!(rt; parse("0,59 0 23 1W JAN ? 1970,2034,2099") == Ok(SOME_YEARS));
+    assert!(rt; parse("0,59 0 23 1W JAN ? 1970,2034,2199") == Ok(SOME_YEARS));
 }

@@ -131,8 +131,8 @@ const EACH_SECOND: &[DailyRow] = &[
     (EACH, -1, Some(0)),
     (EACH, 0, Some(1000)),
     (EACH, 999, Some(1000)),
-    (EACH, 4102444798000, Some(4102444799000)),
-    (EACH, 4102444799000, None),
+    (EACH, 7258118398000, Some(7258118399000)),
+    (EACH, 7258118399000, None),
     (EACH, LAST, None),
 ];
 
@@ -195,7 +195,7 @@ const AN_HOUR_LOST_AND_FOUND: &[DailyRow] = &[
     (EARLY, 1729994400000, Some(1730077200000)),
 ];
 
-// The weekday is the local clock's: 1970-01-01 was a Thursday, and so was 2099-12-31.
+// The weekday is the local clock's: 1970-01-01 was a Thursday, and 2200-01-01 is a Wednesday.
 const WEDNESDAYS: Daily = Daily {
     days: 1 << 3,
     ..EACH
@@ -213,9 +213,9 @@ const FRIDAYS: Daily = Daily {
 
 const FARTHEST_EAST: &[DailyRow] = &[
     (FRIDAYS, -1, Some(21600000)),
-    (FRIDAYS, 4102379998000, Some(4102380000000)),
-    (EACH, 4102444798999, Some(4102444799000)),
-    (EACH, 4102444799000, None),
+    (WEDNESDAYS, 7258053598000, Some(7258053600000)),
+    (EACH, 7258118398999, Some(7258118399000)),
+    (EACH, 7258118399000, None),
 ];
 
 const FARTHEST_WEST: &[DailyRow] = &[

@@ -1,4 +1,6 @@
 //! Fire times that were worked out apart from this crate.
+mod flags;
+
 use crate::zoned::{
     Begin, Row, check_in_utc, check_in_zones, is_every, is_moment, is_next, is_span,
 };
@@ -6,7 +8,7 @@ use qz_civil::{LAST, LONGEST, Unit, Zone};
 use qz_interval::{IntervalTimes, next};
 use std::test::Fail;
 
-// A start and an end, a unit and how many, a moment, and the next fire time.
+// A start and an end, a unit and how many, a moment, and the next fire time, where both flags are true.
 type IntervalRow = (i64, Option<i64>, Unit, u32, i64, Option<i64>);
 
 const UNITS: &[IntervalRow] = &[
@@ -51,6 +53,23 @@ const UNITS: &[IntervalRow] = &[
         4,
         1709164800000,
         Some(1835395200000),
+    ),
+    // 2100 is no leap year: 28 February 2100, 29 February 2104
+    (
+        1709164800000,
+        None,
+        Unit::Year,
+        4,
+        3981312000000,
+        Some(4107456000000),
+    ),
+    (
+        1709164800000,
+        None,
+        Unit::Year,
+        4,
+        4107456000000,
+        Some(4233686400000),
     ),
     // from 2024-01-01T08:00 on: 15 January
     (
@@ -102,8 +121,8 @@ const BOTH_ENDS: &[IntervalRow] = &[
         Some(1704182400000),
     ),
     // the last timestamps
-    (0, None, Unit::Day, 1, 4102272000000, Some(4102358400000)),
-    (0, None, Unit::Day, 1, 4102358400000, None),
+    (0, None, Unit::Day, 1, 7257945600000, Some(7258032000000)),
+    (0, None, Unit::Day, 1, 7258032000000, None),
     (LONGEST, None, Unit::Day, 1, LAST, None),
 ];
 
@@ -235,9 +254,9 @@ impl Row for IntervalRow {
         is_span(start)
             && is_every(every)
             && is_moment(after)
-            && next(start, end, unit, every, zone, after) == wanted
+            && next(start, end, unit, every, true, true, zone, after) == wanted
             && is_next(
-                &IntervalTimes::new(start, end, unit, every, zone),
+                &IntervalTimes::new(start, end, unit, every, true, true, zone),
                 after,
                 wanted,
             )

@@ -32,9 +32,9 @@ const REPEATS: &[Row] = &[
     ),
     (1704067200000, None, 3600000, 10, 1704103200000, None),
     // each day without end, at the last day
-    (0, None, 86400000, -1, 4102272000000, Some(4102358400000)),
-    (0, None, 86400000, -1, 4102358400000, None),
-    (0, None, 1, -1, 4102444799998, Some(LAST)),
+    (0, None, 86400000, -1, 7257945600000, Some(7258032000000)),
+    (0, None, 86400000, -1, 7258032000000, None),
+    (0, None, 1, -1, 7258118399998, Some(LAST)),
     (0, None, 1, -1, LAST, None),
     // past the last timestamp
     (LONGEST, None, LONGEST, 2147483647, LAST, None),

@@ -10,6 +10,6 @@ mod outputs;
 
 pub use disks::{read_at, restart, sync, write_at};
 pub use inputs::{next, now, read};
-pub use journals::{append, crash, create, fits, mount, remount};
+pub use journals::{append, crash, create, create_version, fits, mount, remount};
 pub use memory_disks::{cut_restart, failing_sync, memory_restart, memory_sync};
 pub use outputs::{flush, write, write_all};

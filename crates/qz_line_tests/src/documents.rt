@@ -24,7 +24,7 @@ const WEEK: &str = r#"{"at":1704067200000,
 "triggers":[{"name":"backup","job":"backup","start":1704067200000,"kind":"cron","cron":"0 0 2 * * ?"},
 {"name":"poll","job":"poll","start":1704067200000,"kind":"simple","interval":900000,"count":-1},
 {"name":"report","job":"report","start":1704067200000,"kind":"cron","cron":"0 30 8 ? * MON-FRI","zone":"CET","calendar":"free"},
-{"name":"billing","job":"billing","start":1704088800000,"kind":"interval","unit":"MONTH","every":1},
+{"name":"billing","job":"billing","start":1704088800000,"kind":"interval","unit":"MONTH","every":1,"preserveHourOfDay":true,"skipDayIfHourDoesNotExist":false},
 {"name":"sync","job":"sync","start":1704067200000,"kind":"daily","unit":"HOUR","every":2,"from":"09:00:00","to":"17:00:00","days":[2,3,4,5,6]},
 {"name":"notice","job":"notice","start":1704240000000,"kind":"simple"}]}
 "#;
@@ -117,6 +117,14 @@ const FAULTS: &[FaultRow] = &[
     (r#"{"jobs":[{"name":"a"}]}"#, LineFault::Shape),
     (
         r#"{"jobs":[{"name":"a","class":"c","replace":false}]}"#,
+        LineFault::Shape,
+    ),
+    (
+        r#"{"triggers":[{"name":"t","job":"a","start":7,"kind":"interval","unit":"DAY","every":1,"preserveHourOfDay":"true"}]}"#,
+        LineFault::Shape,
+    ),
+    (
+        r#"{"triggers":[{"name":"t","job":"a","start":7,"kind":"simple","skipDayIfHourDoesNotExist":true}]}"#,
         LineFault::Shape,
     ),
     (

@@ -1,5 +1,5 @@
 //! Entries of histories with their lines, and summaries.
-ghost use Rattle.std.specs.Prelude.{IsTrue};
+ghost use Rattle.std.specs.Prelude.{◌≡◌, false, IsTrue};
 ghost use Rattle.qz_types.specs.Entries.{is_command, is_of_node};
 ghost use Rattle.qz_types.specs.Rows.{is_node};
 
@@ -36,15 +36,38 @@ fn fire(alloc: Global) -> Result<Entry, AllocError> {
     Ok(of_node(node, Command::Fire { entry: 9 }))
 }
 
+// What a client did.
 #[tactic(auto, unfolding(qz_types::specs::Entries::is_entry))]
-fn triggered(alloc: Global) -> Result<Entry, AllocError> {
-    let job = Key::new(alloc, "DEFAULT", "j")?;
-    Ok(Entry {
+fn of_client(command: Command) -> Entry
+    requires valid { IsTrue (is_command command) }
+    requires client { is_of_node command ≡ false }
+{
+    Entry {
         at: -3,
         actor: Actor::Client,
         seat: 0,
-        command: Command::TriggerNow { job },
-    })
+        command,
+    }
+}
+
+fn triggered(alloc: Global) -> Result<Entry, AllocError> {
+    let job = Key::new(alloc, "DEFAULT", "j")?;
+    Ok(of_client(Command::TriggerNow { job }))
+}
+
+fn reset(alloc: Global) -> Result<Entry, AllocError> {
+    let key = Key::new(alloc, "g", "t")?;
+    Ok(of_client(Command::ResetTrigger { key }))
+}
+
+fn job_group_paused(alloc: Global) -> Result<Entry, AllocError> {
+    let group = Text::from_str(alloc, "g")?;
+    Ok(of_client(Command::PauseJobGroup { group }))
+}
+
+fn job_group_resumed(alloc: Global) -> Result<Entry, AllocError> {
+    let group = Text::from_str(alloc, "g")?;
+    Ok(of_client(Command::ResumeJobGroup { group }))
 }
 
 // Whether this is the entry's line.
@@ -67,6 +90,31 @@ fn entries_have_their_lines(rt: HostRuntime) -> Result<(), AllocError> {
     let now = "1 1704067200000 client trigger_now ok\n";
     let entry = triggered(alloc)?;
     assert!(rt; has_line(alloc, 1, entry, Reply::Done, now));
+    Ok(())
+}
+
+// Whether this is the line of a client's entry 7 that was done.
+fn is_done_line(alloc: Global, entry: Entry, line: &str) -> bool {
+    has_line(alloc, 7, entry, Reply::Done, line)
+}
+
+#[test]
+fn commands_of_the_second_version_have_their_words(rt: HostRuntime) -> Result<(), AllocError> {
+    let alloc = rt.alloc();
+    let reset = reset(alloc)?;
+    assert!(rt; is_done_line(alloc, reset, "7 1704067200000 client reset_trigger ok\n"));
+    let paused = job_group_paused(alloc)?;
+    assert!(rt; is_done_line(alloc, paused, "7 1704067200000 client pause_job_group ok\n"));
+    let resumed = job_group_resumed(alloc)?;
+    assert!(rt;
+        is_done_line(
+            alloc,
+            resumed,
+            "7 1704067200000 client resume_job_group ok\n"
+        )
+    );
+    let upgraded = of_client(Command::Upgrade);
+    assert!(rt; is_done_line(alloc, upgraded, "7 1704067200000 client migrate ok\n"));
     Ok(())
 }
 

@@ -161,6 +161,15 @@ fn put_group(alloc: Global, tables: &mut Tables) -> Result<(), NoMemory> {
     Ok(())
 }
 
+fn put_job_group(alloc: Global, tables: &mut Tables) -> Result<(), NoMemory> {
+    tables.reserve(1)?;
+    let group = Text::from_str(alloc, "j %")?;
+    if tables.get_job_group(&group).is_none() {
+        tables.insert_job_group(group);
+    }
+    Ok(())
+}
+
 fn put_fired(alloc: Global, tables: &mut Tables) -> Result<(), NoMemory> {
     tables.reserve(1)?;
     let row = fired(alloc)?;
@@ -176,6 +185,7 @@ fn put_all(alloc: Global, tables: &mut Tables) -> Result<(), NoMemory> {
     put_job(alloc, tables)?;
     put_trigger(alloc, tables)?;
     put_group(alloc, tables)?;
+    put_job_group(alloc, tables)?;
     put_member(alloc, tables)?;
     put_fired(alloc, tables)
 }
@@ -202,6 +212,7 @@ calendar w weekly base b%20b
 job DEFAULT/backup a%20class durable 1 no_concurrent 0 requests_recovery 1
 trigger g/t job DEFAULT/backup PAUSED_BLOCKED next 6000 prev none times 7 priority -5 start 5000 simple -1
 paused g%25
+paused_jobs j%20%25
 member A 7
 fired 3 A 7 g/t EXECUTING scheduled 5000 at 5001
 state A last 5001 interval 15000
@@ -210,7 +221,7 @@ state A last 5001 interval 15000
 #[test]
 fn a_row_of_each_kind_has_its_line(rt: HostRuntime) -> Result<(), NoMemory> {
     let alloc = rt.alloc();
-    let mut tables = Tables::new(alloc);
+    let mut tables = Tables::new(alloc, 2);
     put_all(alloc, &mut tables)?;
     let state = state(alloc)?;
     assert!(rt; is_listed(alloc, &tables, state, ALL));

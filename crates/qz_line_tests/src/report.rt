@@ -108,6 +108,9 @@ fn refusals_have_their_lines(rt: HostRuntime) {
             "refused 22 count 4096\n"
         )
     );
+    assert!(rt; is_refused(alloc, Refusal::OldStore, "refused 27\n"));
+    assert!(rt; is_refused(alloc, Refusal::Current, "refused 28\n"));
+    assert!(rt; is_refused(alloc, Refusal::NotInError, "refused 29\n"));
 }
 
 // A member that a reply names.

@@ -114,6 +114,85 @@ const TIMED: &[TimedRow] = &[
     ),
 ];
 
+/// Each day at half past two from the day on before that hour is lost.
+const FLAGGED: &[TimedRow] = &[
+    (
+        Query {
+            after: 1711762200000,
+            count: 3,
+        },
+        r#""name":"i","job":"j","start":1711762200000,"kind":"interval","unit":"DAY","every":1,"zone":"CET""#,
+        "ok\ntimes DEFAULT/i 1711931400000 1712017800000 1712104200000\n",
+    ),
+    (
+        Query {
+            after: 1711762200000,
+            count: 3,
+        },
+        r#""name":"i","job":"j","start":1711762200000,"kind":"interval","unit":"DAY","every":1,"zone":"CET","skipDayIfHourDoesNotExist":false"#,
+        "ok\ntimes DEFAULT/i 1711846800000 1711931400000 1712017800000\n",
+    ),
+    (
+        Query {
+            after: 1711762200000,
+            count: 3,
+        },
+        r#""name":"i","job":"j","start":1711762200000,"kind":"interval","unit":"DAY","every":1,"zone":"CET","preserveHourOfDay":false"#,
+        "ok\ntimes DEFAULT/i 1711848600000 1711935000000 1712021400000\n",
+    ),
+    (
+        Query {
+            after: 1711762200000,
+            count: 3,
+        },
+        r#""name":"i","job":"j","start":1711762200000,"kind":"interval","unit":"DAY","every":1,"zone":"CET","preserveHourOfDay":false,"skipDayIfHourDoesNotExist":false"#,
+        "ok\ntimes DEFAULT/i 1711848600000 1711935000000 1712021400000\n",
+    ),
+];
+
+#[test]
+fn intervals_have_their_flags(rt: HostRuntime) -> Result<(), AllocError> {
+    check(&rt, rt.alloc(), FLAGGED)
+}
+
+/// The last times of all.
+const LATE: &[TimedRow] = &[
+    (
+        Query { after: 0, count: 2 },
+        r#""name":"c","job":"j","start":0,"kind":"cron","cron":"0 0 0 1 1 ? 2199""#,
+        "ok\ntimes DEFAULT/c 7226582400000\n",
+    ),
+    (
+        Query {
+            after: 4102444799999,
+            count: 2,
+        },
+        r#""name":"i","job":"j","start":4102444799000,"kind":"simple","interval":1000,"count":1"#,
+        "ok\ntimes DEFAULT/i 4102444800000\n",
+    ),
+    (
+        Query {
+            after: 7258118399998,
+            count: 2,
+        },
+        r#""name":"i","job":"j","start":0,"kind":"simple","interval":1,"count":-1"#,
+        "ok\ntimes DEFAULT/i 7258118399999\n",
+    ),
+    (
+        Query {
+            after: 7258118399999,
+            count: 1,
+        },
+        r#""name":"i","job":"j","start":0,"kind":"simple","interval":1,"count":-1"#,
+        "ok\ntimes DEFAULT/i none\n",
+    ),
+];
+
+#[test]
+fn times_end_with_the_year_2199(rt: HostRuntime) -> Result<(), AllocError> {
+    check(&rt, rt.alloc(), LATE)
+}
+
 #[test]
 fn triggers_have_their_times(rt: HostRuntime) -> Result<(), AllocError> {
     check(&rt, rt.alloc(), TIMED)

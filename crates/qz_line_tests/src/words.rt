@@ -30,11 +30,12 @@ const ASKED: &[WordRow] = &[
     (&["script"], Ok(Wish::Script)),
     (&["load"], Ok(Wish::Load)),
     (&["list"], Ok(Wish::List)),
+    (&["migrate"], Ok(Wish::Migrate)),
     (&["times", "0", "1"], Ok(Wish::Times { after: 0, count: 1 })),
     (
-        &["times", "4102444799999", "1000"],
+        &["times", "7258118399999", "1000"],
         Ok(Wish::Times {
-            after: 4102444799999,
+            after: 7258118399999,
             count: 1000,
         }),
     ),
@@ -45,6 +46,7 @@ const ASKED: &[WordRow] = &[
     (&["fly"], Err(WordFault::UnknownCommand)),
     (&["Times", "0", "1"], Err(WordFault::UnknownCommand)),
     (&["init", "x"], Err(WordFault::WrongCount { found: 1 })),
+    (&["migrate", "x"], Err(WordFault::WrongCount { found: 1 })),
     (&["times", "0"], Err(WordFault::WrongCount { found: 1 })),
     (
         &["times", "x", "0", "1"],
@@ -55,7 +57,7 @@ const ASKED: &[WordRow] = &[
         Err(WordFault::BadNumber { place: 1 }),
     ),
     (
-        &["times", "4102444800000", ""],
+        &["times", "7258118400000", ""],
         Err(WordFault::BadNumber { place: 2 }),
     ),
     (
@@ -64,6 +66,10 @@ const ASKED: &[WordRow] = &[
     ),
     (
         &["times", "9999999999999999999", "0"],
+        Err(WordFault::OutOfRange { place: 1 }),
+    ),
+    (
+        &["times", "7258118400000", "1"],
         Err(WordFault::OutOfRange { place: 1 }),
     ),
     (
@@ -96,6 +102,15 @@ const RUNS: &[WordRow] = &[
             budget: 1000000,
         }),
     ),
+    (
+        &["run", "1", "7258118399999", "7258118399999"],
+        Ok(Wish::Run {
+            nodes: 1,
+            from: 7258118399999,
+            until: 7258118399999,
+            budget: 100000,
+        }),
+    ),
     (&["run", "1", "0"], Err(WordFault::WrongCount { found: 2 })),
     (
         &["run", "1", "0", "1", "1", "1"],
@@ -114,7 +129,7 @@ const RUNS: &[WordRow] = &[
         Err(WordFault::OutOfRange { place: 1 }),
     ),
     (
-        &["run", "1", "4102444800000", "4102444800000"],
+        &["run", "1", "7258118400000", "7258118400000"],
         Err(WordFault::OutOfRange { place: 2 }),
     ),
     (

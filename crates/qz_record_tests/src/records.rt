@@ -5,6 +5,7 @@ mod kinds;
 mod limits;
 mod rows;
 mod states;
+mod versions;
 
 use qz_codec::*;
 use qz_types::{
@@ -37,7 +38,7 @@ fn place(fault: Option<ReadError>) -> Option<u32> {
     }
 }
 
-fn row_place<R: Recorded>(alloc: Global, bytes: &[u8]) -> Option<u32> {
+fn row_place<R: Row>(alloc: Global, bytes: &[u8]) -> Option<u32> {
     place(get_row::<R>(alloc, bytes).err())
 }
 
@@ -71,7 +72,7 @@ fn state_entry_again(alloc: Global, record: &[u8]) -> Option<List<u8>> {
     bytes
 }
 
-fn row_again<R: Recorded>(alloc: Global, record: &[u8]) -> Option<List<u8>>
+fn row_again<R: Row>(alloc: Global, record: &[u8]) -> Option<List<u8>>
     requires { (row : R) → R.can_put row }
 {
     let row = get_row::<R>(alloc, record).ok()?;
@@ -97,7 +98,7 @@ fn again(alloc: Global, of: Of, record: &[u8]) -> Option<List<u8>> {
 }
 
 /// Fire of entry 1 by the member A of epoch 1, at 2024-01-01T00:00:00Z.
-const FIRE: &[u8; 34] = b"\x01\
+const FIRE: &[u8; 34] = b"\x02\
     \x00\x00\x01\x8c\xc2\x51\xf4\x00\
     \x01\
     \x00\x01\
@@ -114,7 +115,7 @@ const FIELDS: &[u32] = &[
 ];
 
 /// AddJob of g/n of class c, which is durable and requests recovery, with the payload {}.
-const ADD_JOB: &[u8; 32] = b"\x01\
+const ADD_JOB: &[u8; 32] = b"\x02\
     \x00\x00\x01\x8c\xc2\x51\xf4\x00\
     \x00\
     \x00\x00\x00\x00\
@@ -133,7 +134,7 @@ const ADD_JOB: &[u8; 32] = b"\x01\
     \x00";
 
 /// AddTrigger of g/t for g/n, of priority -1 and on the calendar h: each 1000 ms without end, misfires ignored.
-const ADD_TRIGGER: &[u8; 63] = b"\x01\
+const ADD_TRIGGER: &[u8; 63] = b"\x02\
     \x00\x00\x01\x8c\xc2\x51\xf4\x00\
     \x00\
     \x00\x00\x00\x00\
@@ -159,7 +160,7 @@ const ADD_TRIGGER: &[u8; 63] = b"\x01\
     \x01";
 
 /// Join of A.
-const JOIN: &[u8; 18] = b"\x01\
+const JOIN: &[u8; 18] = b"\x02\
     \x00\x00\x01\x8c\xc2\x51\xf4\x00\
     \x00\
     \x00\x00\x00\x00\
@@ -168,7 +169,7 @@ const JOIN: &[u8; 18] = b"\x01\
     \x41";
 
 /// Acquire of one trigger that is due by 1000 ms, with a window of 5 ms.
-const ACQUIRE: &[u8; 46] = b"\x01\
+const ACQUIRE: &[u8; 46] = b"\x02\
     \x00\x00\x01\x8c\xc2\x51\xf4\x00\
     \x01\
     \x00\x01\
@@ -181,7 +182,7 @@ const ACQUIRE: &[u8; 46] = b"\x01\
     \x00\x00\x00\x01";
 
 /// Complete of entry 1 with SetAllJobTriggersError.
-const COMPLETE: &[u8; 35] = b"\x01\
+const COMPLETE: &[u8; 35] = b"\x02\
     \x00\x00\x01\x8c\xc2\x51\xf4\x00\
     \x01\
     \x00\x01\
@@ -193,7 +194,7 @@ const COMPLETE: &[u8; 35] = b"\x01\
     \x06";
 
 /// Fire of entry 1 by a client, which is no record.
-const CLIENT_FIRE: &[u8; 23] = b"\x01\
+const CLIENT_FIRE: &[u8; 23] = b"\x02\
     \x00\x00\x01\x8c\xc2\x51\xf4\x00\
     \x00\
     \x00\x00\x00\x00\
@@ -303,7 +304,7 @@ const SPOILED: &[Spoiled] = &[
         of: Of::Entry,
         record: FIRE,
         from: 0,
-        bytes: &[2],
+        bytes: &[3],
         at: 0,
     },
     Spoiled {
@@ -360,7 +361,7 @@ const SPOILED: &[Spoiled] = &[
         of: Of::Entry,
         record: CLIENT_FIRE,
         from: 0,
-        bytes: &[1],
+        bytes: &[2],
         at: 14,
     },
     // A byte behind the record, and a code that isn't there.
@@ -452,6 +453,7 @@ fn a_spoiled_record_is_wrong_at_its_place(rt: HostRuntime) {
     are_wrong_there(&rt, alloc, SPOILED);
     are_wrong_there(&rt, alloc, kinds::SPOILED_KINDS);
     are_wrong_there(&rt, alloc, states::SPOILED);
+    are_wrong_there(&rt, alloc, versions::SPOILED);
     are_wrong_there(&rt, alloc, rows::SPOILED_JOBS);
     are_wrong_there(&rt, alloc, rows::SPOILED_TRIGGERS);
     are_wrong_there(&rt, alloc, rows::SPOILED_FIRED);

@@ -1,16 +1,17 @@
 //! The trigger store.
 ghost use Rattle.std.specs.Prelude.{◌≡◌, ◌≢◌, ◌⊎◌, ◌≤◌, ◌++◌, ◌∷◌, [], true, Err, IsOk, IfOk, IfErr, OnOk, OnErr, MatchResult};
 ghost use Rattle.qz_civil.specs.Causes.{Rose, HasCause};
-ghost use Rattle.qz_codec.specs.Values.{IsEntry};
+ghost use Rattle.qz_codec.specs.Layout.{record_of};
+ghost use Rattle.qz_disk.specs.Disk.{Restarts};
 ghost use Rattle.qz_journal.specs.Through.{OnlyReads, OnlyReadsUnless};
 ghost use Rattle.qz_model.specs.History.{History};
 ghost use Rattle.qz_schedule_law.specs.Following.{FollowsSchedules};
-ghost use Rattle.qz_stores.specs.Restarting.{read_of, IsReread};
 ghost use Rattle.qz_stores.specs.Stores.{Submits, Shuts, Opens};
 ghost use Rattle.qz_trigger_store.specs.Bytes.{Stands, IsHistory};
-ghost use Rattle.qz_trigger_store.specs.Entries.{trigger_entry};
+ghost use Rattle.qz_trigger_store.specs.Entries.{IsRecordOf, trigger_entry};
 ghost use Rattle.qz_trigger_store.specs.Opening.{IsOpened, IsRefused};
-ghost use Rattle.qz_trigger_store.specs.View.{view, found_of, added_of, moments_of, replies_of, tables_of, disk_of, disk_state, IsAsBefore, LeavesEither};
+ghost use Rattle.qz_stores.specs.Restarting.{read_of, history_read, IsReread};
+ghost use Rattle.qz_trigger_store.specs.View.{view, version_of, found_of, added_of, moments_of, replies_of, tables_of, disk_of, disk_state, IsAsBefore, LeavesEither};
 ghost use Rattle.qz_types.specs.Tables.{recorded_moment};
 
 use qz_civil::Failed;
@@ -40,11 +41,12 @@ pub fn mount_triggers<D: Disk>(alloc: Global, disk: D) -> Result<TriggerStore<D>
 pub fn submit<D: Disk>(store: &mut TriggerStore<D>, entry: Entry) -> Result<Reply, SubmitError>
     ensures one { Submits trigger_entry entry result (view store.old) (view store.new) }
     ensures unchanged { result ≢ Err SubmitError.Fault → OnErr result (IsAsBefore store.old store.new) }
+    ensures version { version_of store.new ≡ version_of store.old }
     ensures found { found_of store.new ≡ found_of store.old }
     ensures entries { OnOk result (added_of store.new ≡ added_of store.old ++ entry ∷ []) }
     ensures moments { OnOk result (moments_of store.new ≡ moments_of store.old ++ recorded_moment (tables_of store.old) entry.at ∷ []) }
     ensures replies { IfOk result (λ reply. replies_of store.new ≡ replies_of store.old ++ reply ∷ []) }
-    ensures recorded { OnOk result (IsEntry entry) }
+    ensures recorded { OnOk result (IsRecordOf (record_of entry) entry) }
     ensures any_moment { D.honest → LeavesEither store.old store.new }
     ensures schedules { FollowsSchedules (view store.new).history }
 {
@@ -63,8 +65,10 @@ pub fn check<D: Disk>(store: &TriggerStore<D>, entry: &Entry) -> Result<(), Subm
 /// Lets the store's disk crash, as `TriggerStore::crash` does.
 pub fn crash<D: Disk>(store: &mut TriggerStore<D>) -> Result<(), Failed>
     ensures shut { Shuts (view store.old) (view store.new) }
+    ensures version { version_of store.new ≡ version_of store.old }
     ensures kept { (found_of store.new ≡ found_of store.old) × (added_of store.new ≡ added_of store.old) }
     ensures cause { HasCause (view store.old).faults (view store.new).faults result }
+    ensures restarts { D.honest → Restarts result (disk_state store.old) (disk_state store.new) }
     ensures any_moment { D.honest → LeavesEither store.old store.new }
 {
     store.crash()
@@ -72,9 +76,10 @@ pub fn crash<D: Disk>(store: &mut TriggerStore<D>) -> Result<(), Failed>
 
 /// Opens the store with a history that was read, as `TriggerStore::open` does.
 pub fn open<D: Disk>(store: &mut TriggerStore<D>, reread: Reread)
-    requires read { IsReread (read_of reread) store.old.store }
+    requires read { IsReread reread store.old.store }
     ensures opens { Opens trigger_entry D.honest (view store.old) (view store.new) }
     ensures opened { IsOpened (view store.new) }
+    ensures history { (view store.new).history ≡ history_read reread }
     ensures found { found_of store.new ≡ read_of reread }
     ensures nothing_added { added_of store.new ≡ [] }
     ensures stands { D.honest → Stands (disk_state store.new).content (view store.new).history }

@@ -213,3 +213,135 @@ pub(super) fn complete(alloc: Global, at: i64, entry: u64) -> Result<Entry, Allo
         },
     })
 }
+
+#[tactic(auto, unfolding(qz_types::specs::Entries::is_entry))]
+pub(super) fn upgrade(_alloc: Global, at: i64) -> Result<Entry, AllocError> {
+    Ok(Entry {
+        at,
+        actor: Actor::Client,
+        seat: 0,
+        command: Command::Upgrade,
+    })
+}
+
+// A job that stays without triggers.
+#[tactic(auto, unfolding(qz_types::specs::Entries::is_entry))]
+pub(super) fn add_durable_job(alloc: Global, at: i64) -> Result<Entry, AllocError> {
+    let key = key(alloc, "report")?;
+    let job = JobRow {
+        key,
+        class: Text::from_str(alloc, "ok")?,
+        durable: true,
+        no_concurrent: false,
+        requests_recovery: false,
+        payload: Text::new(alloc),
+    };
+    Ok(Entry {
+        at,
+        actor: Actor::Client,
+        seat: 0,
+        command: Command::AddJob {
+            job,
+            replace: false,
+        },
+    })
+}
+
+// A trigger of the job that fires each second from T0 on.
+#[tactic(auto, unfolding(qz_types::specs::Entries::is_entry))]
+pub(super) fn add_repeated_trigger(alloc: Global, at: i64) -> Result<Entry, AllocError> {
+    let spec = TriggerSpec {
+        key: key(alloc, "t1")?,
+        job: key(alloc, "report")?,
+        priority: 5,
+        calendar: None,
+        timing: Timing {
+            kind: Kind::Simple {
+                interval: 1000,
+                count: -1,
+            },
+            misfire: 0,
+            start: T0,
+            end: None,
+        },
+    };
+    Ok(Entry {
+        at,
+        actor: Actor::Client,
+        seat: 0,
+        command: Command::AddTrigger {
+            spec,
+            replace: false,
+        },
+    })
+}
+
+#[tactic(auto, unfolding(qz_types::specs::Entries::is_entry))]
+pub(super) fn reset_trigger(alloc: Global, at: i64) -> Result<Entry, AllocError> {
+    let key = key(alloc, "t1")?;
+    Ok(Entry {
+        at,
+        actor: Actor::Client,
+        seat: 0,
+        command: Command::ResetTrigger { key },
+    })
+}
+
+#[tactic(auto, unfolding(qz_types::specs::Entries::is_entry))]
+pub(super) fn pause_job_group(alloc: Global, at: i64) -> Result<Entry, AllocError> {
+    let group = Text::from_str(alloc, "DEFAULT")?;
+    Ok(Entry {
+        at,
+        actor: Actor::Client,
+        seat: 0,
+        command: Command::PauseJobGroup { group },
+    })
+}
+
+#[tactic(auto, unfolding(qz_types::specs::Entries::is_entry))]
+pub(super) fn resume_job_group(alloc: Global, at: i64) -> Result<Entry, AllocError> {
+    let group = Text::from_str(alloc, "DEFAULT")?;
+    Ok(Entry {
+        at,
+        actor: Actor::Client,
+        seat: 0,
+        command: Command::ResumeJobGroup { group },
+    })
+}
+
+#[tactic(auto, unfolding(qz_types::specs::Entries::is_entry))]
+pub(super) fn pause_group(alloc: Global, at: i64) -> Result<Entry, AllocError> {
+    let group = Text::from_str(alloc, "DEFAULT")?;
+    Ok(Entry {
+        at,
+        actor: Actor::Client,
+        seat: 0,
+        command: Command::PauseGroup { group },
+    })
+}
+
+#[tactic(auto, unfolding(qz_types::specs::Entries::is_entry))]
+pub(super) fn resume_group(alloc: Global, at: i64) -> Result<Entry, AllocError> {
+    let group = Text::from_str(alloc, "DEFAULT")?;
+    Ok(Entry {
+        at,
+        actor: Actor::Client,
+        seat: 0,
+        command: Command::ResumeGroup { group },
+    })
+}
+
+// The execution of entry 1 fails.
+#[tactic(auto, unfolding(qz_types::specs::Entries::is_entry))]
+pub(super) fn fail(alloc: Global, at: i64) -> Result<Entry, AllocError> {
+    let me = node_a(alloc)?;
+    Ok(Entry {
+        at,
+        actor: Actor::Node(me),
+        seat: 0,
+        command: Command::Complete {
+            entry: 1,
+            code: Code::SetTriggerError,
+        },
+    })
+}

@@ -3,11 +3,14 @@ use crate::rows::{Row, check};
 use qz_civil::{List, beside};
 use qz_disk::{Call, CutDisk, Disk, FaultDisk, MemDisk};
 use qz_journal::{
-    AppendError, CreateError, Journal, JournalFull, MountError, STATES, TRIGGERS, create, fits,
+    AppendError, CreateError, Journal, JournalFull, MountError, STATES, TRIGGERS, create,
+    create_version, fits,
 };
 use std::alloc::{AllocError, Global};
 
-const HEADER: &[u8] = b"QZ23\x01T\0\0\0\0\0\0\0\0\0\0";
+const HEADER: &[u8] = b"QZ23\x02T\0\0\0\0\0\0\0\0\0\0";
+
+const OLD_HEADER: &[u8] = b"QZ23\x01T\0\0\0\0\0\0\0\0\0\0";
 
 fn joined(alloc: Global, front: &[u8], behind: &[u8]) -> Result<List<u8>, AllocError> {
     let mut bytes = Vec::from_slice(alloc, front)?;
@@ -58,14 +61,18 @@ const ANY_BYTES: &[u8] = b"\0and any bytes";
 
 const NOT_A_STORE: Found = Err(MountError::NotAStore);
 
-/// No header, half of one, one of the other kind, one of another version, one with a byte that is reserved, and a whole one.
+/// No header, half of one, one of the other kind, ones of other versions, one with a byte that is reserved, and whole ones.
 const HEADERS: &[Opening] = &[
     (b"", ANY_BYTES, NOT_A_STORE),
     (b"QZ23\x01", ANY_BYTES, NOT_A_STORE),
     (b"QZ23\x01S\0\0\0\0\0\0\0\0\0\0", ANY_BYTES, NOT_A_STORE),
-    (b"QZ23\x02T\0\0\0\0\0\0\0\0\0\0", ANY_BYTES, NOT_A_STORE),
+    (b"QZ23\x00T\0\0\0\0\0\0\0\0\0\0", ANY_BYTES, NOT_A_STORE),
+    (b"QZ23\x03T\0\0\0\0\0\0\0\0\0\0", ANY_BYTES, NOT_A_STORE),
     (b"QZ23\x01T\0\0\0\0\0\0\0\0\0\x01", ANY_BYTES, NOT_A_STORE),
+    (b"QZ23\x02T\0\0\0\0\0\0\0\0\0\x01", ANY_BYTES, NOT_A_STORE),
     (HEADER, ANY_BYTES, Ok(&[])),
+    (OLD_HEADER, ANY_BYTES, Ok(&[])),
+    (OLD_HEADER, b"\xa5\0\0\0\x01\x07\0", Ok(&[1])),
 ];
 
 #[test]
@@ -104,10 +111,11 @@ fn the_least_bad_place_is_answered(rt: HostRuntime) -> Result<(), AllocError> {
 #[test]
 fn the_room_ends_at_the_limits(rt: HostRuntime) {
     let full = |need, room| Err(JournalFull { need, room });
-    assert!(rt; fits(268435450, 3, 34) == full(39, 5));
-    assert!(rt; fits(16, 4194304, 34) == full(39, 0));
-    assert!(rt; fits(268435416, 3, 34) == Ok(()));
-    assert!(rt; fits(268435417, 3, 34) == full(39, 38));
+    assert!(rt; fits(536870906, 3, 34) == full(39, 5));
+    assert!(rt; fits(16, 8388608, 34) == full(39, 0));
+    assert!(rt; fits(16, 8388607, 34) == Ok(()));
+    assert!(rt; fits(536870872, 3, 34) == Ok(()));
+    assert!(rt; fits(536870873, 3, 34) == full(39, 38));
     assert!(rt; fits(1 << 63, 3, 1) == full(6, 0));
 }
 
@@ -139,7 +147,8 @@ impl Row for Making {
 
 const MAKINGS: &[Making] = &[
     (b"QZ23\x01T", Err(CreateError::Exists)),
-    (b"QZ23\x02T, a later version", Err(CreateError::Exists)),
+    (b"QZ23\x02T", Err(CreateError::Exists)),
+    (b"QZ23\x03T, a later version", Err(CreateError::Exists)),
     (b"QZ23\xffS, a later version", Err(CreateError::OtherKind)),
     (b"QZ23\x01U, another kind", Ok(())),
     (b"QZ24\x01T, other letters", Ok(())),
@@ -149,6 +158,35 @@ const MAKINGS: &[Making] = &[
 #[test]
 fn a_store_of_any_version_is_left(rt: HostRuntime) -> Result<(), AllocError> {
     check(&rt, rt.alloc(), MAKINGS)
+}
+
+// Whether a store of this version is made once, whichever version is asked for then, and opened as one of it. A commit and a
+// restart leave the version.
+fn keeps_its_version(alloc: Global, version: u8) -> Option<bool> {
+    let mut disk = MemDisk::new(alloc);
+    let made = match version {
+        1 => create_version(&mut disk, 1, TRIGGERS),
+        _ => create(&mut disk, TRIGGERS),
+    };
+    let again = create(&mut disk, TRIGGERS);
+    let older = create_version(&mut disk, 1, TRIGGERS);
+    let Ok((mut journal, _)) = Journal::mount(alloc, disk, TRIGGERS) else {
+        return None;
+    };
+    let first = journal.version();
+    let is_added = journal.append(b"\x07").is_ok();
+    let is_again = restarts_with(alloc, &mut journal, &[1]);
+    let last = journal.version();
+    drop(journal);
+    let exists = Err(CreateError::Exists);
+    let is_made_once = made == Ok(()) && again == exists && older == exists;
+    Some(is_made_once && is_added && is_again && first == version && last == version)
+}
+
+#[test]
+fn a_store_keeps_its_version(rt: HostRuntime) {
+    assert!(rt; keeps_its_version(rt.alloc(), 1) == Some(true));
+    assert!(rt; keeps_its_version(rt.alloc(), 2) == Some(true));
 }
 
 // Whether a store is created the second time, where a fault comes first.

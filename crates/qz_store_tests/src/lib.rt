@@ -10,6 +10,8 @@ mod entries;
 #[cfg(test)]
 mod files;
 #[cfg(test)]
+mod job_groups;
+#[cfg(test)]
 mod journal;
 #[cfg(test)]
 mod model;

@@ -122,7 +122,7 @@ fn is_left_with_a_member(store: &PlainStore) -> bool {
 #[test]
 fn six_commands_leave_the_member_alone(rt: HostRuntime) {
     let alloc = rt.alloc();
-    let mut store = PlainStore::new(alloc);
+    let mut store = PlainStore::new(alloc, 2);
     let is_right = acquires_the_first(alloc, &mut store, T0)
         && fires(alloc, &mut store, T0)
         && completes(alloc, &mut store, T0)
@@ -135,7 +135,7 @@ fn six_commands_leave_the_member_alone(rt: HostRuntime) {
 fn fires_no_earlier_than_planned(rt: HostRuntime) {
     let alloc = rt.alloc();
     let at = T0 - 10000;
-    let mut store = PlainStore::new(alloc);
+    let mut store = PlainStore::new(alloc, 2);
     let is_right = acquires_the_first(alloc, &mut store, at)
         && refusal(&mut store, fire(alloc, T0 - 1, 1)) == Some(19)
         && store.last_moment() == at
@@ -147,7 +147,7 @@ fn fires_no_earlier_than_planned(rt: HostRuntime) {
 #[test]
 fn refusals_have_their_numbers(rt: HostRuntime) {
     let alloc = rt.alloc();
-    let mut store = PlainStore::new(alloc);
+    let mut store = PlainStore::new(alloc, 2);
     let is_right = refusal(&mut store, fire(alloc, T0, 1)) == Some(1)
         && refusal(&mut store, add_trigger(alloc, T0)) == Some(3)
         && adds_job(alloc, &mut store, T0)

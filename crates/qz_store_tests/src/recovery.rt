@@ -113,7 +113,7 @@ fn waits(alloc: Global, store: &PlainStore) -> bool {
 #[test]
 fn a_member_recovers_another(rt: HostRuntime) {
     let alloc = rt.alloc();
-    let mut store = PlainStore::new(alloc);
+    let mut store = PlainStore::new(alloc, 2);
     let is_right = acquires(alloc, &mut store)
         && accepts(&mut store, fire(alloc, T0, 1))
         && accepts(&mut store, join_b(alloc, T0))
@@ -128,7 +128,7 @@ fn a_member_recovers_another(rt: HostRuntime) {
 #[test]
 fn a_node_gives_back_what_its_former_self_acquired(rt: HostRuntime) {
     let alloc = rt.alloc();
-    let mut store = PlainStore::new(alloc);
+    let mut store = PlainStore::new(alloc, 2);
     let is_right = acquires(alloc, &mut store)
         && counts(&mut store, join(alloc, T0)) == Some([2, 0, 0])
         && lengths(&store) == [1, 1, 0, 1]
@@ -140,7 +140,7 @@ fn a_node_gives_back_what_its_former_self_acquired(rt: HostRuntime) {
 #[test]
 fn a_node_recovers_what_its_former_self_executed(rt: HostRuntime) {
     let alloc = rt.alloc();
-    let mut store = PlainStore::new(alloc);
+    let mut store = PlainStore::new(alloc, 2);
     let is_right = acquires(alloc, &mut store)
         && accepts(&mut store, fire(alloc, T0, 1))
         && counts(&mut store, join(alloc, T0)) == Some([2, 1, 1])

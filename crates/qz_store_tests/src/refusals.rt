@@ -1,6 +1,7 @@
 //! For each command the refusals that it may have, as a store answers them where memory is ample.
 use crate::entries::{
     T0, acquire, add_job, add_trigger, complete, delete_job, fire, join, leave, misfires,
+    reset_trigger, upgrade,
 };
 use crate::rows::{Row, check};
 use qz_disk::{Disk, MemDisk};
@@ -22,6 +23,8 @@ enum Asked {
     FireEarly,
     Complete,
     Misfires,
+    Reset,
+    Upgrade,
 }
 
 fn entry(alloc: Global, asked: Asked) -> Result<Entry, AllocError> {
@@ -36,6 +39,8 @@ fn entry(alloc: Global, asked: Asked) -> Result<Entry, AllocError> {
         Asked::FireEarly => fire(alloc, T0 - 1, 1),
         Asked::Complete => complete(alloc, T0, 1),
         Asked::Misfires => misfires(alloc, T0),
+        Asked::Reset => reset_trigger(alloc, T0),
+        Asked::Upgrade => upgrade(alloc, T0),
     }
 }
 
@@ -121,6 +126,9 @@ const REFUSALS: &[Refused] = &[
     (0, Asked::Leave, 1),
     (5, Asked::Leave, 11),
     (0, Asked::Misfires, 1),
+    (0, Asked::Reset, 4),
+    (2, Asked::Reset, 29),
+    (0, Asked::Upgrade, 28),
 ];
 
 #[test]

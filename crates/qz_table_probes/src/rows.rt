@@ -1,15 +1,16 @@
 //! Rows.
-ghost use Rattle.std.specs.Prelude.{◌≡◌, ◌<◌, None, IsOk, OnOk, OnSome, option_copied};
+ghost use Rattle.std.specs.Prelude.{◌≡◌, ◌<◌, ◌&&◌, not, None, IsOk, OnOk, OnSome, option_copied};
 ghost use Rattle.qz_tables.specs.Changes.{changed};
 ghost use Rattle.qz_tables.specs.Contents.{KeepsSpare, HasSpare, one_job};
 ghost use Rattle.qz_tables.specs.Due as due;
 ghost use Rattle.qz_tables.specs.Links.{KeepsLinks};
-ghost use Rattle.qz_types.specs.Changes.{with_state, without_acquired};
+ghost use Rattle.qz_types.specs.Changes.{with_state, with_states, without_acquired};
+ghost use Rattle.qz_types.specs.States.{resumed};
 ghost use Rattle.qz_types.specs.Sorted.{IsAscending};
-ghost use Rattle.qz_types.specs.Words.{key_cmp, same_key, job_of, put_job, without_job, with_trigger};
+ghost use Rattle.qz_types.specs.Words.{is_paused, key_cmp, same_key, same_text, job_of, put_job, without_job, with_trigger};
 
 use qz_tables::{StateChange, Tables};
-use qz_types::{JobRow, Key, NoMemory, TriggerRow};
+use qz_types::{JobRow, Key, NoMemory, Text, TriggerRow};
 
 /// Makes room, as `Tables::reserve` does.
 pub fn reserve(tables: &mut Tables, rows: usize) -> Result<(), NoMemory>
@@ -59,6 +60,15 @@ pub fn change_state(tables: &mut Tables, key: &Key, change: StateChange)
     ensures spare { KeepsSpare tables.old.spare tables.new.spare }
 {
     tables.change_state(key, change)
+}
+
+/// Resumes the triggers of a group, as `Tables::resume_group_states` does.
+pub fn resume_group_states(tables: &mut Tables, group: &Text)
+    ensures tables { tables.new.tables ≡ record tables.old.tables { triggers = with_states resumed (λ t. same_text group.now t.spec.key.group && not (is_paused t.spec.job.group tables.old.tables.paused_job_groups)) tables.old.tables.triggers } }
+    ensures links { KeepsLinks tables.old.links tables.new.links }
+    ensures spare { KeepsSpare tables.old.spare tables.new.spare }
+{
+    tables.resume_group_states(group)
 }
 
 /// Removes what is acquired of a trigger, as `Tables::remove_acquired` does.

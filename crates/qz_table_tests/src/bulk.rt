@@ -7,8 +7,8 @@ use qz_types::{Key, NoMemory, Text, TriggerState};
 use std::alloc::Global;
 use std::test::*;
 
-// Whether these are the states of the triggers, in the order of their keys.
-fn are_in(tables: &Tables, states: &[TriggerState]) -> bool {
+/// Whether these are the states of the triggers, in the order of their keys.
+pub(super) fn are_in(tables: &Tables, states: &[TriggerState]) -> bool {
     for (place, state) in states.iter().enumerate() {
         match tables.nth_trigger(place) {
             Some(row) if row.state == *state => {}

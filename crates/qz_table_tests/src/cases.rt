@@ -11,7 +11,7 @@ pub trait Case {
 
 /// Whether the case holds of new tables.
 pub fn holds_of_new(alloc: Global, case: &impl Case) -> bool {
-    let mut tables = Tables::new(alloc);
+    let mut tables = Tables::new(alloc, 2);
     let held = case.holds(alloc, &mut tables);
     drop(tables);
     held == Ok(true)

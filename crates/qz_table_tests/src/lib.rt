@@ -10,6 +10,8 @@ mod copies;
 #[cfg(test)]
 mod fired;
 #[cfg(test)]
+mod job_groups;
+#[cfg(test)]
 mod keys;
 #[cfg(test)]
 mod triggers;

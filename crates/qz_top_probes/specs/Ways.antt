@@ -29,6 +29,11 @@ abbrev pub AsksList : Result Wish WordFault → Type 0
 AsksList (Ok wish.List) = ⊤
 AsksList w = ⊥
 
+-- they ask for `migrate`
+abbrev pub AsksMigrate : Result Wish WordFault → Type 0
+AsksMigrate (Ok wish.Migrate) = ⊤
+AsksMigrate w = ⊥
+
 -- they ask for `times`
 abbrev pub AsksTimes : Result Wish WordFault → Type 0
 AsksTimes (Ok (wish.Times after count)) = ⊤

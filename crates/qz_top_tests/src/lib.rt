@@ -22,4 +22,6 @@ mod stores;
 #[cfg(test)]
 mod top;
 #[cfg(test)]
+mod versions;
+#[cfg(test)]
 mod weeks;

@@ -49,12 +49,12 @@ const NOW: &str = r#"{"do":"add_job","at":0,"job":{"name":"j","class":"ok","dura
 {"do":"trigger_now","at":3000,"name":"j"}
 {"do":"trigger_now","at":-1,"name":"j"}
 {"do":"trigger_now","at":4102444800000,"name":"j"}
-{"do":"add_trigger","trigger":{"name":"t","job":"j","start":4102444800000,"kind":"simple"}}
+{"do":"add_trigger","trigger":{"name":"t","job":"j","start":7258118400000,"kind":"simple"}}
 "#;
 
 const NOW_REPLIES: &str =
     "ok\ntriggered MANUAL_TRIGGERS/now_1 5000\ntriggered MANUAL_TRIGGERS/now_2 5000
-triggered MANUAL_TRIGGERS/now_3 5000\ntriggered MANUAL_TRIGGERS/now_4 4102444799999\nrefused 14\n";
+triggered MANUAL_TRIGGERS/now_3 5000\ntriggered MANUAL_TRIGGERS/now_4 4102444800000\nrefused 14\n";
 
 /// Executions of a job exclude each other, whichever node and trigger they are of.
 const EXCLUSIVE: &str = r#"{"do":"add_job","job":{"name":"j","class":"ok","no_concurrent":true}}
@@ -103,6 +103,9 @@ const CLIENT: &str = r#"{"do":"add_zone","name":"CET","stretches":[[0,3600]]}
 {"do":"add_trigger","trigger":{"name":"t","job":"j","start":1704067200000,"kind":"daily","unit":"HOUR","every":2},"replace":true}
 {"do":"pause_trigger","name":"t"}
 {"do":"resume_trigger","name":"t"}
+{"do":"pause_job_group","group":"DEFAULT"}
+{"do":"resume_job_group","group":"DEFAULT"}
+{"do":"reset_trigger","name":"t"}
 {"do":"threshold","ms":1000}
 {"do":"delete_calendar","name":"h"}
 {"do":"delete_zone","name":"CET"}
@@ -111,7 +114,71 @@ const CLIENT: &str = r#"{"do":"add_zone","name":"CET","stretches":[[0,3600]]}
 "#;
 
 const CLIENT_REPLIES: &str = "ok\nok\nok\nok next 1704153600000\nok next 1704067200000
-ok\nok\nok\nok\nok\nok\nrefused 3\n";
+ok\nok\nok\nok\nrefused 29\nok\nok\nok\nok\nrefused 3\n";
+
+/// A trigger whose execution failed is complete after a reset, as it has no next time.
+const RESET: &str = r#"{"do":"add_job","job":{"name":"j","class":"ok","durable":true}}
+{"do":"reset_trigger","name":"t"}
+{"do":"add_trigger","trigger":{"name":"t","job":"j","start":1704067200000,"kind":"simple"}}
+{"do":"join","node":"A"}
+{"do":"acquire","node":"A","no_later":1704067200000}
+{"do":"fire","node":"A","entry":1}
+{"do":"complete","node":"A","entry":1,"code":"SET_TRIGGER_ERROR"}
+{"do":"reset_trigger","name":"t"}
+{"do":"show_trigger","name":"t"}
+{"do":"reset_trigger","name":"t"}
+"#;
+
+const RESET_REPLIES: &str = "ok\nrefused 4\nok next 1704067200000\njoined 1 executions 0 triggers 0
+acquired 1 DEFAULT/t 1704067200000\nfired 1 scheduled 1704067200000 at 1704067200000 next none
+completed 1\nok
+trigger DEFAULT/t job DEFAULT/j COMPLETE next none prev 1704067200000 times 1 priority 5 start 1704067200000 simple 0 misfire 0 calendar none zone none
+refused 29\n";
+
+/// A trigger waits only once neither its group nor its job's group is paused.
+const JOB_GROUP: &str = r#"{"do":"pause_job_group","group":"DEFAULT"}
+{"do":"add_job","job":{"name":"j","class":"ok"}}
+{"do":"add_trigger","trigger":{"name":"t","job":"j","start":1704067200000,"kind":"simple"}}
+{"do":"join","node":"A"}
+{"do":"acquire","node":"A","no_later":1704067200000}
+{"do":"resume_group","group":"DEFAULT"}
+{"do":"acquire","node":"A","no_later":1704067200000}
+{"do":"resume_job_group","group":"DEFAULT"}
+{"do":"acquire","node":"A","no_later":1704067200000}
+"#;
+
+const JOB_GROUP_REPLIES: &str = "ok\nok\nok next 1704067200000\njoined 1 executions 0 triggers 0
+acquired none\nok\nacquired none\nok\nacquired 1 DEFAULT/t 1704067200000\n";
+
+/// A recovery is paused with its job's group.
+const RECOVERY: &str = r#"{"do":"add_job","job":{"name":"j","class":"ok","requests_recovery":true}}
+{"do":"add_trigger","trigger":{"name":"t","job":"j","start":1704067200000,"kind":"simple"}}
+{"do":"join","node":"A"}
+{"do":"acquire","node":"A","no_later":1704067200000}
+{"do":"fire","node":"A","entry":1}
+{"do":"pause_job_group","group":"DEFAULT"}
+{"do":"join","node":"A"}
+{"do":"show_trigger","group":"RECOVERING_JOBS","name":"recover_A_1"}
+{"do":"resume_job_group","group":"DEFAULT"}
+{"do":"acquire","node":"A","no_later":1704067200000}
+"#;
+
+const RECOVERY_REPLIES: &str = "ok\nok next 1704067200000\njoined 1 executions 0 triggers 0
+acquired 1 DEFAULT/t 1704067200000\nfired 1 scheduled 1704067200000 at 1704067200000 next none
+ok\njoined 2 executions 1 triggers 1
+trigger RECOVERING_JOBS/recover_A_1 job DEFAULT/j PAUSED next 1704067200000 prev none times 0 priority 5 start 1704067200000 simple 0 misfire -1 calendar none zone none
+ok\nacquired 2 RECOVERING_JOBS/recover_A_1 1704067200000\n";
+
+/// A job fires at the last moment of all, and never after it.
+const LAST: &str = r#"{"do":"add_job","at":7258118399000,"job":{"name":"j","class":"ok"}}
+{"do":"add_trigger","trigger":{"name":"t","job":"j","start":7258118399999,"kind":"simple","interval":1,"count":-1}}
+{"do":"join","node":"A"}
+{"do":"acquire","node":"A","no_later":7258118399999}
+{"do":"fire","at":7258118400001,"node":"A","entry":1}
+"#;
+
+const LAST_REPLIES: &str = "ok\nok next 7258118399999\njoined 1 executions 0 triggers 0
+acquired 1 DEFAULT/t 7258118399999\nfired 1 scheduled 7258118399999 at 7258118399999 next none\n";
 
 /// What is added in the place of a job or a calendar is what counts then, and a job goes with its triggers.
 const REPLACED: &str = r#"{"do":"add_job","job":{"name":"j","class":"ok","durable":true}}
@@ -165,7 +232,7 @@ entry 1 A 1 DEFAULT/t1 EXECUTING scheduled 1704110400000 at 1704110400000 job DE
 job none\ntrigger none\nentry none\nok
 job DEFAULT/j ok durable 0 no_concurrent 0 requests_recovery 0 data %\n";
 
-const SCRIPTS: [Row; 10] = [
+const SCRIPTS: [Row; 14] = [
     (NOON, NOON_REPLIES, "", Status::Ok),
     (ENDLESS, ENDLESS_REPLIES, "", Status::Ok),
     (PAUSED, PAUSED_REPLIES, "", Status::Ok),
@@ -179,6 +246,10 @@ const SCRIPTS: [Row; 10] = [
     (EXCLUSIVE, EXCLUSIVE_REPLIES, "", Status::Ok),
     (AGAIN, AGAIN_REPLIES, "", Status::Ok),
     (CLIENT, CLIENT_REPLIES, "", Status::Ok),
+    (RESET, RESET_REPLIES, "", Status::Ok),
+    (JOB_GROUP, JOB_GROUP_REPLIES, "", Status::Ok),
+    (RECOVERY, RECOVERY_REPLIES, "", Status::Ok),
+    (LAST, LAST_REPLIES, "", Status::Ok),
     (REPLACED, REPLACED_REPLIES, "", Status::Ok),
     (SHOWN, SHOWN_REPLIES, "", Status::Ok),
 ];

@@ -201,7 +201,7 @@ fn no_store_is_opened_alone(rt: HostRuntime) {
 
 // Disks of which the first holds a journal whose payload is cut.
 fn damaged(alloc: Global) -> Option<(MemDisk, MemDisk)> {
-    let bytes = b"QZ23\x01T\0\0\0\0\0\0\0\0\0\0\xa5\0\0\0\x10\x01\x02\x03";
+    let bytes = b"QZ23\x02T\0\0\0\0\0\0\0\0\0\0\xa5\0\0\0\x10\x01\x02\x03";
     let broken = Vec::from_slice(alloc, bytes).ok()?;
     let disk = MemDisk::with_bytes(alloc, List::from_vec(broken));
     Some((disk, MemDisk::new(alloc)))

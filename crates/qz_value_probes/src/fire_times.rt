@@ -23,6 +23,8 @@ pub fn next_of_interval(
     end: Option<i64>,
     unit: Unit,
     every: u32,
+    preserve: bool,
+    skip: bool,
     zone: &Zone,
     after: i64,
 ) -> Option<i64>
@@ -30,9 +32,9 @@ pub fn next_of_interval(
     requires every { IsTrue (is_every every) }
     requires low { negsuc 0 ≤ℤ after }
     requires high { after ≤ℤ LAST }
-    ensures { IsNext LAST (IsInterval start end unit every zone.now) after result }
+    ensures { IsNext LAST (IsInterval start end unit every preserve skip zone.now) after result }
 {
-    qz_interval::next(start, end, unit, every, zone, after)
+    qz_interval::next(start, end, unit, every, preserve, skip, zone, after)
 }
 
 /// The next moment of a simple trigger, as `qz_simple::next` gives it.

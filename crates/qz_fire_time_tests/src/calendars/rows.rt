@@ -87,20 +87,20 @@ const DATES: &[ChainRow] = &[
         1835438400000,
         Some(1835438400000),
     ),
-    (&[(Holiday(&[20991231]), UTC)], 4102358400000, None),
+    (&[(Holiday(&[21991231]), UTC)], 7258032000000, None),
     (
-        &[(Holiday(&[20991230]), UTC)],
-        4102272000000,
-        Some(4102358400000),
+        &[(Holiday(&[21991230]), UTC)],
+        7257945600000,
+        Some(7258032000000),
     ),
     (
-        &[(Holiday(&[20991231]), FARTHEST_EAST)],
-        4102293600000,
-        Some(4102380000000),
+        &[(Holiday(&[21991231]), FARTHEST_EAST)],
+        7257967200000,
+        Some(7258053600000),
     ),
     (
-        &[(Holiday(&[20991231]), FARTHEST_WEST)],
-        4102444799999,
+        &[(Holiday(&[21991231]), FARTHEST_WEST)],
+        7258118399999,
         None,
     ),
     (&[(Holiday(&[19700101]), UTC)], 0, Some(86400000)),
@@ -121,8 +121,8 @@ const WEEKDAYS: &[ChainRow] = &[
     (&[(Weekly(65), UTC)], 1704499200000, Some(1704672000000)),
     (&[(Weekly(65), UTC)], 1704628800000, Some(1704672000000)),
     (&[(Weekly(127), UTC)], 0, None),
-    (&[(Weekly(127), UTC)], 4102444799999, None),
-    (&[(Weekly(0), UTC)], 4102444799999, Some(4102444799999)),
+    (&[(Weekly(127), UTC)], 7258118399999, None),
+    (&[(Weekly(0), UTC)], 7258118399999, Some(7258118399999)),
     (&[(Weekly(126), UTC)], 1704067200000, Some(1704585600000)),
     (
         &[(Weekly(64), SUMMER_TIME)],
@@ -198,7 +198,7 @@ const PARTS_OF_A_DAY: &[ChainRow] = &[
         1704067200000,
         Some(1704153599999),
     ),
-    (&[(Daily(1, 86399999), UTC)], 4102358400001, None),
+    (&[(Daily(1, 86399999), UTC)], 7258032000001, None),
 ];
 
 const INVERTED_PARTS: &[ChainRow] = &[
@@ -230,10 +230,10 @@ const INVERTED_PARTS: &[ChainRow] = &[
     ),
     (
         &[(Inverted(86399999, 86399999), UTC)],
-        4102444799999,
-        Some(4102444799999),
+        7258118399999,
+        Some(7258118399999),
     ),
-    (&[(Inverted(0, 0), UTC)], 4102444799999, None),
+    (&[(Inverted(0, 0), UTC)], 7258118399999, None),
 ];
 
 const GAPS_AND_FOLDS: &[ChainRow] = &[
@@ -429,12 +429,12 @@ const CHAINS: &[ChainRow] = &[
     ),
     (
         &[(Daily(0, 43199999), UTC), (Daily(43200000, 86399999), UTC)],
-        4099766400000,
+        7255440000000,
         None,
     ),
-    (&[(Weekly(62), UTC), (Weekly(65), UTC)], 3786912000000, None),
+    (&[(Weekly(62), UTC), (Weekly(65), UTC)], 6942585600000, None),
     (&[], 7, Some(7)),
-    (&[], 4102444799999, Some(4102444799999)),
+    (&[], 7258118399999, Some(7258118399999)),
     (
         &[
             (Weekly(1), UTC),

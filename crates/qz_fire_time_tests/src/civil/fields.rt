@@ -54,8 +54,8 @@ const FIFTH_FRIDAY: &[Row] = &[((2024, 3, 29, 6), true), ((2024, 2, 23, 6), fals
 const YEARS: &[Row] = &[
     ((1969, 12, 31, 4), false),
     ((1970, 1, 1, 5), true),
-    ((2099, 12, 31, 5), true),
-    ((2100, 1, 1, 6), false),
+    ((2199, 12, 31, 3), true),
+    ((2200, 1, 1, 4), false),
     ((-2024, 1, 1, 2), false),
 ];
 
@@ -73,7 +73,7 @@ const EVERY: CronFields = CronFields {
     day: DayField::Any,
     months: (1 << 12) - 1,
     week: WeekField::Any,
-    years: [u64::MAX, u64::MAX, 3, 0],
+    years: [u64::MAX, u64::MAX, u64::MAX, (1 << 38) - 1],
 };
 
 const DAYS: &[(DayField, &[Row])] = &[

@@ -85,13 +85,13 @@ const LATE_ROWS: &[LocalRow] = &[
 const WEST_ROWS: &[LocalRow] = &[
     ((1969, 12, 31, 4, 21599), None, None),
     ((1969, 12, 31, 4, 21600), Some(0), None),
-    ((2099, 12, 31, 5, 21600), None, None),
+    ((2199, 12, 31, 3, 21600), None, None),
 ];
 
 const EAST_ROWS: &[LocalRow] = &[
     ((1970, 1, 1, 5, 64799), None, None),
-    ((2100, 1, 1, 6, 64799), Some(4102444799000), None),
-    ((2100, 1, 1, 6, 64800), None, None),
+    ((2200, 1, 1, 4, 64799), Some(7258118399000), None),
+    ((2200, 1, 1, 4, 64800), None, None),
 ];
 
 const UTC_ROWS: &[LocalRow] = &[
@@ -160,9 +160,9 @@ fn last_of(zone: &Zone) -> (i32, u32, u16) {
 }
 
 #[test]
-fn the_last_timestamp_is_in_2099_or_2100(rt: HostRuntime) {
-    assert!(rt; last_of(&Zone::utc()) == (2099, 86399, 999));
-    assert!(rt; last_of(&Zone::fixed(1080)) == (2100, 64799, 999));
+fn the_last_timestamp_is_in_2199_or_2200(rt: HostRuntime) {
+    assert!(rt; last_of(&Zone::utc()) == (2199, 86399, 999));
+    assert!(rt; last_of(&Zone::fixed(1080)) == (2200, 64799, 999));
 }
 
 const BAD_ZONES: &[(&[Begin], BadZone)] = &[
@@ -185,11 +185,11 @@ const BAD_ZONES: &[(&[Begin], BadZone)] = &[
         BadZone::NotAscending { place: 1 },
     ),
     (
-        &[(0, 0), (4102444800000, 64801)],
+        &[(0, 0), (7258118400000, 64801)],
         BadZone::FromOutOfRange { place: 1 },
     ),
     (
-        &[(4102444799999, 0), (4102444800000, 0)],
+        &[(7258118399999, 0), (7258118400000, 0)],
         BadZone::FromOutOfRange { place: 1 },
     ),
 ];

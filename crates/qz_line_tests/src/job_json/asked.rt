@@ -83,7 +83,7 @@ const TIMINGS: &[(&str, &str)] = &[
     ),
     (
         r#""kind":"cron","cron":"0 15 10 ? * MON-FRI","zone":"Europe/Berlin","misfire":-1"#,
-        "Timing { kind: Cron { fields: CronFields { seconds: 1, minutes: 32768, hours: 1024, day: Any, months: 4095, week: Set(62), years: [18446744073709551615, 18446744073709551615, 3, 0] }, zone: \"Europe/Berlin\" }, misfire: -1, start: 0, end: None }",
+        "Timing { kind: Cron { fields: CronFields { seconds: 1, minutes: 32768, hours: 1024, day: Any, months: 4095, week: Set(62), years: [18446744073709551615, 18446744073709551615, 18446744073709551615, 274877906943] }, zone: \"Europe/Berlin\" }, misfire: -1, start: 0, end: None }",
     ),
     (
         r#""kind":"cron","cron":"0 0 0 L 2 ? 1970""#,
@@ -91,11 +91,27 @@ const TIMINGS: &[(&str, &str)] = &[
     ),
     (
         r#""kind":"interval","unit":"MONTH","every":2147483647,"zone":"Z","misfire":2"#,
-        "Timing { kind: Interval { unit: Month, every: 2147483647, zone: \"Z\" }, misfire: 2, start: 0, end: None }",
+        "Timing { kind: Interval { unit: Month, every: 2147483647, zone: \"Z\", preserve: true, skip: true }, misfire: 2, start: 0, end: None }",
     ),
     (
         r#""kind":"interval","unit":"WEEK","every":1"#,
-        "Timing { kind: Interval { unit: Week, every: 1, zone: \"UTC\" }, misfire: 0, start: 0, end: None }",
+        "Timing { kind: Interval { unit: Week, every: 1, zone: \"UTC\", preserve: true, skip: true }, misfire: 0, start: 0, end: None }",
+    ),
+    (
+        r#""kind":"interval","unit":"DAY","every":1,"preserveHourOfDay":false"#,
+        "Timing { kind: Interval { unit: Day, every: 1, zone: \"UTC\", preserve: false, skip: true }, misfire: 0, start: 0, end: None }",
+    ),
+    (
+        r#""kind":"interval","unit":"DAY","every":1,"skipDayIfHourDoesNotExist":false"#,
+        "Timing { kind: Interval { unit: Day, every: 1, zone: \"UTC\", preserve: true, skip: false }, misfire: 0, start: 0, end: None }",
+    ),
+    (
+        r#""kind":"interval","unit":"DAY","every":1,"preserveHourOfDay":false,"skipDayIfHourDoesNotExist":false"#,
+        "Timing { kind: Interval { unit: Day, every: 1, zone: \"UTC\", preserve: false, skip: false }, misfire: 0, start: 0, end: None }",
+    ),
+    (
+        r#""kind":"interval","unit":"HOUR","every":1,"preserveHourOfDay":true,"skipDayIfHourDoesNotExist":true"#,
+        "Timing { kind: Interval { unit: Hour, every: 1, zone: \"UTC\", preserve: true, skip: true }, misfire: 0, start: 0, end: None }",
     ),
     (
         r#""kind":"daily","unit":"MINUTE","every":15,"from":"08:30:00","to":"17:59:59","days":[2,3,4,5,6],"zone":"Z","misfire":1"#,
@@ -143,6 +159,23 @@ const OTHER_TRIGGERS: &[(&str, &str)] = &[
     (r#""kind":"interval","unit":"YEAR","every":0"#, "Shape"),
     (
         r#""kind":"interval","unit":"YEAR","every":2147483648"#,
+        "Shape",
+    ),
+    (
+        r#""kind":"interval","unit":"DAY","every":1,"preserveHourOfDay":1"#,
+        "Shape",
+    ),
+    (
+        r#""kind":"interval","unit":"DAY","every":1,"skipDayIfHourDoesNotExist":null"#,
+        "Shape",
+    ),
+    (
+        r#""kind":"interval","unit":"DAY","every":1,"preserve":true"#,
+        "Shape",
+    ),
+    (r#""kind":"simple","preserveHourOfDay":true"#, "Shape"),
+    (
+        r#""kind":"daily","unit":"HOUR","every":1,"skipDayIfHourDoesNotExist":true"#,
         "Shape",
     ),
     (r#""kind":"daily","unit":"DAY","every":1"#, "Shape"),
@@ -248,8 +281,8 @@ const CALENDARS: &[(&str, &str)] = &[
         r#"None "UTC" Annual { days: [] } false"#,
     ),
     (
-        r#""kind":"holiday","dates":["2099-12-31","1970-01-01","2024-02-29","1970-01-01"]"#,
-        r#"None "UTC" Holiday { dates: [19700101, 20240229, 20991231] } false"#,
+        r#""kind":"holiday","dates":["2199-12-31","1970-01-01","2024-02-29","1970-01-01"]"#,
+        r#"None "UTC" Holiday { dates: [19700101, 20240229, 21991231] } false"#,
     ),
     (
         r#""kind":"daily","from":0,"to":86399999,"inverted":true"#,
@@ -290,7 +323,7 @@ const OTHER_CALENDARS: &[(&str, &str)] = &[
     (r#""kind":"annual","days":[101]"#, "Shape"),
     (r#""kind":"annual""#, "Shape"),
     (r#""kind":"holiday","dates":["2023-02-29"]"#, "Shape"),
-    (r#""kind":"holiday","dates":["2100-01-01"]"#, "Shape"),
+    (r#""kind":"holiday","dates":["2200-01-01"]"#, "Shape"),
     (r#""kind":"holiday","dates":["1969-12-31"]"#, "Shape"),
     (r#""kind":"holiday","dates":["2024-1-01"]"#, "Shape"),
     (r#""kind":"holiday","dates":["2024-01-011"]"#, "Shape"),
@@ -363,6 +396,10 @@ const FAULTS: &[(&str, &str)] = &[
     (r#"{"do":"restart"}"#, "NotHere"),
     (r#"{"do":"show_next"}"#, "NotHere"),
     (r#"{"do":"join","node":"A"}"#, "NotHere"),
+    (r#"{"do":"reset_trigger","name":"t"}"#, "NotHere"),
+    (r#"{"do":"pause_job_group","group":"g"}"#, "NotHere"),
+    (r#"{"do":"resume_job_group","group":"g"}"#, "NotHere"),
+    (r#"{"do":"reset_trigger","more":1}"#, "Shape"),
     (r#"{"do":"join","more":1}"#, "Shape"),
     (
         r#"{"do":"add_job","job":{"name":"j","class":"c"}}"#,

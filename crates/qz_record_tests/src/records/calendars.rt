@@ -6,7 +6,7 @@ use std::alloc::Global;
 use std::test::*;
 
 /// The annual calendar c in UTC without 29 February and 31 December, behind the calendar b.
-const ANNUAL: &[u8; 20] = b"\x01\
+const ANNUAL: &[u8; 20] = b"\x02\
     \x00\x01\x63\
     \x01\x00\x01\x62\
     \x00\x03\x55\x54\x43\
@@ -16,7 +16,7 @@ const ANNUAL: &[u8; 20] = b"\x01\
     \x04\xcf";
 
 /// The calendar c in UTC without 2024-02-29 and 2099-12-31.
-const HOLIDAY: &[u8; 21] = b"\x01\
+const HOLIDAY: &[u8; 21] = b"\x02\
     \x00\x01\x63\
     \x00\
     \x00\x03\x55\x54\x43\
@@ -26,7 +26,7 @@ const HOLIDAY: &[u8; 21] = b"\x01\
     \x01\x40\x4c\xff";
 
 /// The calendar c in UTC without Saturdays and Sundays.
-const WEEKLY: &[u8; 12] = b"\x01\
+const WEEKLY: &[u8; 12] = b"\x02\
     \x00\x01\x63\
     \x00\
     \x00\x03\x55\x54\x43\
@@ -34,7 +34,7 @@ const WEEKLY: &[u8; 12] = b"\x01\
     \x41";
 
 /// The calendar c in UTC without the 1st and the 31st of each month.
-const MONTHLY: &[u8; 15] = b"\x01\
+const MONTHLY: &[u8; 15] = b"\x02\
     \x00\x01\x63\
     \x00\
     \x00\x03\x55\x54\x43\
@@ -42,7 +42,7 @@ const MONTHLY: &[u8; 15] = b"\x01\
     \x40\x00\x00\x01";
 
 /// The calendar c in UTC with nothing but the last second of each day.
-const DAILY: &[u8; 20] = b"\x01\
+const DAILY: &[u8; 20] = b"\x02\
     \x00\x01\x63\
     \x00\
     \x00\x03\x55\x54\x43\
@@ -52,7 +52,7 @@ const DAILY: &[u8; 20] = b"\x01\
     \x01";
 
 /// The calendar c in UTC without 0 30 8 ? * MON-FRI.
-const CRON: &[u8; 68] = b"\x01\
+const CRON: &[u8; 68] = b"\x02\
     \x00\x01\x63\
     \x00\
     \x00\x03\x55\x54\x43\
@@ -69,7 +69,7 @@ const CRON: &[u8; 68] = b"\x01\
     \x00\x00\x00\x00\x00\x00\x00\x00";
 
 /// The zone z of two stretches: 1 hour from 1970-01-01T00:00:00Z on, and -18 hours from 48 hours later on.
-const ZONE: &[u8; 30] = b"\x01\
+const ZONE: &[u8; 30] = b"\x02\
     \x00\x01\x7a\
     \x00\x02\
     \x00\x00\x00\x00\x00\x00\x00\x00\
@@ -219,7 +219,7 @@ pub(super) const SPOILED_CALENDARS: &[Spoiled] = &[
         bytes: &[0x00, 0xe5],
         at: 18,
     },
-    // 4097 dates, 2023-02-29, 1969-12-31, 2100-01-01, a date before the first.
+    // 4097 dates, 2023-02-29, 1969-12-31, 2200-01-01, a date before the first.
     Spoiled {
         of: Of::CalendarRow,
         record: HOLIDAY,
@@ -245,7 +245,7 @@ pub(super) const SPOILED_CALENDARS: &[Spoiled] = &[
         of: Of::CalendarRow,
         record: HOLIDAY,
         from: 17,
-        bytes: &[0x01, 0x40, 0x6f, 0xa5],
+        bytes: &[0x01, 0x4f, 0xb1, 0xe5],
         at: 17,
     },
     Spoiled {
@@ -351,7 +351,7 @@ pub(super) const SPOILED_ZONES: &[Spoiled] = &[
         of: Of::ZoneRow,
         record: ZONE,
         from: 18,
-        bytes: &[0x00, 0x00, 0x03, 0xbb, 0x2c, 0xc3, 0xd8, 0x00],
+        bytes: &[0x00, 0x00, 0x06, 0x99, 0xe9, 0x91, 0xa8, 0x00],
         at: 18,
     },
     Spoiled {

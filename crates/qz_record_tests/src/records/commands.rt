@@ -6,13 +6,13 @@ use std::alloc::{AllocError, Global};
 use std::test::*;
 
 /// What stands before a client's command: at 2024-01-01T00:00:00Z, from seat 0.
-const BY_CLIENT: &[u8; 14] = b"\x01\
+const BY_CLIENT: &[u8; 14] = b"\x02\
     \x00\x00\x01\x8c\xc2\x51\xf4\x00\
     \x00\
     \x00\x00\x00\x00";
 
 /// The same of a node's, by the member A of epoch 1.
-const BY_NODE: &[u8; 25] = b"\x01\
+const BY_NODE: &[u8; 25] = b"\x02\
     \x00\x00\x01\x8c\xc2\x51\xf4\x00\
     \x01\
     \x00\x01\
@@ -90,6 +90,26 @@ const SAMPLES: &[Sample] = &[
         printed: "Threshold { ms: 86400000 }",
     },
     Sample {
+        before: BY_CLIENT,
+        bytes: b"\x16",
+        printed: "Upgrade",
+    },
+    Sample {
+        before: BY_CLIENT,
+        bytes: b"\x17\x00\x01g\x00\x01t",
+        printed: "ResetTrigger { key: Key { group: \"g\", name: \"t\" } }",
+    },
+    Sample {
+        before: BY_CLIENT,
+        bytes: b"\x18\x00\x01g",
+        printed: "PauseJobGroup { group: \"g\" }",
+    },
+    Sample {
+        before: BY_CLIENT,
+        bytes: b"\x19\x00\x02gh",
+        printed: "ResumeJobGroup { group: \"gh\" }",
+    },
+    Sample {
         before: BY_NODE,
         bytes: b"\x0f",
         printed: "Leave",
@@ -159,13 +179,17 @@ fn is_wrong_at(alloc: Global, before: &[u8], bytes: &[u8], at: Option<u32>) -> b
 
 // A record that ends behind its command's place is wrong at the place, or where a field is missing, or not at all.
 fn ends_at_its_place(alloc: Global, place: u8) -> bool {
-    let by_client = if place <= 14 { 15 } else { 14 };
+    let by_client = match place {
+        22 => None,
+        0..=14 | 23..=25 => Some(15),
+        _ => Some(14),
+    };
     let by_node = match place {
         15 | 20 => None,
         16..=19 | 21 => Some(26),
         _ => Some(25),
     };
-    is_wrong_at(alloc, BY_CLIENT, &[place], Some(by_client))
+    is_wrong_at(alloc, BY_CLIENT, &[place], by_client)
         && is_wrong_at(alloc, BY_NODE, &[place], by_node)
 }
 

@@ -4,7 +4,7 @@ use std::alloc::{AllocError, Global};
 use std::test::*;
 
 /// AddTrigger as `ADD_TRIGGER` of 0 30 8 ? * MON-FRI in UTC.
-const ADD_CRON: &[u8; 109] = b"\x01\
+const ADD_CRON: &[u8; 109] = b"\x02\
     \x00\x00\x01\x8c\xc2\x51\xf4\x00\
     \x00\
     \x00\x00\x00\x00\
@@ -39,8 +39,8 @@ const ADD_CRON: &[u8; 109] = b"\x01\
     \x00\
     \x01";
 
-/// The same of each month in UTC.
-const ADD_INTERVAL: &[u8; 57] = b"\x01\
+/// The same of each month in UTC, with the hour of the day kept and no day skipped.
+const ADD_INTERVAL: &[u8; 59] = b"\x02\
     \x00\x00\x01\x8c\xc2\x51\xf4\x00\
     \x00\
     \x00\x00\x00\x00\
@@ -62,13 +62,15 @@ const ADD_INTERVAL: &[u8; 57] = b"\x01\
     \x00\x00\x00\x01\
     \x00\x03\
     \x55\x54\x43\
+    \x01\
+    \x00\
     \x00\
     \x00\x00\x01\x8c\xc2\x51\xf4\x00\
     \x00\
     \x01";
 
 /// The same of every 72 minutes from 8:00 to 17:00 of all days in UTC.
-const ADD_DAILY: &[u8; 66] = b"\x01\
+const ADD_DAILY: &[u8; 66] = b"\x02\
     \x00\x00\x01\x8c\xc2\x51\xf4\x00\
     \x00\
     \x00\x00\x00\x00\
@@ -150,6 +152,23 @@ fn unit_is_again(alloc: Global, unit: u8) -> bool {
     is_again(alloc, Of::Entry, &record)
 }
 
+fn flags_are_again(alloc: Global, preserve: u8, skip: u8) -> bool {
+    let mut record = *ADD_INTERVAL;
+    record[46] = preserve;
+    record[47] = skip;
+    is_again(alloc, Of::Entry, &record)
+}
+
+#[test]
+fn flags_both_ways(rt: HostRuntime) {
+    for (preserve, skip) in [(0, 0), (0, 1), (1, 0), (1, 1)] {
+        assert!(rt;
+            flags_are_again(rt.alloc(), preserve, skip),
+            "{preserve} {skip}"
+        );
+    }
+}
+
 #[test]
 fn units_both_ways(rt: HostRuntime) {
     for unit in 0..7 {
@@ -223,19 +242,12 @@ pub(super) const SPOILED_KINDS: &[Spoiled] = &[
         bytes: &[3, 6, 6],
         at: 61,
     },
-    // A year beyond the last one in the third word and in the fourth, no year, a zone without a name, no misfire instruction.
+    // A year beyond the last one, no year, a zone without a name, no misfire instruction.
     Spoiled {
         of: Of::Entry,
         record: ADD_CRON,
-        from: 84,
-        bytes: &[4],
-        at: 77,
-    },
-    Spoiled {
-        of: Of::Entry,
-        record: ADD_CRON,
-        from: 92,
-        bytes: &[1],
+        from: 88,
+        bytes: &[0x40],
         at: 85,
     },
     Spoiled {
@@ -280,6 +292,21 @@ pub(super) const SPOILED_KINDS: &[Spoiled] = &[
         from: 37,
         bytes: &[0x80],
         at: 37,
+    },
+    // Flags that are none.
+    Spoiled {
+        of: Of::Entry,
+        record: ADD_INTERVAL,
+        from: 46,
+        bytes: &[2],
+        at: 46,
+    },
+    Spoiled {
+        of: Of::Entry,
+        record: ADD_INTERVAL,
+        from: 47,
+        bytes: &[0xff],
+        at: 47,
     },
     // A unit of days, no minute, 72 hours, a first second beyond the day, a last one before it and beyond the day.
     Spoiled {

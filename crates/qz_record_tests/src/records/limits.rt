@@ -6,7 +6,7 @@ use std::alloc::{AllocError, Global};
 use std::test::*;
 
 /// What stands before the kind of a calendar c in UTC.
-const HEAD: &[u8; 10] = b"\x01\x00\x01\x63\x00\x00\x03\x55\x54\x43";
+const HEAD: &[u8; 10] = b"\x02\x00\x01\x63\x00\x00\x03\x55\x54\x43";
 
 /// The day of a year of 12 months of 31 days, as `month * 100 + day`.
 fn numbered_day(n: u16) -> u16
@@ -50,7 +50,7 @@ fn holiday_of(alloc: Global, count: u16) -> Result<Vec<u8>, AllocError>
 
 /// A zone of so many stretches, each as short as may be.
 fn zone_of(alloc: Global, count: u16) -> Result<Vec<u8>, AllocError> {
-    let mut bytes = Vec::from_slice(alloc, b"\x01\x00\x01\x7a".as_slice())?;
+    let mut bytes = Vec::from_slice(alloc, b"\x02\x00\x01\x7a".as_slice())?;
     bytes.extend_from_slice(&count.to_be_bytes())?;
     for n in 0..count {
         bytes.extend_from_slice(&(u64::from(n) * 172800000).to_be_bytes())?;

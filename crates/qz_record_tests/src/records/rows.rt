@@ -6,7 +6,7 @@ use std::alloc::Global;
 use std::test::*;
 
 /// The job g/n of class c, which is durable and requests recovery, with the payload {}.
-const JOB: &[u8; 17] = b"\x01\
+const JOB: &[u8; 17] = b"\x02\
     \x00\x01\x67\
     \x00\x01\x6e\
     \x00\x01\x63\
@@ -17,7 +17,7 @@ const JOB: &[u8; 17] = b"\x01\
 
 /// The trigger g/t of g/n, of priority -1 and on the calendar h: each 1000 ms from 2024-01-01T00:00:00Z on without end,
 /// misfires ignored. It fires next at -2 ms, never fired before, is counted 2^63 times and is paused.
-const TRIGGER: &[u8; 67] = b"\x01\
+const TRIGGER: &[u8; 67] = b"\x02\
     \x00\x01\x67\
     \x00\x01\x74\
     \x00\x01\x67\
@@ -38,7 +38,7 @@ const TRIGGER: &[u8; 67] = b"\x01\
 
 /// Entry 7 of the member A of epoch 1: g/t of g/n, of priority -1, is executing. It was to fire at -2 ms and did at 3 ms, and
 /// its job isn't run beside itself.
-const FIRED: &[u8; 56] = b"\x01\
+const FIRED: &[u8; 56] = b"\x02\
     \x00\x00\x00\x00\x00\x00\x00\x07\
     \x00\x01\x41\
     \x00\x00\x00\x00\x00\x00\x00\x01\
@@ -55,21 +55,21 @@ const FIRED: &[u8; 56] = b"\x01\
     \x00";
 
 /// The member A of epoch 258.
-const MEMBER: &[u8; 12] = b"\x01\
+const MEMBER: &[u8; 12] = b"\x02\
     \x00\x01\x41\
     \x00\x00\x00\x00\x00\x00\x01\x02";
 
 /// A checked in last at -2 ms, and means to each 7500 ms.
-const STATE: &[u8; 20] = b"\x01\
+const STATE: &[u8; 20] = b"\x02\
     \x00\x01\x41\
     \xff\xff\xff\xff\xff\xff\xff\xfe\
     \x00\x00\x00\x00\x00\x00\x1d\x4c";
 
 /// The group g.
-const GROUP: &[u8; 4] = b"\x01\x00\x01\x67";
+const GROUP: &[u8; 4] = b"\x02\x00\x01\x67";
 
 /// The calendar c in UTC without Saturdays and Sundays.
-const CALENDAR: &[u8; 12] = b"\x01\
+const CALENDAR: &[u8; 12] = b"\x02\
     \x00\x01\x63\
     \x00\
     \x00\x03\x55\x54\x43\
@@ -77,7 +77,7 @@ const CALENDAR: &[u8; 12] = b"\x01\
     \x41";
 
 /// The zone z: an hour from 1970-01-01T00:00:00Z on.
-const ZONE: &[u8; 18] = b"\x01\
+const ZONE: &[u8; 18] = b"\x02\
     \x00\x01\x7a\
     \x00\x01\
     \x00\x00\x00\x00\x00\x00\x00\x00\

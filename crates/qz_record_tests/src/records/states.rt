@@ -6,7 +6,7 @@ use std::alloc::Global;
 use std::test::*;
 
 /// CheckIn of A, which means to check in again after 7500 ms, from seat 2 at 2024-01-01T00:00:00Z.
-pub(super) const CHECK_IN: &[u8; 25] = b"\x01\
+pub(super) const CHECK_IN: &[u8; 25] = b"\x02\
     \x00\x00\x01\x8c\xc2\x51\xf4\x00\
     \x00\x00\x00\x02\
     \x00\
@@ -15,7 +15,7 @@ pub(super) const CHECK_IN: &[u8; 25] = b"\x01\
     \x00\x00\x00\x00\x00\x00\x1d\x4c";
 
 /// Forget of A, which checked in last at -1 ms, from seat 0 at 2024-01-01T00:00:00Z.
-const FORGET: &[u8; 25] = b"\x01\
+const FORGET: &[u8; 25] = b"\x02\
     \x00\x00\x01\x8c\xc2\x51\xf4\x00\
     \x00\x00\x00\x00\
     \x01\
@@ -29,7 +29,7 @@ pub(super) const FIELDS: &[u32] = &[
 ];
 
 /// CheckIn of A with the greatest interval: a day.
-const LONGEST: &[u8; 25] = b"\x01\
+const LONGEST: &[u8; 25] = b"\x02\
     \x00\x00\x01\x8c\xc2\x51\xf4\x00\
     \x00\x00\x00\x02\
     \x00\
@@ -80,7 +80,7 @@ pub(super) const SPOILED: &[Spoiled] = &[
         of: Of::StateEntry,
         record: CHECK_IN,
         from: 0,
-        bytes: &[2],
+        bytes: &[3],
         at: 0,
     },
     Spoiled {

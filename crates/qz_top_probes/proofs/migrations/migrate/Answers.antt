@@ -1,0 +1,12 @@
+use Rattle.std.proofs.Common.{rules}
+use Rattle.qz_top_probes.proofs.migrations.migrate.Goals as goal
+
+pub returns : goal.returns
+returns g c = record {
+  done = search rules;
+  uses = search rules;
+  cause = search rules;
+  schedules = search rules;
+  handed = search rules;
+  reported = search rules;
+}

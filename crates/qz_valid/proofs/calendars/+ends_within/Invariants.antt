@@ -1,0 +1,4 @@
+use Rattle.qz_valid.proofs.calendars.+ends_within.Given as goal
+
+abbrev pub decreases-ends_within : goal.decreases-ends_within
+decreases-ends_within l = l.length

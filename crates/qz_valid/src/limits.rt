@@ -1,0 +1,61 @@
+//! The limits of rows and numbers.
+ghost use Rattle.std.specs.Prelude.{◌≡◌, ◌&&◌};
+ghost use Rattle.qz_types.specs.Rows.{is_interval};
+ghost use Rattle.qz_valid.specs.Limits.{is_horizon, is_moment, counts_fit, numbers_fit};
+
+use qz_tables::Tables;
+use qz_types::{
+    CALENDAR_LIMIT, FIRED_LIMIT, GROUP_LIMIT, INTERVAL_LIMIT, JOB_GROUP_LIMIT, JOB_LIMIT, LAST,
+    MEMBER_LIMIT, NUMBER_LIMIT, TRIGGER_LIMIT, VERSION_ONE_LAST, ZONE_LIMIT,
+};
+
+/// Whether the moment, in ms since 1970-01-01T00:00:00Z, is from 0 to the horizon.
+pub fn is_moment(tables: &Tables, moment: i64) -> bool
+    ensures { result ≡ is_moment tables.now.tables.horizon moment }
+{
+    0 <= moment && moment <= tables.horizon()
+}
+
+#[tactic(auto, unfolding(crate::specs::Limits::counts_fit))]
+fn counts_fit(tables: &Tables) -> bool
+    ensures { result ≡ counts_fit tables.now.tables }
+{
+    tables.len_jobs() as u64 <= JOB_LIMIT
+        && tables.len_triggers() as u64 <= TRIGGER_LIMIT
+        && tables.len_calendars() as u64 <= CALENDAR_LIMIT
+        && tables.len_zones() as u64 <= ZONE_LIMIT
+        && tables.len_groups() as u64 <= GROUP_LIMIT
+        && tables.len_job_groups() as u64 <= JOB_GROUP_LIMIT
+        && tables.len_members() as u64 <= MEMBER_LIMIT
+        && tables.len_fired() as u64 <= FIRED_LIMIT
+}
+
+fn is_interval(ms: i64) -> bool
+    ensures { result ≡ is_interval ms }
+{
+    1 <= ms && ms <= INTERVAL_LIMIT
+}
+
+fn is_horizon(horizon: i64) -> bool
+    ensures { result ≡ is_horizon horizon }
+{
+    horizon == VERSION_ONE_LAST || horizon == LAST
+}
+
+#[tactic(auto, unfolding(crate::specs::Limits::numbers_fit))]
+fn numbers_fit(tables: &Tables) -> bool
+    ensures { result ≡ numbers_fit tables.now.tables }
+{
+    tables.next_entry() <= NUMBER_LIMIT
+        && tables.next_epoch() <= NUMBER_LIMIT
+        && is_interval(tables.threshold())
+        && is_horizon(tables.horizon())
+        && is_moment(tables, tables.last_moment())
+}
+
+/// Whether no table has more rows than it may, and each number is within its limits.
+pub fn are_within_limits(tables: &Tables) -> bool
+    ensures { result ≡ (counts_fit tables.now.tables && numbers_fit tables.now.tables) }
+{
+    counts_fit(tables) && numbers_fit(tables)
+}
