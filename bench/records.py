@@ -14,7 +14,7 @@ def key(name):
 
 
 def entry(at, actor, command):
-    return b"\x01" + struct.pack(">q", at) + actor + struct.pack(">I", 0) + command
+    return b"\x02" + struct.pack(">q", at) + actor + struct.pack(">I", 0) + command
 
 
 def node(name, epoch):
@@ -55,4 +55,4 @@ def of_entry(place, number):
 def store(folder, entries):
     payloads = (b"\xa5" + struct.pack(">I", len(record)) + record for record in entries)
     with open(os.path.join(folder, "qz-triggers.store"), "wb") as file:
-        file.write(b"QZ23\x01T" + bytes(10) + b"".join(payloads) + b"\x00")
+        file.write(b"QZ23\x02T" + bytes(10) + b"".join(payloads) + b"\x00")

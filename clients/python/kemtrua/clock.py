@@ -5,7 +5,7 @@ import re
 import time
 from datetime import datetime, timedelta
 
-END_OF_TIME = 4102444799999  # 2099-12-31T23:59:59.999Z
+END_OF_TIME = 7258118399999  # 2199-12-31T23:59:59.999Z
 
 _SPAN = re.compile(r"(\d+)(ms|s|m|h|d)")
 _UNITS = {"ms": 1, "s": 1000, "m": 60000, "h": 3600000, "d": 86400000}

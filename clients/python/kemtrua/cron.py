@@ -36,7 +36,7 @@ FIELDS = (
     Field(4, "day of the month", 1, 31),
     Field(5, "month", 1, 12, tuple(MONTHS)),
     Field(6, "day of the week", 1, 7, tuple(WEEKDAYS)),
-    Field(7, "year", 1970, 2099),
+    Field(7, "year", 1970, 2199),
 )
 DAY, WEEKDAY, YEAR = 4, 6, 7
 

@@ -30,6 +30,9 @@ REFUSALS: dict[int, tuple[str, str]] = {
     24: ("256 nodes have checked in", "forget those that are gone"),
     25: ("the node to be forgotten is a member", "recover it first, or let it leave"),
     26: ("the node has checked in since", "it lives"),
+    27: ("the store is of format version 1", "upgrade it: qz_sched migrate"),
+    28: ("the store is of format version 2 already", "nothing to do"),
+    29: ("the trigger isn't in the state ERROR", "look at its state: kemtrua show trigger"),
 }
 
 STATUSES: dict[int, tuple[str, str]] = {
@@ -46,6 +49,7 @@ STATUSES: dict[int, tuple[str, str]] = {
     7: ("the journal is full", "make a new store in a new folder"),
     9: ("memory ran out", "give the program more memory; the last step may have been done"),
     10: ("both stores are there", "nothing to do"),
+    12: ("the store is of format version 1", "upgrade it: qz_sched migrate"),
 }
 
 

@@ -67,7 +67,8 @@ TRIGGER = _by_kind(
         "simple": Form({}, {"interval": values.span, "count": values.whole(-1, 2147483647), "misfire": values.whole(-1, 5)}, _simple),
         "cron": Form({"cron": values.cron_text}, {"zone": values.name, **_OTHER_MISFIRES}),
         "interval": Form(
-            {"unit": values.one_of("SECOND", "MINUTE", "HOUR", "DAY", "WEEK", "MONTH", "YEAR"), "every": _EVERY}, {"zone": values.name, **_OTHER_MISFIRES}
+            {"unit": values.one_of("SECOND", "MINUTE", "HOUR", "DAY", "WEEK", "MONTH", "YEAR"), "every": _EVERY},
+            {"zone": values.name, "preserveHourOfDay": values.flag, "skipDayIfHourDoesNotExist": values.flag, **_OTHER_MISFIRES},
         ),
         "daily": Form(
             {"unit": values.one_of(*UNIT_SECONDS), "every": _EVERY},
@@ -111,8 +112,8 @@ CLIENT_LINES: dict[str, Form] = {
     "add_trigger": Form({"trigger": TRIGGER}, _REPLACE),
     "add_calendar": Form({"calendar": CALENDAR}, _REPLACE),
     "add_zone": ZONE,
-    **{word: _KEY for word in ("delete_job", "delete_trigger", "pause_trigger", "resume_trigger", "trigger_now")},
-    **{word: _GROUP for word in ("pause_group", "resume_group")},
+    **{word: _KEY for word in ("delete_job", "delete_trigger", "pause_trigger", "resume_trigger", "reset_trigger", "trigger_now")},
+    **{word: _GROUP for word in ("pause_group", "resume_group", "pause_job_group", "resume_job_group")},
     **{word: _NAME for word in ("delete_calendar", "delete_zone")},
     "threshold": Form({"ms": values.day_span}),
 }

@@ -8,13 +8,13 @@ from dataclasses import dataclass
 
 HEADER = 16
 OPEN = 0xA5
-BYTES_LIMIT = 2**28
-COUNT_LIMIT = 4194304
+BYTES_LIMIT = 2**29
+COUNT_LIMIT = 2**23
 VERSIONS = (1, 2)
 SNAPSHOTS = (0xF0, 0xF1)  # first bytes of payloads that are no transactions
 
 WORDS = ("add_job delete_job add_trigger delete_trigger pause_trigger resume_trigger pause_group resume_group add_calendar delete_calendar "
-         "add_zone delete_zone trigger_now threshold join leave acquire release fire complete misfires recover").split()
+         "add_zone delete_zone trigger_now threshold join leave acquire release fire complete misfires recover migrate reset_trigger pause_job_group resume_job_group").split()
 
 
 class NotRead(Exception):

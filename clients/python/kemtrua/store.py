@@ -19,7 +19,7 @@ REOPENED = {2, 3, 4, 9}  # exit statuses after which the store is opened again; 
 QUICK_ENDS = 3  # so many in a row without a reply between them, and it isn't tried again
 
 # Steps after which something may be due sooner.
-WAKING = frozenset("add_trigger add_calendar resume_trigger resume_group trigger_now threshold join fire release complete "
+WAKING = frozenset("add_trigger add_calendar resume_trigger reset_trigger resume_group resume_job_group trigger_now threshold join fire release complete "
                    "misfires leave recover".split())
 
 

@@ -9,7 +9,7 @@ from datetime import date
 from . import cron
 
 MOST_TIME = 2**53
-END_OF_TIME = 4102444799999
+END_OF_TIME = 7258118399999
 DAY_MS = 86400000
 
 
@@ -121,11 +121,11 @@ def annual_day(value: object, place: str) -> Iterator[Problem]:
 
 def holiday(value: object, place: str) -> Iterator[Problem]:
     try:
-        right = isinstance(value, str) and bool(re.fullmatch(r"[0-9]{4}-[0-9]{2}-[0-9]{2}", value)) and 1970 <= date.fromisoformat(value).year <= 2099
+        right = isinstance(value, str) and bool(re.fullmatch(r"[0-9]{4}-[0-9]{2}-[0-9]{2}", value)) and 1970 <= date.fromisoformat(value).year <= 2199
     except ValueError:
         right = False
     if not right:
-        yield Problem(place, f"{shown(value)} is no date; allowed is YYYY-MM-DD, a real date of 1970 to 2099")
+        yield Problem(place, f"{shown(value)} is no date; allowed is YYYY-MM-DD, a real date of 1970 to 2199")
 
 
 def zone_rule(value: object, place: str) -> Iterator[Problem]:

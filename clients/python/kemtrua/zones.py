@@ -13,7 +13,7 @@ MOST = 512
 
 
 def stretches_of(name: str) -> list[list[int]]:
-    """The zone's stretches up to the end of 2099: from when on, in ms since 1970, how many seconds local time is ahead of UTC."""
+    """The zone's stretches up to the end of 2199: from when on, in ms since 1970, how many seconds local time is ahead of UTC."""
     try:
         zone = ZoneInfo(name)
     except (ZoneInfoNotFoundError, ValueError, OSError):
