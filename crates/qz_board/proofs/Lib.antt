@@ -1,0 +1,4 @@
+mod Beginnings
+mod Growing
+mod Keeping
+mod Showing

@@ -1,0 +1,3 @@
+pub mod Boards
+pub mod Pages
+pub mod Posts
