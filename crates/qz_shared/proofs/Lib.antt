@@ -1,0 +1,4 @@
+pub mod Answered
+pub mod Calling
+pub mod Short
+pub mod Sinces

@@ -1,0 +1,8 @@
+use Rattle.qz_shared.proofs.Sinces.{submits_on}
+use Rattle.qz_shared.proofs.held.Held.submit.Goals as goal
+
+pub invariant_of-self-clause-since : goal.invariant_of-self-clause-since
+invariant_of-self-clause-since g c =
+    let k = g.S.RowStore in
+    let held = c.args.self.now in
+    submits_on k.kind k.listed g.met.S.RowStore.lists (k.state held.opened.value) (k.state held.store) (k.state c.submit.new.self) c.args.entry c.submit.result c.submit.ensures held.since
