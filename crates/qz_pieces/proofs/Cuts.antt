@@ -15,11 +15,11 @@ nil_end (r ∷ g) = ap (λ (xs : List RowBytes). r ∷ xs) (nil_end g)
 le_of : (a b : ℕ) → nat_le a b ≡ true → a ≤ b
 le_of a b h = grind (arith, nat_tests)
 
-join-append : (gs : List (List RowBytes)) (g : List RowBytes) → joined (gs ++ g ∷ []) ≡ joined gs ++ g
+pub join-append : (gs : List (List RowBytes)) (g : List RowBytes) → joined (gs ++ g ∷ []) ≡ joined gs ++ g
 join-append [] g = nil_end g
 join-append (h ∷ gs) g = ap (λ (xs : List RowBytes). h ++ xs) (join-append gs g) ∙ sym (append_assoc h (joined gs) g)
 
-map-append : (gs : List (List RowBytes)) (g : List RowBytes) → map piece_of (gs ++ g ∷ []) ≡ map piece_of gs ++ piece_of g ∷ []
+pub map-append : (gs : List (List RowBytes)) (g : List RowBytes) → map piece_of (gs ++ g ∷ []) ≡ map piece_of gs ++ piece_of g ∷ []
 map-append [] g = refl
 map-append (h ∷ gs) g = ap (λ (xs : List (List ℕ)). piece_of h ∷ xs) (map-append gs g)
 
@@ -29,7 +29,7 @@ piece_more g r = ap (λ (xs : List ℕ). 241 ∷ xs) (ap (λ (xs : List ℕ). fl
 one_fits : (r : RowBytes) → IsShort r → length (piece_of (r ∷ [])) ≤ PIECE_LIMIT
 one_fits r short = let s = short.short in omega (arith, length-append r.bytes [])
 
-within_and : (gs : List (List RowBytes)) (g : List RowBytes) → AreWithin gs → length (piece_of g) ≤ PIECE_LIMIT → AreWithin (gs ++ g ∷ [])
+pub within_and : (gs : List (List RowBytes)) (g : List RowBytes) → AreWithin gs → length (piece_of g) ≤ PIECE_LIMIT → AreWithin (gs ++ g ∷ [])
 within_and [] g all one = (one, tt)
 within_and (h ∷ gs) g all one = (all.0, within_and gs g all.1 one)
 

@@ -57,10 +57,14 @@ abbrev pub joined : List (List RowBytes) → List RowBytes
 joined [] = []
 joined (g ∷ gs) = g ++ joined gs
 
+-- there is a first row, and a piece of so many bytes has no room for it
+abbrev pub BeginsAfter : ℕ → List RowBytes → Type 0
+BeginsAfter before [] = ⊥
+BeginsAfter before (r ∷ rs) = PIECE_LIMIT < before + length (row_bytes r)
+
 -- a piece of the one group has no room for the first row of the other, which has one
 abbrev pub IsFullBefore : List RowBytes → List RowBytes → Type 0
-IsFullBefore group [] = ⊥
-IsFullBefore group (r ∷ rs) = PIECE_LIMIT < length (piece_of group) + length (row_bytes r)
+IsFullBefore group next = BeginsAfter (length (piece_of group)) next
 
 -- the same of this group and the first of those, and so on
 abbrev pub AreFull : List RowBytes → List (List RowBytes) → Type 0

@@ -5,9 +5,11 @@
 mod cutting;
 mod kinds;
 mod laws;
+mod payloads;
 mod reading;
 
 pub use cutting::{PIECE_LIMIT, Pieces};
 pub use kinds::RowKind;
 pub use laws::rows_are_read_in_one_way;
+pub use payloads::{ReadError, read_pieces};
 pub use reading::{RecordOfRow, read_piece};
