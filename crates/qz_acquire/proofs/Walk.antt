@@ -1,21 +1,25 @@
 -- The walk along the triggers that wait, in due order.
-use Rattle.std.proofs.Common.{◌≡◌, ℕ, zero, suc, ◌<◌, ℤ, ◌<ℤ◌, ◌≤ℤ◌, Bool, true, List, [], ◌∷◌, length, drop, filter, Option, Some, None, refl, sym, ap, ◌∙◌, subst, arith}
+use Rattle.std.proofs.Common.{◌≡◌, ℕ, zero, suc, ◌+◌, take, false, ℤ, ◌<ℤ◌, ◌≤ℤ◌, Bool, true, List, [], ◌∷◌, drop, filter, Option, Some, None, refl, sym, ap, ◌∙◌, subst, arith}
 use Rattle.std.specs.List.{AllByRecursion, slice_get}
 use Rattle.std.specs.Ordering.{int_cmp, ordering_then}
 use Rattle.std.specs.declared.cmp.Ordering.{Ordering}
 use Rattle.std.specs.declared.cmp.Ordering.TheVariants.{Less}
 use Rattle.std.proofs.lemmas.Bool.{and_from}
 use Rattle.std.proofs.lemmas.Int.{ints}
+use Rattle.std.proofs.lemmas.List.{drop-drop}
 use Rattle.std.proofs.lemmas.Cmp.{by_ranked, int_ranked}
 use Rattle.qz_types.specs.Sorted.{put, IsBefore, IsAscending}
 use Rattle.qz_types.specs.Rows.{TriggerData}
 use Rattle.qz_types.specs.Words.{key_cmp}
+use Rattle.qz_types.specs.declared.keys.Key.{Key}
 use Rattle.qz_types.specs.Due.{is_waiting, next_cmp, due_cmp, in_due_order}
-use Rattle.qz_tables.specs.Due.{waits_after, waiting, due_first, due_after, IsWalked}
+use Rattle.qz_tables.specs.Due.{waits_after, waiting, due_next}
 use Rattle.qz_tables.proofs.SortLaws.{sorted, Apart, filter-sorted, ascending-sorted}
 use Rattle.qz_tables.proofs.SortLaws.{IsAscending-filter}
-use Rattle.qz_tables.proofs.DueWalk.{due_total, apart, waiting-after}
-use Rattle.qz_acquire.proofs.Lists.{filter-within, drop-at}
+use Rattle.qz_tables.proofs.DueWalk.{due_total, apart, first-passing, next-passing}
+use Rattle.qz_acquire.specs.Walk.{unless_past}
+use Rattle.qz_acquire.proofs.Lists.{filter-within, drop-at, none-passing, get-drop}
+use Rattle.qz_acquire.proofs.Lists.{first-passing as first_of}
 
 by_sorting : (ts : List TriggerData) → in_due_order ts ≡ sorted due_cmp ts
 by_sorting [] = refl
@@ -45,28 +49,35 @@ waiting_ascends ts ordered =
 abbrev pub IsAt : List TriggerData → ℕ → Option TriggerData → Type 0
 IsAt ts n o = o ≡ slice_get (waiting None ts) n
 
-pub begins : (ts : List TriggerData) (o : Option TriggerData) → o ≡ due_first ts → IsAt ts 0 o
-unfolding due_first
-begins ts o is = is
+-- after the trigger of this key, if one is given, the walk goes on at this place
+abbrev pub IsAfter : List TriggerData → Option Key → ℕ → Type 0
+IsAfter ts last n = (p : TriggerData → Bool) → due_next last p ts ≡ slice_get (filter p (drop n (waiting None ts))) 0
 
-pub goes_on : (ts : List TriggerData) (n : ℕ) (t : TriggerData) (o : Option TriggerData) → IsWalked ts → IsAt ts n (Some t) → o ≡ due_after t.spec.key ts → IsAt ts (suc n) o
-goes_on ts n t o walked at is = is ∙ walked n t at
+pub begins : (ts : List TriggerData) → IsAfter ts None 0
+begins ts = first-passing ts
 
--- how many triggers are still ahead
-abbrev pub ahead : List TriggerData → Option TriggerData → ℕ
-ahead ts None = 0
-ahead ts (Some t) = suc (length (waiting (Some t) ts))
+pub goes_on : (ts : List TriggerData) (n : ℕ) (t : TriggerData) → AreInKeyOrder ts → IsAt ts n (Some t) → IsAfter ts (Some t.spec.key) (suc n)
+goes_on ts n t ordered at = λ p. next-passing ts n t p ordered at
 
-fewer_at : (ts : List TriggerData) (n : ℕ) (t : TriggerData) (o : Option TriggerData) → AreInKeyOrder ts → IsAt ts n (Some t) → IsAt ts (suc n) o → ahead ts o < ahead ts (Some t)
-fewer_at ts n t None ordered at next = omega arith
-fewer_at ts n t (Some u) ordered at next =
-    let here : length (waiting (Some t) ts) ≡ length (drop (suc n) (waiting None ts)) = ap length (waiting-after ts n t ordered at) in
-    let there : length (waiting (Some u) ts) ≡ length (drop (suc (suc n)) (waiting None ts)) = ap length (waiting-after ts (suc n) u ordered next) in
-    let one : length (drop (suc n) (waiting None ts)) ≡ suc (length (drop (suc (suc n)) (waiting None ts))) = ap length (drop-at (waiting None ts) (suc n) u next) in
-    omega arith
+-- from this place on, this is the first that passes
+pub record IsFound (ts : List TriggerData) (n : ℕ) (p : TriggerData → Bool) (t : TriggerData) : Type 0 where
+  pub skipped : ℕ
+  pub at : IsAt ts (n + skipped) (Some t)
+  pub passes : p t ≡ true
+  pub over : AllByRecursion (λ u. p u ≡ false) (take skipped (drop n (waiting None ts)))
 
-pub fewer_ahead : (ts : List TriggerData) (n : ℕ) (t : TriggerData) (o : Option TriggerData) → AreInKeyOrder ts → IsWalked ts → IsAt ts n (Some t) → o ≡ due_after t.spec.key ts → ahead ts o < ahead ts (Some t)
-fewer_ahead ts n t o ordered walked at is = fewer_at ts n t o ordered at (goes_on ts n t o walked at is)
+pub found : (ts : List TriggerData) (last : Option Key) (n : ℕ) (p : TriggerData → Bool) (t : TriggerData) → IsAfter ts last n → Some t ≡ due_next last p ts → IsFound ts n p t
+found ts last n p t after is =
+    let f = first_of p (drop n (waiting None ts)) t (is ∙ after p) in
+    record { skipped = f.skipped; at = f.at ∙ get-drop (waiting None ts) n f.skipped; passes = f.passes; over = f.over }
+
+-- from this place on, none passes
+pub none_found : (ts : List TriggerData) (last : Option Key) (n : ℕ) (p : TriggerData → Bool) → IsAfter ts last n → None ≡ due_next last p ts → AllByRecursion (λ u. p u ≡ false) (drop n (waiting None ts))
+none_found ts last n p after is = none-passing p (drop n (waiting None ts)) (is ∙ after p)
+
+-- what stands there, and those after it
+pub found_here : (ts : List TriggerData) (n : ℕ) (p : TriggerData → Bool) (t : TriggerData) (f : IsFound ts n p t) → drop f.skipped (drop n (waiting None ts)) ≡ t ∷ drop (suc (n + f.skipped)) (waiting None ts)
+found_here ts n p t f = drop-drop f.skipped n (waiting None ts) ∙ drop-at (waiting None ts) (n + f.skipped) t f.at
 
 -- a time that isn't earlier
 abbrev pub IsFrom : Option ℤ → Option ℤ → Type 0
@@ -101,3 +112,13 @@ none_earlier ts n t ordered at =
     let here = drop-at (waiting None ts) n t at in
     let up : IsAscending due_cmp (λ x. x) (t ∷ drop (suc n) (waiting None ts)) = subst (IsAscending due_cmp (λ x. x)) here (ascending-drop (waiting None ts) n (waiting_ascends ts ordered)) in
     subst (AllByRecursion (λ u. IsFrom t.next u.next)) (sym here) (from_itself t.next, all_later t (drop (suc n) (waiting None ts)) up.0)
+
+-- what the walk takes of what it found
+pub unless_not : (past : TriggerData → Bool) (o : Option TriggerData) (t : TriggerData) → o ≡ Some t → past t ≡ false → Some t ≡ unless_past past o
+unless_not past o t is isnt = rw (is, isnt) refl
+
+pub unless_so : (past : TriggerData → Bool) (o : Option TriggerData) (t : TriggerData) → o ≡ Some t → past t ≡ true → None ≡ unless_past past o
+unless_so past o t is past_it = rw (is, past_it) refl
+
+pub unless_none : (past : TriggerData → Bool) (o : Option TriggerData) → o ≡ None → None ≡ unless_past past o
+unless_none past o is = rw is refl

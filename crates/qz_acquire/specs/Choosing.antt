@@ -8,16 +8,16 @@ use Rattle.qz_types.specs.Words.{with_trigger, fired_of, put_fired}
 use Rattle.qz_types.specs.declared.replies.Taken.{Taken}
 use Rattle.qz_types.specs.declared.triggers.TriggerState.TheVariants as state
 use Rattle.qz_model.specs.Acquiring.{is_sibling, acquired_row}
-use Rattle.qz_model.specs.Due.{is_due}
 use Rattle.qz_model.specs.Tests.{stored_job}
+use Rattle.qz_acquire.specs.Walk.{is_on_time}
 
 -- one of these is of the trigger's job, whose executions exclude each other
 abbrev pub has_sibling : List JobData → List TriggerData → TriggerData → Bool
 has_sibling jobs taken t = list_any (λ u. is_sibling jobs u t) taken
 
--- after these the trigger is taken too
-abbrev pub may_take : SchedulerTables → ℤ → ℤ → List TriggerData → TriggerData → Bool
-may_take T m limit taken t = is_due T m limit t && not (has_sibling T.jobs taken t)
+-- after these the trigger is taken too; this is the earliest next time that isn't misfired
+abbrev pub may_take : ℤ → ℤ → List JobData → List TriggerData → TriggerData → Bool
+may_take earliest limit jobs taken t = is_on_time earliest limit t && not (has_sibling jobs taken t)
 
 -- the rows of these, with the entry numbers from this one on
 abbrev pub rows_from : SchedulerTables → MemberData → ℕ → List TriggerData → List FiredData

@@ -1,15 +1,17 @@
 //! Which triggers an Acquire takes.
-ghost use Rattle.std.specs.Prelude.{◌≡◌, IfOk, map};
+ghost use Rattle.std.specs.Prelude.{◌≡◌, ◌||◌, IfOk, map, option_copied};
 ghost use Rattle.qz_types.specs.Tables.{IsMoment};
 ghost use Rattle.qz_model.specs.Acquiring.{is_sibling, chosen};
 ghost use Rattle.qz_model.specs.Invariant.{TablesValid};
 ghost use Rattle.qz_acquire.specs.Choosing.{has_sibling, may_take};
+ghost use Rattle.qz_acquire.specs.Walk.{is_past, unless_past};
+ghost use Rattle.qz_tables.specs.Due.{due_next};
 
-use crate::due::{is_due, is_past};
+use crate::due::{earliest, is_on_time, is_past};
 use crate::jobs::is_exclusive;
 use qz_apply::same_key;
-use qz_tables::Tables;
-use qz_types::TriggerRow;
+use qz_tables::{Tables, Test};
+use qz_types::{Key, TriggerRow};
 use std::alloc::AllocError;
 
 /// The first triggers in due order that are due up to this limit, up to so many, and of each job whose executions exclude
@@ -24,33 +26,70 @@ pub fn chosen(
     requires moment { IsMoment tables.now.tables.horizon moment }
     ensures { IfOk result (λ rows. map (λ r. r.now) rows.items ≡ chosen tables.now.tables moment limit max) }
 {
+    let earliest = earliest(tables, moment);
     let mut taken = Vec::new(tables.allocator());
-    let mut next = tables.due_first();
-    while let Some(trigger) = next {
-        if taken.len() >= max as usize || is_past(limit, trigger.next) {
+    let mut last = None;
+    while taken.len() < max as usize {
+        let Some(trigger) = next_taken(tables, earliest, limit, &taken, last) else {
             return Ok(taken);
-        }
-        if may_take(tables, moment, limit, &taken, trigger) {
-            taken.push(trigger)?;
-        }
-        next = tables.due_after(&trigger.spec.key);
+        };
+        taken.push(trigger)?;
+        last = Some(&trigger.spec.key);
     }
     Ok(taken)
+}
+
+// The next trigger that is taken after these, of which the last has this key.
+fn next_taken<'a>(
+    tables: &'a Tables,
+    earliest: i64,
+    limit: i64,
+    taken: &[&TriggerRow],
+    last: Option<&Key>,
+) -> Option<&'a TriggerRow>
+    ensures { option_copied result ≡ unless_past (λ t. is_past limit t.next) (due_next (option_copied last.entry) (λ t. is_past limit t.next || may_take earliest limit tables.now.tables.jobs (map (λ r. r.now) taken.now) t) tables.now.tables.triggers) }
+{
+    let stop = Stop {
+        tables,
+        earliest,
+        limit,
+        taken,
+    };
+    match tables.due_next(last, &stop) {
+        Some(trigger) if !is_past(limit, trigger.next) => Some(trigger),
+        _ => None,
+    }
+}
+
+/// The walk stops at a trigger that is taken after these, and at one that is past the limit.
+#[derive(Drop)]
+struct Stop<'a> {
+    tables: &'a Tables,
+    earliest: i64,
+    limit: i64,
+    taken: &'a [&'a TriggerRow],
+}
+
+impl<'a> Test<TriggerRow> for Stop<'a> {
+    ghost test = { λ s t. is_past s.limit t.next || may_take s.earliest s.limit s.tables.now.tables.jobs (map (λ r. r.now) s.taken.now) t };
+
+    fn passes(&self, trigger: &TriggerRow) -> bool {
+        is_past(self.limit, trigger.next)
+            || may_take(self.tables, self.earliest, self.limit, self.taken, trigger)
+    }
 }
 
 // Whether a trigger is taken after these.
 fn may_take(
     tables: &Tables,
-    moment: i64,
+    earliest: i64,
     limit: i64,
     taken: &[&TriggerRow],
     trigger: &TriggerRow,
 ) -> bool
-    requires valid { ∥ TablesValid tables.now.tables ∥₁ }
-    requires moment { IsMoment tables.now.tables.horizon moment }
-    ensures { result ≡ may_take tables.now.tables moment limit (map (λ r. r.now) taken.now) trigger.now }
+    ensures { result ≡ may_take earliest limit tables.now.tables.jobs (map (λ r. r.now) taken.now) trigger.now }
 {
-    is_due(tables, moment, limit, trigger) && !has_sibling(tables, taken, trigger)
+    is_on_time(earliest, limit, trigger) && !has_sibling(tables, taken, trigger)
 }
 
 fn has_sibling(tables: &Tables, taken: &[&TriggerRow], trigger: &TriggerRow) -> bool

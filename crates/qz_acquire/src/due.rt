@@ -3,41 +3,32 @@ ghost use Rattle.std.specs.Prelude.{◌≡◌, ◌-ℤ◌, negsuc};
 ghost use Rattle.std.specs.Ordering.{int_eq};
 ghost use Rattle.qz_types.specs.Tables.{IsMoment};
 ghost use Rattle.qz_types.specs.Due.{is_waiting};
-ghost use Rattle.qz_model.specs.Due.{is_up_to, is_before, is_misfired, is_due};
+ghost use Rattle.qz_model.specs.Due.{is_up_to, is_before};
 ghost use Rattle.qz_model.specs.Invariant.{TablesValid};
-ghost use Rattle.qz_acquire.specs.Walk.{is_past, is_from, is_waiting_misfired};
+ghost use Rattle.qz_acquire.specs.Walk.{is_past, is_from, is_late, is_missed, is_on_time};
 
 use qz_tables::Tables;
 use qz_types::{TriggerRow, TriggerSpec, TriggerState};
 
-/// Whether the trigger waits, its next time isn't past the limit, and it isn't misfired.
-#[tactic(auto, unfolding(qz_model::specs::Due::is_due))]
-pub fn is_due(tables: &Tables, moment: i64, limit: i64, trigger: &TriggerRow) -> bool
-    requires valid { ∥ TablesValid tables.now.tables ∥₁ }
-    requires moment { IsMoment tables.now.tables.horizon moment }
-    ensures { result ≡ is_due tables.now.tables moment limit trigger.now }
+/// Whether the trigger waits, its next time isn't past the limit, and it isn't misfired, where this is the earliest next
+/// time that isn't.
+pub fn is_on_time(earliest: i64, limit: i64, trigger: &TriggerRow) -> bool
+    ensures { result ≡ is_on_time earliest limit trigger.now }
 {
-    is_waiting(trigger.state)
-        && is_up_to(limit, trigger.next)
-        && !is_misfired(tables, moment, trigger)
+    is_waiting(trigger.state) && is_up_to(limit, trigger.next) && !is_late(earliest, trigger)
 }
 
-/// Whether the trigger waits, and is misfired.
-pub fn is_waiting_misfired(tables: &Tables, moment: i64, trigger: &TriggerRow) -> bool
-    requires valid { ∥ TablesValid tables.now.tables ∥₁ }
-    requires moment { IsMoment tables.now.tables.horizon moment }
-    ensures { result ≡ is_waiting_misfired tables.now.tables moment trigger.now }
+/// Whether the trigger waits, and is misfired, where this is the earliest next time that isn't.
+pub fn is_missed(earliest: i64, trigger: &TriggerRow) -> bool
+    ensures { result ≡ is_missed earliest trigger.now }
 {
-    is_waiting(trigger.state) && is_misfired(tables, moment, trigger)
+    is_waiting(trigger.state) && is_late(earliest, trigger)
 }
 
-#[tactic(auto, unfolding(qz_model::specs::Due::is_misfired))]
-fn is_misfired(tables: &Tables, moment: i64, trigger: &TriggerRow) -> bool
-    requires valid { ∥ TablesValid tables.now.tables ∥₁ }
-    requires moment { IsMoment tables.now.tables.horizon moment }
-    ensures { result ≡ is_misfired tables.now.tables moment trigger.now }
+fn is_late(earliest: i64, trigger: &TriggerRow) -> bool
+    ensures { result ≡ is_late earliest trigger.now }
 {
-    !ignores_misfires(&trigger.spec) && is_before(earliest(tables, moment), trigger.next)
+    !ignores_misfires(&trigger.spec) && is_before(earliest, trigger.next)
 }
 
 /// The earliest next time that isn't misfired.

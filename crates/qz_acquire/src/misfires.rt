@@ -1,5 +1,5 @@
 //! A node moves the triggers that are misfired. Times are in ms since 1970-01-01T00:00:00Z.
-ghost use Rattle.std.specs.Prelude.{◌≡◌, IfOk, IfErr, map, fold, ℤ, ◌≤ℤ◌, MatchOption};
+ghost use Rattle.std.specs.Prelude.{◌≡◌, ◌||◌, option_copied, IfOk, IfErr, map, fold, ℤ, ◌≤ℤ◌, MatchOption};
 ghost use Rattle.std.specs.List.{AllByRecursion};
 ghost use Rattle.qz_civil.specs.declared.limits.TheConstants.{LAST};
 ghost use Rattle.qz_types.specs.Tables.{IsMoment};
@@ -8,12 +8,14 @@ ghost use Rattle.qz_model.specs.Invariant.{TablesValid};
 ghost use Rattle.qz_model.specs.Misfires.{misfired_triggers, moved_row, misfires};
 ghost use Rattle.qz_acquire.specs.Moves.{with_move, AreMovable, move_for, IsMovable, IsMissed};
 ghost use Rattle.qz_acquire.specs.Prepared.{committed, CanCommit};
+ghost use Rattle.qz_acquire.specs.Walk.{is_from, is_missed, unless_past};
+ghost use Rattle.qz_tables.specs.Due.{due_next};
 
 use crate::changes::{Change, Move};
-use crate::due::{earliest, is_from, is_waiting_misfired};
+use crate::due::{earliest, is_from, is_missed};
 use qz_apply::{move_of, node_refusal};
-use qz_tables::Tables;
-use qz_types::{List, MISFIRE_LIMIT, MemberRow, MovedRow, Refusal, StepRefused, TriggerRow};
+use qz_tables::{Tables, Test};
+use qz_types::{Key, List, MISFIRE_LIMIT, MemberRow, MovedRow, Refusal, StepRefused, TriggerRow};
 use std::alloc::{AllocError, Global};
 
 /// Why a Misfires of the member is refused, if it is.
@@ -62,17 +64,39 @@ fn misfired_triggers(tables: &Tables, moment: i64) -> Result<Vec<&TriggerRow>, A
 {
     let earliest = earliest(tables, moment);
     let mut found = Vec::new(tables.allocator());
-    let mut next = tables.due_first();
-    while let Some(trigger) = next {
-        if found.len() >= MISFIRE_LIMIT as usize || is_from(earliest, trigger.next) {
+    let mut last = None;
+    while found.len() < MISFIRE_LIMIT as usize {
+        let Some(trigger) = next_missed(tables, earliest, last) else {
             return Ok(found);
-        }
-        if is_waiting_misfired(tables, moment, trigger) {
-            found.push(trigger)?;
-        }
-        next = tables.due_after(&trigger.spec.key);
+        };
+        found.push(trigger)?;
+        last = Some(&trigger.spec.key);
     }
     Ok(found)
+}
+
+// The next trigger that waits and is misfired, after the one of this key, if one is given.
+fn next_missed<'a>(tables: &'a Tables, earliest: i64, last: Option<&Key>) -> Option<&'a TriggerRow>
+    ensures { option_copied result ≡ unless_past (λ t. is_from earliest t.next) (due_next (option_copied last.entry) (λ t. is_from earliest t.next || is_missed earliest t) tables.now.tables.triggers) }
+{
+    match tables.due_next(last, &Stop { earliest }) {
+        Some(trigger) if !is_from(earliest, trigger.next) => Some(trigger),
+        _ => None,
+    }
+}
+
+/// The walk stops at a trigger that is misfired, and at one whose next time isn't before the earliest that isn't misfired.
+#[derive(Drop)]
+struct Stop {
+    earliest: i64,
+}
+
+impl Test<TriggerRow> for Stop {
+    ghost test = { λ s t. is_from s.earliest t.next || is_missed s.earliest t };
+
+    fn passes(&self, trigger: &TriggerRow) -> bool {
+        is_from(self.earliest, trigger.next) || is_missed(self.earliest, trigger)
+    }
 }
 
 // What a misfire makes of each of these.

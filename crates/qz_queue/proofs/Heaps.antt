@@ -67,7 +67,7 @@ module _ {K : Type 0} (before : K → K → Bool) (o : IsStrictOrder before) whe
       by_tests true true e f = let t = o.chain c a b e f in cc
       by_tests true false e f = let same : a ≡ b = o.total a b f p in subst (λ x. before c x ≡ false) (sym same) q
 
-  itself : (x : K) → before x x ≡ false
+  pub itself : (x : K) → before x x ≡ false
   itself x = by_test (before x x) refl
     where
       by_test : (r : Bool) → before x x ≡ r → before x x ≡ false
@@ -77,10 +77,10 @@ module _ {K : Type 0} (before : K → K → Bool) (o : IsStrictOrder before) whe
   pub by : (a b x y : K × ℕ) → a ≡ x → b ≡ y → before x.0 y.0 ≡ false → before a.0 b.0 ≡ false
   by a b x y p q h = (λ k. before (p k).0 (q k).0) ∙ h
 
-  over_as : (xs : List (K × ℕ)) (k i j : ℕ) (d : K × ℕ) → i ≡ j → before (get_or xs k d).0 (get_or xs i d).0 ≡ false → before (get_or xs k d).0 (get_or xs j d).0 ≡ false
+  pub over_as : (xs : List (K × ℕ)) (k i j : ℕ) (d : K × ℕ) → i ≡ j → before (get_or xs k d).0 (get_or xs i d).0 ≡ false → before (get_or xs k d).0 (get_or xs j d).0 ≡ false
   over_as xs k i j d e h = subst (λ (m : ℕ). before (get_or xs k d).0 (get_or xs m d).0 ≡ false) e h
 
-  weak_at : (xs : List (K × ℕ)) (i j k : ℕ) (d : K × ℕ) → before (get_or xs j d).0 (get_or xs i d).0 ≡ false → before (get_or xs k d).0 (get_or xs j d).0 ≡ false → before (get_or xs k d).0 (get_or xs i d).0 ≡ false
+  pub weak_at : (xs : List (K × ℕ)) (i j k : ℕ) (d : K × ℕ) → before (get_or xs j d).0 (get_or xs i d).0 ≡ false → before (get_or xs k d).0 (get_or xs j d).0 ≡ false → before (get_or xs k d).0 (get_or xs i d).0 ≡ false
   weak_at xs i j k d = weak (get_or xs i d).0 (get_or xs j d).0 (get_or xs k d).0
 
   pub closes : (xs : List (K × ℕ)) (j : ℕ) → IsHeapBut before xs j → IsOverChildren before xs j j → IsUnderParent before xs j → IsHeap before xs

@@ -1,9 +1,11 @@
 pub mod Lists
 pub mod Heaps
 pub mod Sorts
+pub mod Known
 pub mod Bounds
 pub mod Edited
 pub mod Seen
+pub mod Below
 pub mod Threads
 pub mod Unlinks
 pub mod Columns

@@ -71,10 +71,10 @@ module _ {K : Type 0} where
   placed_widened xs ps qs le same h = λ i d p. let t = h i d p in let a = t.0 in (omega arith, same (get_or xs i d).1 a ∙ t.1)
 
 module _ {K : Type 0} (before : K → K → Bool) (o : IsStrictOrder before) where
-  abbrev Ascends : K × ℕ → K × ℕ → Type 0
+  abbrev pub Ascends : K × ℕ → K × ℕ → Type 0
   Ascends x y = before x.0 y.0 ≡ true
 
-  abbrev Differs : K × ℕ → K × ℕ → Type 0
+  abbrev pub Differs : K × ℕ → K × ℕ → Type 0
   Differs x y = x.1 ≢ y.1
 
   every_above : (x y : K × ℕ) (ys : List (K × ℕ)) → Ascends x y → Every (Ascends y) ys → Every (Ascends x) ys
@@ -101,25 +101,25 @@ module _ {K : Type 0} (before : K → K → Bool) (o : IsStrictOrder before) whe
       (λ e. (n, h))
 
   -- different places have different keys and different slots
-  abbrev AllApart : List (K × ℕ) → Type 0
+  abbrev pub AllApart : List (K × ℕ) → Type 0
   AllApart xs = (j k : ℕ) (d : K × ℕ) → j < length xs → k < length xs → ((get_or xs j d).0 ≡ (get_or xs k d).0 → j ≡ k) × ((get_or xs j d).1 ≡ (get_or xs k d).1 → j ≡ k)
 
   apart_tail : (x : K × ℕ) (xs : List (K × ℕ)) → AllApart (x ∷ xs) → AllApart xs
   apart_tail x xs h = λ j k d p q. let t = h (suc j) (suc k) d (omega arith) (omega arith) in ((λ e. let u = t.0 e in omega arith), (λ e. let u = t.1 e in omega arith))
 
-  ascends_in : (xs : List (K × ℕ)) → AllApart xs → EachLater Ascends (in_order before xs)
+  pub ascends_in : (xs : List (K × ℕ)) → AllApart xs → EachLater Ascends (in_order before xs)
   ascends_in [] h = tt
   ascends_in (x ∷ xs) h =
       let new : Every (λ (y : K × ℕ). y.0 ≢ x.0) xs = every_from (λ (y : K × ℕ). y.0 ≢ x.0) xs (λ k d p e. let t = (h (suc k) 0 d (omega arith) (omega arith)).0 e in absurd (omega arith)) in
       ascends_put x (in_order before xs) (every_sorted before o (λ (y : K × ℕ). y.0 ≢ x.0) xs new) (ascends_in xs (apart_tail x xs h))
 
-  differs_in : (xs : List (K × ℕ)) → AllApart xs → EachLater Differs (in_order before xs)
+  pub differs_in : (xs : List (K × ℕ)) → AllApart xs → EachLater Differs (in_order before xs)
   differs_in [] h = tt
   differs_in (x ∷ xs) h =
       let new : Every (Differs x) xs = every_from (Differs x) xs (λ k d p e. let t = (h 0 (suc k) d (omega arith) (omega arith)).1 e in absurd (omega arith)) in
       differs_put x (in_order before xs) (every_sorted before o (Differs x) xs new) (differs_in xs (apart_tail x xs h))
 
-  apart_in : (xs : List (K × ℕ)) (ps : List ℕ) → IsIndexed before xs ps → AllApart xs
+  pub apart_in : (xs : List (K × ℕ)) (ps : List ℕ) → IsIndexed before xs ps → AllApart xs
   unfolding IsPlaced AreKeysApart
   apart_in xs ps h = λ j k d p q.
       let a = (h.placed j d p).1 in
@@ -133,3 +133,19 @@ module _ {K : Type 0} (before : K → K → Bool) (o : IsStrictOrder before) whe
 
   pub slots_apart_in : (xs : List (K × ℕ)) (ps : List ℕ) → IsIndexed before xs ps → AreSlotsApart (in_order before xs)
   slots_apart_in xs ps h = all_pairs Differs (in_order before xs) (differs_in xs (apart_in xs ps h))
+
+  every_without : (slot : ℕ) (ys : List (K × ℕ)) → EachLater Differs ys → Every (λ (y : K × ℕ). y.1 ≢ slot) (without_slot slot ys)
+  every_without slot [] h = tt
+  every_without slot (y ∷ ys) h = by_test (y.1 == slot) refl (every_without slot ys h.1)
+    where
+      same_slot : (zs : List (K × ℕ)) → y.1 ≡ slot → Every (Differs y) zs → Every (λ (z : K × ℕ). z.1 ≢ slot) zs
+      same_slot [] e d = tt
+      same_slot (z ∷ zs) e d = ((λ f. d.0 (e ∙ sym f)), same_slot zs e d.1)
+
+      by_test : (r : Bool) → (y.1 == slot) ≡ r → Every (λ (z : K × ℕ). z.1 ≢ slot) (without_slot slot ys) → Every (λ (z : K × ℕ). z.1 ≢ slot) (without_slot slot (y ∷ ys))
+      by_test true t rest = rw t (same_slot ys (grind (arith, nat_tests)) h.0)
+      by_test false t rest = rw t ((λ (f : y.1 ≡ slot). grind (arith, nat_tests)), rest)
+
+  -- a slot that got a new key has it
+  pub now_in : (xs : List (K × ℕ)) (ps : List ℕ) (k : K) (slot : ℕ) → IsIndexed before xs ps → key_of slot (put_pair before (k, slot) (without_slot slot (in_order before xs))) ≡ Some k
+  now_in xs ps k slot h = key_of_put before o slot (k, slot) (without_slot slot (in_order before xs)) refl (every_without slot (in_order before xs) (differs_in xs (apart_in xs ps h)))

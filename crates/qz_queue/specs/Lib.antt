@@ -5,3 +5,4 @@ pub mod Sift
 pub mod Queue
 pub mod Numbers
 pub mod Chains
+pub mod Walk

@@ -1,6 +1,6 @@
 -- Pairs of a key and a slot, in the order of their keys.
 use Rattle.std.specs.Prelude.{◌≡◌, ◌≢◌, ℕ, ◌+◌, ◌-◌, ◌*◌, ◌^◌, ◌≤◌, Bool, true, false, List, [], ◌∷◌, ◌⊎◌, Option, Some, None, if◌then◌else◌, ◌==◌}
-use Rattle.std.specs.List.{All, AllPairs}
+use Rattle.std.specs.List.{All, AllPairs, Contains}
 
 -- Of any two different keys exactly one stands before the other, and no key stands before itself.
 pub record IsStrictOrder {K : Type 0} (before : K → K → Bool) : Type 0 where
@@ -11,6 +11,14 @@ pub record IsStrictOrder {K : Type 0} (before : K → K → Bool) : Type 0 where
 -- A count rises by one, or has reached the end of its type and stays there.
 abbrev pub CountsOne : ℕ → ℕ → Type 0
 CountsOne old new = (new ≡ old + 1) ⊎ ((old ≡ 2 ^ 64 - 1) × (new ≡ 2 ^ 64 - 1))
+
+-- What compares keys knows each key of the pairs, and so can compare them.
+abbrev pub AreKnown : {K : Type 0} → (K → Type 0) → List (K × ℕ) → Type 0
+AreKnown {K} knows xs = (x : K × ℕ) → Contains xs x → knows x.0
+
+-- It knows each key that it knew.
+abbrev pub KeepsKnown : {K : Type 0} → (K → Type 0) → (K → Type 0) → Type 0
+KeepsKnown {K} old new = (k : K) → old k → new k
 
 -- In a queue of n pairs a count rises by at most 2 d + 2, for a d with 2 ^ d at most 2 n + 1: by the logarithm of n,
 -- but for a factor and a constant.

@@ -2,7 +2,7 @@
 ghost use Rattle.std.specs.Prelude.{◌≡◌, ◌≢◌, ◌+◌, ◌-◌, ◌*◌, ◌/◌, ◌^◌, ◌<◌, ◌≤◌, length, ℕ, [], ◌∷◌, ◌++◌, vec_len, vec_capacity, IfSome, IfNone, Some, None};
 ghost use Rattle.std.specs.List.{HoldsAt, SwappedAt};
 ghost use Rattle.std.specs.List.Sorted.{IsPermutation};
-ghost use Rattle.qz_queue.specs.Order.{IsLogarithmic, put_pair, in_order, key_of, without_slot};
+ghost use Rattle.qz_queue.specs.Order.{AreKnown, KeepsKnown, IsLogarithmic, put_pair, in_order, key_of, without_slot};
 ghost use Rattle.qz_queue.specs.Lists.{Every};
 ghost use Rattle.qz_queue.specs.Heap.{IsHeap, IsHeapBut, IsPlaced};
 ghost use Rattle.qz_queue.specs.Queue.{IsIndexed};
@@ -21,10 +21,12 @@ fn settle<K: Ranked, C: Compare<K>>(
     requires within { at < length heap.old }
     requires placed { IsPlaced heap.old places.old }
     requires heap { IsHeapBut K.stands_before heap.old at }
+    requires known { AreKnown (C.Knows compare.old) heap.old }
     ensures permutation { IsPermutation heap.old heap.new }
     ensures placed { IsPlaced heap.new places.new }
     ensures heap { IsHeap K.stands_before heap.new }
     ensures calls { IsLogarithmic (length heap.old) (C.count compare.old) (C.count compare.new) }
+    ensures knows { KeepsKnown (C.Knows compare.old) (C.Knows compare.new) }
 {
     let to = rise(heap, places, at, compare);
     if to == at {
@@ -41,10 +43,12 @@ fn lift_last<K: Ranked, C: Compare<K>>(
     requires some { 0 < length heap.old }
     requires placed { IsPlaced heap.old places.old }
     requires heap { IsHeapBut K.stands_before heap.old (length heap.old - 1) }
+    requires known { AreKnown (C.Knows compare.old) heap.old }
     ensures permutation { IsPermutation heap.old heap.new }
     ensures placed { IsPlaced heap.new places.new }
     ensures heap { IsHeap K.stands_before heap.new }
     ensures calls { IsLogarithmic (length heap.old - 1) (C.count compare.old) (C.count compare.new) }
+    ensures knows { KeepsKnown (C.Knows compare.old) (C.Knows compare.new) }
 {
     let last = heap.len() - 1;
     rise(heap, places, last, compare);
@@ -58,12 +62,14 @@ fn lift_in<K: Ranked, C: Compare<K>>(
     requires some { 0 < length heap.old.items }
     requires placed { IsPlaced heap.old.items places.old }
     requires heap { IsHeapBut K.stands_before heap.old.items (length heap.old.items - 1) }
+    requires known { AreKnown (C.Knows compare.old) heap.old.items }
     ensures permutation { IsPermutation heap.old.items heap.new.items }
     ensures placed { IsPlaced heap.new.items places.new }
     ensures heap { IsHeap K.stands_before heap.new.items }
     ensures len { vec_len heap.new ≡ vec_len heap.old }
     ensures capacity { vec_capacity heap.new ≡ vec_capacity heap.old }
     ensures calls { IsLogarithmic (length heap.old.items - 1) (C.count compare.old) (C.count compare.new) }
+    ensures knows { KeepsKnown (C.Knows compare.old) (C.Knows compare.new) }
 {
     lift_last(heap, places, compare);
 }
@@ -77,12 +83,14 @@ fn settle_in<K: Ranked, C: Compare<K>>(
     requires within { at < length heap.old.items }
     requires placed { IsPlaced heap.old.items places.old }
     requires heap { IsHeapBut K.stands_before heap.old.items at }
+    requires known { AreKnown (C.Knows compare.old) heap.old.items }
     ensures permutation { IsPermutation heap.old.items heap.new.items }
     ensures placed { IsPlaced heap.new.items places.new }
     ensures heap { IsHeap K.stands_before heap.new.items }
     ensures len { vec_len heap.new ≡ vec_len heap.old }
     ensures capacity { vec_capacity heap.new ≡ vec_capacity heap.old }
     ensures calls { IsLogarithmic (length heap.old.items) (C.count compare.old) (C.count compare.new) }
+    ensures knows { KeepsKnown (C.Knows compare.old) (C.Knows compare.new) }
 {
     settle(heap, places, at, compare);
 }
@@ -155,11 +163,14 @@ pub(crate) fn add<K: Ranked, C: Compare<K>>(
     requires absent { Every (λ y. y.1 ≢ slot) heap.old.items }
     requires free { Every (λ y. y.0 ≢ due) heap.old.items }
     requires room { vec_len heap.old < vec_capacity heap.old }
+    requires known { AreKnown (C.Knows compare.old) heap.old.items }
+    requires due { C.Knows compare.old due }
     ensures indexed { IsIndexed K.stands_before heap.new.items places.new }
     ensures pairs { in_order K.stands_before heap.new.items ≡ put_pair K.stands_before (due, slot) (in_order K.stands_before heap.old.items) }
     ensures len { vec_len heap.new ≡ vec_len heap.old + 1 }
     ensures capacity { vec_capacity heap.old ≤ vec_capacity heap.new }
     ensures calls { IsLogarithmic (length heap.old.items) (C.count compare.old) (C.count compare.new) }
+    ensures knows { KeepsKnown (C.Knows compare.old) (C.Knows compare.new) }
 {
     let at = heap.len();
     append(heap, due, slot);
@@ -178,12 +189,14 @@ pub(crate) fn take_out<K: Ranked, C: Compare<K>>(
     requires indexed { IsIndexed K.stands_before heap.old.items places.old }
     requires within { at < vec_len heap.old }
     requires held { HoldsAt (λ y. y.1 ≡ slot) heap.old.items at }
+    requires known { AreKnown (C.Knows compare.old) heap.old.items }
     ensures indexed { IsIndexed K.stands_before heap.new.items places.new }
     ensures pairs { in_order K.stands_before heap.old.items ≡ put_pair K.stands_before (result, slot) (in_order K.stands_before heap.new.items) }
     ensures others { Every (λ y. y.1 ≢ slot) heap.new.items }
     ensures len { vec_len heap.new + 1 ≡ vec_len heap.old }
     ensures capacity { vec_capacity heap.new ≡ vec_capacity heap.old }
     ensures calls { IsLogarithmic (length heap.old.items) (C.count compare.old) (C.count compare.new) }
+    ensures knows { KeepsKnown (C.Knows compare.old) (C.Knows compare.new) }
 {
     let last = heap.len() - 1;
     if at == last {
@@ -208,10 +221,14 @@ pub(crate) fn change_at<K: Ranked, C: Compare<K>>(
     requires within { at < length heap.old }
     requires held { HoldsAt (λ y. y.1 ≡ slot) heap.old at }
     requires free { Every (λ y. y.0 ≡ due → y.1 ≡ slot) heap.old }
+    requires known { AreKnown (C.Knows compare.old) heap.old }
+    requires due { C.Knows compare.old due }
     ensures indexed { IsIndexed K.stands_before heap.new places.new }
     ensures key { key_of slot (in_order K.stands_before heap.old) ≡ Some result }
     ensures pairs { in_order K.stands_before heap.new ≡ put_pair K.stands_before (due, slot) (without_slot slot (in_order K.stands_before heap.old)) }
+    ensures now { key_of slot (in_order K.stands_before heap.new) ≡ Some due }
     ensures calls { IsLogarithmic (length heap.old) (C.count compare.old) (C.count compare.new) }
+    ensures knows { KeepsKnown (C.Knows compare.old) (C.Knows compare.new) }
 {
     let old = mem::replace(&mut heap[at], (due, slot));
     settle(heap, places, at, compare);

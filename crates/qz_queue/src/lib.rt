@@ -7,7 +7,9 @@ mod edits;
 mod order;
 mod queue;
 mod sifts;
+mod walks;
 
 pub use chains::Chains;
 pub use order::{Compare, Ranked, Tally};
 pub use queue::DueQueue;
+pub use walks::Choice;

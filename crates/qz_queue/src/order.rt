@@ -1,6 +1,6 @@
 //! Keys that have an order, and what compares two of them.
-ghost use Rattle.std.specs.Prelude.{◌≡◌, ℕ, Bool, nat_lt};
-ghost use Rattle.qz_queue.specs.Order.{IsStrictOrder, CountsOne};
+ghost use Rattle.std.specs.Prelude.{◌≡◌, ℕ, Bool, nat_lt, ⊤};
+ghost use Rattle.qz_queue.specs.Order.{IsStrictOrder, CountsOne, KeepsKnown};
 
 use std::marker::Model;
 
@@ -12,15 +12,22 @@ pub trait Ranked: Drop {
     ghost order: { IsStrictOrder stands_before };
 }
 
-/// What compares two keys, and counts how often. A count that has reached 2^64 - 1 stays there, so a comparer that
-/// doesn't count may say that its count stands there from the first.
+/// What compares two keys that it knows, and counts how often. A count that has reached 2^64 - 1 stays there, so a
+/// comparer that doesn't count may say that its count stands there from the first. A key may be a number that stands for
+/// something longer; then the comparer knows the keys for which it can look that up.
 pub trait Compare<K: Ranked> {
     ghost count: { Self → ℕ };
 
+    // it can compare this key
+    ghost Knows: { Self → K → Type 0 };
+
     /// Whether the first key stands before the second. Takes no memory.
     fn before(&mut self, a: &K, b: &K) -> bool
+        requires first { Knows self.old a.now }
+        requires second { Knows self.old b.now }
         ensures answer { result ≡ K.stands_before a.now b.now }
-        ensures counted { CountsOne (count self.old) (count self.new) };
+        ensures counted { CountsOne (count self.old) (count self.new) }
+        ensures known { KeepsKnown (Knows self.old) (Knows self.new) };
 }
 
 impl Ranked for u64 {
@@ -61,6 +68,8 @@ impl Tally {
 
 impl Compare<u64> for Tally {
     ghost count = { λ count. count };
+
+    ghost Knows = { λ count key. ⊤ };
 
     fn before(&mut self, a: &u64, b: &u64) -> bool {
         self.count = self.count.saturating_add(1);

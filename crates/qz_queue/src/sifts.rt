@@ -3,6 +3,7 @@ ghost use Rattle.std.specs.Prelude.{◌≡◌, ◌≢◌, ◌+◌, ◌-◌, ◌*
 ghost use Rattle.std.specs.List.{swap, SwappedAt};
 ghost use Rattle.std.specs.List.Sorted.{IsPermutation};
 ghost use Rattle.qz_queue.specs.Heap.{IsHeap, IsHeapBut, IsOverChildren, IsUnderParent, IsPlaced, ComparesAt};
+ghost use Rattle.qz_queue.specs.Order.{AreKnown, KeepsKnown};
 ghost use Rattle.qz_queue.specs.Sift.{HasRisen, IsClimb, IsFall};
 
 use crate::order::{Compare, Ranked};
@@ -25,7 +26,7 @@ pub(crate) fn exchange<K>(heap: &mut [(K, usize)], places: &mut [usize], low: us
 }
 
 // Whether the one pair stands before the other.
-fn compare_at<K: Ranked, C: Compare<K>>(
+pub(crate) fn compare_at<K: Ranked, C: Compare<K>>(
     heap: &[(K, usize)],
     first: usize,
     second: usize,
@@ -33,8 +34,10 @@ fn compare_at<K: Ranked, C: Compare<K>>(
 ) -> bool
     requires first { first < length heap.now }
     requires second { second < length heap.now }
+    requires known { AreKnown (C.Knows compare.old) heap.now }
     ensures answer { ComparesAt K.stands_before heap.now first second result }
     ensures calls { C.count compare.new ≤ C.count compare.old + 1 }
+    ensures knows { KeepsKnown (C.Knows compare.old) (C.Knows compare.new) }
 {
     compare.before(&heap[first].0, &heap[second].0)
 }
@@ -49,11 +52,13 @@ pub(crate) fn rise<K: Ranked, C: Compare<K>>(
     requires within { start < length heap.old }
     requires placed { IsPlaced heap.old places.old }
     requires heap { IsHeapBut K.stands_before heap.old start }
+    requires known { AreKnown (C.Knows compare.old) heap.old }
     ensures permutation { IsPermutation heap.old heap.new }
     ensures placed { IsPlaced heap.new places.new }
     ensures risen { HasRisen K.stands_before heap.old heap.new start result }
     ensures under { IsUnderParent K.stands_before heap.new result }
     ensures calls { (s : ℕ) × IsClimb s start result × (C.count compare.new ≤ C.count compare.old + s + 1) }
+    ensures knows { KeepsKnown (C.Knows compare.old) (C.Knows compare.new) }
 {
     let mut at = start;
     while at > 0 {
@@ -69,11 +74,13 @@ pub(crate) fn rise<K: Ranked, C: Compare<K>>(
 
 // The child that stands before the other, or the only one.
 fn first_child<K: Ranked, C: Compare<K>>(heap: &[(K, usize)], at: usize, compare: &mut C) -> usize
-    requires { at < length heap.now / 2 }
+    requires inner { at < length heap.now / 2 }
+    requires known { AreKnown (C.Knows compare.old) heap.now }
     ensures parent { (result - 1) / 2 ≡ at }
     ensures within { (0 < result) × (result < length heap.now) }
     ensures best { IsOverChildren K.stands_before heap.now at result }
     ensures calls { C.count compare.new ≤ C.count compare.old + 1 }
+    ensures knows { KeepsKnown (C.Knows compare.old) (C.Knows compare.new) }
 {
     let left = 2 * at + 1;
     let right = left + 1;
@@ -95,10 +102,12 @@ pub(crate) fn sink<K: Ranked, C: Compare<K>>(
     requires placed { IsPlaced heap.old places.old }
     requires heap { IsHeapBut K.stands_before heap.old start }
     requires under { IsUnderParent K.stands_before heap.old start }
+    requires known { AreKnown (C.Knows compare.old) heap.old }
     ensures permutation { IsPermutation heap.old heap.new }
     ensures placed { IsPlaced heap.new places.new }
     ensures heap { IsHeap K.stands_before heap.new }
     ensures calls { (s : ℕ) × (2 ^ s ≤ length heap.old) × (C.count compare.new ≤ C.count compare.old + 2 * s + 2) }
+    ensures knows { KeepsKnown (C.Knows compare.old) (C.Knows compare.new) }
 {
     let mut at = start;
     while at < heap.len() / 2 {

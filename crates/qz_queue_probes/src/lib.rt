@@ -6,4 +6,4 @@ mod chains;
 mod queue;
 
 pub use chains::{first_of, link, next, reserve, unlink};
-pub use queue::{first, insert, remove};
+pub use queue::{first, first_wanted, insert, remove};

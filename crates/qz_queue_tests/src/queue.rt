@@ -1,9 +1,9 @@
 //! The due queue: worked edits, and the number of comparisons of 1000 insertions.
-ghost use Rattle.std.specs.Prelude.{◌≡◌, ◌+◌, ◌-◌, ◌<◌, ◌≤◌, length, ℕ, None, OnOk};
+ghost use Rattle.std.specs.Prelude.{◌≡◌, ◌+◌, ◌-◌, ◌<◌, ◌≤◌, length, ℕ, None, OnOk, nat_le};
 ghost use Rattle.std.specs.List.{All};
 ghost use Rattle.qz_queue.specs.Order.{key_of, IsKeyFree};
 
-use qz_queue::{DueQueue, Tally};
+use qz_queue::{Choice, DueQueue, Tally};
 use std::alloc::AllocError;
 
 const KEYS: u64 = 1000;
@@ -68,5 +68,40 @@ fn keys_change(rt: HostRuntime) -> Result<(), AllocError> {
     assert!(rt; queue.first() == Some((&40, 1)));
     assert!(rt; queue.remove(1, &mut tally) == Some(40));
     assert!(rt; queue.first() == None);
+    Ok(())
+}
+
+// Wants the slots from this one on.
+#[derive(Drop)]
+struct From(usize);
+
+impl Choice for From {
+    ghost wants = { λ from slot. nat_le from.0 slot };
+
+    fn is_wanted(&self, slot: usize) -> bool {
+        self.0 <= slot
+    }
+}
+
+// The slot of the first pair after this key whose slot is wanted.
+fn slot_after(queue: &DueQueue<u64>, due: Option<u64>, from: usize) -> Option<usize> {
+    let found = queue.first_of(due.as_ref(), &From(from), &mut Tally::new());
+    found.map(|pair| pair.1)
+}
+
+#[test]
+fn pairs_follow_each_other(rt: HostRuntime) -> Result<(), AllocError> {
+    let mut queue = DueQueue::new(rt.alloc());
+    queue.reserve(3, 3)?;
+    let mut tally = Tally::new();
+    queue.insert(0, 30, &mut tally);
+    queue.insert(1, 10, &mut tally);
+    queue.insert(2, 20, &mut tally);
+    assert!(rt; slot_after(&queue, None, 0) == Some(1));
+    assert!(rt; slot_after(&queue, Some(10), 0) == Some(2));
+    assert!(rt; slot_after(&queue, Some(25), 0) == Some(0));
+    assert!(rt; slot_after(&queue, Some(30), 0) == None);
+    assert!(rt; slot_after(&queue, None, 2) == Some(2));
+    assert!(rt; slot_after(&queue, None, 3) == None);
     Ok(())
 }

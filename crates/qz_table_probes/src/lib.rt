@@ -15,7 +15,7 @@ pub use completing::{commit_completing, prepare_completing};
 pub use members::{commit_members, prepare_members};
 pub use pauses::is_in_paused;
 pub use rows::{
-    change_state, first_due, get_job, insert_job, remove_acquired, remove_job, reserve,
+    change_state, first_due, get_job, insert_job, next_due, remove_acquired, remove_job, reserve,
     resume_group_states,
 };
 pub use scheduling::{commit_scheduling, prepare_scheduling};

@@ -9,7 +9,7 @@ ghost use Rattle.qz_types.specs.States.{resumed};
 ghost use Rattle.qz_types.specs.Sorted.{IsAscending};
 ghost use Rattle.qz_types.specs.Words.{is_paused, key_cmp, same_key, same_text, job_of, put_job, without_job, with_trigger};
 
-use qz_tables::{StateChange, Tables};
+use qz_tables::{StateChange, Tables, Test};
 use qz_types::{JobRow, Key, NoMemory, Text, TriggerRow};
 
 /// Makes room, as `Tables::reserve` does.
@@ -85,4 +85,15 @@ pub fn first_due(tables: &Tables) -> Option<&TriggerRow>
     ensures { option_copied result ≡ due.due_first tables.now.tables.triggers }
 {
     tables.due_first()
+}
+
+/// The next trigger that is due and passes, as `Tables::due_next` gives it.
+pub fn next_due<'a, T: Test<TriggerRow>>(
+    tables: &'a Tables,
+    after: Option<&Key>,
+    test: &T,
+) -> Option<&'a TriggerRow>
+    ensures { option_copied result ≡ due.due_next (option_copied after.entry) (T.test test.now) tables.now.tables.triggers }
+{
+    tables.due_next(after, test)
 }

@@ -6,12 +6,12 @@ mod bulk;
 #[cfg(test)]
 mod cases;
 #[cfg(test)]
-mod copies;
-#[cfg(test)]
 mod fired;
 #[cfg(test)]
 mod job_groups;
 #[cfg(test)]
 mod keys;
+#[cfg(test)]
+mod numbers;
 #[cfg(test)]
 mod triggers;

@@ -1,11 +1,11 @@
 //! Triggers: the order of keys, the due order and the triggers of a job.
-ghost use Rattle.std.specs.Prelude.{◌<◌, IsTrue, IfOk};
+ghost use Rattle.std.specs.Prelude.{◌<◌, IsTrue, IfOk, int_lt};
 ghost use Rattle.qz_civil.specs.Timings.{is_name, is_timing};
 ghost use Rattle.qz_types.specs.Rows.{is_trigger_spec};
 
 use crate::cases::{Case, holds_of_new};
 use crate::keys::{is_name, keys};
-use qz_tables::Tables;
+use qz_tables::{Any, Tables, Test};
 use qz_types::{Key, Kind, NoMemory, Timing, TriggerRow, TriggerSpec, TriggerState};
 use std::alloc::{AllocError, Global};
 use std::test::*;
@@ -118,11 +118,39 @@ pub(super) fn are_due(tables: &Tables, names: &[&'static str]) -> bool {
     let mut due = tables.due_first();
     for name in names {
         match due {
-            Some(row) if is_named(Some(row), name) => due = tables.due_after(&row.spec.key),
+            Some(row) if is_named(Some(row), name) => {
+                due = tables.due_next(Some(&row.spec.key), &Any)
+            }
             _ => return false,
         }
     }
     due.is_none()
+}
+
+/// The triggers of a priority below this one.
+#[derive(Drop)]
+struct Below {
+    priority: i32,
+}
+
+impl Test<TriggerRow> for Below {
+    ghost test = { λ below row. int_lt row.spec.priority below.priority };
+
+    fn passes(&self, row: &TriggerRow) -> bool {
+        row.spec.priority < self.priority
+    }
+}
+
+// Whether e, the first that is due, is passed over for its priority, and b and d are not.
+fn are_due_below(tables: &Tables) -> bool {
+    let below = Below { priority: 6 };
+    let first = tables.due_next(None, &below);
+    match first {
+        Some(row) if is_named(first, "b") => {
+            is_named(tables.due_next(Some(&row.spec.key), &below), "d")
+        }
+        _ => false,
+    }
 }
 
 // Whether the job has so many triggers, and they are of it.
@@ -151,7 +179,8 @@ impl Case for Due {
         if !is_put || !are_stored(tables, &["a", "b", "c", "d", "e"]) {
             return Ok(false);
         }
-        Ok(are_due(tables, &["e", "b", "d", "a"]) && have_jobs(alloc, tables)?)
+        let are_due = are_due(tables, &["e", "b", "d", "a"]) && are_due_below(tables);
+        Ok(are_due && have_jobs(alloc, tables)?)
     }
 }
 

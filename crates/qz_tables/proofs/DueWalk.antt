@@ -1,5 +1,5 @@
 -- The due order is a total order of triggers, and looking for the next one walks the list of those that wait.
-use Rattle.std.proofs.Common.{◌≡◌, ℕ, zero, suc, ℤ, List, [], ◌∷◌, drop, filter, true, false, Option, Some, None, refl, sym, ap, ◌∙◌}
+use Rattle.std.proofs.Common.{◌≡◌, ℕ, suc, ℤ, List, [], ◌∷◌, drop, filter, Bool, true, false, Option, Some, None, refl, sym, ap, ◌∙◌}
 use Rattle.std.specs.List.{AllByRecursion, slice_get}
 use Rattle.std.specs.Ordering.{int_cmp, ordering_then, ordering_reverse, is_eq, is_gt}
 use Rattle.std.specs.Cmp.{IsTotalOrder}
@@ -11,38 +11,11 @@ use Rattle.qz_types.specs.Rows.{TriggerData}
 use Rattle.qz_types.specs.Words.{key_cmp, trigger_of}
 use Rattle.qz_types.specs.declared.keys.Key.{Key}
 use Rattle.qz_types.specs.Due.{is_waiting, next_cmp, due_cmp, in_due_order}
-use Rattle.qz_tables.specs.Due.{waits_after, waiting, due_after}
+use Rattle.qz_tables.specs.QueueOrder.{next_total}
+use Rattle.qz_tables.specs.Due.{waits_after, waits_and, waiting, due_next}
 use Rattle.qz_tables.proofs.ByIds.{own_id}
 use Rattle.qz_tables.proofs.Keys.{key_total}
 use Rattle.qz_tables.proofs.SortLaws.{All-filter, All-at, filter-and, filter-true, IsAscending-filter, sorted, Apart, All-sorted, filter-sorted, ascending-sorted, after-drop}
-
-next_total : IsTotalOrder next_cmp
-next_total = record {
-  antisymm = antisymm;
-  trans = trans;
-  congr = congr;
-}
-  where
-    antisymm : (a b : Option ℤ) → next_cmp a b ≡ ordering_reverse (next_cmp b a)
-    antisymm None None = refl
-    antisymm None (Some b) = refl
-    antisymm (Some a) None = refl
-    antisymm (Some a) (Some b) = int_cmp_total.antisymm a b
-
-    trans : (a b c : Option ℤ) → next_cmp a b ≡ Less → next_cmp b c ≡ Less → next_cmp a c ≡ Less
-    trans None None c e f = absurd (cc)
-    trans None (Some b) None e f = absurd (cc)
-    trans None (Some b) (Some c) e f = refl
-    trans (Some a) None c e f = absurd (cc)
-    trans (Some a) (Some b) None e f = absurd (cc)
-    trans (Some a) (Some b) (Some c) e f = int_cmp_total.trans a b c e f
-
-    congr : (a b c : Option ℤ) → next_cmp a b ≡ Equal → next_cmp a c ≡ next_cmp b c
-    congr None None c e = refl
-    congr None (Some b) c e = absurd (cc)
-    congr (Some a) None c e = absurd (cc)
-    congr (Some a) (Some b) None e = refl
-    congr (Some a) (Some b) (Some c) e = int_cmp_total.congr a b c e
 
 greater_first : IsTotalOrder (λ (a b : ℤ). int_cmp b a)
 greater_first = record {
@@ -86,6 +59,14 @@ later-waiting : (t : TriggerData) (ts : List TriggerData) → waiting (Some t) t
 unfolding waiting
 later-waiting t ts = is-sorted (filter (waits_after (Some t)) ts) ∙ ap (sorted due_cmp) (filter-and (λ (u : TriggerData). is_waiting u.state) (λ u. is_gt (due_cmp u t)) ts)
 
+-- of those that wait, the ones that pass, in due order
+pub passing-waiting : (after : Option TriggerData) (p : TriggerData → Bool) (ts : List TriggerData) → IsAscending key_cmp (λ (r : TriggerData). r.spec.key) ts → filter p (waiting after ts) ≡ in_due_order (filter (waits_and after p) ts)
+unfolding waiting
+passing-waiting after p ts up =
+    let few = filter (waits_after after) ts in
+    ap (filter p) (is-sorted few) ∙ filter-sorted due_cmp due_total p few (apart few (IsAscending-filter key_cmp (λ (r : TriggerData). r.spec.key) (waits_after after) ts up))
+    ∙ sym (is-sorted (filter p few)) ∙ ap in_due_order (sym (filter-and (waits_after after) p ts))
+
 -- after a trigger that waits come those that follow it in due order
 pub waiting-after : (ts : List TriggerData) (n : ℕ) (t : TriggerData) → IsAscending key_cmp (λ (r : TriggerData). r.spec.key) ts → Some t ≡ slice_get (waiting None ts) n → waiting (Some t) ts ≡ drop (suc n) (waiting None ts)
 waiting-after ts n t up at =
@@ -108,7 +89,7 @@ pass_by : (r : TriggerData) (rs us : List TriggerData) → IsBefore key_cmp (λ 
 pass_by r rs [] b all = tt
 pass_by r rs (u ∷ us) b all = (rw (not_back r.spec.key u.spec.key b.0) all.0, pass_by r rs us b.1 all.1)
 
-each_found : (rs : List TriggerData) → IsAscending key_cmp (λ (t : TriggerData). t.spec.key) rs → AllByRecursion (λ u. row_of key_cmp (λ (t : TriggerData). t.spec.key) u.spec.key rs ≡ Some u) rs
+pub each_found : (rs : List TriggerData) → IsAscending key_cmp (λ (t : TriggerData). t.spec.key) rs → AllByRecursion (λ u. row_of key_cmp (λ (t : TriggerData). t.spec.key) u.spec.key rs ≡ Some u) rs
 each_found [] up = tt
 each_found (r ∷ rs) up = (rw (equal_itself r.spec.key) refl, pass_by r rs rs up.0 (each_found rs up.1))
 
@@ -121,13 +102,11 @@ found_waiting ts n t up at =
     (All-sorted due_cmp (λ u. row_of key_cmp (λ (r : TriggerData). r.spec.key) u.spec.key ts ≡ Some u) few
     (All-filter (λ u. row_of key_cmp (λ (r : TriggerData). r.spec.key) u.spec.key ts ≡ Some u) (λ u. is_waiting u.state) ts (each_found ts up))) here
 
-first-drop : {X : Type 0} (xs : List X) (n : ℕ) → slice_get (drop n xs) 0 ≡ slice_get xs n
-first-drop xs zero = refl
-first-drop [] (suc n) = refl
-first-drop (x ∷ xs) (suc n) = first-drop xs n
+-- looking for the next one that passes walks the list of those that wait: from its first, or from the one after a place
+pub first-passing : (ts : List TriggerData) (p : TriggerData → Bool) → due_next None p ts ≡ slice_get (filter p (waiting None ts)) 0
+unfolding due_next
+first-passing ts p = refl
 
--- the next one after a trigger that waits is the one at the next place
-pub due-next : (ts : List TriggerData) (n : ℕ) (t : TriggerData) → IsAscending key_cmp (λ (r : TriggerData). r.spec.key) ts → Some t ≡ slice_get (waiting None ts) n → due_after t.spec.key ts ≡ slice_get (waiting None ts) (suc n)
-unfolding due_after
-due-next ts n t up at =
-    rw (found_waiting ts n t up at) (ap (λ us. slice_get us 0) (waiting-after ts n t up at) ∙ first-drop (waiting None ts) (suc n))
+pub next-passing : (ts : List TriggerData) (n : ℕ) (t : TriggerData) (p : TriggerData → Bool) → IsAscending key_cmp (λ (r : TriggerData). r.spec.key) ts → Some t ≡ slice_get (waiting None ts) n → due_next (Some t.spec.key) p ts ≡ slice_get (filter p (drop (suc n) (waiting None ts))) 0
+unfolding due_next
+next-passing ts n t p up at = rw (found_waiting ts n t up at) (ap (λ us. slice_get (filter p us) 0) (waiting-after ts n t up at))

@@ -143,7 +143,7 @@ module _ {R : Type 0} where
     slot_step (Some q) k slots s ss r is f b more zero lt e = let same : q ≡ r = cc in subst (λ (x : R). cmp k (id x) ≡ Less) same b.0
     slot_step (Some q) k slots s ss r is f b more (suc i) lt e = more i b.1 (omega arith) e
 
-    before_slot : (k : K) (slots : List (Option R)) (order : List ℕ) (i : ℕ) (r : R) → AreFilled slots order → IsBefore cmp id k (rows_at slots order) → i < length order → get_or slots (get_or order i 0) None ≡ Some r → cmp k (id r) ≡ Less
+    pub before_slot : (k : K) (slots : List (Option R)) (order : List ℕ) (i : ℕ) (r : R) → AreFilled slots order → IsBefore cmp id k (rows_at slots order) → i < length order → get_or slots (get_or order i 0) None ≡ Some r → cmp k (id r) ≡ Less
     before_slot k slots [] i r f b lt e = absurd (omega arith)
     before_slot k slots (s ∷ ss) i r f b lt e = slot_step (get_or slots s None) k slots s ss r refl f.0 b (λ j c l h. before_slot k slots ss j r f.1 c l h) i lt e
 

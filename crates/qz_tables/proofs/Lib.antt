@@ -11,6 +11,10 @@ pub mod Keys
 pub mod LinkLemmas
 mod Moves
 mod NthEdits
+mod Steps
+mod Written
+mod DueFound
+mod OnceLemmas
 pub mod Places
 pub mod SlotEdits
 pub mod SortLaws

@@ -12,7 +12,8 @@ use Rattle.qz_tables.specs.Slots.{rows_at, with_found, AreFilled, AreEdited, IsW
 use Rattle.qz_tables.specs.Changes.{trigger_edited}
 use Rattle.qz_tables.specs.declared.edits.TriggerEdit.{TriggerEdit}
 use Rattle.qz_tables.specs.declared.edits.TriggerEdit.TheVariants.{State, Fire, Move, Years}
-use Rattle.qz_tables.specs.Linking.{keys_of, links_of, times, AreLinkedOnce}
+use Rattle.qz_tables.specs.Linking.{keys_of, links_of}
+use Rattle.qz_tables.specs.Once.{times, AreOnce}
 use Rattle.qz_tables.specs.Links.{linked, KeepsLinks, IsTakenOut, IsLinked, IsUnlinked, IsMoved}
 use Rattle.qz_tables.proofs.Filled.{Keep, rows-kept, rows-remove, nth_slot, rows_at-append}
 use Rattle.qz_tables.proofs.ByIds.{found_id}
@@ -129,7 +130,7 @@ some_if_once : (o : Option TriggerData) (n : ℕ) → n ≡ (if is_some o then 1
 some_if_once None n e lt = absurd (omega arith)
 some_if_once (Some r) n e lt = refl
 
-pub filled-once : (slots : List (Option TriggerData)) (xs : List ℕ) → AreLinkedOnce slots xs → AreFilled slots xs
+pub filled-once : (slots : List (Option TriggerData)) (xs : List ℕ) → AreOnce slots xs → AreFilled slots xs
 filled-once slots xs once = filled-from slots xs (λ s lt. some_if_once (get_or slots s None) (times s xs) (once.once s) lt)
 
 keep-never : (old new : List (Option TriggerData)) (slot : ℕ) (xs : List ℕ) → times slot xs ≡ 0 → ((other : ℕ) → other ≢ slot → get_or new other None ≡ get_or old other None) → Keep old new xs
@@ -149,12 +150,12 @@ count_none o n e f = rw f e
 count_some : (o : Option TriggerData) (r : TriggerData) (n : ℕ) → n ≡ 1 → o ≡ Some r → n ≡ (if is_some o then 1 else 0)
 count_some o r n e f = rw f e
 
-module _ (old new : List (Option TriggerData)) (order : List ℕ) (slot : ℕ) (r : TriggerData) (once : AreLinkedOnce old order) where
+module _ (old new : List (Option TriggerData)) (order : List ℕ) (slot : ℕ) (r : TriggerData) (once : AreOnce old order) where
   module _ (vacant : get_or old slot None ≡ None) (written : IsWritten old new slot (Some r)) where
     never : times slot order ≡ 0
     never = none_count (get_or old slot None) (times slot order) (once.once slot) vacant
 
-    pub once-insert : AreLinkedOnce new (order ++ slot ∷ [])
+    pub once-insert : AreOnce new (order ++ slot ∷ [])
     once-insert = record {
       once = λ s. elim (cases_eq s slot) [
         | inl same ↦ count_some (get_or new s None) r _ (ap (λ y. times y (order ++ slot ∷ [])) same ∙ (omega (arith, times-snoc slot slot order, never, once_here slot))) (ap (λ y. get_or new y None) same ∙ written.changed)
@@ -178,7 +179,7 @@ module _ (old new : List (Option TriggerData)) (order : List ℕ) (slot : ℕ) (
     gone : times slot (remove order i) ≡ 0
     gone = omega (arith, times-remove slot slot i order at, some_count (get_or old slot None) r (times slot order) (once.once slot) was, once_here slot)
 
-    pub once-remove : AreLinkedOnce new (remove order i)
+    pub once-remove : AreOnce new (remove order i)
     once-remove = record {
       once = λ s. elim (cases_eq s slot) [
         | inl same ↦ count_none (get_or new s None) _ (ap (λ y. times y (remove order i)) same ∙ gone) (ap (λ y. get_or new y None) same ∙ written.changed)
@@ -233,7 +234,7 @@ some_alike None (Some b) e = absurd (cc)
 some_alike (Some a) None e = absurd (cc)
 some_alike (Some a) (Some b) e = refl
 
-pub once-alike : (old new : List (Option TriggerData)) (order : List ℕ) → AreAlike old new → AreLinkedOnce old order → AreLinkedOnce new order
+pub once-alike : (old new : List (Option TriggerData)) (order : List ℕ) → AreAlike old new → AreOnce old order → AreOnce new order
 once-alike old new order alike once = record { once = λ s. once.once s ∙ ap (λ b. if b then 1 else 0) (sym (some_alike (get_or old s None) (get_or new s None) (alike s))) }
 
 edited_tie : (e : TriggerEdit) (o : Option TriggerData) → option_map tie (option_map (trigger_edited e) o) ≡ option_map tie o

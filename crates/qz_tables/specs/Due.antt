@@ -1,5 +1,5 @@
 -- Which triggers come next in due order.
-use Rattle.std.specs.Prelude.{◌≡◌, ℕ, suc, List, Bool, true, ◌&&◌, filter, Option, Some, None, option_and_then}
+use Rattle.std.specs.Prelude.{List, Bool, true, ◌&&◌, filter, Option, Some, None, option_and_then, if◌then◌else◌}
 use Rattle.std.specs.List.{slice_get}
 use Rattle.std.specs.Ordering.{is_gt}
 use Rattle.qz_types.specs.Due.{is_waiting, due_cmp, in_due_order}
@@ -16,6 +16,10 @@ is_later (Some u) t = is_gt (due_cmp t u)
 abbrev pub waits_after : Option TriggerData → TriggerData → Bool
 waits_after after t = is_waiting t.state && is_later after t
 
+-- the trigger waits, comes after this one, if one is given, and passes
+abbrev pub waits_and : Option TriggerData → (TriggerData → Bool) → TriggerData → Bool
+waits_and after p t = waits_after after t && p t
+
 -- these triggers in due order
 unfoldable pub waiting : Option TriggerData → List TriggerData → List TriggerData
 waiting after triggers = in_due_order (filter (waits_after after) triggers)
@@ -24,10 +28,12 @@ waiting after triggers = in_due_order (filter (waits_after after) triggers)
 unfoldable pub due_first : List TriggerData → Option TriggerData
 due_first triggers = slice_get (waiting None triggers) 0
 
--- the first that waits and comes after the trigger of this key, which has to be stored
-unfoldable pub due_after : Key → List TriggerData → Option TriggerData
-due_after k triggers = option_and_then (λ t. slice_get (waiting (Some t) triggers) 0) (trigger_of k triggers)
+-- the first that waits and passes, and comes after the trigger of this key, if one is given; that has to be stored
+unfoldable pub due_next : Option Key → (TriggerData → Bool) → List TriggerData → Option TriggerData
+due_next None p triggers = slice_get (filter p (waiting None triggers)) 0
+due_next (Some k) p triggers = option_and_then (λ t. slice_get (filter p (waiting (Some t) triggers)) 0) (trigger_of k triggers)
 
--- Looking for the next waiting trigger walks the list of those that wait: after the one at a place comes that at the next.
-abbrev pub IsWalked : List TriggerData → Type 0
-IsWalked triggers = (n : ℕ) (t : TriggerData) → Some t ≡ slice_get (waiting None triggers) n → due_after t.spec.key triggers ≡ slice_get (waiting None triggers) (suc n)
+-- the trigger, if it waits
+abbrev pub waiting_only : Option TriggerData → Option TriggerData
+waiting_only None = None
+waiting_only (Some t) = if is_waiting t.state then Some t else None

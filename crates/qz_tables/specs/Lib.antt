@@ -2,9 +2,12 @@ pub mod Acquired
 pub mod Changes
 pub mod Contents
 pub mod Due
+pub mod DueKeys
 pub mod Ids
 pub mod Jobs
 pub mod Linking
 pub mod Links
+pub mod Once
+pub mod QueueOrder
 pub mod Slots
 pub mod Years

@@ -1,5 +1,5 @@
 -- The order of linking: the triggers of each job, in the order in which they became its triggers.
-use Rattle.std.specs.Prelude.{◌≡◌, ◌≢◌, List, [], ◌∷◌, ◌++◌, if◌then◌else◌, IsPermutation}
+use Rattle.std.specs.Prelude.{◌≡◌, ◌≢◌, List, [], ◌∷◌, ◌++◌, if◌then◌else◌}
 use Rattle.std.specs.Ordering.{is_eq}
 use Rattle.qz_types.specs.Words.{key_cmp}
 use Rattle.qz_types.specs.declared.keys.Key.{Key}
@@ -39,7 +39,3 @@ pub record IsMoved (from to key : Key) (old new : List (Key × List Key)) : Type
   pub here : IsTakenOut key (linked from old) (linked from new)
   pub there : linked to new ≡ linked to old ++ key ∷ []
   pub others : (other : Key) → other ≢ from → other ≢ to → linked other new ≡ linked other old
-
--- each job has the same keys, in some order
-abbrev pub HaveSameKeys : List (Key × List Key) → List (Key × List Key) → Type 0
-HaveSameKeys old new = (job : Key) → IsPermutation (linked job old) (linked job new)

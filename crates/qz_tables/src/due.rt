@@ -1,43 +1,60 @@
 //! Which waiting trigger comes next in due order.
-ghost use Rattle.std.specs.Prelude.{◌≡◌, option_copied, slice_get};
-ghost use Rattle.qz_types.specs.Due.{is_waiting, due_cmp, earlier};
-ghost use Rattle.qz_tables.specs.Due.{is_later, waits_after, waiting, due_first, due_after, IsWalked};
+ghost use Rattle.std.specs.Prelude.{◌≡◌, true, option_copied, slice_get, filter};
+ghost use Rattle.qz_types.specs.Due.{is_waiting, due_cmp, in_due_order, earlier};
+ghost use Rattle.qz_tables.specs.Due.{is_later, waits_after, waits_and, due_first, due_next};
 
-use crate::linked::Linked;
+use crate::due_keys::is_waiting;
+use crate::indexed::{Indexed, Test};
 use crate::tables::Tables;
-use qz_types::{Key, TriggerRow, TriggerState};
+use qz_types::{Key, TriggerRow};
 use std::cmp::Ordering;
 
 impl Tables {
     /// The first trigger that waits, in due order: the earlier next time, then the greater priority, then the lesser key.
     ///
-    /// It looks at every trigger.
-    #[tactic(auto, unfolding(crate::specs::Due::due_first))]
+    /// It takes the same time for any number of triggers, as long as the due queue has them all. It has, unless memory for
+    /// it ran out once; then each trigger is looked at.
     pub fn due_first(&self) -> Option<&TriggerRow>
         ensures { option_copied result ≡ due_first self.now.tables.triggers }
     {
-        first_waiting(&self.triggers, None)
+        self.triggers.due_first()
     }
 
-    /// The next trigger that waits, in due order, after the one of this key. There is none where that isn't stored.
+    /// The next trigger that waits and passes, in due order, after the one of this key, if one is given. There is none
+    /// where that isn't stored.
     ///
-    /// It looks at every trigger.
-    #[tactic(auto, unfolding(crate::specs::Due::due_after))]
-    pub fn due_after(&self, key: &Key) -> Option<&TriggerRow>
-        ensures row { option_copied result ≡ due_after key.now self.now.tables.triggers }
-        ensures walks { IsWalked self.now.tables.triggers }
+    /// It looks at the triggers that wait and that it passes over, since they don't pass or don't come after that key, and
+    /// at two for each of them. Where the due queue doesn't have all triggers, it looks at each.
+    pub fn due_next<T: Test<TriggerRow>>(
+        &self,
+        after: Option<&Key>,
+        test: &T,
+    ) -> Option<&TriggerRow>
+        ensures { option_copied result ≡ due_next (option_copied after.entry) (T.test test.now) self.now.tables.triggers }
     {
-        match self.get_trigger(key) {
-            Some(after) => first_waiting(&self.triggers, Some(after)),
-            None => None,
-        }
+        self.triggers.due_next(after, test)
     }
 }
 
-// The first of the triggers that wait and come after this one.
-#[tactic(auto, unfolding(crate::specs::Due::waiting))]
-fn first_waiting<'a>(triggers: &'a Linked, after: Option<&TriggerRow>) -> Option<&'a TriggerRow>
-    ensures { option_copied result ≡ slice_get (waiting (option_copied after.entry) triggers.now.rows) 0 }
+/// Each trigger passes.
+#[derive(Drop)]
+pub struct Any;
+
+impl Test<TriggerRow> for Any {
+    ghost test = { λ t row. true };
+
+    fn passes(&self, _row: &TriggerRow) -> bool {
+        true
+    }
+}
+
+// The first of the triggers that wait, come after this one, if one is given, and pass.
+pub fn first_waiting<'a, T: Test<TriggerRow>>(
+    triggers: &'a Indexed<TriggerRow>,
+    after: Option<&TriggerRow>,
+    test: &T,
+) -> Option<&'a TriggerRow>
+    ensures { option_copied result ≡ slice_get (in_due_order (filter (waits_and (option_copied after.entry) (T.test test.now)) triggers.now.rows)) 0 }
 {
     let mut first = None;
     let mut place = triggers.len();
@@ -46,23 +63,27 @@ fn first_waiting<'a>(triggers: &'a Linked, after: Option<&TriggerRow>) -> Option
         let Some(trigger) = triggers.nth(place) else {
             unreachable!()
         };
-        if waits_after(after, trigger) {
+        if waits_and(after, test, trigger) {
             first = Some(earlier(trigger, first));
         }
     }
     first
 }
 
+fn waits_and<T: Test<TriggerRow>>(
+    after: Option<&TriggerRow>,
+    test: &T,
+    trigger: &TriggerRow,
+) -> bool
+    ensures { result ≡ waits_and (option_copied after.entry) (T.test test.now) trigger.now }
+{
+    waits_after(after, trigger) && test.passes(trigger)
+}
+
 fn waits_after(after: Option<&TriggerRow>, trigger: &TriggerRow) -> bool
     ensures { result ≡ waits_after (option_copied after.entry) trigger.now }
 {
     is_waiting(trigger.state) && is_later(after, trigger)
-}
-
-fn is_waiting(state: TriggerState) -> bool
-    ensures { result ≡ is_waiting state }
-{
-    matches!(state, TriggerState::Waiting)
 }
 
 fn is_later(after: Option<&TriggerRow>, trigger: &TriggerRow) -> bool

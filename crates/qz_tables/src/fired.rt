@@ -79,7 +79,8 @@ impl Tables {
         ensures links { self.new.links ≡ self.old.links }
         ensures spare { KeepsSpare self.old.spare self.new.spare }
     {
-        self.fired.change(row)
+        let (_, old) = self.fired.change(row);
+        old
     }
 
     /// The execution of the row of this entry number begins, if it is stored, at this moment, in ms since

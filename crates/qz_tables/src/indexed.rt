@@ -1,14 +1,14 @@
 //! The rows of one kind: a slab, and the slots of its rows in the order of their ids.
 ghost use Rattle.std.specs.List.{remove};
-ghost use Rattle.std.specs.Prelude.{Bool, not, filter, slice_index_or, slice_get, ◌≢◌, IfNone, option_map, [], ◌≡◌, ◌+◌, ◌≤◌, ◌<◌, ℕ, Some, None, IfSome, IfOk, IfErr, OnOk, OnErr, IsOk, IsSome, OnSome, option_copied, length, map, min, ◌-◌};
+ghost use Rattle.std.specs.Prelude.{Bool, true, not, filter, slice_index_or, slice_get, ◌≢◌, IfNone, option_map, [], ◌≡◌, ◌+◌, ◌≤◌, ◌<◌, ℕ, Some, None, IfSome, IfOk, IfErr, OnOk, OnErr, IsOk, IsSome, IsSomeAnd, OnSome, option_copied, length, map, min, ◌-◌};
 ghost use Rattle.std.specs.Ordering.{is_gt, is_eq};
 ghost use Rattle.slab.specs.Slab.{get, slab_len};
 ghost use Rattle.qz_types.specs.Sorted.{place_of, row_of, put, IsAscending};
 ghost use Rattle.qz_tables.specs.Changes.{changed_nth};
 ghost use Rattle.qz_tables.specs.Ids.{changed_at, without};
-ghost use Rattle.qz_tables.specs.Slots.{rows_at, AreFilled, AreEdited, IsFound, IsAbsent, IsWritten};
+ghost use Rattle.qz_tables.specs.Slots.{rows_at, AreFilled, IsFound, IsAbsent, IsWritten};
 
-use crate::copies::Row;
+use crate::guesses::{Guesses, Marked};
 use qz_types::Keyed;
 use slab::Slab;
 use std::alloc::{AllocError, Global};
@@ -38,20 +38,23 @@ pub trait Test<R: Keyed> {
         ensures { result ≡ test self.now row.now };
 }
 
-/// The rows of one kind, in the order of their ids. A row is found by binary search. It stays in its slot while it is
-/// stored, so an insertion or a removal moves no row, and of each other row at most the number of its slot.
+/// The rows of one kind, in the order of their ids. A row is looked for in the slot that its mark names, and found by
+/// binary search if it isn't there. It stays in its slot while it is stored, so an insertion or a removal moves no row, and
+/// of each other row at most the number of its slot.
 #[derive(Drop)]
-pub struct Indexed<R: Keyed> {
+pub struct Indexed<R: Marked> {
     rows: Slab<R>,
     order: Vec<usize>,
+    guesses: Guesses,
 }
 
-impl<R: Keyed> Model for Indexed<R> {
+impl<R: Marked> Model for Indexed<R> {
     ghost use Rattle.std.specs.Prelude.{◌-◌, min, vec_len};
     ghost use Rattle.std.specs.Vec.{vec_capacity};
     ghost use Rattle.slab.specs.Slab.{slab_len};
     ghost use Rattle.qz_types.specs.Sorted.{IsAscending};
     ghost use Rattle.qz_tables.specs.Slots.{rows_at, AreFilled, Kept};
+    ghost use Rattle.qz_tables.specs.Once.{AreOnce};
 
     ghost Value = { Kept R };
 
@@ -61,7 +64,7 @@ impl<R: Keyed> Model for Indexed<R> {
       spare = min (a.rows.capacity - slab_len a.rows) (vec_capacity a.order - vec_len a.order);
     } };
 
-    ghost invariant = { λ a. IsAscending R.Id.cmp R.id (rows_at a.rows.slots a.order.items) × AreFilled a.rows.slots a.order.items };
+    ghost invariant = { λ a. IsAscending R.Id.cmp R.id (rows_at a.rows.slots a.order.items) × AreFilled a.rows.slots a.order.items × AreOnce a.rows.slots a.order.items };
 }
 
 // Whether the id comes after that of the row at this slot.
@@ -123,6 +126,44 @@ fn find<R: Keyed>(rows: &Slab<R>, order: &[usize], id: &R::Id) -> Option<usize>
     }
 }
 
+// The slot of the row of this id, by the order alone.
+fn find_slot<R: Keyed>(rows: &Slab<R>, order: &[usize], id: &R::Id) -> Option<usize>
+    requires filled { AreFilled rows.now.slots order.now }
+    requires ascending { IsAscending R.Id.cmp R.id (rows_at rows.now.slots order.now) }
+    ensures found { IfSome result (λ s. slice_index_or rows.now.slots s None ≡ row_of R.Id.cmp R.id id.now (rows_at rows.now.slots order.now)) }
+    ensures filled { IfSome result (λ s. IsSome (slice_index_or rows.now.slots s None)) }
+    ensures none { IfNone result (row_of R.Id.cmp R.id id.now (rows_at rows.now.slots order.now) ≡ None) }
+{
+    match find(rows, order, id) {
+        Some(at) => Some(order[at]),
+        None => None,
+    }
+}
+
+// The slot that was noted for the mark of this id, if the row there has the id.
+fn guess<R: Marked>(rows: &Slab<R>, guesses: &Guesses, id: &R::Id) -> Option<usize>
+    ensures { IfSome result (λ s. IsSomeAnd (get rows.now s) (λ r. is_eq (R.Id.cmp id.now (R.id r)) ≡ true)) }
+{
+    let slot = guesses.get(R::mark(id))?;
+    match rows.get(slot) {
+        Some(row) if id.cmp(row.id()) == Ordering::Equal => Some(slot),
+        _ => None,
+    }
+}
+
+// Notes the slot of each row anew, if no mark more can be noted.
+fn renew<R: Marked>(rows: &Slab<R>, order: &[usize], guesses: &mut Guesses) {
+    if !guesses.is_full() {
+        return;
+    }
+    guesses.clear();
+    for slot in order {
+        if let Some(row) = rows.get(*slot) {
+            guesses.note(R::mark(row.id()), *slot);
+        }
+    }
+}
+
 fn slot_at(order: &[usize], place: usize) -> usize
     requires { place < length order.now }
     ensures { result ≡ slice_index_or order.now place 0 }
@@ -149,7 +190,7 @@ fn collect<'a, R: Keyed>(
     Ok(list)
 }
 
-impl<R: Keyed> Indexed<R> {
+impl<R: Marked> Indexed<R> {
     /// No rows.
     pub fn new(alloc: Global) -> Self
         ensures rows { result.rows ≡ [] }
@@ -158,6 +199,7 @@ impl<R: Keyed> Indexed<R> {
         Indexed {
             rows: Slab::new(alloc),
             order: Vec::new(alloc),
+            guesses: Guesses::new(alloc),
         }
     }
 
@@ -166,10 +208,62 @@ impl<R: Keyed> Indexed<R> {
         ensures row { option_copied result ≡ row_of R.Id.cmp R.id id.now self.now.rows }
         ensures sorted { IsAscending R.Id.cmp R.id self.now.rows }
     {
-        match find(&self.rows, &self.order, id) {
-            Some(at) => self.rows.get(self.order[at]),
+        match self.slot(id) {
+            Some(slot) => self.rows.get(slot),
             None => None,
         }
+    }
+
+    /// The slot of the row of this id. The guess is looked at first, and then the order.
+    pub fn slot(&self, id: &R::Id) -> Option<usize>
+        ensures found { IfSome result (λ s. slice_index_or self.now.slots s None ≡ row_of R.Id.cmp R.id id.now self.now.rows) }
+        ensures filled { IfSome result (λ s. IsSome (slice_index_or self.now.slots s None)) }
+        ensures none { IfNone result (row_of R.Id.cmp R.id id.now self.now.rows ≡ None) }
+    {
+        match guess(&self.rows, &self.guesses, id) {
+            Some(slot) => Some(slot),
+            None => find_slot(&self.rows, &self.order, id),
+        }
+    }
+
+    /// The row in this slot.
+    pub fn at(&self, slot: usize) -> Option<&R>
+        ensures { option_copied result ≡ slice_index_or self.now.slots slot None }
+    {
+        self.rows.get(slot)
+    }
+
+    /// The slot of the row at this place in the order of the ids, counted from 0.
+    pub fn slot_nth(&self, place: usize) -> usize
+        requires { place < length self.now.rows }
+        ensures { slice_index_or self.now.slots result None ≡ slice_get self.now.rows place }
+    {
+        slot_at(&self.order, place)
+    }
+
+    /// For how many rows more there is memory.
+    pub fn spare(&self) -> usize
+        ensures { result ≡ self.now.spare }
+    {
+        let slots = self.rows.capacity() - self.rows.len();
+        let places = self.order.capacity() - self.order.len();
+        slots.min(places)
+    }
+
+    /// How many slots there are, those included that have no row.
+    pub fn places(&self) -> usize {
+        self.rows.capacity()
+    }
+
+    /// Does nothing. Its contract says how rows and slots go together: a row in a slot is found by its id, no two slots
+    /// have rows of one id, and each row has a slot.
+    pub fn laws(&self)
+        ensures whole { (s : ℕ) (r : R) → slice_index_or self.now.slots s None ≡ Some r → row_of R.Id.cmp R.id (R.id r) self.now.rows ≡ Some r }
+        ensures apart { (s t : ℕ) (r q : R) → slice_index_or self.now.slots s None ≡ Some r → slice_index_or self.now.slots t None ≡ Some q → is_eq (R.Id.cmp (R.id r) (R.id q)) ≡ true → s ≡ t }
+        ensures listed { (k : R.Id) (r : R) → row_of R.Id.cmp R.id k self.now.rows ≡ Some r → (s : ℕ) × (slice_index_or self.now.slots s None ≡ Some r) }
+        ensures sorted { IsAscending R.Id.cmp R.id self.now.rows }
+    {
+        let _ = &self.rows;
     }
 
     /// The row at this place in the order of the ids, counted from 0.
@@ -207,6 +301,7 @@ impl<R: Keyed> Indexed<R> {
     {
         if self.rows.capacity() - self.rows.len() < more {
             self.rows.reserve(more)?;
+            self.guesses.reserve(self.rows.capacity())?;
         }
         self.order.reserve(more)
     }
@@ -221,10 +316,13 @@ impl<R: Keyed> Indexed<R> {
         ensures slot { IsWritten self.old.slots self.new.slots result (Some row) }
     {
         let at = place(&self.rows, &self.order, row.id());
+        let mark = R::mark(row.id());
         let slot = self.rows.insert_reserved(row);
         let Ok(()) = self.order.insert(at, slot) else {
             unreachable!()
         };
+        renew(&self.rows, &self.order, &mut self.guesses);
+        self.guesses.note(mark, slot);
         slot
     }
 
@@ -243,7 +341,10 @@ impl<R: Keyed> Indexed<R> {
             Some(at) => {
                 let slot = self.order.remove(at);
                 match self.rows.try_remove(slot) {
-                    Some(row) => Some((slot, row)),
+                    Some(row) => {
+                        self.guesses.forget(R::mark(id), slot);
+                        Some((slot, row))
+                    }
                     None => unreachable!(),
                 }
             }
@@ -266,36 +367,41 @@ impl<R: Keyed> Indexed<R> {
         }
     }
 
-    /// Puts a row in place of that of its id, and gives the old one.
-    pub fn change(&mut self, row: R) -> R
+    /// Puts a row in place of that of its id, and gives the old one, with the slot.
+    pub fn change(&mut self, row: R) -> (usize, R)
         requires { IsSome (row_of R.Id.cmp R.id (R.id row) self.old.rows) }
-        ensures row { Some result ≡ row_of R.Id.cmp R.id (R.id row) self.old.rows }
+        ensures row { Some result.1 ≡ row_of R.Id.cmp R.id (R.id row) self.old.rows }
         ensures rows { self.new.rows ≡ changed_at R.Id.cmp R.id (R.id row) (λ _. row) self.old.rows }
-        ensures slots { AreEdited (λ old new. (old ≡ Some result) × (new ≡ Some row)) self.old.slots self.new.slots }
+        ensures slot { IsWritten self.old.slots self.new.slots result.0 (Some row) }
+        ensures was { slice_index_or self.old.slots result.0 None ≡ Some result.1 }
         ensures spare { self.new.spare ≡ self.old.spare }
     {
         let Some(at) = find(&self.rows, &self.order, row.id()) else {
             unreachable!()
         };
-        let Some(place) = self.rows.get_mut(self.order[at]) else {
+        let slot = self.order[at];
+        let Some(place) = self.rows.get_mut(slot) else {
             unreachable!()
         };
-        mem::replace(place, row)
+        (slot, mem::replace(place, row))
     }
 
-    /// Changes the row of this id in place, if it is stored.
-    pub fn edit<E: Edit<R>>(&mut self, id: &R::Id, edit: &E)
+    /// Changes the row of this id in place, if it is stored, and gives its slot.
+    pub fn edit<E: Edit<R>>(&mut self, id: &R::Id, edit: &E) -> Option<usize>
         requires { (row : R) → row_of R.Id.cmp R.id id.now self.old.rows ≡ Some row → E.IsFit edit.now row }
         ensures rows { self.new.rows ≡ changed_at R.Id.cmp R.id id.now (E.edited edit.now) self.old.rows }
-        ensures slots { AreEdited (λ old new. new ≡ option_map (E.edited edit.now) old) self.old.slots self.new.slots }
+        ensures was { IfSome result (λ s. slice_index_or self.old.slots s None ≡ row_of R.Id.cmp R.id id.now self.old.rows) }
+        ensures filled { IfSome result (λ s. IsSome (slice_index_or self.old.slots s None)) }
+        ensures slot { IfSome result (λ s. IsWritten self.old.slots self.new.slots s (option_map (E.edited edit.now) (slice_index_or self.old.slots s None))) }
+        ensures none { IfNone result (self.new ≡ self.old) }
         ensures spare { self.new.spare ≡ self.old.spare }
     {
-        if let Some(at) = find(&self.rows, &self.order, id) {
-            let Some(row) = self.rows.get_mut(self.order[at]) else {
-                unreachable!()
-            };
-            edit.edit(row);
-        }
+        let slot = self.slot(id)?;
+        let Some(row) = self.rows.get_mut(slot) else {
+            unreachable!()
+        };
+        edit.edit(row);
+        Some(slot)
     }
 
     /// Whether the row at this place passes.
@@ -308,12 +414,13 @@ impl<R: Keyed> Indexed<R> {
         }
     }
 
-    /// Changes the row at this place, counted from 0.
-    pub fn edit_nth<E: Edit<R>>(&mut self, place: usize, edit: &E)
+    /// Changes the row at this place, counted from 0, and gives its slot.
+    pub fn edit_nth<E: Edit<R>>(&mut self, place: usize, edit: &E) -> usize
         requires present { place < length self.old.rows }
         requires fit { (row : R) → slice_get self.old.rows place ≡ Some row → E.IsFit edit.now row }
         ensures rows { self.new.rows ≡ changed_nth (E.edited edit.now) place self.old.rows }
-        ensures slots { AreEdited (λ old new. new ≡ option_map (E.edited edit.now) old) self.old.slots self.new.slots }
+        ensures was { slice_index_or self.old.slots result None ≡ slice_get self.old.rows place }
+        ensures slot { IsWritten self.old.slots self.new.slots result (option_map (E.edited edit.now) (slice_index_or self.old.slots result None)) }
         ensures spare { self.new.spare ≡ self.old.spare }
     {
         let slot = slot_at(&self.order, place);
@@ -321,6 +428,7 @@ impl<R: Keyed> Indexed<R> {
             unreachable!()
         };
         edit.edit(row);
+        slot
     }
 
     /// Changes each row in place.
@@ -349,13 +457,16 @@ impl<R: Keyed> Indexed<R> {
         let slot = slot_at(&self.order, place);
         self.order.remove(place);
         match self.rows.try_remove(slot) {
-            Some(row) => (slot, row),
+            Some(row) => {
+                self.guesses.forget(R::mark(row.id()), slot);
+                (slot, row)
+            }
             None => unreachable!(),
         }
     }
 }
 
-impl<R: Keyed + Drop> Indexed<R> {
+impl<R: Marked + Drop> Indexed<R> {
     /// Takes out the rows that pass.
     pub fn remove_all<T: Test<R>>(&mut self, test: &T)
         ensures rows { self.new.rows ≡ filter (λ row. not (T.test test.now row)) self.old.rows }
@@ -368,18 +479,5 @@ impl<R: Keyed + Drop> Indexed<R> {
                 drop(self.take_nth(place));
             }
         }
-    }
-}
-
-impl<R: Row> Indexed<R> {
-    /// The same rows in the same slots, in memory of their own.
-    pub fn copy(&self) -> Result<Self, AllocError>
-        ensures rows { IfOk result (λ copy. copy.rows ≡ self.now.rows) }
-        ensures slots { IfOk result (λ copy. copy.slots ≡ self.now.slots) }
-    {
-        Ok(Indexed {
-            rows: self.rows.clone()?,
-            order: self.order.clone()?,
-        })
     }
 }

@@ -72,6 +72,7 @@ impl Tables {
         ensures links { self.new.links ≡ self.old.links }
         ensures spare { KeepsSpare self.old.spare self.new.spare }
     {
-        self.jobs.change(row)
+        let (_, old) = self.jobs.change(row);
+        old
     }
 }

@@ -4,11 +4,13 @@
 
 mod bulk;
 mod calendars;
-mod copies;
 mod due;
+mod due_keys;
 mod edits;
 mod fired;
 mod groups;
+mod guesses;
+mod in_step;
 mod indexed;
 mod job_groups;
 mod job_triggers;
@@ -17,9 +19,12 @@ mod linked;
 mod members;
 mod row_tests;
 mod tables;
+mod timed;
 mod triggers;
 mod zones;
 
+pub use due::Any;
 pub use edits::{Begin, StateChange, YearChange};
+pub use indexed::Test;
 pub use job_triggers::JobTriggers;
 pub use tables::Tables;

@@ -9,11 +9,13 @@ ghost use Rattle.qz_types.specs.Rows.{TriggerData};
 ghost use Rattle.qz_types.specs.declared.keys.Key.{Key};
 ghost use Rattle.qz_tables.specs.Changes.{changed, trigger_edited, IsFit, changed_nth};
 ghost use Rattle.qz_tables.specs.Ids.{changed_at, without};
-ghost use Rattle.qz_tables.specs.Linking.{times};
+ghost use Rattle.qz_tables.specs.Due.{due_first, due_next};
+ghost use Rattle.qz_tables.specs.Once.{times};
 ghost use Rattle.qz_tables.specs.Links.{linked, KeepsLinks, IsLinked, IsUnlinked, IsMoved};
 
 use crate::edits::{StateChange, TriggerEdit};
-use crate::indexed::{Indexed, Test};
+use crate::indexed::Test;
+use crate::timed::Timed;
 use qz_types::{Key, TriggerRow};
 use std::alloc::{AllocError, Global};
 use std::cmp::Ordering;
@@ -22,7 +24,7 @@ use std::marker::Model;
 /// The triggers in the order of their keys, and their slots in the order of linking.
 #[derive(Drop)]
 pub struct Linked {
-    rows: Indexed<TriggerRow>,
+    rows: Timed,
     linked: Vec<usize>,
 }
 
@@ -30,7 +32,8 @@ impl Model for Linked {
     ghost use Rattle.std.specs.Prelude.{◌-◌, min, vec_len};
     ghost use Rattle.std.specs.Vec.{vec_capacity};
     ghost use Rattle.qz_tables.specs.Slots.{rows_at};
-    ghost use Rattle.qz_tables.specs.Linking.{LinkedData, links_of, AreLinkedOnce};
+    ghost use Rattle.qz_tables.specs.Linking.{LinkedData, links_of};
+    ghost use Rattle.qz_tables.specs.Once.{AreOnce};
 
     ghost Value = { LinkedData };
 
@@ -40,7 +43,7 @@ impl Model for Linked {
       spare = min a.rows.spare (vec_capacity a.linked - vec_len a.linked);
     } };
 
-    ghost invariant = { λ a. AreLinkedOnce a.rows.slots a.linked.items };
+    ghost invariant = { λ a. AreOnce a.rows.slots a.linked.items };
 }
 
 // The place of this slot.
@@ -65,7 +68,7 @@ impl Linked {
         ensures links { result.links ≡ [] }
     {
         Linked {
-            rows: Indexed::new(alloc),
+            rows: Timed::new(alloc),
             linked: Vec::new(alloc),
         }
     }
@@ -97,22 +100,30 @@ impl Linked {
         self.rows.len()
     }
 
+    /// The first trigger that waits, in due order.
+    pub fn due_first(&self) -> Option<&TriggerRow>
+        ensures { option_copied result ≡ due_first self.now.rows }
+    {
+        self.rows.due_first()
+    }
+
+    /// The next trigger that waits and passes, in due order, after the one of this key, if one is given. There is none
+    /// where that isn't stored.
+    pub fn due_next<T: Test<TriggerRow>>(
+        &self,
+        after: Option<&Key>,
+        test: &T,
+    ) -> Option<&TriggerRow>
+        ensures { option_copied result ≡ due_next (option_copied after.entry) (T.test test.now) self.now.rows }
+    {
+        self.rows.due_next(after, test)
+    }
+
     /// The triggers in the order of their keys.
     pub fn sorted(&self, alloc: Global) -> Result<Vec<&TriggerRow>, AllocError>
         ensures { IfOk result (λ v. map (λ r. r.now) v.items ≡ self.now.rows) }
     {
         self.rows.sorted(alloc)
-    }
-
-    /// The same triggers, linked in the same order, in memory of their own.
-    pub fn copy(&self) -> Result<Self, AllocError>
-        ensures rows { IfOk result (λ copy. copy.rows ≡ self.now.rows) }
-        ensures links { IfOk result (λ copy. copy.links ≡ self.now.links) }
-    {
-        Ok(Linked {
-            rows: self.rows.copy()?,
-            linked: self.linked.clone()?,
-        })
     }
 
     /// Makes room for so many triggers more.

@@ -14,8 +14,8 @@ use std::marker::Model;
 
 /// The tables of the trigger store: rows of eight kinds, each in the order of its ids, and numbers.
 ///
-/// A row is found by binary search. Of all calls only `reserve`, those that give sorted rows and `clone_rows` take
-/// memory: rows are put in where `reserve` made room before.
+/// A row is found at once, or by binary search. Of all calls only `reserve` and those that give sorted rows take memory: rows
+/// are put in where `reserve` made room before.
 #[derive(Drop)]
 pub struct Tables {
     pub(crate) jobs: Indexed<JobRow>,
@@ -68,6 +68,13 @@ impl Model for Tables {
     } };
 }
 
+// The horizon of a new store of this version.
+fn horizon_of(version: u8) -> i64
+    ensures { result ≡ (empty version).horizon }
+{
+    if version == 1 { VERSION_ONE_LAST } else { LAST }
+}
+
 impl Tables {
     /// The tables of a new store of this format version, 1 or 2. They differ in the horizon alone.
     pub fn new(alloc: Global, version: u8) -> Self
@@ -87,7 +94,7 @@ impl Tables {
             next_epoch: 1,
             threshold: FIRST_THRESHOLD,
             last_moment: 0,
-            horizon: if version == 1 { VERSION_ONE_LAST } else { LAST },
+            horizon: horizon_of(version),
         }
     }
 

@@ -2,6 +2,7 @@ use Rattle.std.proofs.Common.{ℕ, ◌+◌, ◌≤◌, ◌<◌, length}
 use Rattle.std.specs.List.Sorted.{IsPermutation}
 use Rattle.qz_queue.specs.Heap.{IsPlaced}
 use Rattle.qz_queue.specs.Sift.{HasRisen, IsClimb}
+use Rattle.qz_queue.specs.Order.{KeepsKnown}
 use Rattle.qz_queue.proofs.sifts.rise.Given as goal
 
 abbrev pub invariant-loop-at : goal.invariant-loop-at
@@ -10,6 +11,7 @@ invariant-loop-at g l = record {
   permutation : IsPermutation l.initial.heap l.heap;
   placed : IsPlaced l.heap l.places;
   risen : HasRisen g.K.Ranked.stands_before l.initial.heap l.heap l.start l.at;
+  knows : KeepsKnown (g.C.Compare.Knows l.initial.compare) (g.C.Compare.Knows l.compare);
   calls : (s : ℕ) × IsClimb s l.start l.at × (g.C.Compare.count l.compare ≤ g.C.Compare.count l.initial.compare + s);
 }
 

@@ -2,6 +2,7 @@ use Rattle.std.proofs.Common.{ℕ, ◌+◌, ◌-◌, ◌*◌, ◌<◌, ◌≤◌
 use Rattle.std.specs.List.Sorted.{IsPermutation}
 use Rattle.qz_queue.specs.Heap.{IsPlaced, IsHeapBut, IsUnderParent}
 use Rattle.qz_queue.specs.Sift.{IsFall}
+use Rattle.qz_queue.specs.Order.{KeepsKnown}
 use Rattle.qz_queue.proofs.sifts.sink.Given as goal
 
 abbrev pub invariant-loop-at : goal.invariant-loop-at
@@ -11,6 +12,7 @@ invariant-loop-at g l = record {
   placed : IsPlaced l.heap l.places;
   heap : IsHeapBut g.K.Ranked.stands_before l.heap l.at;
   under : IsUnderParent g.K.Ranked.stands_before l.heap l.at;
+  knows : KeepsKnown (g.C.Compare.Knows l.initial.compare) (g.C.Compare.Knows l.compare);
   calls : (s : ℕ) × IsFall s l.start l.at × (g.C.Compare.count l.compare ≤ g.C.Compare.count l.initial.compare + 2 * s);
 }
 

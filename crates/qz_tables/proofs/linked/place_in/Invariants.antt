@@ -1,5 +1,5 @@
 use Rattle.std.proofs.Common.{◌≡◌, drop}
-use Rattle.qz_tables.specs.Linking.{times}
+use Rattle.qz_tables.specs.Once.{times}
 use Rattle.qz_tables.proofs.linked.place_in.Given as goal
 
 abbrev pub invariant-loop-other : goal.invariant-loop-other

@@ -1,12 +1,11 @@
-use Rattle.std.specs.Prelude.{IsSome, None, option_map}
+use Rattle.std.specs.Prelude.{IsSome, None}
 use Rattle.std.specs.List.{slice_get}
-use Rattle.std.proofs.Common.{Option, ◌≡◌, ◌<◌, length, refl, subst, set, get_or, Some, sym, ap, ◌∙◌, arith}
+use Rattle.std.proofs.Common.{Option, ◌≡◌, ◌<◌, length, get_or, Some, sym, ap, ◌∙◌, arith}
 use Rattle.qz_tables.specs.Changes.{changed_nth}
-use Rattle.qz_tables.specs.Slots.{AreEdited}
 use Rattle.qz_tables.proofs.Filled.{filled_at, length-rows, nth_row}
 use Rattle.qz_tables.proofs.NthEdits.{changed-slot}
-use Rattle.qz_tables.proofs.SlotEdits.{one_edited}
 use Rattle.qz_tables.proofs.indexed.Indexed.edit_nth.Goals as goal
+use Rattle.qz_tables.proofs.OnceLemmas.{once-set}
 
 none_some : {X : Type 0} (o : Option X) → IsSome o → o ≡ None → ⊥
 none_some {X} o f e = let g : IsSome {T = X} None = rw e at f in cc
@@ -44,7 +43,7 @@ invariant_of-self g c =
     let s : c.slot_at-slot.result ≡ get_or c.self.inside.order.items c.args.place 0 = rw c.deref.ensures.value at c.slot_at-slot.ensures in
     let was : get_or c.self.inside.rows.slots (get_or c.self.inside.order.items c.args.place 0) None ≡ Some c.in-Some.row.now = rw (← s) (sym c.in-Some.ensures.value) in
     let i = changed-slot g.R.Id.Ord.cmp g.R.Keyed.id g.met.R.Id.Ord.total c.self.inside.rows.slots c.self.inside.order.items c.args.place (g.E.Edit.edited c.args.edit.now) c.in-Some.row.now c.self.invariant.1 c.self.invariant.0 (λ x. g.met.E.Edit.keeps_id c.args.edit.now x) lt was in
-    rw (s, c.edit.ensures) (i.ascending, i.filled)
+    rw (s, c.edit.ensures) (i.ascending, i.filled, once-set c.self.inside.rows.slots c.self.inside.order.items (get_or c.self.inside.order.items c.args.place 0) c.in-Some.row.now (g.E.Edit.edited c.args.edit.now c.in-Some.row.now) was c.self.invariant.2)
 
 pub returns-clause-rows : goal.returns-clause-rows
 returns-clause-rows g c =
@@ -56,9 +55,10 @@ returns-clause-rows g c =
     let i = changed-slot g.R.Id.Ord.cmp g.R.Keyed.id g.met.R.Id.Ord.total c.self.inside.rows.slots c.self.inside.order.items c.args.place (g.E.Edit.edited c.args.edit.now) c.in-Some.row.now c.self.invariant.1 c.self.invariant.0 (λ x. g.met.E.Edit.keeps_id c.args.edit.now x) lt was in
     rw (s, c.edit.ensures, i.rows) (ap (λ v. changed_nth (g.E.Edit.edited c.args.edit.now) c.args.place v.rows) c.self.view_is)
 
-pub returns-clause-slots : goal.returns-clause-slots
-returns-clause-slots g c =
-    let value : Some c.in-Some.row.now ≡ get_or c.self.inside.rows.slots c.slot_at-slot.result None = c.in-Some.ensures.value in
-    let filled : IsSome (get_or c.self.inside.rows.slots c.slot_at-slot.result None) = rw (← value) refl in
-    let h = one_edited g.R.Id.Ord.cmp g.R.Keyed.id g.met.R.Id.Ord.total c.self.inside.rows.slots (λ o n. n ≡ option_map (g.E.Edit.edited c.args.edit.now) o) c.slot_at-slot.result c.edit.new.row filled (rw (← value) (ap Some c.edit.ensures)) in
-    subst (λ v. AreEdited (λ o n. n ≡ option_map (g.E.Edit.edited c.args.edit.now) o) v.slots (set c.self.inside.rows.slots c.slot_at-slot.result (Some c.edit.new.row))) c.self.view_is h
+pub returns-clause-was : goal.returns-clause-was
+returns-clause-was g c =
+    let length_is = length-rows c.self.inside.rows.slots c.self.inside.order.items c.self.invariant.1 in
+    let rows_are = ap (λ v. length v.rows) c.self.view_is in
+    let lt : c.args.place < length c.self.inside.order.items = omega (arith, c.requires.present, length_is, rows_are) in
+    let s : c.slot_at-slot.result ≡ get_or c.self.inside.order.items c.args.place 0 = rw c.deref.ensures.value at c.slot_at-slot.ensures in
+    rw (← c.self.view_is) (sym (nth_row c.self.inside.rows.slots c.self.inside.order.items c.args.place c.slot_at-slot.result c.self.invariant.1 lt s))

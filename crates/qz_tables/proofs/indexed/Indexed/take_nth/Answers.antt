@@ -4,6 +4,7 @@ use Rattle.std.proofs.Common.{Option, ◌≡◌, ◌<◌, length, get_or, sym, a
 use Rattle.qz_tables.proofs.Filled.{filled_at, length-rows, nth_row}
 use Rattle.qz_tables.proofs.NthEdits.{removed-slot}
 use Rattle.qz_tables.proofs.indexed.Indexed.take_nth.Goals as goal
+use Rattle.qz_tables.proofs.OnceLemmas.{once-remove}
 
 none_some : {X : Type 0} (o : Option X) → IsSome o → o ≡ None → ⊥
 none_some {X} o f e = let g : IsSome {T = X} None = rw e at f in cc
@@ -40,7 +41,9 @@ invariant_of-self g c =
     let lt : c.args.place < length c.self.inside.order.items = omega (arith, c.requires, length_is, rows_are) in
     let s : c.slot_at-slot.result ≡ get_or c.self.inside.order.items c.args.place 0 = rw c.deref.ensures.value at c.slot_at-slot.ensures in
     let i = removed-slot g.R.Id.Ord.cmp g.R.Keyed.id g.met.R.Id.Ord.total c.self.inside.rows.slots c.try_remove.new.self.slots c.self.inside.order.items c.args.place c.self.invariant.1 c.self.invariant.0 lt (λ other differs. c.try_remove.ensures.updates.others other (λ e. differs (e ∙ s))) in
-    rw c.remove.ensures.items (i.ascending, i.filled)
+    let filled : IsSome (get_or c.self.inside.rows.slots c.slot_at-slot.result None) = rw s (filled_at c.self.inside.rows.slots c.self.inside.order.items c.args.place c.self.invariant.1 lt) in
+    let o = once-remove c.self.inside.rows.slots c.try_remove.new.self.slots c.self.inside.order.items c.slot_at-slot.result c.args.place c.self.invariant.2 lt (sym s) filled c.try_remove.ensures.updates.changed c.try_remove.ensures.updates.others in
+    rw c.remove.ensures.items (i.ascending, i.filled, o)
 
 pub returns-clause-row : goal.returns-clause-row
 returns-clause-row g c =
