@@ -96,7 +96,7 @@ unjoined_stays submit.Fault c d same = tt
 
 -- A call that changes nothing keeps the stores, whatever it answers.
 pub nothing_changes : {D : Type 0} {g : Ghosts D} (c : Cluster D g) → KeepsStores c c
-nothing_changes c = (((refl, refl, refl, refl, refl, refl, refl, refl), refl, refl), (refl, refl, refl, refl, refl, refl, refl, refl))
+nothing_changes c = (((refl, refl, refl, refl, refl, refl, refl, refl), refl), (refl, refl, refl, refl, refl, refl, refl, refl))
 
 -- an entry that would be accepted, for which there is no memory
 pub starves_here : {H E R : Type 0} (kind : EntryKind H E R) (e : E) (s : StoreState H E) → s.is_open ≡ true → IsOk (kind.answer s.history e) → Starves kind e s s

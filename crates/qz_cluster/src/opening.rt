@@ -4,7 +4,7 @@ ghost use Rattle.qz_model.specs.History.{History};
 ghost use Rattle.qz_journal.specs.Through.{OnlyReads};
 ghost use Rattle.qz_trigger_store.specs.Bytes.{Stands, IsHistory};
 ghost use Rattle.qz_trigger_store.specs.Opening.{IsOpened};
-ghost use Rattle.qz_trigger_store.specs.View.{added_of};
+ghost use Rattle.qz_trigger_store.specs.View.{added_of, keeps_of, keeps_entries};
 ghost use Rattle.qz_checkin.specs.Bytes.{Stands as StatesStand, IsHistory as IsStateHistory};
 ghost use Rattle.qz_checkin.specs.History.{StateHistory};
 ghost use Rattle.qz_checkin.specs.Opening.{IsOpened as AreOpened};
@@ -15,7 +15,7 @@ ghost use Rattle.qz_cluster.specs.View.{view, triggers_of, states_of, disk_of_tr
 use crate::{Cluster, MountError, MountFault};
 use qz_checkin::StateStore;
 use qz_disk::Disk;
-use qz_trigger_store::TriggerStore;
+use qz_trigger_store::{Keep, TriggerStore};
 use qz_types::Store;
 use std::alloc::Global;
 
@@ -23,11 +23,17 @@ impl<D: Disk> Cluster<D> {
     /// Opens both stores, the trigger store first. No node holds an epoch yet. It syncs first, and writes nothing. An
     /// `Err` hands the disks back and names the store: `NotAStore` is returned where the header isn't that store's,
     /// `Damaged` also at the gate of the first payload that is no record or whose transaction is refused, and `Fault` only
-    /// where the disk's count of faults rose.
-    pub fn mount(alloc: Global, triggers: D, states: D) -> Result<Cluster<D>, (MountFault, D, D)>
+    /// where the disk's count of faults rose. What the trigger store keeps in memory is said by `keep`.
+    pub fn mount(
+        alloc: Global,
+        triggers: D,
+        states: D,
+        keep: Keep,
+    ) -> Result<Cluster<D>, (MountFault, D, D)>
         ensures opened { IfOk result (λ c. IsOpened (view c).triggers × AreOpened (view c).states) }
         ensures nothing_held { IfOk result (λ c. (view c).held ≡ []) }
         ensures nothing_added { IfOk result (λ c. added_of (triggers_of c) ≡ []) }
+        ensures keeps { IfOk result (λ c. keeps_of (triggers_of c) ≡ keeps_entries keep) }
         ensures stands { D.honest → IfOk result (λ c. Stands (D.state triggers).content (view c).triggers.history × StatesStand (D.state states).content (view c).states.history) }
         ensures reads { D.honest → IfOk result (λ c. OnlyReads (D.state triggers) (triggers_disk c) × OnlyReads (D.state states) (states_disk c)) }
         ensures reads_err { D.honest → IfErr result (λ e. DisksAfter D.Disk e.0.store e.0.error triggers states e.1 e.2) }
@@ -41,7 +47,7 @@ impl<D: Disk> Cluster<D> {
         ensures fault { IfErr result (λ e. CountsRise D.Disk triggers states e.1 e.2
             × (e.0.error ≡ MountError.Fault → RoseOf D.Disk e.0.store triggers states e.1 e.2)) }
     {
-        match TriggerStore::mount(alloc, triggers) {
+        match TriggerStore::mount(alloc, triggers, keep) {
             Ok(triggers) => match StateStore::mount(alloc, states) {
                 Ok(states) => Ok(Cluster {
                     alloc,

@@ -13,7 +13,7 @@ use Rattle.qz_model.specs.History.{History, replay}
 use Rattle.qz_trigger_store.specs.Entries.{TriggerState, is_old, trigger_entry}
 use Rattle.qz_trigger_store.proofs.Horizons.{stays_current}
 use Rattle.qz_run_stores.proofs.Declining.{same_history}
-use Rattle.qz_trigger_store.specs.View.{view, version_of, found_of}
+use Rattle.qz_trigger_store.specs.View.{view, version_of, found_of, keeps_of}
 use Rattle.qz_trigger_store.specs.declared.stores.TriggerStore.{TriggerStore}
 use Rattle.qz_checkin.specs.Entries.{StatesState, of_states}
 use Rattle.qz_checkin.specs.History.{StateHistory}
@@ -105,11 +105,11 @@ went_on_with n before es stay = sym (take-append-drop n es) ∙ ap (λ xs. xs ++
 
 -- How the stores went on, in one.
 module _ {D : Type 0} {g : Ghosts D} where
-  pub triggers_went : (n : ℕ) (b s : TriggerStore D g) → version_of s ≡ version_of b → found_of s ≡ found_of b → take n (view s).history.entries ≡ (view b).history.entries → ∥ AreAsked (replay (view b).history) (drop n (view s).history.entries) ∥₁ → ∥ KeepsTriggers b s ∥₁
+  pub triggers_went : (n : ℕ) (b s : TriggerStore D g) → version_of s ≡ version_of b → found_of s ≡ found_of b → keeps_of s ≡ keeps_of b → take n (view s).history.entries ≡ (view b).history.entries → ∥ AreAsked (replay (view b).history) (drop n (view s).history.entries) ∥₁ → ∥ KeepsTriggers b s ∥₁
       → (view b).faults ≤ (view s).faults → ((view b).is_open ≡ true → (view s).is_open ≡ false → Rose (view b).faults (view s).faults) → TriggersWent b s
-  triggers_went n b s version found stay asked kept later closes =
+  triggers_went n b s version found keeps stay asked kept later closes =
       let es = (view s).history.entries in
-      record { went = record { later = later; closes = closes }; version = version; found = found; added = drop n es; entries = went_on_with n _ es stay; asked = asked; kept = kept }
+      record { went = record { later = later; closes = closes }; version = version; found = found; keeps = keeps; added = drop n es; entries = went_on_with n _ es stay; asked = asked; kept = kept }
 
   pub states_went : (n : ℕ) (b s : StateStore D g) → take n (states_view s).history.entries ≡ (states_view b).history.entries → ∥ KeepsStates b s ∥₁ → (states_view b).faults ≤ (states_view s).faults
       → ((states_view b).is_open ≡ true → (states_view s).is_open ≡ false → Rose (states_view b).faults (states_view s).faults) → StatesWent b s

@@ -3,7 +3,7 @@ ghost use Rattle.std.specs.Prelude.{◌≡◌, ◌≤◌, length, take, drop, tr
 ghost use Rattle.qz_civil.specs.Causes.{Rose};
 ghost use Rattle.qz_model.specs.History.{replay};
 ghost use Rattle.qz_trigger_store.specs.Entries.{is_old};
-ghost use Rattle.qz_trigger_store.specs.View.{view, version_of, found_of};
+ghost use Rattle.qz_trigger_store.specs.View.{view, version_of, found_of, keeps_of};
 ghost use Rattle.qz_checkin.specs.View.{view as states_view};
 ghost use Rattle.qz_run_stores.specs.Asked.{AreAsked};
 ghost use Rattle.qz_run_stores.specs.Ways.{KeepsTriggers, KeepsStates};
@@ -33,6 +33,7 @@ pub struct RunStores<D: Disk> {
     ghost rows_counted: { rows_before ≡ length (states_view states_begun.value).history.entries },
     ghost version_stays: { version_of triggers ≡ version_of triggers_begun.value },
     ghost found_stays: { found_of triggers ≡ found_of triggers_begun.value },
+    ghost keeps_stays: { keeps_of triggers ≡ keeps_of triggers_begun.value },
     ghost entries_stay: { take entries_before (view triggers).history.entries ≡ (view triggers_begun.value).history.entries },
     ghost asked: { ∥ AreAsked (replay (view triggers_begun.value).history) (drop entries_before (view triggers).history.entries) ∥₁ },
     ghost rows_stay: { take rows_before (states_view states).history.entries ≡ (states_view states_begun.value).history.entries },

@@ -11,11 +11,12 @@ ghost use Rattle.qz_model.specs.History.{History};
 ghost use Rattle.qz_steps.specs.Steps.{is_step};
 ghost use Rattle.qz_trigger_store.specs.Bytes.{Stands, IsHistory};
 ghost use Rattle.qz_trigger_store.specs.Opening.{IsOpened};
-ghost use Rattle.qz_trigger_store.specs.View.{added_of};
+ghost use Rattle.qz_trigger_store.specs.View.{added_of, keeps_of, keeps_entries};
 
 use qz_cluster::{Cluster, MountError, MountFault, StepEnd};
 use qz_disk::Disk;
 use qz_steps::{Step, StepReply};
+use qz_trigger_store::Keep;
 use std::alloc::Global;
 
 /// Opens both stores, as `Cluster::mount` does.
@@ -23,10 +24,12 @@ pub fn mount<D: Disk>(
     alloc: Global,
     triggers: D,
     states: D,
+    keep: Keep,
 ) -> Result<Cluster<D>, (MountFault, D, D)>
     ensures opened { IfOk result (λ c. IsOpened (view c).triggers × AreOpened (view c).states) }
     ensures nothing_held { IfOk result (λ c. (view c).held ≡ []) }
     ensures nothing_added { IfOk result (λ c. added_of (triggers_of c) ≡ []) }
+    ensures keeps { IfOk result (λ c. keeps_of (triggers_of c) ≡ keeps_entries keep) }
     ensures stands { D.honest → IfOk result (λ c. Stands (D.state triggers).content (view c).triggers.history × StatesStand (D.state states).content (view c).states.history) }
     ensures reads { D.honest → IfOk result (λ c. OnlyReads (D.state triggers) (triggers_disk c) × OnlyReads (D.state states) (states_disk c)) }
     ensures reads_err { D.honest → IfErr result (λ e. DisksAfter D.Disk e.0.store e.0.error triggers states e.1 e.2) }
@@ -39,7 +42,7 @@ pub fn mount<D: Disk>(
     ensures fault { IfErr result (λ e. CountsRise D.Disk triggers states e.1 e.2
         × (e.0.error ≡ MountError.Fault → RoseOf D.Disk e.0.store triggers states e.1 e.2)) }
 {
-    Cluster::mount(alloc, triggers, states)
+    Cluster::mount(alloc, triggers, states, keep)
 }
 
 /// Does a step of a script, as `Cluster::step` does.

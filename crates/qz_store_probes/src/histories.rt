@@ -11,19 +11,24 @@ ghost use Rattle.qz_trigger_store.specs.Bytes.{Stands, IsHistory};
 ghost use Rattle.qz_trigger_store.specs.Entries.{IsRecordOf, trigger_entry};
 ghost use Rattle.qz_trigger_store.specs.Opening.{IsOpened, IsRefused};
 ghost use Rattle.qz_stores.specs.Restarting.{read_of, history_read, IsReread};
-ghost use Rattle.qz_trigger_store.specs.View.{view, version_of, found_of, added_of, moments_of, replies_of, tables_of, disk_of, disk_state, IsAsBefore, LeavesEither};
+ghost use Rattle.qz_trigger_store.specs.View.{view, version_of, found_of, added_of, keeps_of, keeps_entries, disk_of, disk_state, IsAsBefore, LeavesEither};
 ghost use Rattle.qz_types.specs.Tables.{recorded_moment};
 
 use qz_civil::Failed;
 use qz_disk::Disk;
-use qz_trigger_store::{MountError, Reread, SubmitError, TriggerStore};
+use qz_trigger_store::{Keep, MountError, Reread, SubmitError, TriggerStore};
 use qz_types::{Entry, Reply};
 use std::alloc::Global;
 
 /// Opens the trigger store on a disk, as `TriggerStore::mount` does.
-pub fn mount_triggers<D: Disk>(alloc: Global, disk: D) -> Result<TriggerStore<D>, (MountError, D)>
+pub fn mount_triggers<D: Disk>(
+    alloc: Global,
+    disk: D,
+    keep: Keep,
+) -> Result<TriggerStore<D>, (MountError, D)>
     ensures opened { IfOk result (λ store. IsOpened (view store)) }
     ensures nothing_added { IfOk result (λ store. added_of store ≡ []) }
+    ensures keeps { IfOk result (λ store. keeps_of store ≡ keeps_entries keep) }
     ensures stands { D.honest → IfOk result (λ store. Stands (D.state disk).content (view store).history) }
     ensures reads { D.honest → IfOk result (λ store. OnlyReads (D.state disk) (disk_state store)) }
     ensures reads_err { D.honest → IfErr result (λ e. OnlyReadsUnless (e.0 ≡ MountError.Fault) (D.state disk) (D.state e.1)) }
@@ -34,7 +39,7 @@ pub fn mount_triggers<D: Disk>(alloc: Global, disk: D) -> Result<TriggerStore<D>
     ensures fault { IfErr result (λ e. (D.faults disk ≤ D.faults e.1)
         × (e.0 ≡ MountError.Fault → Rose (D.faults disk) (D.faults e.1))) }
 {
-    TriggerStore::mount(alloc, disk)
+    TriggerStore::mount(alloc, disk, keep)
 }
 
 /// Submits a transaction, as `TriggerStore::submit` does.
@@ -44,8 +49,7 @@ pub fn submit<D: Disk>(store: &mut TriggerStore<D>, entry: Entry) -> Result<Repl
     ensures version { version_of store.new ≡ version_of store.old }
     ensures found { found_of store.new ≡ found_of store.old }
     ensures entries { OnOk result (added_of store.new ≡ added_of store.old ++ entry ∷ []) }
-    ensures moments { OnOk result (moments_of store.new ≡ moments_of store.old ++ recorded_moment (tables_of store.old) entry.at ∷ []) }
-    ensures replies { IfOk result (λ reply. replies_of store.new ≡ replies_of store.old ++ reply ∷ []) }
+    ensures keeps { keeps_of store.new ≡ keeps_of store.old }
     ensures recorded { OnOk result (IsRecordOf (record_of entry) entry) }
     ensures any_moment { D.honest → LeavesEither store.old store.new }
     ensures schedules { FollowsSchedules (view store.new).history }

@@ -7,6 +7,7 @@ use qz_cluster::{Cluster, StepEnd};
 use qz_disk::{Disk, FaultDisk, MemDisk};
 use qz_journal::{STATES, TRIGGERS, create};
 use qz_steps::{Question, Step, StepReply};
+use qz_trigger_store::Keep;
 use qz_types::{Command, List, Text};
 use std::alloc::{AllocError, Global};
 
@@ -129,7 +130,7 @@ fn fails<D: Disk>(alloc: Global, cluster: &mut Cluster<D>) -> bool {
 
 // Whether the second commit's fault closes the store.
 fn is_closed_by_a_fault<D: Disk>(alloc: Global, triggers: D, states: D) -> bool {
-    match Cluster::mount(alloc, triggers, states) {
+    match Cluster::mount(alloc, triggers, states, Keep::Tables) {
         Ok(mut cluster) => {
             let begun = begins(alloc, &mut cluster) && !cluster.closed();
             let again = goes_on(alloc, &mut cluster) && asks(&mut cluster) == Came::Shown;

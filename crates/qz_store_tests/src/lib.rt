@@ -16,6 +16,8 @@ mod journal;
 #[cfg(test)]
 mod model;
 #[cfg(test)]
+mod old_stores;
+#[cfg(test)]
 mod recovery;
 #[cfg(test)]
 mod refusals;
@@ -27,3 +29,5 @@ mod rows;
 mod states;
 #[cfg(test)]
 mod trigger_store;
+#[cfg(test)]
+mod upgrades;

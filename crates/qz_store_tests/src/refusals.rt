@@ -6,7 +6,7 @@ use crate::entries::{
 use crate::rows::{Row, check};
 use qz_disk::{Disk, MemDisk};
 use qz_journal::{TRIGGERS, create};
-use qz_trigger_store::TriggerStore;
+use qz_trigger_store::{Keep, TriggerStore};
 use qz_types::{Entry, SubmitError};
 use std::alloc::{AllocError, Global};
 
@@ -88,7 +88,7 @@ fn is_refused<D: Disk>(
 }
 
 fn is_refused_on<D: Disk>(alloc: Global, disk: D, row: &Refused) -> Result<bool, AllocError> {
-    match TriggerStore::mount(alloc, disk) {
+    match TriggerStore::mount(alloc, disk, Keep::Tables) {
         Ok(mut store) => {
             let is_right = is_refused(alloc, &mut store, row);
             drop(store);

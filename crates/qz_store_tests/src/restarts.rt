@@ -2,7 +2,7 @@
 use crate::entries::{T0, add_job, join};
 use qz_disk::{CutDisk, Disk, MemDisk};
 use qz_journal::{TRIGGERS, create};
-use qz_trigger_store::{SubmitError, TriggerStore};
+use qz_trigger_store::{Keep, SubmitError, TriggerStore};
 use qz_types::Entry;
 use std::alloc::{AllocError, Global};
 
@@ -40,7 +40,10 @@ fn restarts<D: Disk>(store: &mut TriggerStore<D>, before: u64, after: u64) -> bo
         Ok(reread) => {
             let closed = store.closed() && store.history_len() == before;
             store.open(reread);
-            let anew = store.added().is_empty() && store.moments().is_empty();
+            let anew = match store.accepted() {
+                Some(accepted) => accepted.entries().is_empty() && accepted.moments().is_empty(),
+                None => false,
+            };
             closed && anew && !store.closed() && store.history_len() == after
         }
         Err(_) => false,
@@ -59,7 +62,7 @@ fn goes_on<D: Disk>(alloc: Global, store: &mut TriggerStore<D>, found: u64, afte
 // The same on a disk that is cut after so many calls.
 fn goes_on_cut(alloc: Global, calls: u64, found: u64, after: u64) -> Option<bool> {
     let disk = CutDisk::new(new_disk(alloc)?, calls);
-    match TriggerStore::mount(alloc, disk) {
+    match TriggerStore::mount(alloc, disk, Keep::Entries) {
         Ok(mut store) => {
             let is_right = goes_on(alloc, &mut store, found, after);
             drop(store);

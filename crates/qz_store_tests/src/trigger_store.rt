@@ -3,7 +3,7 @@ use crate::entries::{T0, acquire, add_job, add_trigger, fire, join};
 use qz_codec::put_command;
 use qz_disk::{Disk, FaultDisk, MemDisk};
 use qz_journal::{Journal, TRIGGERS, create};
-use qz_trigger_store::{MountError, SubmitError, TriggerStore};
+use qz_trigger_store::{Keep, MountError, SubmitError, TriggerStore};
 use qz_types::{Entry, List};
 use std::alloc::{AllocError, Global};
 
@@ -16,7 +16,7 @@ fn new_disk(alloc: Global) -> Option<MemDisk> {
 
 // Why a disk isn't opened.
 fn refused<D: Disk>(alloc: Global, disk: D) -> Option<MountError> {
-    match TriggerStore::mount(alloc, disk).err() {
+    match TriggerStore::mount(alloc, disk, Keep::Tables).err() {
         Some((error, _)) => Some(error),
         None => None,
     }
@@ -73,12 +73,29 @@ fn takes_two<D: Disk>(alloc: Global, store: &mut TriggerStore<D>) -> bool {
         && submit(store, add_job(alloc, T0)) == Came::Refused
 }
 
+// How many entries the store keeps, if it keeps those that it accepts.
+fn kept<D: Disk>(store: &TriggerStore<D>) -> Option<usize> {
+    store.accepted().map(|accepted| accepted.entries().len())
+}
+
+// Whether it keeps two entries, with their moments and replies.
+fn keeps_two<D: Disk>(store: &TriggerStore<D>) -> bool {
+    match store.accepted() {
+        Some(accepted) => {
+            accepted.entries().len() == 2
+                && accepted.replies().len() == 2
+                && accepted.moments() == [T0, T0 + 1].as_slice()
+        }
+        None => false,
+    }
+}
+
 // The disk of a store that took three entries.
 fn filled<D: Disk>(alloc: Global, disk: D) -> Option<D> {
-    match TriggerStore::mount(alloc, disk) {
+    match TriggerStore::mount(alloc, disk, Keep::Entries) {
         Ok(mut store) => {
             let taken = takes_three(alloc, &mut store);
-            let is_right = taken && store.history_len() == 3 && store.added().len() == 3;
+            let is_right = taken && store.history_len() == 3 && kept(&store) == Some(3);
             let disk = store.into_disk();
             if is_right { Some(disk) } else { None }
         }
@@ -91,14 +108,13 @@ fn filled<D: Disk>(alloc: Global, disk: D) -> Option<D> {
 
 // Whether the store opens with these entries and takes two more.
 fn goes_on<D: Disk>(alloc: Global, disk: D) -> bool {
-    match TriggerStore::mount(alloc, disk) {
+    match TriggerStore::mount(alloc, disk, Keep::Entries) {
         Ok(mut store) => {
-            let found = store.history_len() == 3 && store.added().is_empty();
+            let found = store.history_len() == 3 && kept(&store) == Some(0);
             let taken = takes_two(alloc, &mut store);
-            let is_right = store.history_len() == 5 && store.replies().len() == 2;
-            let moments = store.moments() == [T0, T0 + 1].as_slice();
+            let is_right = store.history_len() == 5 && keeps_two(&store);
             drop(store);
-            found && taken && is_right && moments
+            found && taken && is_right
         }
         Err(error) => {
             drop(error);
@@ -184,10 +200,10 @@ fn is_closed_by<D: Disk>(alloc: Global, store: &mut TriggerStore<D>) -> bool {
 
 // The disk of a store that was closed by a fault.
 fn failed<D: Disk>(alloc: Global, disk: D) -> Option<D> {
-    match TriggerStore::mount(alloc, disk) {
+    match TriggerStore::mount(alloc, disk, Keep::Tables) {
         Ok(mut store) => {
             let closed = is_closed_by(alloc, &mut store);
-            let is_right = closed && store.closed() && store.added().is_empty();
+            let is_right = closed && store.closed() && kept(&store).is_none();
             let disk = store.into_disk();
             if is_right { Some(disk) } else { None }
         }
@@ -199,7 +215,7 @@ fn failed<D: Disk>(alloc: Global, disk: D) -> Option<D> {
 }
 
 fn is_empty<D: Disk>(alloc: Global, disk: D) -> bool {
-    match TriggerStore::mount(alloc, disk) {
+    match TriggerStore::mount(alloc, disk, Keep::Tables) {
         Ok(store) => {
             let length = store.history_len();
             drop(store);

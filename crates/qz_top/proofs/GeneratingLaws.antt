@@ -194,7 +194,7 @@ module _ {D : Type 0} {g : Ghosts D} where
   sums_up t none =
       let T : SchedulerTables = replay (view t).history in
       let new : SchedulerTables = empty (version_of t) in
-      let replied : replies_of t ≡ replies_from new (added_of t) = t.replies ∙ ap (λ (es : List EntryData). replies_from (replay_from new es) (added_of t)) none in
+      let replied : replies_of t ≡ replies_from new (added_of t) = ap (λ (es : List EntryData). replies_from (replay_from new es) (added_of t)) none in
       ap (λ (rs : List Reply). summary_text (summary_of (added_of t) rs T)) replied
       ∙ ap (λ (es : List EntryData). summary_text (summary_of (es ++ added_of t) (replies_from new (es ++ added_of t)) T)) (sym none)
 

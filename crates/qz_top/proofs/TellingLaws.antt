@@ -40,10 +40,10 @@ legal_after T (e ∷ es) fs legal = legal_after (tables_left T (transaction T e)
 
 module _ {D : Type 0} {g : Ghosts D} (t : TriggerStore D g) where
   pub as_many_moments : length (moments_of t) ≡ length (added_of t)
-  as_many_moments = ap length t.moments ∙ moments_length (replay_from (empty (version_of t)) (found_of t)) (added_of t)
+  as_many_moments = moments_length (replay_from (empty (version_of t)) (found_of t)) (added_of t)
 
   pub as_many_replies : length (replies_of t) ≡ length (added_of t)
-  as_many_replies = ap length t.replies ∙ replies_length (replay_from (empty (version_of t)) (found_of t)) (added_of t) (legal_after (empty (version_of t)) (found_of t) (added_of t) (legal t))
+  as_many_replies = replies_length (replay_from (empty (version_of t)) (found_of t)) (added_of t) (legal_after (empty (version_of t)) (found_of t) (added_of t) (legal t))
 
   pub counted_both : length (view t).history.entries ≡ length (found_of t) + length (added_of t)
   counted_both = length-append (found_of t) (added_of t)

@@ -10,7 +10,7 @@ ghost use Rattle.qz_cluster.specs.Steps.{IsStep};
 ghost use Rattle.qz_model.specs.History.{replay};
 ghost use Rattle.qz_run_stores.specs.Ways.{KeepsTriggers};
 ghost use Rattle.qz_trigger_store.specs.Entries.{is_old};
-ghost use Rattle.qz_trigger_store.specs.View.{view, found_of};
+ghost use Rattle.qz_trigger_store.specs.View.{view, found_of, keeps_of};
 ghost use Rattle.qz_trigger_store.specs.declared.stores.TriggerStore.{TriggerStore};
 ghost use Rattle.qz_top.specs.Clients.{IsOfClient};
 ghost use Rattle.qz_top.specs.Generating.{Filled, FillEnded, FilledPart, StepEnded, beside, first_step, after_answer};
@@ -37,6 +37,7 @@ pub(crate) fn fill<D: Disk>(
     ensures ended { IfErr result (λ s. (u : StatesState) → FillEnded D.honest s (generated seed jobs) (beside u (view triggers.old)) (beside u (view triggers.new))) }
     ensures called { IfErr result IsOfNodes }
     ensures found { found_of triggers.new ≡ found_of triggers.old }
+    ensures keeps { keeps_of triggers.new ≡ keeps_of triggers.old }
     ensures current { is_old (replay (view triggers.old).history) ≡ false → is_old (replay (view triggers.new).history) ≡ false }
     ensures grows { length (view triggers.old).history.entries ≤ length (view triggers.new).history.entries }
     ensures any_moment { ∥ KeepsTriggers triggers.old triggers.new ∥₁ }
@@ -56,6 +57,7 @@ fn do_all<D: Disk>(commands: List<Command>, triggers: &mut TriggerStore<D>) -> R
     ensures ended { IfErr result (λ s. (u : StatesState) → FilledPart D.honest s commands (beside u (view triggers.old)) (beside u (view triggers.new))) }
     ensures called { IfErr result IsOfNodes }
     ensures found { found_of triggers.new ≡ found_of triggers.old }
+    ensures keeps { keeps_of triggers.new ≡ keeps_of triggers.old }
     ensures current { is_old (replay (view triggers.old).history) ≡ false → is_old (replay (view triggers.new).history) ≡ false }
     ensures grows { length (view triggers.old).history.entries ≤ length (view triggers.new).history.entries }
     ensures any_moment { ∥ KeepsTriggers triggers.old triggers.new ∥₁ }
@@ -78,6 +80,7 @@ fn do_one<D: Disk>(command: Command, triggers: &mut TriggerStore<D>) -> Result<(
     ensures ended { IfErr result (λ s. (u : StatesState) → StepEnded D.honest s (first_step command) (beside u (view triggers.old)) (beside u (view triggers.new))) }
     ensures called { IfErr result IsOfNodes }
     ensures found { found_of triggers.new ≡ found_of triggers.old }
+    ensures keeps { keeps_of triggers.new ≡ keeps_of triggers.old }
     ensures current { is_old (replay (view triggers.old).history) ≡ false → is_old (replay (view triggers.new).history) ≡ false }
     ensures grows { length (view triggers.old).history.entries ≤ length (view triggers.new).history.entries }
     ensures any_moment { (first : TriggerStore D D.Disk) → length (view first).history.entries ≤ length (view triggers.old).history.entries

@@ -1,15 +1,15 @@
 //! `gen`: jobs and triggers that a number gives, on the empty stores of two disks, and nodes that work on them.
-ghost use Rattle.std.specs.Prelude.{◌≡◌, ◌≢◌, ◌⊎◌, ◌≤◌, [], map, false};
+ghost use Rattle.std.specs.Prelude.{◌≡◌, ◌≢◌, ◌⊎◌, ◌≤◌, [], map, true, false};
 ghost use Rattle.qz_civil.specs.Causes.{Rose};
 ghost use Rattle.qz_io.specs.Around.{output_alone};
 ghost use Rattle.qz_model.specs.History.{replay};
 ghost use Rattle.qz_cluster.specs.Steps.{is_closed};
-ghost use Rattle.qz_cluster.specs.View.{view as cluster_view};
+ghost use Rattle.qz_cluster.specs.View.{view as cluster_view, triggers_of};
 ghost use Rattle.qz_run.specs.Working.{IsPlan};
 ghost use Rattle.qz_run_stores.specs.Going.{TriggersWent, StatesWent};
 ghost use Rattle.qz_run_stores.specs.Ways.{KeepsTriggers, KeepsStates};
 ghost use Rattle.qz_trigger_store.specs.Entries.{is_old};
-ghost use Rattle.qz_trigger_store.specs.View.{view, found_of};
+ghost use Rattle.qz_trigger_store.specs.View.{view, found_of, keeps_of};
 ghost use Rattle.qz_checkin.specs.View.{view as states_view};
 ghost use Rattle.qz_top.specs.Generating.{GeneratedOnDisk, Generates, Generated, RanGenerated, plan_of, summary_line_of};
 ghost use Rattle.qz_top.specs.HandingOn.{HandsOnWritten};
@@ -30,7 +30,7 @@ use qz_generator::FIRST_MOMENT;
 use qz_io::Sink;
 use qz_node::{Job, Jobs};
 use qz_run::Plan;
-use qz_trigger_store::TriggerStore;
+use qz_trigger_store::{Keep, TriggerStore};
 use std::alloc::Global;
 
 /// What `gen` makes: so many jobs with a trigger each, by this seed. The nodes work on them for so many days.
@@ -60,7 +60,7 @@ pub(crate) fn gen_on_disk<K: Sink, D: Disk>(
     ensures write { result.status ≡ Status.WriteFault → Rose (K.faults out.old) (K.faults out.new) }
     ensures handed { HandsOnWritten K.Sink out.old out.new }
 {
-    match open_run(alloc, triggers, states) {
+    match open_run(alloc, triggers, states, Keep::Entries) {
         Ok(run) => gen_opened(workload, out, run, jobs),
         Err(ended) => ended,
     }
@@ -76,6 +76,7 @@ fn gen_opened<K: Sink, D: Disk>(
     requires some { 1 ≤ workload.days }
     requires few { workload.days ≤ 28 }
     requires open { is_closed (cluster_view run.cluster) ≡ false }
+    requires keeps { keeps_of (triggers_of run.cluster) ≡ true }
     ensures done { (triggers : D) → (states : D) → BeginsOn triggers states run
         → GeneratedOnDisk workload (map means jobs.old.items) (map means jobs.new.items) triggers states result (output_alone K.Sink out.old) (output_alone K.Sink out.new) }
     ensures disk { (triggers : D) → (states : D) → BeginsOn triggers states run
@@ -112,6 +113,7 @@ fn generate<K: Sink, D: Disk>(
     requires some { 1 ≤ workload.now.days }
     requires few { workload.now.days ≤ 28 }
     requires open { is_closed (both triggers states) ≡ false }
+    requires keeps { keeps_of triggers ≡ true }
     ensures did { Generated D.honest workload.now result.status (map means jobs.old.items) (map means jobs.new.items) (both triggers states) (both result.triggers result.states) (output_alone K.Sink out.old) (output_alone K.Sink out.new) }
     ensures disk { result.status ≡ Status.DiskFault → Rose (view triggers).faults (view result.triggers).faults ⊎ Rose (states_view states).faults (states_view result.states).faults }
     ensures any_moment { ∥ KeepsTriggers triggers result.triggers ∥₁ × ∥ KeepsStates states result.states ∥₁ }
@@ -156,6 +158,7 @@ fn work_and_sum<K: Sink, D: Disk>(
     requires some { 1 ≤ days }
     requires few { days ≤ 28 }
     requires current { is_old (replay (view triggers).history) ≡ false }
+    requires keeps { keeps_of triggers ≡ true }
     ensures worked { (work : WorkStatus) × IsToldAs result.status work × Worked (plan_of days) work (map means jobs.old.items) (map means jobs.new.items) (both triggers states) (both result.triggers result.states) }
     ensures written { found_of triggers ≡ [] → WritesRun result.status (summary_line_of (view result.triggers).history) (output_alone K.Sink out.old) (output_alone K.Sink out.new) }
     ensures went { TriggersWent triggers result.triggers × StatesWent states result.states }

@@ -17,6 +17,7 @@ use qz_cluster::Cluster;
 use qz_disk::{Disk, MemDisk};
 use qz_io::{Clock, Sink, Source};
 use qz_journal::{STATES, TRIGGERS, create};
+use qz_trigger_store::Keep;
 use std::alloc::Global;
 use std::snapshot::Snapshot;
 
@@ -98,7 +99,7 @@ fn new_stores(alloc: Global) -> Option<Cluster<MemDisk>>
 {
     let triggers = new_store(alloc, TRIGGERS)?;
     let states = new_store(alloc, STATES)?;
-    match Cluster::mount(alloc, triggers, states) {
+    match Cluster::mount(alloc, triggers, states, Keep::Tables) {
         Ok(cluster) => Some(cluster),
         Err(refused) => {
             drop(refused);

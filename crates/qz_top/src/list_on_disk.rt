@@ -17,6 +17,7 @@ use crate::writing::write_text;
 use qz_disk::Disk;
 use qz_io::Sink;
 use qz_listing::list_lines;
+use qz_trigger_store::Keep;
 use std::alloc::Global;
 
 /// Opens both stores, and writes a line for each row of theirs.
@@ -32,7 +33,7 @@ pub(crate) fn list_on_disk<K: Sink, D: Disk>(
     ensures write { result.status ≡ Status.WriteFault → Rose (K.faults out.old) (K.faults out.new) }
     ensures handed { HandsOnWritten K.Sink out.old out.new }
 {
-    match open_run(alloc, triggers, states) {
+    match open_run(alloc, triggers, states, Keep::Tables) {
         Ok(run) => list_opened(out, run),
         Err(ended) => ended,
     }

@@ -21,6 +21,7 @@ use crate::writing::hand_on;
 use qz_disk::Disk;
 use qz_document::Document;
 use qz_io::{Clock, Sink, Source};
+use qz_trigger_store::Keep;
 use std::alloc::Global;
 
 /// Opens both stores, and does the commands of the document on the input.
@@ -38,7 +39,7 @@ pub(crate) fn load_on_disk<S: Source, K: Sink, D: Disk, C: Clock>(
     ensures write { result.status ≡ Status.WriteFault → Rose (K.faults out.old) (K.faults out.new) }
     ensures handed { HandsOnWritten K.Sink out.old out.new }
 {
-    match open_run(alloc, triggers, states) {
+    match open_run(alloc, triggers, states, Keep::Tables) {
         Ok(run) => load_opened(input, out, run, clock),
         Err(ended) => ended,
     }

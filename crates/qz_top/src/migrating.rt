@@ -14,7 +14,7 @@ use crate::writing::write_text;
 use qz_cluster::MountFault;
 use qz_disk::Disk;
 use qz_io::{Clock, Sink};
-use qz_trigger_store::TriggerStore;
+use qz_trigger_store::{Keep, TriggerStore};
 use qz_types::{Actor, Command, Entry, Reply, Store, SubmitError};
 use std::alloc::Global;
 
@@ -33,7 +33,7 @@ pub(crate) fn migrate<K: Sink, D: Disk, C: Clock>(
     ensures write { result.status ≡ Status.WriteFault → Rose (K.faults out.old) (K.faults out.new) }
     ensures handed { HandsOnWritten K.Sink out.old out.new }
 {
-    match TriggerStore::mount(alloc, triggers) {
+    match TriggerStore::mount(alloc, triggers, Keep::Tables) {
         Ok(mut store) => {
             let status = upgrade(&mut store, out, clock);
             ran_no_script(alloc, status, store.into_disk(), states)

@@ -14,6 +14,7 @@ use crate::runs::Run;
 use crate::scripts::run_lines;
 use qz_disk::Disk;
 use qz_io::{Clock, Sink, Source};
+use qz_trigger_store::Keep;
 use std::alloc::Global;
 
 /// Opens both stores, and runs the lines of the input on them.
@@ -31,7 +32,7 @@ pub(crate) fn script_on_disk<S: Source, K: Sink, D: Disk, C: Clock>(
     ensures write { result.status ≡ Status.WriteFault → Rose (K.faults out.old) (K.faults out.new) }
     ensures handed { HandsOnWritten K.Sink out.old out.new }
 {
-    match open_run(alloc, triggers, states) {
+    match open_run(alloc, triggers, states, Keep::Tables) {
         Ok(run) => run_opened(input, out, run, clock),
         Err(ended) => ended,
     }

@@ -2,7 +2,8 @@
 ghost use Rattle.std.specs.Prelude.{◌≡◌, ◌≢◌, ◌⊎◌, IfOk, IfErr};
 ghost use Rattle.qz_civil.specs.Causes.{Rose};
 ghost use Rattle.qz_io.specs.Outside.{Outside};
-ghost use Rattle.qz_cluster.specs.View.{disk_of_triggers, disk_of_states};
+ghost use Rattle.qz_cluster.specs.View.{triggers_of, disk_of_triggers, disk_of_states};
+ghost use Rattle.qz_trigger_store.specs.View.{keeps_of, keeps_entries};
 ghost use Rattle.qz_top.specs.Calls.{NotOpened, refusal_of, trail_of};
 ghost use Rattle.qz_top.specs.Moments.{BeginsOn};
 ghost use Rattle.qz_top.specs.Seen.{states_in};
@@ -12,17 +13,25 @@ use crate::ended::{Ended, Trail, ran_no_script};
 use crate::runs::Run;
 use qz_cluster::{Cluster, MountError, MountFault};
 use qz_disk::Disk;
+use qz_trigger_store::Keep;
 use std::alloc::Global;
 use std::snapshot::Snapshot;
 
-/// Opens both stores, the trigger store first. Where one isn't opened, or there is no memory, the call has ended.
-pub(crate) fn open_run<D: Disk>(alloc: Global, triggers: D, states: D) -> Result<Run<D>, Ended<D>>
+/// Opens both stores, the trigger store first; what that one keeps in memory is said by `keep`. Where one isn't opened, or
+/// there is no memory, the call has ended.
+pub(crate) fn open_run<D: Disk>(
+    alloc: Global,
+    triggers: D,
+    states: D,
+    keep: Keep,
+) -> Result<Run<D>, Ended<D>>
     ensures ok { IfOk result (λ run. BeginsOn triggers states run) }
+    ensures keeps { IfOk result (λ run. keeps_of (triggers_of run.cluster) ≡ keeps_entries keep) }
     ensures err { IfErr result (λ ended. (o : Outside) → NotOpened triggers states ended o o) }
     ensures other { IfErr result (λ ended. (ended.status ≢ Status.ReadFault) × (ended.status ≢ Status.WriteFault)) }
     ensures disk { IfErr result (λ ended. ended.status ≡ Status.DiskFault → Rose (D.faults triggers) (D.faults ended.triggers) ⊎ Rose (D.faults states) (D.faults ended.states)) }
 {
-    match Cluster::mount(alloc, triggers, states) {
+    match Cluster::mount(alloc, triggers, states, keep) {
         Ok(cluster) => match Run::begin(alloc, cluster, false) {
             Ok(run) => Ok(run),
             Err(cluster) => {

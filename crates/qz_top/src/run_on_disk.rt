@@ -1,12 +1,13 @@
 //! `run`: nodes work on the stores of two disks, on a virtual clock.
-ghost use Rattle.std.specs.Prelude.{◌≡◌, ◌≢◌, ◌⊎◌, map, false};
+ghost use Rattle.std.specs.Prelude.{◌≡◌, ◌≢◌, ◌⊎◌, map, true, false};
 ghost use Rattle.qz_civil.specs.Causes.{Rose};
+ghost use Rattle.qz_cluster.specs.View.{triggers_of};
 ghost use Rattle.qz_io.specs.Around.{output_alone};
 ghost use Rattle.qz_model.specs.History.{replay};
 ghost use Rattle.qz_run.specs.Working.{IsPlan};
 ghost use Rattle.qz_run_stores.specs.Going.{TriggersWent, StatesWent};
 ghost use Rattle.qz_trigger_store.specs.Entries.{is_old};
-ghost use Rattle.qz_trigger_store.specs.View.{view};
+ghost use Rattle.qz_trigger_store.specs.View.{view, keeps_of};
 ghost use Rattle.qz_top.specs.HandingOn.{HandsOnWritten};
 ghost use Rattle.qz_top.specs.Moments.{BeginsOn};
 ghost use Rattle.qz_top.specs.NodeRuns.{both, status_of, IsOfNodes, Worked, RanOpened, RanNodes};
@@ -23,7 +24,7 @@ use qz_io::Sink;
 use qz_node::{Job, Jobs};
 use qz_run::{Declined, Plan};
 use qz_run_stores::RunStores;
-use qz_trigger_store::TriggerStore;
+use qz_trigger_store::{Keep, TriggerStore};
 use std::alloc::Global;
 
 /// How the nodes' work ended, and the stores as it left them.
@@ -50,7 +51,7 @@ pub(crate) fn run_on_disk<K: Sink, D: Disk>(
     ensures write { result.status ≡ Status.WriteFault → Rose (K.faults out.old) (K.faults out.new) }
     ensures handed { HandsOnWritten K.Sink out.old out.new }
 {
-    match open_run(alloc, triggers, states) {
+    match open_run(alloc, triggers, states, Keep::Entries) {
         Ok(run) => run_opened(plan, out, run, jobs),
         Err(ended) => ended,
     }
@@ -58,7 +59,8 @@ pub(crate) fn run_on_disk<K: Sink, D: Disk>(
 
 // The work on the stores that were opened. An old trigger store is left as it is.
 fn run_opened<K: Sink, D: Disk>(plan: Plan, out: &mut K, run: Run<D>, jobs: &mut Jobs) -> Ended<D>
-    requires { IsPlan plan }
+    requires plan { IsPlan plan }
+    requires keeps { keeps_of (triggers_of run.cluster) ≡ true }
     ensures done { (triggers : D) → (states : D) → BeginsOn triggers states run
         → RanOpened plan (map means jobs.old.items) (map means jobs.new.items) triggers states result (output_alone K.Sink out.old) (output_alone K.Sink out.new) }
     ensures disk { (triggers : D) → (states : D) → BeginsOn triggers states run

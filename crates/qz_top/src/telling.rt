@@ -1,11 +1,11 @@
 //! What a run tells: the lines of what it added to the trigger store's history, and the line that sums it up.
-ghost use Rattle.std.specs.Prelude.{◌≡◌, ◌⊎◌, ◌≤◌, ◌<◌, ◌+◌, ◌^◌, ◌++◌, IfOk, length};
+ghost use Rattle.std.specs.Prelude.{◌≡◌, ◌⊎◌, ◌≤◌, ◌<◌, ◌+◌, ◌^◌, ◌++◌, IfOk, length, true};
 ghost use Rattle.qz_civil.specs.Causes.{Rose};
 ghost use Rattle.qz_io.specs.Around.{output_alone};
 ghost use Rattle.qz_model.specs.History.{replay};
 ghost use Rattle.qz_report.specs.Summaries as summaries;
 ghost use Rattle.qz_trigger_store.specs.Entries.{history_of};
-ghost use Rattle.qz_trigger_store.specs.View.{view, version_of, found_of, added_of, replies_of};
+ghost use Rattle.qz_trigger_store.specs.View.{view, version_of, found_of, added_of, moments_of, replies_of, keeps_of};
 ghost use Rattle.qz_top.specs.HandingOn.{HandsOnAll, HandsOnWritten};
 ghost use Rattle.qz_top.specs.NodeRuns.{IsOfNodes, WritesRun, lines_since, text_since};
 
@@ -27,7 +27,8 @@ pub(crate) fn tell_run<K: Sink, D: Disk>(
     status: Status,
     out: &mut K,
 ) -> Status
-    requires { IsOfNodes status }
+    requires status { IsOfNodes status }
+    requires keeps { keeps_of triggers.now ≡ true }
     ensures written { WritesRun result (text_since (history_of (version_of triggers.now) (found_of triggers.now)) (replay (view triggers.now).history) (added_of triggers.now)) (output_alone K.Sink out.old) (output_alone K.Sink out.new) }
     ensures status { (result ≡ status) ⊎ (result ≡ Status.WriteFault) ⊎ (result ≡ Status.NoMemory) }
     ensures write { result ≡ Status.WriteFault → Rose (K.faults out.old) (K.faults out.new) }
@@ -47,7 +48,8 @@ pub(crate) fn tell_summary<K: Sink, D: Disk>(
     status: Status,
     out: &mut K,
 ) -> Status
-    requires { IsOfNodes status }
+    requires status { IsOfNodes status }
+    requires keeps { keeps_of triggers.now ≡ true }
     ensures written { WritesRun result (summaries.summary_text (summaries.summary_of (added_of triggers.now) (replies_of triggers.now) (replay (view triggers.now).history))) (output_alone K.Sink out.old) (output_alone K.Sink out.new) }
     ensures status { (result ≡ status) ⊎ (result ≡ Status.WriteFault) ⊎ (result ≡ Status.NoMemory) }
     ensures write { result ≡ Status.WriteFault → Rose (K.faults out.old) (K.faults out.new) }
@@ -76,6 +78,7 @@ fn tell<K: Sink>(out: &mut K, text: &str, status: Status) -> Status
 
 // The lines and the summary line.
 fn text_of<D: Disk>(alloc: Global, triggers: &TriggerStore<D>) -> Result<Text, NoMemory>
+    requires { keeps_of triggers.now ≡ true }
     ensures { IfOk result (λ text. text ≡ text_since (history_of (version_of triggers.now) (found_of triggers.now)) (replay (view triggers.now).history) (added_of triggers.now)) }
 {
     let lines = lines_of(alloc, triggers)?;
@@ -85,9 +88,10 @@ fn text_of<D: Disk>(alloc: Global, triggers: &TriggerStore<D>) -> Result<Text, N
 
 // The lines of what the store accepted since it was opened. A number past 64 bits would want more memory than there is.
 fn lines_of<D: Disk>(alloc: Global, triggers: &TriggerStore<D>) -> Result<Text, NoMemory>
+    requires { keeps_of triggers.now ≡ true }
     ensures { IfOk result (λ text. text ≡ lines_since (history_of (version_of triggers.now) (found_of triggers.now)) (added_of triggers.now)) }
 {
-    let added = triggers.added();
+    let added = kept_entries(triggers);
     let before = triggers.history_len() - added.len() as u64;
     if triggers.history_len() >= u64::MAX - 1 {
         return Err(NoMemory);
@@ -95,17 +99,18 @@ fn lines_of<D: Disk>(alloc: Global, triggers: &TriggerStore<D>) -> Result<Text, 
     history_lines(
         alloc,
         added,
-        triggers.moments(),
-        triggers.replies(),
+        kept_moments(triggers),
+        kept_replies(triggers),
         before + 1,
     )
 }
 
 // What the store accepted since it was opened comes to.
 fn summary_of<D: Disk>(triggers: &TriggerStore<D>) -> Summary
+    requires { keeps_of triggers.now ≡ true }
     ensures { result ≡ summaries.summary_of (added_of triggers.now) (replies_of triggers.now) (replay (view triggers.now).history) }
 {
-    let counts = counts_of(triggers.added(), triggers.replies());
+    let counts = counts_of(kept_entries(triggers), kept_replies(triggers));
     let tables = triggers.tables();
     Summary {
         fired: counts.fired,
@@ -114,6 +119,39 @@ fn summary_of<D: Disk>(triggers: &TriggerStore<D>) -> Summary
         jobs: tables.len_jobs() as u64,
         triggers: tables.len_triggers() as u64,
         at: tables.last_moment(),
+    }
+}
+
+// The entries that the store accepted since it was opened.
+fn kept_entries<D: Disk>(triggers: &TriggerStore<D>) -> &[Entry]
+    requires { keeps_of triggers.now ≡ true }
+    ensures { result.now ≡ added_of triggers.now }
+{
+    match triggers.accepted() {
+        Some(accepted) => accepted.entries(),
+        None => unreachable!(),
+    }
+}
+
+// Their recorded moments.
+fn kept_moments<D: Disk>(triggers: &TriggerStore<D>) -> &[i64]
+    requires { keeps_of triggers.now ≡ true }
+    ensures { result.now ≡ moments_of triggers.now }
+{
+    match triggers.accepted() {
+        Some(accepted) => accepted.moments(),
+        None => unreachable!(),
+    }
+}
+
+// The replies to them.
+fn kept_replies<D: Disk>(triggers: &TriggerStore<D>) -> &[Reply]
+    requires { keeps_of triggers.now ≡ true }
+    ensures { result.now ≡ replies_of triggers.now }
+{
+    match triggers.accepted() {
+        Some(accepted) => accepted.replies(),
+        None => unreachable!(),
     }
 }
 

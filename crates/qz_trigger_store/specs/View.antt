@@ -1,13 +1,16 @@
 -- What is seen of a trigger store, and of its disk.
-use Rattle.std.specs.Prelude.{◌≡◌, ℕ, ℤ, List}
+use Rattle.std.specs.Prelude.{◌≡◌, ℕ, ℤ, List, Bool, true, false, is_some}
 use Rattle.qz_disk.specs.declared.disk.Disk.{Ghosts}
 use Rattle.qz_disk.specs.Disk.{DiskState, LeavesOnly}
 use Rattle.qz_types.specs.Entries.{EntryData}
 use Rattle.qz_types.specs.declared.replies.Reply.{Reply}
-use Rattle.qz_types.specs.Tables.{SchedulerTables}
+use Rattle.qz_types.specs.Tables.{SchedulerTables, empty}
+use Rattle.qz_model.specs.History.{replay_from, replies_from, moments_from}
 use Rattle.qz_stores.specs.View as store
 use Rattle.qz_trigger_store.specs.Entries.{TriggerState}
 use Rattle.qz_trigger_store.specs.Kinds.{trigger_kind}
+use Rattle.qz_trigger_store.specs.declared.accepted.Keep.{Keep}
+use Rattle.qz_trigger_store.specs.declared.accepted.Keep.TheVariants as keep
 use Rattle.qz_trigger_store.specs.declared.stores.TriggerStore.{TriggerStore}
 
 -- the version of the format that its history began in
@@ -23,10 +26,19 @@ abbrev pub added_of : {D : Type 0} {g : Ghosts D} → TriggerStore D g → List 
 added_of s = store.added_of s.store
 
 abbrev pub moments_of : {D : Type 0} {g : Ghosts D} → TriggerStore D g → List ℤ
-moments_of s = s.accepted.moments.items
+moments_of s = moments_from (replay_from (empty (version_of s)) (found_of s)) (added_of s)
 
 abbrev pub replies_of : {D : Type 0} {g : Ghosts D} → TriggerStore D g → List Reply
-replies_of s = s.accepted.replies.items
+replies_of s = replies_from (replay_from (empty (version_of s)) (found_of s)) (added_of s)
+
+-- the store keeps them in memory
+abbrev pub keeps_of : {D : Type 0} {g : Ghosts D} → TriggerStore D g → Bool
+keeps_of s = is_some s.accepted
+
+-- a store that keeps this does
+abbrev pub keeps_entries : Keep → Bool
+keeps_entries keep.Tables = false
+keeps_entries keep.Entries = true
 
 -- the tables that they leave
 abbrev pub tables_of : {D : Type 0} {g : Ghosts D} → TriggerStore D g → SchedulerTables
@@ -54,4 +66,4 @@ LeavesEither s t = LeavesOnly (disk_state s) (disk_state t) (IsOfEither (view s)
 
 -- Nothing of the store, of what it keeps and of its disk has changed, whatever room it has.
 abbrev pub IsAsBefore : {D : Type 0} {g : Ghosts D} → TriggerStore D g → TriggerStore D g → Type 0
-IsAsBefore s t = store.IsAsBefore s.store t.store × (moments_of t ≡ moments_of s) × (replies_of t ≡ replies_of s)
+IsAsBefore s t = store.IsAsBefore s.store t.store × (keeps_of t ≡ keeps_of s)

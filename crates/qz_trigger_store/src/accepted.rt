@@ -6,9 +6,18 @@ use qz_civil::ListWithRoom;
 use qz_types::{Entry, NoMemory, Reply};
 use std::alloc::Global;
 
-/// The entries, and the recorded moment and the reply of each.
+/// What an open store keeps in memory.
+#[derive(Clone, Copy)]
+pub enum Keep {
+    /// Its tables alone.
+    Tables,
+    /// Its tables, and each entry that it accepts, with its recorded moment and its reply. So memory grows with each entry.
+    Entries,
+}
+
+/// The entries that a store accepted since its mount, and the recorded moment and the reply of each.
 #[derive(Drop)]
-pub(crate) struct Accepted {
+pub struct Accepted {
     pub(crate) entries: ListWithRoom<Entry>,
     pub(crate) moments: ListWithRoom<i64>,
     pub(crate) replies: ListWithRoom<Reply>,
@@ -23,6 +32,27 @@ impl Accepted {
             moments: ListWithRoom::new(alloc),
             replies: ListWithRoom::new(alloc),
         }
+    }
+
+    /// The entries, in order.
+    pub fn entries(&self) -> &[Entry]
+        ensures { result.now ≡ self.now.entries.items }
+    {
+        self.entries.as_slice()
+    }
+
+    /// Their recorded moments, in ms since 1970-01-01T00:00:00Z.
+    pub fn moments(&self) -> &[i64]
+        ensures { result.now ≡ self.now.moments.items }
+    {
+        self.moments.as_slice()
+    }
+
+    /// The replies to them.
+    pub fn replies(&self) -> &[Reply]
+        ensures { result.now ≡ self.now.replies.items }
+    {
+        self.replies.as_slice()
     }
 
     /// Makes room for one more.

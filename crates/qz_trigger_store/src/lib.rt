@@ -11,6 +11,7 @@ mod stores;
 mod submitting;
 mod triggers;
 
+pub use accepted::{Accepted, Keep};
 pub use kinds::Reread;
 pub use laws::{
     old_stores_fire_until_2099, restarting_keeps_stores_sound, submitting_keeps_stores_sound,

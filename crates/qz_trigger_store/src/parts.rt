@@ -1,18 +1,16 @@
 //! What a store shows of itself.
-ghost use Rattle.std.specs.Prelude.{◌≡◌, length, not, is_some};
-ghost use Rattle.std.specs.Prelude.{true};
+ghost use Rattle.std.specs.Prelude.{◌≡◌, true, length, not, is_some, IfSome};
 ghost use Rattle.qz_journal.specs.Layout.{is_version};
-ghost use Rattle.qz_types.specs.Tables.{empty};
 ghost use Rattle.qz_types.specs.Words.{member_of};
-ghost use Rattle.qz_model.specs.History.{replay, replay_from, replies_from, moments_from};
+ghost use Rattle.qz_model.specs.History.{replay};
 ghost use Rattle.qz_model.specs.Invariant.{TablesValid};
 ghost use Rattle.qz_trigger_store.specs.Entries.{is_old};
-ghost use Rattle.qz_trigger_store.specs.View.{view, version_of, found_of, added_of, moments_of, replies_of, tables_of, disk_of};
+ghost use Rattle.qz_trigger_store.specs.View.{view, version_of, added_of, moments_of, replies_of, keeps_of, tables_of, disk_of};
 
-use crate::TriggerStore;
+use crate::{Accepted, TriggerStore};
 use qz_disk::Disk;
 use qz_tables::Tables;
-use qz_types::{Entry, Reply, Text};
+use qz_types::Text;
 
 impl<D: Disk> TriggerStore<D> {
     /// The version of the format that the store's header has: 1 or 2. A store of version 1 stays one when it is upgraded.
@@ -61,27 +59,14 @@ impl<D: Disk> TriggerStore<D> {
         self.store.state().tables.tables()
     }
 
-    /// The entries accepted since the mount, in order.
-    pub fn added(&self) -> &[Entry]
-        ensures { result.now ≡ added_of self.now }
+    /// The entries that were accepted since the mount, if the store keeps them.
+    pub fn accepted(&self) -> Option<&Accepted>
+        ensures keeps { is_some result ≡ keeps_of self.now }
+        ensures entries { IfSome result (λ a. a.now.entries.items ≡ added_of self.now) }
+        ensures moments { IfSome result (λ a. a.now.moments.items ≡ moments_of self.now) }
+        ensures replies { IfSome result (λ a. a.now.replies.items ≡ replies_of self.now) }
     {
-        self.accepted.entries.as_slice()
-    }
-
-    /// The recorded moments of the entries accepted since the mount, in ms since 1970-01-01T00:00:00Z.
-    pub fn moments(&self) -> &[i64]
-        ensures kept { result.now ≡ moments_of self.now }
-        ensures value { result.now ≡ moments_from (replay_from (empty (version_of self.now)) (found_of self.now)) (added_of self.now) }
-    {
-        self.accepted.moments.as_slice()
-    }
-
-    /// The replies to the entries accepted since the mount.
-    pub fn replies(&self) -> &[Reply]
-        ensures kept { result.now ≡ replies_of self.now }
-        ensures value { result.now ≡ replies_from (replay_from (empty (version_of self.now)) (found_of self.now)) (added_of self.now) }
-    {
-        self.accepted.replies.as_slice()
+        self.accepted.as_ref()
     }
 
     /// Gives the disk back.

@@ -9,10 +9,9 @@ ghost use Rattle.qz_stores.specs.Stores.{Shuts, IsDecided, Opens};
 ghost use Rattle.qz_trigger_store.specs.Bytes.{Stands};
 ghost use Rattle.qz_trigger_store.specs.Entries.{trigger_entry};
 ghost use Rattle.qz_trigger_store.specs.Opening.{IsOpened};
-ghost use Rattle.qz_trigger_store.specs.View.{view, version_of, found_of, added_of, disk_of, disk_state, LeavesEither};
+ghost use Rattle.qz_trigger_store.specs.View.{view, version_of, found_of, added_of, keeps_of, disk_of, disk_state, LeavesEither};
 
-use crate::accepted::Accepted;
-use crate::{Reread, TriggerStore};
+use crate::{Accepted, Reread, TriggerStore};
 use qz_civil::Failed;
 use qz_disk::Disk;
 use qz_journal::MountError;
@@ -23,7 +22,7 @@ impl<D: Disk> TriggerStore<D> {
     pub fn crash(&mut self) -> Result<(), Failed>
         ensures shut { Shuts (view self.old) (view self.new) }
         ensures version { version_of self.new ≡ version_of self.old }
-        ensures kept { (found_of self.new ≡ found_of self.old) × (added_of self.new ≡ added_of self.old) }
+        ensures kept { (found_of self.new ≡ found_of self.old) × (added_of self.new ≡ added_of self.old) × (keeps_of self.new ≡ keeps_of self.old) }
         ensures cause { HasCause (view self.old).faults (view self.new).faults result }
         ensures restarts { D.honest → Restarts result (disk_state self.old) (disk_state self.new) }
         ensures any_moment { D.honest → LeavesEither self.old self.new }
@@ -38,7 +37,7 @@ impl<D: Disk> TriggerStore<D> {
     pub fn reread(&mut self) -> Result<Reread, MountError>
         ensures shut { Shuts (view self.old) (view self.new) }
         ensures version { version_of self.new ≡ version_of self.old }
-        ensures kept { (found_of self.new ≡ found_of self.old) × (added_of self.new ≡ added_of self.old) }
+        ensures kept { (found_of self.new ≡ found_of self.old) × (added_of self.new ≡ added_of self.old) × (keeps_of self.new ≡ keeps_of self.old) }
         ensures read { IfOk result (λ reread. IsReread reread self.new.store) }
         ensures decided { D.honest → IfOk result (λ reread. IsDecided trigger_entry (view self.old).history (view self.old).undecided (history_read reread)) }
         ensures stands { D.honest → IfOk result (λ reread. Stands (disk_state self.old).content (history_read reread)) }
@@ -51,7 +50,7 @@ impl<D: Disk> TriggerStore<D> {
     }
 
     /// Opens the store with what `reread` found. It makes no device call and can't fail. What was accepted before is
-    /// counted as found: `added`, `moments` and `replies` begin anew.
+    /// counted as found: where the store keeps what it accepts, that begins anew.
     pub fn open(&mut self, reread: Reread)
         requires read { IsReread reread self.old.store }
         ensures opens { Opens trigger_entry D.honest (view self.old) (view self.new) }
@@ -59,11 +58,14 @@ impl<D: Disk> TriggerStore<D> {
         ensures history { (view self.new).history ≡ history_read reread }
         ensures found { found_of self.new ≡ read_of reread }
         ensures nothing_added { added_of self.new ≡ [] }
+        ensures keeps { keeps_of self.new ≡ keeps_of self.old }
         ensures stands { D.honest → Stands (disk_state self.new).content (view self.new).history }
         ensures disk { disk_of self.new ≡ disk_of self.old }
         ensures any_moment { D.honest → LeavesEither self.old self.new }
     {
         self.store.open(reread);
-        self.accepted = Accepted::new(self.alloc);
+        if self.accepted.is_some() {
+            self.accepted = Some(Accepted::new(self.alloc));
+        }
     }
 }

@@ -1,8 +1,9 @@
 //! An open trigger store.
-ghost use Rattle.std.specs.Prelude.{◌≡◌};
+ghost use Rattle.std.specs.Prelude.{◌≡◌, Some};
 ghost use Rattle.qz_types.specs.Tables.{empty};
 ghost use Rattle.qz_model.specs.History.{replay_from, replies_from, moments_from};
 ghost use Rattle.qz_stores.specs.View.{version_of, found_of, added_of};
+ghost use Rattle.qz_trigger_store.specs.declared.accepted.Accepted.{Accepted as AcceptedData};
 
 use crate::accepted::Accepted;
 use crate::triggers::Triggers;
@@ -12,13 +13,14 @@ use std::alloc::Global;
 
 /// A trigger store on a disk. Its history is a list of entries from a new store on, of the version that the header of the
 /// disk has; each was accepted at the tables that those before it left. The disk holds their records; the store keeps the
-/// tables after the last, and of the entries those that it accepted itself.
+/// tables after the last, and where it was opened so also the entries that it accepted itself.
 #[derive(Drop)]
 pub struct TriggerStore<D: Disk> {
     pub(crate) alloc: Global,
     pub(crate) store: Store<D, Triggers>,
-    pub(crate) accepted: Accepted,
-    ghost entries: { accepted.entries.items ≡ added_of store },
-    ghost moments: { accepted.moments.items ≡ moments_from (replay_from (empty (version_of store)) (found_of store)) (added_of store) },
-    ghost replies: { accepted.replies.items ≡ replies_from (replay_from (empty (version_of store)) (found_of store)) (added_of store) },
+    // what it accepted, where that is kept
+    pub(crate) accepted: Option<Accepted>,
+    ghost entries: { (a : AcceptedData) → accepted ≡ Some a → a.entries.items ≡ added_of store },
+    ghost moments: { (a : AcceptedData) → accepted ≡ Some a → a.moments.items ≡ moments_from (replay_from (empty (version_of store)) (found_of store)) (added_of store) },
+    ghost replies: { (a : AcceptedData) → accepted ≡ Some a → a.replies.items ≡ replies_from (replay_from (empty (version_of store)) (found_of store)) (added_of store) },
 }

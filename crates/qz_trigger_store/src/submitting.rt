@@ -1,22 +1,21 @@
 //! One entry more.
-ghost use Rattle.std.specs.Prelude.{◌≡◌, ◌≢◌, ◌++◌, ◌∷◌, [], length, IsTrue, IsOk, IfOk, OnOk, OnErr, IfErr, Err, None, true};
+ghost use Rattle.std.specs.Prelude.{◌≡◌, ◌≢◌, ◌++◌, ◌∷◌, [], length, IsTrue, IsOk, IfOk, OnOk, OnErr, IfErr, IfSome, Err, None, true, is_some};
 ghost use Rattle.qz_codec.specs.Layout.{record_of};
 ghost use Rattle.qz_journal.specs.Layout.{IsPayload};
 ghost use Rattle.qz_types.specs.Entries.{is_entry};
 ghost use Rattle.qz_types.specs.Outcomes.{IsAccepted};
-ghost use Rattle.qz_types.specs.Tables.{recorded_moment};
 ghost use Rattle.qz_model.specs.Transaction.{transaction};
 ghost use Rattle.qz_model.specs.Upgrading.{version_refusal};
 ghost use Rattle.qz_schedule_law.specs.Following.{FollowsSchedules};
 ghost use Rattle.qz_plain.specs.Prepared.{Prepares};
-ghost use Rattle.qz_plain.specs.Replies.{CopiesReply};
+ghost use Rattle.qz_plain.specs.Replies.{CopiesReply, IsCopyOf};
 ghost use Rattle.qz_stores.specs.Stores.{HasRoom, Submits};
 ghost use Rattle.qz_stores.specs.View.{kept_of};
-ghost use Rattle.qz_trigger_store.specs.Accepted.{HasRoomForOne};
+ghost use Rattle.qz_trigger_store.specs.Accepted.{HasRoomForOne, IsKept};
 ghost use Rattle.qz_trigger_store.specs.Entries.{IsRecordOf, trigger_entry};
-ghost use Rattle.qz_trigger_store.specs.View.{view, version_of, found_of, added_of, moments_of, replies_of, tables_of, IsAsBefore, LeavesEither};
+ghost use Rattle.qz_trigger_store.specs.View.{view, version_of, found_of, added_of, keeps_of, tables_of, IsAsBefore, LeavesEither};
 
-use crate::TriggerStore;
+use crate::{Accepted, TriggerStore};
 use qz_disk::Disk;
 use qz_plain::{Prepared, same_reply};
 use qz_stores::Ready;
@@ -26,7 +25,7 @@ use qz_types::{Entry, NoMemory, Reply, SubmitError};
 #[derive(Drop)]
 struct Whole {
     ready: Ready<Prepared>,
-    // the reply once more, to be kept, if it takes memory
+    // the reply once more, if it is kept and takes memory
     copy: Option<Reply>,
 }
 
@@ -43,8 +42,7 @@ impl<D: Disk> TriggerStore<D> {
         ensures version { version_of self.new ≡ version_of self.old }
         ensures found { found_of self.new ≡ found_of self.old }
         ensures entries { OnOk result (added_of self.new ≡ added_of self.old ++ entry ∷ []) }
-        ensures moments { OnOk result (moments_of self.new ≡ moments_of self.old ++ recorded_moment (tables_of self.old) entry.at ∷ []) }
-        ensures replies { IfOk result (λ reply. replies_of self.new ≡ replies_of self.old ++ reply ∷ []) }
+        ensures keeps { keeps_of self.new ≡ keeps_of self.old }
         ensures recorded { OnOk result (IsRecordOf (record_of entry) entry) }
         ensures any_moment { D.honest → LeavesEither self.old self.new }
         // Triggers that weren't disturbed have fired for the first times of their schedules.
@@ -76,11 +74,11 @@ impl<D: Disk> TriggerStore<D> {
         ensures prepared { IfOk result (λ w. Prepares (kept_of self.new.store).tables entry.now w.ready.change) }
         ensures current { OnOk result (version_refusal (tables_of self.old) entry.now.command ≡ None) }
         ensures accepted { OnOk result (IsAccepted (transaction (tables_of self.old) entry.now)) }
-        ensures copy { IfOk result (λ w. CopiesReply w.copy (transaction (tables_of self.old) entry.now)) }
+        ensures copy { IfOk result (λ w. keeps_of self.old ≡ true → CopiesReply w.copy (transaction (tables_of self.old) entry.now)) }
         ensures record { IfOk result (λ w. (w.ready.record ≡ record_of entry.now) × IsPayload w.ready.record) }
         ensures recorded { OnOk result (IsRecordOf (record_of entry.now) entry.now) }
         ensures fits { IfOk result (λ w. HasRoom (length w.ready.record) (view self.old)) }
-        ensures room { OnOk result (HasRoomForOne self.new.accepted) }
+        ensures room { OnOk result (IfSome self.new.accepted HasRoomForOne) }
         ensures err { IfErr result (λ e. Submits trigger_entry entry.now (Err e) (view self.old) (view self.old)) }
         ensures same { IsAsBefore self.old self.new }
     {
@@ -94,17 +92,20 @@ impl<D: Disk> TriggerStore<D> {
         }
     }
 
-    // The reply of an entry that would be accepted once more, and room for all that is kept of it.
+    // Where the store keeps what it accepts: the reply of an entry that would be accepted once more, and room for all that
+    // is kept of it.
     fn copy(&mut self, entry: &Entry, ready: &Ready<Prepared>) -> Result<Option<Reply>, NoMemory>
         requires { Prepares (kept_of self.old.store).tables entry.now ready.now.change }
-        ensures copy { IfOk result (λ copy. CopiesReply copy (transaction (tables_of self.old) entry.now)) }
-        ensures room { OnOk result (HasRoomForOne self.new.accepted) }
+        ensures copy { IfOk result (λ copy. keeps_of self.old ≡ true → CopiesReply copy (transaction (tables_of self.old) entry.now)) }
+        ensures room { OnOk result (IfSome self.new.accepted HasRoomForOne) }
         ensures store { self.new.store ≡ self.old.store }
         ensures same { IsAsBefore self.old self.new }
     {
-        let copy = self.store.state().tables.copy_reply(entry, &ready.change)?;
-        self.accepted.reserve()?;
-        Ok(copy)
+        let Some(accepted) = &mut self.accepted else {
+            return Ok(None);
+        };
+        accepted.reserve()?;
+        self.store.state().tables.copy_reply(entry, &ready.change)
     }
 
     // Puts a record on the disk, and then does the transaction.
@@ -113,32 +114,51 @@ impl<D: Disk> TriggerStore<D> {
         requires prepared { Prepares (kept_of self.old.store).tables entry whole.ready.change }
         requires current { version_refusal (tables_of self.old) entry.command ≡ None }
         requires accepted { IsAccepted (transaction (tables_of self.old) entry) }
-        requires copy { CopiesReply whole.copy (transaction (tables_of self.old) entry) }
+        requires copy { keeps_of self.old ≡ true → CopiesReply whole.copy (transaction (tables_of self.old) entry) }
         requires record { (whole.ready.record ≡ record_of entry) × IsPayload whole.ready.record }
         requires recorded { IsRecordOf (record_of entry) entry }
         requires fits { HasRoom (length whole.ready.record) (view self.old) }
-        requires room { HasRoomForOne self.old.accepted }
+        requires room { IfSome self.old.accepted HasRoomForOne }
         ensures one { Submits trigger_entry entry result (view self.old) (view self.new) }
         ensures only_fault { IfErr result (λ e. e ≡ SubmitError.Fault) }
         ensures version { version_of self.new ≡ version_of self.old }
         ensures found { found_of self.new ≡ found_of self.old }
         ensures entries { OnOk result (added_of self.new ≡ added_of self.old ++ entry ∷ []) }
-        ensures moments { OnOk result (moments_of self.new ≡ moments_of self.old ++ recorded_moment (tables_of self.old) entry.at ∷ []) }
-        ensures replies { IfOk result (λ reply. replies_of self.new ≡ replies_of self.old ++ reply ∷ []) }
+        ensures keeps { keeps_of self.new ≡ keeps_of self.old }
         ensures any_moment { D.honest → LeavesEither self.old self.new }
     {
         let Whole { ready, copy } = whole;
         match self.store.commit(entry, ready) {
             Ok((entry, reply)) => {
-                let kept = same_reply(copy, &reply);
                 let moment = self.store.state().tables.last_moment();
-                self.accepted.push_reserved(entry, moment, kept);
+                keep(&mut self.accepted, entry, moment, copy, &reply);
                 Ok(reply)
             }
             Err(error) => {
                 drop(copy);
                 Err(error)
             }
+        }
+    }
+}
+
+// Puts an entry last in what is kept, with its moment and its reply. Where nothing is kept, it does nothing.
+fn keep(
+    accepted: &mut Option<Accepted>,
+    entry: Entry,
+    moment: i64,
+    copy: Option<Reply>,
+    reply: &Reply,
+)
+    requires room { IfSome accepted.old HasRoomForOne }
+    requires copy { is_some accepted.old ≡ true → IsCopyOf copy reply.now }
+    ensures { IsKept accepted.old accepted.new entry moment reply.now }
+{
+    match accepted {
+        Some(accepted) => accepted.push_reserved(entry, moment, same_reply(copy, reply)),
+        None => {
+            drop(entry);
+            drop(copy);
         }
     }
 }

@@ -7,6 +7,9 @@ returns-clause-opened g c = search rules
 pub returns-clause-nothing_added : goal.returns-clause-nothing_added
 returns-clause-nothing_added g c = search rules
 
+pub returns-clause-keeps : goal.returns-clause-keeps
+returns-clause-keeps g c = search rules
+
 pub returns-clause-stands : goal.returns-clause-stands
 returns-clause-stands g c = search rules
 

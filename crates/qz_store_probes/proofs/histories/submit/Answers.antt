@@ -13,11 +13,8 @@ returns-clause-found g c = search rules
 pub returns-clause-entries : goal.returns-clause-entries
 returns-clause-entries g c = search rules
 
-pub returns-clause-moments : goal.returns-clause-moments
-returns-clause-moments g c = search rules
-
-pub returns-clause-replies : goal.returns-clause-replies
-returns-clause-replies g c = search rules
+pub returns-clause-keeps : goal.returns-clause-keeps
+returns-clause-keeps g c = search rules
 
 pub returns-clause-recorded : goal.returns-clause-recorded
 returns-clause-recorded g c = search rules

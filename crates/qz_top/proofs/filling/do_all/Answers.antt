@@ -18,6 +18,9 @@ returns-in-Err-clause-ended g c u = FilledFront-end _ _ _ _ _ _ _ _ _ c.in-Some.
 pub returns-in-Err-clause-found : goal.returns-in-Err-clause-found
 returns-in-Err-clause-found g c = c.in-Err.ensures.found ∙ c.loop-command.invariant.5
 
+pub returns-in-Err-clause-keeps : goal.returns-in-Err-clause-keeps
+returns-in-Err-clause-keeps g c = c.in-Err.ensures.keeps ∙ c.loop-command.invariant.9
+
 pub returns-in-Err-clause-grows : goal.returns-in-Err-clause-grows
 returns-in-Err-clause-grows g c = omega (arith, c.loop-command.invariant.6, c.in-Err.ensures.grows)
 
@@ -30,7 +33,7 @@ returns-in-Err-clause-current g c current = c.in-Err.ensures.current (c.loop-com
 pub loop-command-init : goal.loop-command-init
 loop-command-init g c =
     let same = c.into_iter-command-iterator.ensures.into_iter_gives.0 ∙ c.into_vec-command-items.ensures in
-    (tt, tt, subst (AllByRecursion IsOfClient) (sym same) c.requires.valid, λ u. FilledFront-none _ _ _ _ (sym same), c.requires.open, refl, omega arith, triggers_begin (λ d honest. g.met.D.Disk.lawful honest d) c.args.triggers.now, λ current. current)
+    (tt, tt, subst (AllByRecursion IsOfClient) (sym same) c.requires.valid, λ u. FilledFront-none _ _ _ _ (sym same), c.requires.open, refl, omega arith, triggers_begin (λ d honest. g.met.D.Disk.lawful honest d) c.args.triggers.now, λ current. current, refl)
 
 pub loop-command-preserved : goal.loop-command-preserved
 loop-command-preserved g c =
@@ -45,4 +48,5 @@ loop-command-preserved g c =
       omega (arith, before.6, c.in-Ok.ensures.grows),
       c.in-Ok.ensures.any_moment c.args.triggers.now before.6 before.7,
       λ current. c.in-Ok.ensures.current (before.8 current),
+      c.in-Ok.ensures.keeps ∙ before.9,
     )

@@ -5,7 +5,7 @@ use Rattle.qz_checkin.specs.Entries.{StatesState}
 use Rattle.qz_model.specs.History.{replay}
 use Rattle.qz_run_stores.specs.Ways.{KeepsTriggers}
 use Rattle.qz_trigger_store.specs.Entries.{is_old}
-use Rattle.qz_trigger_store.specs.View.{view, found_of}
+use Rattle.qz_trigger_store.specs.View.{view, found_of, keeps_of}
 use Rattle.qz_top.specs.Clients.{IsOfClient}
 use Rattle.qz_top.specs.Generating.{beside}
 use Rattle.qz_top.proofs.GeneratingLaws.{FilledFront}
@@ -22,3 +22,4 @@ invariant-loop-command g l =
     × (length (view l.initial.triggers).history.entries ≤ length (view l.triggers).history.entries)
     × ∥ KeepsTriggers l.initial.triggers l.triggers ∥₁
     × (is_old (replay (view l.initial.triggers).history) ≡ false → is_old (replay (view l.triggers).history) ≡ false)
+    × (keeps_of l.triggers ≡ keeps_of l.initial.triggers)

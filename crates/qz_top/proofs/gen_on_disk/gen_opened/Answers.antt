@@ -8,6 +8,9 @@ use Rattle.qz_trigger_store.proofs.Kept.{legal, schedules_kept}
 use Rattle.qz_checkin.proofs.Kept.{legal as states_legal}
 use Rattle.qz_top.proofs.gen_on_disk.gen_opened.Goals as goal
 
+pub generate-status-requires-clause-keeps : goal.generate-status-requires-clause-keeps
+generate-status-requires-clause-keeps g c = rw c.into_stores-triggers.ensures.0 c.requires.keeps
+
 pub returns-clause-done : goal.returns-clause-done
 returns-clause-done g c triggers states begins =
     let cluster = c.args.run.cluster in

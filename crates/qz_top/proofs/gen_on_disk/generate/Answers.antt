@@ -27,6 +27,9 @@ returns-then-is_old-clause-any_moment g c =
 pub work_and_sum-requires-clause-current : goal.work_and_sum-requires-clause-current
 work_and_sum-requires-clause-current g c = c.fill.ensures.current (sym c.is_old.ensures ∙ c.if-is_old.false)
 
+pub work_and_sum-requires-clause-keeps : goal.work_and_sum-requires-clause-keeps
+work_and_sum-requires-clause-keeps g c = c.fill.ensures.keeps ∙ c.requires.keeps
+
 pub returns-in-Ok-clause-did : goal.returns-in-Ok-clause-did
 returns-in-Ok-clause-did g c =
     let triggers = c.args.triggers in

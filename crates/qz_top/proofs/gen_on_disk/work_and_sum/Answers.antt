@@ -5,6 +5,9 @@ use Rattle.qz_top.proofs.GeneratingLaws.{both_open, told_whole}
 use Rattle.qz_top.proofs.NodeRunLaws.{told_disk_rose}
 use Rattle.qz_top.proofs.gen_on_disk.work_and_sum.Goals as goal
 
+pub tell_summary-status-requires-clause-keeps : goal.tell_summary-status-requires-clause-keeps
+tell_summary-status-requires-clause-keeps g c = c.work_on-status.ensures.triggers.keeps ∙ c.requires.keeps
+
 pub returns-clause-worked : goal.returns-clause-worked
 returns-clause-worked g c = (c.work_on-status.result.status, c.tell_summary-status.ensures.status, rw c.plan_of-plan.ensures.value at c.work_on-status.ensures.worked)
 

@@ -33,6 +33,11 @@ returns-then-is_old-clause-done g c triggers states begins =
 pub work_on-status-requires-clause-current : goal.work_on-status-requires-clause-current
 work_on-status-requires-clause-current g c = sym c.is_old.ensures ∙ c.if-is_old.false
 
+pub tell_run-status-requires-clause-keeps : goal.tell_run-status-requires-clause-keeps
+tell_run-status-requires-clause-keeps g c =
+    let went = rw c.into_stores-triggers.ensures.0 at c.work_on-status.ensures.triggers in
+    went.keeps ∙ c.requires.keeps
+
 pub returns-clause-done : goal.returns-clause-done
 returns-clause-done g c triggers states begins =
     let cluster = c.args.run.cluster in

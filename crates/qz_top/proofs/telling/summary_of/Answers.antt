@@ -3,4 +3,4 @@ use Rattle.qz_top.proofs.TellingLaws.{as_many_replies}
 use Rattle.qz_top.proofs.telling.summary_of.Goals as goal
 
 pub counts_of-counts-requires : goal.counts_of-counts-requires
-counts_of-counts-requires g c = ap length c.replies.ensures.kept ∙ as_many_replies c.args.triggers.now ∙ sym (ap length c.added.ensures)
+counts_of-counts-requires g c = ap length c.kept_replies.ensures ∙ as_many_replies c.args.triggers.now ∙ sym (ap length c.kept_entries.ensures)
