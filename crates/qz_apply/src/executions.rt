@@ -39,7 +39,7 @@ fn is_exclusive_of(key: &Key, row: &FiredRow) -> bool
     !is_acquired(row.state) && row.no_concurrent && same_key(key, &row.job)
 }
 
-/// The triggers of the row's job are unblocked, if its execution excluded others. It looks at every trigger.
+/// The triggers of the row's job are unblocked, if its execution excluded others.
 pub fn unblock(tables: &mut Tables, row: &FiredRow)
     ensures tables { tables.new.tables ≡ record tables.old.tables { triggers = with_unblocked row.now.no_concurrent row.now.job tables.old.tables.triggers } }
     ensures spare { KeepsSpare tables.old.spare tables.new.spare }

@@ -153,23 +153,6 @@ fn are_due_below(tables: &Tables) -> bool {
     }
 }
 
-// Whether the job has so many triggers, and they are of it.
-fn has_triggers(tables: &Tables, job: &Key, count: usize) -> bool {
-    let mut left = count;
-    for row in tables.triggers_of(job) {
-        if row.spec.job != *job || left == 0 {
-            return false;
-        }
-        left -= 1;
-    }
-    left == 0
-}
-
-fn have_jobs(alloc: Global, tables: &Tables) -> Result<bool, NoMemory> {
-    let job = Key::new(alloc, "DEFAULT", "j")?;
-    Ok(has_triggers(tables, &job, 3))
-}
-
 /// Triggers that wait come in due order.
 struct Due;
 
@@ -179,12 +162,53 @@ impl Case for Due {
         if !is_put || !are_stored(tables, &["a", "b", "c", "d", "e"]) {
             return Ok(false);
         }
-        let are_due = are_due(tables, &["e", "b", "d", "a"]) && are_due_below(tables);
-        Ok(are_due && have_jobs(alloc, tables)?)
+        Ok(are_due(tables, &["e", "b", "d", "a"]) && are_due_below(tables))
     }
 }
 
 #[test]
 fn waiting_triggers_come_in_due_order(rt: HostRuntime) {
     assert!(rt; holds_of_new(rt.alloc(), &Due));
+}
+
+// Whether these are the triggers of the job, in the order of linking.
+fn are_linked(tables: &Tables, job: &Key, names: &[&'static str]) -> bool {
+    let mut rows = tables.triggers_of(job);
+    for name in names {
+        if !is_named(rows.next(), name) {
+            return false;
+        }
+    }
+    rows.next().is_none()
+}
+
+/// Where d belongs to k for a while.
+const MOVES: &[Put] = &[
+    ("d", "k", 10, 5, TriggerState::Waiting),
+    ("d", "j", 10, 5, TriggerState::Waiting),
+];
+
+/// The triggers of a job come in the order in which they became its triggers.
+struct Linking;
+
+impl Case for Linking {
+    fn holds(&self, alloc: Global, tables: &mut Tables) -> Result<bool, NoMemory> {
+        let j = Key::new(alloc, "DEFAULT", "j")?;
+        let k = Key::new(alloc, "DEFAULT", "k")?;
+        let is_put = puts_all(alloc, tables, PUTS)?;
+        if !is_put || !are_linked(tables, &j, &["d", "c", "b"]) {
+            return Ok(false);
+        }
+        for moved in MOVES {
+            if puts(alloc, tables, moved)? {
+                return Ok(false);
+            }
+        }
+        Ok(are_linked(tables, &j, &["c", "b", "d"]) && are_linked(tables, &k, &["a", "e"]))
+    }
+}
+
+#[test]
+fn triggers_come_in_the_order_of_linking(rt: HostRuntime) {
+    assert!(rt; holds_of_new(rt.alloc(), &Linking));
 }

@@ -1,4 +1,5 @@
 mod BulkLemmas
+mod ByJobLemmas
 pub mod ByIds
 mod Counts
 mod DueLemmas
@@ -6,7 +7,7 @@ pub mod DueWalk
 pub mod Filled
 mod FiredWords
 mod Firsts
-mod JobLemmas
+mod JobRanges
 pub mod Keys
 pub mod LinkLemmas
 mod Moves
@@ -17,5 +18,6 @@ mod DueFound
 mod OnceLemmas
 pub mod Places
 pub mod SlotEdits
+mod SlotPlaces
 pub mod SortLaws
 mod YearLaws

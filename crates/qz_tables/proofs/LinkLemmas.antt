@@ -1,7 +1,7 @@
 -- What linking does to the keys of each job.
-use Rattle.std.proofs.Common.{◌≡◌, ◌≢◌, ℕ, zero, suc, ◌+◌, ◌<◌, List, [], ◌∷◌, ◌++◌, length, map, filter, cond, get_or, Bool, true, false, if◌then◌else◌, Option, Some, None, refl, sym, ap, subst, ◌∙◌, arith, inl, inr}
-use Rattle.std.specs.Prelude.{IsSome, IfSome, is_some, nat_eq, option_map}
-use Rattle.std.specs.List.{remove, slice_get}
+use Rattle.std.proofs.Common.{◌≡◌, ◌≢◌, ℕ, zero, suc, ◌+◌, ◌<◌, ◌≤◌, List, [], ◌∷◌, ◌++◌, length, map, filter, cond, get_or, Bool, true, false, if◌then◌else◌, Option, Some, None, refl, sym, ap, subst, ◌∙◌, arith, inl, inr}
+use Rattle.std.specs.Prelude.{IfSome, is_some, nat_eq, option_map}
+use Rattle.std.specs.List.{insert, remove, slice_get}
 use Rattle.std.specs.Ordering.{is_eq}
 use Rattle.std.proofs.lemmas.Bool.{cases_eq, eq-eqb, ne_eqb}
 use Rattle.qz_types.specs.Rows.{TriggerData}
@@ -15,18 +15,16 @@ use Rattle.qz_tables.specs.declared.edits.TriggerEdit.TheVariants.{State, Fire, 
 use Rattle.qz_tables.specs.Linking.{keys_of, links_of}
 use Rattle.qz_tables.specs.Once.{times, AreOnce}
 use Rattle.qz_tables.specs.Links.{linked, KeepsLinks, IsTakenOut, IsLinked, IsUnlinked, IsMoved}
-use Rattle.qz_tables.proofs.Filled.{Keep, rows-kept, rows-remove, nth_slot, rows_at-append}
+use Rattle.qz_tables.proofs.Filled.{Keep, keep-vacant, filled-kept, length-rows, rows-kept, rows-remove, rows-insert as rows_at-insert, nth_slot}
+use Rattle.qz_tables.specs.ByJob.{AreByJob, IsBoundOf}
+use Rattle.qz_tables.specs.declared.by_job.Bound.TheVariants.{Upper}
+use Rattle.qz_tables.proofs.ByJobLemmas.{by_job-last, by_job-remove as by_job-removed, by_jobs, after-upper}
+use Rattle.qz_tables.proofs.OnceLemmas.{once-insert as once-put, filled-once}
 use Rattle.qz_tables.proofs.ByIds.{found_id}
+use Rattle.qz_tables.proofs.Written.{AreApart}
 use Rattle.qz_tables.proofs.Keys.{key_exact, key_itself, key_differs}
 
 -- ---- how often a number stands in a list
-
-times-snoc : (n m : ℕ) (xs : List ℕ) → times n (xs ++ m ∷ []) ≡ times n xs + times n (m ∷ [])
-times-snoc n m [] = omega arith
-times-snoc n m (x ∷ xs) = elim (nat_eq n x) as (λ b. (if b then suc (times n (xs ++ m ∷ [])) else times n (xs ++ m ∷ [])) ≡ (if b then suc (times n xs) else times n xs) + times n (m ∷ [])) [
-  | true ↦ omega (arith, times-snoc n m xs)
-  | false ↦ times-snoc n m xs
-]
 
 times-first : (n x : ℕ) (xs : List ℕ) → times n (x ∷ xs) ≡ times n xs + times n (x ∷ [])
 times-first n x xs = elim (nat_eq n x) as (λ b. (if b then suc (times n xs) else times n xs) ≡ times n xs + (if b then 1 else 0)) [
@@ -87,17 +85,29 @@ snoc_step : (b : Bool) (x : Key) (xs ys zs : List Key) → xs ≡ ys ++ zs → (
 snoc_step true x xs ys zs e = ap (λ l. x ∷ l) e
 snoc_step false x xs ys zs e = e
 
-keys-snoc : (k : Key) (r : TriggerData) (xs : List TriggerData) → is_eq (key_cmp k r.spec.job) ≡ true → keys_of k (xs ++ r ∷ []) ≡ keys_of k xs ++ r.spec.key ∷ []
-keys-snoc k r [] e = keys-cons k r [] ∙ rw e refl
-keys-snoc k r (x ∷ xs) e = keys-cons k x (xs ++ r ∷ []) ∙ snoc_step (is_eq (key_cmp k x.spec.job)) x.spec.key _ _ _ (keys-snoc k r xs e) ∙ ap (λ l. l ++ r.spec.key ∷ []) (sym (keys-cons k x xs))
-
 same_step : (b : Bool) (x : Key) (xs ys : List Key) → xs ≡ ys → (if b then x ∷ xs else xs) ≡ (if b then x ∷ ys else ys)
 same_step true x xs ys e = ap (λ l. x ∷ l) e
 same_step false x xs ys e = e
 
-keys-snoc_other : (k : Key) (r : TriggerData) (xs : List TriggerData) → is_eq (key_cmp k r.spec.job) ≡ false → keys_of k (xs ++ r ∷ []) ≡ keys_of k xs
-keys-snoc_other k r [] e = keys-cons k r [] ∙ rw e refl
-keys-snoc_other k r (x ∷ xs) e = keys-cons k x (xs ++ r ∷ []) ∙ same_step (is_eq (key_cmp k x.spec.job)) x.spec.key _ _ (keys-snoc_other k r xs e) ∙ sym (keys-cons k x xs)
+-- no trigger is of this job
+keys-never : (k : Key) (xs : List TriggerData) → ((i : ℕ) (q : TriggerData) → slice_get xs i ≡ Some q → is_eq (key_cmp k q.spec.job) ≡ false) → keys_of k xs ≡ []
+keys-never k [] h = refl
+keys-never k (x ∷ xs) h = keys-cons k x xs ∙ rw (h 0 x refl) (keys-never k xs (λ i q e. h (suc i) q e))
+
+-- a trigger that is put after all of its job
+keys-last : (k : Key) (r : TriggerData) (n : ℕ) (xs : List TriggerData) → n ≤ length xs → ((i : ℕ) (q : TriggerData) → n ≤ i → slice_get xs i ≡ Some q → is_eq (key_cmp k q.spec.job) ≡ false)
+    → is_eq (key_cmp k r.spec.job) ≡ true → keys_of k (insert xs n r) ≡ keys_of k xs ++ r.spec.key ∷ []
+keys-last k r zero xs le h e =
+    let never = keys-never k xs (λ i q at. h i q (omega arith) at) in
+    keys-cons k r xs ∙ rw (e, never) refl
+keys-last k r (suc n) [] le h e = absurd (omega arith)
+keys-last k r (suc n) (x ∷ xs) le h e =
+    keys-cons k x (insert xs n r) ∙ snoc_step (is_eq (key_cmp k x.spec.job)) x.spec.key _ _ _ (keys-last k r n xs (omega arith) (λ i q l at. h (suc i) q (omega arith) at) e) ∙ ap (λ l. l ++ r.spec.key ∷ []) (sym (keys-cons k x xs))
+
+keys-put_other : (k : Key) (r : TriggerData) (n : ℕ) (xs : List TriggerData) → n ≤ length xs → is_eq (key_cmp k r.spec.job) ≡ false → keys_of k (insert xs n r) ≡ keys_of k xs
+keys-put_other k r zero xs le e = keys-cons k r xs ∙ rw e refl
+keys-put_other k r (suc n) [] le e = absurd (omega arith)
+keys-put_other k r (suc n) (x ∷ xs) le e = keys-cons k x (insert xs n r) ∙ same_step (is_eq (key_cmp k x.spec.job)) x.spec.key _ _ (keys-put_other k r n xs (omega arith) e) ∙ sym (keys-cons k x xs)
 
 taken_step : (b : Bool) (x y : Key) (xs ys : List Key) → IsTakenOut y xs ys → IsTakenOut y (if b then x ∷ xs else xs) (if b then x ∷ ys else ys)
 taken_step true x y xs ys t = record { before = x ∷ t.before; after = t.after; was = ap (λ l. x ∷ l) t.was; is = ap (λ l. x ∷ l) t.is }
@@ -121,25 +131,10 @@ keys-untaken k r (suc i) (x ∷ xs) at e = keys-cons k x (remove xs i) ∙ same_
 
 -- ---- slots
 
-filled-from : (slots : List (Option TriggerData)) (xs : List ℕ) → ((s : ℕ) → 0 < times s xs → IsSome (get_or slots s None)) → AreFilled slots xs
-filled-from slots [] h = tt
-filled-from slots (x ∷ xs) h =
-    (h x (omega (arith, times-first x x xs, once_here x)), filled-from slots xs (λ s lt. h s (omega (arith, times-first s x xs, lt))))
-
-some_if_once : (o : Option TriggerData) (n : ℕ) → n ≡ (if is_some o then 1 else 0) → 0 < n → IsSome o
-some_if_once None n e lt = absurd (omega arith)
-some_if_once (Some r) n e lt = refl
-
-pub filled-once : (slots : List (Option TriggerData)) (xs : List ℕ) → AreOnce slots xs → AreFilled slots xs
-filled-once slots xs once = filled-from slots xs (λ s lt. some_if_once (get_or slots s None) (times s xs) (once.once s) lt)
-
 keep-never : (old new : List (Option TriggerData)) (slot : ℕ) (xs : List ℕ) → times slot xs ≡ 0 → ((other : ℕ) → other ≢ slot → get_or new other None ≡ get_or old other None) → Keep old new xs
 keep-never old new slot [] never others = tt
 keep-never old new slot (x ∷ xs) never others =
     (others x (λ e. absurd (omega (arith, times-first slot x xs, ap (λ y. times slot (y ∷ [])) e, once_here slot))), keep-never old new slot xs (omega (arith, times-first slot x xs)) others)
-
-none_count : (o : Option TriggerData) (n : ℕ) → n ≡ (if is_some o then 1 else 0) → o ≡ None → n ≡ 0
-none_count o n e f = rw f at e
 
 some_count : (o : Option TriggerData) (r : TriggerData) (n : ℕ) → n ≡ (if is_some o then 1 else 0) → o ≡ Some r → n ≡ 1
 some_count o r n e f = rw f at e
@@ -151,28 +146,28 @@ count_some : (o : Option TriggerData) (r : TriggerData) (n : ℕ) → n ≡ 1 �
 count_some o r n e f = rw f e
 
 module _ (old new : List (Option TriggerData)) (order : List ℕ) (slot : ℕ) (r : TriggerData) (once : AreOnce old order) where
-  module _ (vacant : get_or old slot None ≡ None) (written : IsWritten old new slot (Some r)) where
-    never : times slot order ≡ 0
-    never = none_count (get_or old slot None) (times slot order) (once.once slot) vacant
+  module _ (vacant : get_or old slot None ≡ None) (written : IsWritten old new slot (Some r)) (n : ℕ) (bound : IsBoundOf (λ (t : TriggerData). t.spec.job) Upper r.spec.job (rows_at old order) n) where
+    filled : AreFilled old order
+    filled = filled-once old order once
 
-    pub once-insert : AreOnce new (order ++ slot ∷ [])
-    once-insert = record {
-      once = λ s. elim (cases_eq s slot) [
-        | inl same ↦ count_some (get_or new s None) r _ (ap (λ y. times y (order ++ slot ∷ [])) same ∙ (omega (arith, times-snoc slot slot order, never, once_here slot))) (ap (λ y. get_or new y None) same ∙ written.changed)
-        | inr differs ↦ subst (λ o. times s (order ++ slot ∷ []) ≡ (if is_some o then 1 else 0)) (sym (written.others s differs)) (omega (arith, times-snoc s slot order, never_here s slot differs) ∙ once.once s)
-      ];
-    }
+    pub within_order : n ≤ length order
+    within_order = let w = bound.within in omega (arith, w, length-rows old order filled)
 
-    rows-insert : rows_at new (order ++ slot ∷ []) ≡ rows_at old order ++ r ∷ []
+    rows-insert : rows_at new (insert order n slot) ≡ insert (rows_at old order) n r
     rows-insert =
-        rows_at-append new order (slot ∷ [])
-        ∙ ap (λ xs. xs ++ rows_at new (slot ∷ [])) (rows-kept old new order (keep-never old new slot order never written.others))
-        ∙ ap (λ o. rows_at old order ++ with_found o []) written.changed
+        let kept = keep-vacant old new order slot filled vacant written.others in
+        rows_at-insert new order n slot r (filled-kept old new order kept filled) written.changed within_order ∙ ap (λ xs. insert xs n r) (rows-kept old new order kept)
 
-    pub links-insert : IsLinked r.spec.job r.spec.key (links_of (rows_at old order)) (links_of (rows_at new (order ++ slot ∷ [])))
+    pub once-insert : AreOnce new (insert order n slot)
+    once-insert = once-put old new order slot n once r vacant written.changed written.others within_order
+
+    pub by_job-insert : AreByJob (λ (t : TriggerData). t.spec.job) (rows_at old order) → AreByJob (λ (t : TriggerData). t.spec.job) (rows_at new (insert order n slot))
+    by_job-insert sorted = subst (λ xs. AreByJob (λ (t : TriggerData). t.spec.job) xs) (sym rows-insert) (by_job-last (λ (t : TriggerData). t.spec.job) (rows_at old order) n r sorted bound)
+
+    pub links-insert : IsLinked r.spec.job r.spec.key (links_of (rows_at old order)) (links_of (rows_at new (insert order n slot)))
     links-insert = record {
-      here = linked-links r.spec.job _ ∙ ap (keys_of r.spec.job) rows-insert ∙ keys-snoc r.spec.job r (rows_at old order) (key_itself r.spec.job) ∙ ap (λ xs. xs ++ r.spec.key ∷ []) (sym (linked-links r.spec.job (rows_at old order)));
-      others = λ other differs. linked-links other _ ∙ ap (keys_of other) rows-insert ∙ keys-snoc_other other r (rows_at old order) (key_differs other r.spec.job differs) ∙ sym (linked-links other (rows_at old order));
+      here = linked-links r.spec.job _ ∙ ap (keys_of r.spec.job) rows-insert ∙ keys-last r.spec.job r n (rows_at old order) bound.within (λ i q le at. after-upper (λ (t : TriggerData). t.spec.job) r.spec.job (rows_at old order) n bound i q le at) (key_itself r.spec.job) ∙ ap (λ xs. xs ++ r.spec.key ∷ []) (sym (linked-links r.spec.job (rows_at old order)));
+      others = λ other differs. linked-links other _ ∙ ap (keys_of other) rows-insert ∙ keys-put_other other r n (rows_at old order) bound.within (key_differs other r.spec.job differs) ∙ sym (linked-links other (rows_at old order));
     }
 
   module _ (was : get_or old slot None ≡ Some r) (written : IsWritten old new slot None) (i : ℕ) (at : slice_get order i ≡ Some slot) where
@@ -191,6 +186,9 @@ module _ (old new : List (Option TriggerData)) (order : List ℕ) (slot : ℕ) (
     rows-removed =
         rows-kept old new (remove order i) (keep-never old new slot (remove order i) gone written.others)
         ∙ rows-remove old order i (filled-once old order once) (slot_in_range order i slot at)
+
+    pub by_job-remove : AreByJob (λ (t : TriggerData). t.spec.job) (rows_at old order) → AreByJob (λ (t : TriggerData). t.spec.job) (rows_at new (remove order i))
+    by_job-remove sorted = subst (λ xs. AreByJob (λ (t : TriggerData). t.spec.job) xs) (sym rows-removed) (by_job-removed (λ (t : TriggerData). t.spec.job) (rows_at old order) i sorted)
 
     at_row : slice_get (rows_at old order) i ≡ Some r
     at_row = nth_slot old order i slot (filled-once old order once) at ∙ was
@@ -228,6 +226,22 @@ keys-alike k old new (s ∷ ss) alike = alike_step k (get_or old s None) (get_or
 pub links-alike : (old new : List (Option TriggerData)) (order : List ℕ) → AreAlike old new → KeepsLinks (links_of (rows_at old order)) (links_of (rows_at new order))
 links-alike old new order alike k = linked-links k (rows_at new order) ∙ keys-alike k old new order alike ∙ sym (linked-links k (rows_at old order))
 
+jobs_step : (o n : Option TriggerData) (xs ys : List TriggerData) → option_map tie n ≡ option_map tie o → map (λ (t : TriggerData). t.spec.job) ys ≡ map (λ (t : TriggerData). t.spec.job) xs
+    → map (λ (t : TriggerData). t.spec.job) (with_found n ys) ≡ map (λ (t : TriggerData). t.spec.job) (with_found o xs)
+jobs_step None None xs ys e h = h
+jobs_step None (Some b) xs ys e h = absurd (cc)
+jobs_step (Some a) None xs ys e h = absurd (cc)
+jobs_step (Some a) (Some b) xs ys e h =
+    let t = some_tie (tie b) (tie a) e in
+    ap (λ (p : Key × Key). p.0 ∷ map (λ (x : TriggerData). x.spec.job) ys) t ∙ ap (λ ks. a.spec.job ∷ ks) h
+
+jobs-alike : (old new : List (Option TriggerData)) (order : List ℕ) → AreAlike old new → map (λ (t : TriggerData). t.spec.job) (rows_at new order) ≡ map (λ (t : TriggerData). t.spec.job) (rows_at old order)
+jobs-alike old new [] alike = refl
+jobs-alike old new (s ∷ ss) alike = jobs_step (get_or old s None) (get_or new s None) (rows_at old ss) (rows_at new ss) (alike s) (jobs-alike old new ss alike)
+
+pub by_job-alike : (old new : List (Option TriggerData)) (order : List ℕ) → AreAlike old new → AreByJob (λ (t : TriggerData). t.spec.job) (rows_at old order) → AreByJob (λ (t : TriggerData). t.spec.job) (rows_at new order)
+by_job-alike old new order alike sorted = by_jobs (λ (t : TriggerData). t.spec.job) (rows_at old order) (rows_at new order) (jobs-alike old new order alike) sorted
+
 some_alike : (o n : Option TriggerData) → option_map tie n ≡ option_map tie o → is_some n ≡ is_some o
 some_alike None None e = refl
 some_alike None (Some b) e = absurd (cc)
@@ -237,7 +251,7 @@ some_alike (Some a) (Some b) e = refl
 pub once-alike : (old new : List (Option TriggerData)) (order : List ℕ) → AreAlike old new → AreOnce old order → AreOnce new order
 once-alike old new order alike once = record { once = λ s. once.once s ∙ ap (λ b. if b then 1 else 0) (sym (some_alike (get_or old s None) (get_or new s None) (alike s))) }
 
-edited_tie : (e : TriggerEdit) (o : Option TriggerData) → option_map tie (option_map (trigger_edited e) o) ≡ option_map tie o
+pub edited_tie : (e : TriggerEdit) (o : Option TriggerData) → option_map tie (option_map (trigger_edited e) o) ≡ option_map tie o
 edited_tie (State state) None = refl
 edited_tie (State state) (Some r) = refl
 edited_tie (Fire next state) None = refl
@@ -295,3 +309,11 @@ tie_is a b e f = ap (λ (j : Key). (j, b.spec.key)) e ∙ ap (λ (k : Key). (a.s
 pub other_job_only : (job other : Key) (row : TriggerData) → other ≢ job → same_key job row.spec.job ≡ true → row.spec.job ≢ other
 unfolding same_key
 other_job_only job other row differs e = λ q. differs (sym q ∙ sym (key_exact job row.spec.job e))
+
+-- a trigger stands in one slot, so that its place is that of the slot which it was found in
+pub taken-place : (slots : List (Option TriggerData)) (linked : List ℕ) (s t place : ℕ) (r : TriggerData) (o : Option TriggerData) → AreApart slots → get_or slots s None ≡ o → Some r ≡ o → get_or slots t None ≡ Some r
+    → slice_get linked place ≡ Some s → slice_get linked place ≡ Some t
+taken-place slots linked s t place r o apart here is there at = at ∙ ap Some (apart s t r r (here ∙ sym is) there (key_itself r.spec.key))
+
+pub place_within : (xs : List ℕ) (i m : ℕ) → slice_get xs i ≡ Some m → i < length xs
+place_within = slot_in_range

@@ -70,6 +70,18 @@ module _ {R : Type 0} where
   filled_count None n e f = absurd cc
   filled_count (Some r) n e f = e
 
+  filled-from : (slots : List (Option R)) (xs : List ℕ) → ((s : ℕ) → 0 < times s xs → IsSome (get_or slots s None)) → AreFilled slots xs
+  filled-from slots [] h = tt
+  filled-from slots (x ∷ xs) h =
+      (h x (omega (arith, times-first x x xs, once_here x)), filled-from slots xs (λ s lt. h s (omega (arith, times-first s x xs, lt))))
+
+  some_if_once : (o : Option R) (n : ℕ) → n ≡ (if is_some o then 1 else 0) → 0 < n → IsSome o
+  some_if_once None n e lt = absurd (omega arith)
+  some_if_once (Some r) n e lt = refl
+
+  pub filled-once : (slots : List (Option R)) (xs : List ℕ) → AreOnce slots xs → AreFilled slots xs
+  filled-once slots xs once = filled-from slots xs (λ s lt. some_if_once (get_or slots s None) (times s xs) (once.once s) lt)
+
   module _ (old new : List (Option R)) (order : List ℕ) (slot i : ℕ) (once : AreOnce old order) where
     pub once-insert : (r : R) → get_or old slot None ≡ None → get_or new slot None ≡ Some r → ((other : ℕ) → other ≢ slot → get_or new other None ≡ get_or old other None) → i ≤ length order → AreOnce new (insert order i slot)
     once-insert r vacant written others le =

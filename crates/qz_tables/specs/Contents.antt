@@ -2,6 +2,7 @@
 use Rattle.std.specs.Prelude.{ℕ, ◌+◌, ◌≤◌, List}
 use Rattle.qz_types.specs.Tables.{SchedulerTables}
 use Rattle.qz_types.specs.declared.keys.Key.{Key}
+use Rattle.qz_tables.specs.declared.tables.RowCounts.{RowCounts}
 
 -- how many rows more of each kind there is memory for
 pub record Spare : Type 0 where
@@ -41,6 +42,17 @@ pub record HasSpare (rows : ℕ) (spare : Spare) : Type 0 where
   pub paused_job_groups : rows ≤ spare.paused_job_groups
   pub members : rows ≤ spare.members
   pub fired : rows ≤ spare.fired
+
+-- there is memory for so many rows more, of each kind as many as this says
+pub record HasSpareOf (rows : RowCounts) (spare : Spare) : Type 0 where
+  pub jobs : rows.jobs ≤ spare.jobs
+  pub triggers : rows.triggers ≤ spare.triggers
+  pub calendars : rows.calendars ≤ spare.calendars
+  pub zones : rows.zones ≤ spare.zones
+  pub paused_groups : rows.paused_groups ≤ spare.paused_groups
+  pub paused_job_groups : rows.paused_job_groups ≤ spare.paused_job_groups
+  pub members : rows.members ≤ spare.members
+  pub fired : rows.fired ≤ spare.fired
 
 -- the spare with one row more of a kind
 abbrev pub one_job : Spare → Spare

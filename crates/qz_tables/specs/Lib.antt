@@ -1,4 +1,5 @@
 pub mod Acquired
+pub mod ByJob
 pub mod Changes
 pub mod Contents
 pub mod Due

@@ -1,13 +1,19 @@
 -- Rows in slots, in the order of a list of slots.
 use Rattle.std.specs.declared.cmp.Ordering.{Ordering}
-use Rattle.std.specs.Prelude.{◌≢◌, ◌<◌, ◌≡◌, ◌⊎◌, ⊤, ℕ, List, [], ◌∷◌, Option, Some, None, IsSome, slice_index_or, length}
+use Rattle.std.specs.Prelude.{◌≢◌, ◌<◌, ◌≡◌, ◌⊎◌, ⊤, ℕ, Bool, true, false, List, [], ◌∷◌, Option, Some, None, IsSome, option_map, slice_index_or, length, nat_eq, if◌then◌else◌}
 use Rattle.qz_types.specs.Sorted.{place_of, row_of}
 
--- what contracts see of the rows of a kind: the rows, in the order of their ids; the row of each slot; and how many rows
--- more there is memory for
+-- the number stands in the list
+abbrev pub has_number : ℕ → List ℕ → Bool
+has_number n [] = false
+has_number n (x ∷ xs) = if nat_eq n x then true else has_number n xs
+
+-- what contracts see of the rows of a kind: the rows, in the order of their ids; the row of each slot; the slots in the
+-- order of the rows; and how many rows more there is memory for
 pub record Kept (R : Type 0) : Type 0 where
   pub rows : List R
   pub slots : List (Option R)
+  pub order : List ℕ
   pub spare : ℕ
 
 module _ {R : Type 0} where
@@ -44,3 +50,7 @@ module _ {R : Type 0} where
   -- each slot has what it had, or was edited in this way
   abbrev pub AreEdited : (Option R → Option R → Type 0) → List (Option R) → List (Option R) → Type 0
   AreEdited Edit old new = (s : ℕ) → (slice_index_or new s None ≡ slice_index_or old s None) ⊎ Edit (slice_index_or old s None) (slice_index_or new s None)
+
+  -- what has become of a slot where those of a list were edited
+  abbrev pub edited_in : (R → R) → List ℕ → ℕ → Option R → Option R
+  edited_in f edited s o = if has_number s edited then option_map f o else o

@@ -12,7 +12,7 @@ ghost use Rattle.qz_tables.specs.Years.{trigger_with_years, calendar_with_years}
 
 use crate::edits::{StateChange, TriggerEdit, YearChange};
 use crate::row_tests::{
-    AcquiredOf, AcquiredOfGroup, AcquiredOfJob, AcquiredOfJobGroup, OfGroup, OfGroupOnly, OfJob,
+    AcquiredOf, AcquiredOfGroup, AcquiredOfJob, AcquiredOfJobGroup, OfGroup, OfGroupOnly,
     OfJobGroup, OfJobGroupOnly, OfMember,
 };
 use crate::tables::Tables;
@@ -31,14 +31,12 @@ impl Tables {
     }
 
     /// Changes the states of a job's triggers.
-    ///
-    /// It looks at every trigger.
     pub fn change_job_states(&mut self, job: &Key, change: StateChange)
         ensures tables { self.new.tables ≡ record self.old.tables { triggers = with_states (changed change) (λ t. same_key job.now t.spec.job) self.old.tables.triggers } }
         ensures links { KeepsLinks self.old.links self.new.links }
         ensures spare { KeepsSpare self.old.spare self.new.spare }
     {
-        self.triggers.change_states(&OfJob { job }, change);
+        self.triggers.change_job(job, change);
     }
 
     /// Changes the states of the triggers of a group.
@@ -118,8 +116,6 @@ impl Tables {
     }
 
     /// Takes out a job's triggers, and says how many they were.
-    ///
-    /// It looks at every trigger.
     pub fn remove_job_triggers(&mut self, job: &Key) -> usize
         ensures count { result ≡ length (filter (λ t. same_key job.now t.spec.job) self.old.tables.triggers) }
         ensures tables { self.new.tables ≡ record self.old.tables { triggers = filter (λ t. not (same_key job.now t.spec.job)) self.old.tables.triggers } }
@@ -127,7 +123,7 @@ impl Tables {
         ensures spare { KeepsSpare self.old.spare self.new.spare }
     {
         let before = self.triggers.len();
-        self.triggers.remove_all(&OfJob { job });
+        self.triggers.remove_job(job);
         let after = self.triggers.len();
         before - after
     }

@@ -6,6 +6,7 @@ ghost use Rattle.slab.specs.Slab.{get, slab_len};
 ghost use Rattle.qz_types.specs.Sorted.{place_of, row_of, put, IsAscending};
 ghost use Rattle.qz_tables.specs.Changes.{changed_nth};
 ghost use Rattle.qz_tables.specs.Ids.{changed_at, without};
+ghost use Rattle.qz_tables.specs.Once.{AreOnce};
 ghost use Rattle.qz_tables.specs.Slots.{rows_at, AreFilled, IsFound, IsAbsent, IsWritten};
 
 use crate::guesses::{Guesses, Marked};
@@ -61,6 +62,7 @@ impl<R: Marked> Model for Indexed<R> {
     ghost view = { λ a. record {
       rows = rows_at a.rows.slots a.order.items;
       slots = a.rows.slots;
+      order = a.order.items;
       spare = min (a.rows.capacity - slab_len a.rows) (vec_capacity a.order - vec_len a.order);
     } };
 
@@ -241,6 +243,21 @@ impl<R: Marked> Indexed<R> {
         slot_at(&self.order, place)
     }
 
+    /// The place of the row in this slot in the order of the ids, counted from 0.
+    pub fn place_at(&self, slot: usize) -> usize
+        requires { IsSome (slice_index_or self.now.slots slot None) }
+        ensures within { result < length self.now.rows }
+        ensures row { slice_get self.now.rows result ≡ slice_index_or self.now.slots slot None }
+    {
+        let Some(row) = self.rows.get(slot) else {
+            unreachable!()
+        };
+        let Some(place) = find(&self.rows, &self.order, row.id()) else {
+            unreachable!()
+        };
+        place
+    }
+
     /// For how many rows more there is memory.
     pub fn spare(&self) -> usize
         ensures { result ≡ self.now.spare }
@@ -256,12 +273,14 @@ impl<R: Marked> Indexed<R> {
     }
 
     /// Does nothing. Its contract says how rows and slots go together: a row in a slot is found by its id, no two slots
-    /// have rows of one id, and each row has a slot.
+    /// have rows of one id, each row has a slot, and the slots stand in the order of the rows.
     pub fn laws(&self)
         ensures whole { (s : ℕ) (r : R) → slice_index_or self.now.slots s None ≡ Some r → row_of R.Id.cmp R.id (R.id r) self.now.rows ≡ Some r }
         ensures apart { (s t : ℕ) (r q : R) → slice_index_or self.now.slots s None ≡ Some r → slice_index_or self.now.slots t None ≡ Some q → is_eq (R.Id.cmp (R.id r) (R.id q)) ≡ true → s ≡ t }
         ensures listed { (k : R.Id) (r : R) → row_of R.Id.cmp R.id k self.now.rows ≡ Some r → (s : ℕ) × (slice_index_or self.now.slots s None ≡ Some r) }
         ensures sorted { IsAscending R.Id.cmp R.id self.now.rows }
+        ensures placed { self.now.rows ≡ rows_at self.now.slots self.now.order }
+        ensures once { AreOnce self.now.slots self.now.order }
     {
         let _ = &self.rows;
     }
@@ -402,6 +421,20 @@ impl<R: Marked> Indexed<R> {
         };
         edit.edit(row);
         Some(slot)
+    }
+
+    /// Changes the row in this slot.
+    pub fn edit_slot<E: Edit<R>>(&mut self, slot: usize, edit: &E)
+        requires present { IsSome (slice_index_or self.old.slots slot None) }
+        requires fit { IfSome (slice_index_or self.old.slots slot None) (E.IsFit edit.now) }
+        ensures slot { IsWritten self.old.slots self.new.slots slot (option_map (E.edited edit.now) (slice_index_or self.old.slots slot None)) }
+        ensures order { self.new.order ≡ self.old.order }
+        ensures spare { self.new.spare ≡ self.old.spare }
+    {
+        let Some(row) = self.rows.get_mut(slot) else {
+            unreachable!()
+        };
+        edit.edit(row);
     }
 
     /// Whether the row at this place passes.

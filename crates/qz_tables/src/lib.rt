@@ -3,6 +3,7 @@
 #![tactic(auto)]
 
 mod bulk;
+mod by_job;
 mod calendars;
 mod due;
 mod due_keys;
@@ -27,4 +28,4 @@ pub use due::Any;
 pub use edits::{Begin, StateChange, YearChange};
 pub use indexed::Test;
 pub use job_triggers::JobTriggers;
-pub use tables::Tables;
+pub use tables::{RowCounts, Tables};

@@ -1,27 +1,33 @@
-//! The triggers, with the order in which each became one of its job's.
+//! The triggers, and those of each job in the order in which they became its triggers.
 ghost use Rattle.std.specs.List.{remove};
-ghost use Rattle.std.specs.Prelude.{true, not, filter, [], ◌≡◌, ◌≢◌, ◌≤◌, ◌<◌, ◌+◌, ℕ, None, Some, IsSome, IfSome, IfNone, IfOk, OnOk, OnErr, IsOk, OnSome, option_copied, length, map, slice_get};
+ghost use Rattle.std.specs.Prelude.{true, not, filter, [], ◌≡◌, ◌≢◌, ◌≤◌, ◌<◌, ◌+◌, ℕ, None, Some, IsSome, IfSome, IfNone, IfOk, OnOk, OnErr, IsOk, OnSome, IsPermutation, option_copied, length, map, slice_get, slice_index_or};
 ghost use Rattle.std.specs.Ordering.{nat_cmp, is_eq};
 ghost use Rattle.qz_types.specs.Sorted.{row_of, put, IsAscending};
-ghost use Rattle.qz_types.specs.Words.{key_cmp};
+ghost use Rattle.qz_types.specs.Words.{key_cmp, same_key};
 ghost use Rattle.qz_types.specs.Changes.{with_states};
 ghost use Rattle.qz_types.specs.Rows.{TriggerData};
 ghost use Rattle.qz_types.specs.declared.keys.Key.{Key};
 ghost use Rattle.qz_tables.specs.Changes.{changed, trigger_edited, IsFit, changed_nth};
 ghost use Rattle.qz_tables.specs.Ids.{changed_at, without};
 ghost use Rattle.qz_tables.specs.Due.{due_first, due_next};
-ghost use Rattle.qz_tables.specs.Once.{times};
-ghost use Rattle.qz_tables.specs.Links.{linked, KeepsLinks, IsLinked, IsUnlinked, IsMoved};
+ghost use Rattle.qz_tables.specs.Jobs.{triggers_of};
+ghost use Rattle.qz_tables.specs.Once.{AreApart};
+ghost use Rattle.qz_tables.specs.Slots.{AreFilled, edited_in};
+ghost use Rattle.qz_tables.specs.Links.{linked, KeepsLinks, KeepsOtherLinks, IsLinked, IsUnlinked, IsMoved};
+ghost use Rattle.qz_tables.specs.declared.edits.TriggerEdit.TheVariants.{State};
 
+use crate::by_job::{Bound, bound_of, place_in, slots_of};
 use crate::edits::{StateChange, TriggerEdit};
 use crate::indexed::Test;
+use crate::job_triggers::JobTriggers;
 use crate::timed::Timed;
 use qz_types::{Key, TriggerRow};
 use std::alloc::{AllocError, Global};
 use std::cmp::Ordering;
 use std::marker::Model;
 
-/// The triggers in the order of their keys, and their slots in the order of linking.
+/// The triggers in the order of their keys, and their slots side by side by their jobs. Those of one job stand in the order
+/// of linking, so they are found by binary search and read one after another.
 #[derive(Drop)]
 pub struct Linked {
     rows: Timed,
@@ -33,6 +39,7 @@ impl Model for Linked {
     ghost use Rattle.std.specs.Vec.{vec_capacity};
     ghost use Rattle.qz_tables.specs.Slots.{rows_at};
     ghost use Rattle.qz_tables.specs.Linking.{LinkedData, links_of};
+    ghost use Rattle.qz_tables.specs.ByJob.{AreByJob};
     ghost use Rattle.qz_tables.specs.Once.{AreOnce};
 
     ghost Value = { LinkedData };
@@ -43,22 +50,21 @@ impl Model for Linked {
       spare = min a.rows.spare (vec_capacity a.linked - vec_len a.linked);
     } };
 
-    ghost invariant = { λ a. AreOnce a.rows.slots a.linked.items };
+    ghost invariant = { λ a. AreOnce a.rows.slots a.linked.items × AreByJob (λ t. t.spec.job) (rows_at a.rows.slots a.linked.items) };
 }
 
-// The place of this slot.
-fn place_in(linked: &[usize], slot: usize) -> Option<usize>
-    ensures found { IfSome result (λ at. slice_get linked.now at ≡ Some slot) }
-    ensures none { IfNone result (times slot linked.now ≡ 0) }
+// Changes the states of the triggers in these slots.
+fn change_slots(rows: &mut Timed, slots: &[usize], change: StateChange)
+    requires filled { AreFilled rows.old.slots slots.now }
+    requires apart { AreApart slots.now }
+    ensures each { (s : ℕ) → slice_index_or rows.new.slots s None ≡ edited_in (trigger_edited (State change)) slots.now s (slice_index_or rows.old.slots s None) }
+    ensures order { rows.new.order ≡ rows.old.order }
+    ensures spare { rows.new.spare ≡ rows.old.spare }
 {
-    let mut at = 0;
-    for other in linked {
-        if *other == slot {
-            return Some(at);
-        }
-        at += 1;
+    let edit = TriggerEdit::State(change);
+    for place in 0..slots.len() {
+        rows.edit_slot(slots[place], &edit);
     }
-    None
 }
 
 impl Linked {
@@ -146,8 +152,16 @@ impl Linked {
         ensures links { IsLinked row.spec.job row.spec.key self.old.links self.new.links }
         ensures spare { self.old.spare ≤ self.new.spare + 1 }
     {
+        let place = bound_of(
+            self.rows.in_slots(),
+            &self.linked,
+            Bound::Upper,
+            &row.spec.job,
+        );
         let slot = self.rows.insert(row);
-        self.linked.push_reserved(slot);
+        let Ok(()) = self.linked.insert(place, slot) else {
+            unreachable!()
+        };
     }
 
     /// Takes out the trigger of this key.
@@ -160,16 +174,17 @@ impl Linked {
         ensures freed { OnSome result (self.old.spare + 1 ≤ self.new.spare) }
         ensures spare { self.old.spare ≤ self.new.spare }
     {
-        match self.rows.take(key) {
-            Some((slot, row)) => match place_in(&self.linked, slot) {
-                Some(at) => {
-                    self.linked.remove(at);
-                    Some(row)
-                }
-                None => unreachable!(),
-            },
-            None => None,
-        }
+        let rows = self.rows.in_slots();
+        rows.laws();
+        let Some(slot) = rows.slot(key) else {
+            return None;
+        };
+        let place = place_in(rows, &self.linked, slot);
+        let Some((_, row)) = self.rows.take(key) else {
+            unreachable!()
+        };
+        self.linked.remove(place);
+        Some(row)
     }
 
     /// Changes the trigger of this key in place, if it is stored.
@@ -226,23 +241,6 @@ impl Linked {
         self.rows.edit_nth(place, edit);
     }
 
-    /// Takes out the triggers that pass.
-    ///
-    /// It looks at every trigger.
-    pub fn remove_all<T: Test<TriggerRow>>(&mut self, test: &T)
-        ensures rows { self.new.rows ≡ filter (λ row. not (T.test test.now row)) self.old.rows }
-        ensures links { (job : Key) → ((row : TriggerData) → T.test test.now row ≡ true → row.spec.job ≢ job) → linked job self.new.links ≡ linked job self.old.links }
-        ensures spare { self.old.spare ≤ self.new.spare }
-    {
-        let mut place = self.len();
-        while place > 0 {
-            place -= 1;
-            if self.rows.passes_nth(place, test) {
-                drop(self.remove_nth(place));
-            }
-        }
-    }
-
     fn remove_nth(&mut self, place: usize) -> TriggerRow
         requires { place < length self.old.rows }
         ensures row { Some result ≡ slice_get self.old.rows place }
@@ -250,14 +248,62 @@ impl Linked {
         ensures links { IsUnlinked result.spec.job result.spec.key self.old.links self.new.links }
         ensures spare { self.old.spare ≤ self.new.spare }
     {
-        let (slot, row) = self.rows.take_nth(place);
-        match place_in(&self.linked, slot) {
-            Some(at) => {
-                self.linked.remove(at);
-                row
-            }
-            None => unreachable!(),
+        let rows = self.rows.in_slots();
+        rows.laws();
+        let at = place_in(rows, &self.linked, rows.slot_nth(place));
+        let (_, row) = self.rows.take_nth(place);
+        self.linked.remove(at);
+        row
+    }
+
+    /// The triggers of a job, in the order of linking.
+    pub fn of_job<'a>(&'a self, job: &Key) -> JobTriggers<'a>
+        ensures links { map (λ t. t.spec.key) result ≡ linked job.now self.now.links }
+        ensures rows { IsPermutation (triggers_of job.now self.now.rows) result }
+    {
+        let rows = self.rows.in_slots();
+        rows.laws();
+        JobTriggers::new(rows, slots_of(rows, &self.linked, job))
+    }
+
+    /// Changes the states of a job's triggers.
+    pub fn change_job(&mut self, job: &Key, change: StateChange)
+        ensures rows { self.new.rows ≡ with_states (changed change) (λ t. same_key job.now t.spec.job) self.old.rows }
+        ensures links { KeepsLinks self.old.links self.new.links }
+        ensures spare { self.old.spare ≤ self.new.spare }
+    {
+        self.rows.in_slots().laws();
+        let slots = slots_of(self.rows.in_slots(), &self.linked, job);
+        change_slots(&mut self.rows, slots, change);
+        self.rows.in_slots().laws();
+    }
+
+    /// Takes out a job's triggers.
+    pub fn remove_job(&mut self, job: &Key)
+        ensures rows { self.new.rows ≡ filter (λ t. not (same_key job.now t.spec.job)) self.old.rows }
+        ensures links { KeepsOtherLinks job.now self.old.links self.new.links }
+        ensures spare { self.old.spare ≤ self.new.spare }
+    {
+        while let Some(row) = self.remove_first(job) {
+            drop(row);
         }
+    }
+
+    // Takes out the first of a job's triggers.
+    fn remove_first(&mut self, job: &Key) -> Option<TriggerRow>
+        ensures rows { filter (λ t. not (same_key job.now t.spec.job)) self.new.rows ≡ filter (λ t. not (same_key job.now t.spec.job)) self.old.rows }
+        ensures fewer { OnSome result (length self.new.rows + 1 ≡ length self.old.rows) }
+        ensures none { IfNone result (filter (λ t. not (same_key job.now t.spec.job)) self.new.rows ≡ self.new.rows) }
+        ensures links { KeepsOtherLinks job.now self.old.links self.new.links }
+        ensures spare { self.old.spare ≤ self.new.spare }
+    {
+        let rows = self.rows.in_slots();
+        rows.laws();
+        let Some(slot) = slots_of(rows, &self.linked, job).first() else {
+            return None;
+        };
+        let place = rows.place_at(*slot);
+        Some(self.remove_nth(place))
     }
 
     /// Puts a trigger in place of that of its key, and gives the old one. A trigger of another job than before is linked

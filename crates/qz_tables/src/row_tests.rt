@@ -34,20 +34,6 @@ fn is_acquired(state: FiredState) -> bool
     matches!(state, FiredState::Acquired)
 }
 
-/// The triggers of a job.
-#[derive(Clone, Copy)]
-pub struct OfJob<'a> {
-    pub job: &'a Key,
-}
-
-impl<'a> Test<TriggerRow> for OfJob<'a> {
-    ghost test = { λ t row. same_key t.job.now row.spec.job };
-
-    fn passes(&self, row: &TriggerRow) -> bool {
-        is_same_key(self.job, &row.spec.job)
-    }
-}
-
 /// The triggers of a group.
 #[derive(Clone, Copy)]
 pub struct OfGroup<'a> {

@@ -1,7 +1,7 @@
 //! The tables whole: their numbers, and the room for rows.
 ghost use Rattle.std.specs.Prelude.{◌≡◌, [], IsOk, OnOk};
 ghost use Rattle.qz_types.specs.Tables.{empty};
-ghost use Rattle.qz_tables.specs.Contents.{KeepsSpare, HasSpare};
+ghost use Rattle.qz_tables.specs.Contents.{KeepsSpare, HasSpare, HasSpareOf};
 
 use crate::indexed::Indexed;
 use crate::linked::Linked;
@@ -11,6 +11,19 @@ use qz_types::{
 };
 use std::alloc::Global;
 use std::marker::Model;
+
+/// How many rows of each kind.
+#[derive(Clone, Copy)]
+pub struct RowCounts {
+    pub jobs: usize,
+    pub triggers: usize,
+    pub calendars: usize,
+    pub zones: usize,
+    pub paused_groups: usize,
+    pub paused_job_groups: usize,
+    pub members: usize,
+    pub fired: usize,
+}
 
 /// The tables of the trigger store: rows of eight kinds, each in the order of its ids, and numbers.
 ///
@@ -114,6 +127,26 @@ impl Tables {
         self.paused_job_groups.reserve(rows)?;
         self.members.reserve(rows)?;
         self.fired.reserve(rows)?;
+        Ok(())
+    }
+
+    /// Makes room for so many rows more, of each kind as many as this says. It takes no memory for a kind that has that room
+    /// already.
+    pub fn reserve_each(&mut self, rows: &RowCounts) -> Result<(), NoMemory>
+        ensures tables { self.new.tables ≡ self.old.tables }
+        ensures links { self.new.links ≡ self.old.links }
+        ensures spare { KeepsSpare self.old.spare self.new.spare }
+        ensures room { OnOk result (HasSpareOf rows.now self.new.spare) }
+        ensures succeeds { HasSpareOf rows.now self.old.spare → IsOk result }
+    {
+        self.jobs.reserve(rows.jobs)?;
+        self.triggers.reserve(rows.triggers)?;
+        self.calendars.reserve(rows.calendars)?;
+        self.zones.reserve(rows.zones)?;
+        self.paused_groups.reserve(rows.paused_groups)?;
+        self.paused_job_groups.reserve(rows.paused_job_groups)?;
+        self.members.reserve(rows.members)?;
+        self.fired.reserve(rows.fired)?;
         Ok(())
     }
 

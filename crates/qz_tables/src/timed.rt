@@ -57,6 +57,13 @@ impl Timed {
         }
     }
 
+    /// The triggers in their slots.
+    pub fn in_slots(&self) -> &Indexed<TriggerRow>
+        ensures { result.now ≡ self.now }
+    {
+        &self.rows
+    }
+
     /// The trigger of this key.
     pub fn get(&self, key: &Key) -> Option<&TriggerRow>
         ensures row { option_copied result ≡ row_of key_cmp (λ r. r.spec.key) key.now self.now.rows }
@@ -193,6 +200,18 @@ impl Timed {
         ensures spare { self.new.spare ≡ self.old.spare }
     {
         let slot = self.rows.edit_nth(place, edit);
+        follow(&self.rows, &mut self.queue, self.is_in_step, slot);
+    }
+
+    /// Changes the trigger in this slot.
+    pub fn edit_slot(&mut self, slot: usize, edit: &TriggerEdit)
+        requires present { IsSome (slice_index_or self.old.slots slot None) }
+        requires fit { IfSome (slice_index_or self.old.slots slot None) (IsFit edit.now) }
+        ensures slot { IsWritten self.old.slots self.new.slots slot (option_map (trigger_edited edit.now) (slice_index_or self.old.slots slot None)) }
+        ensures order { self.new.order ≡ self.old.order }
+        ensures spare { self.new.spare ≡ self.old.spare }
+    {
+        self.rows.edit_slot(slot, edit);
         follow(&self.rows, &mut self.queue, self.is_in_step, slot);
     }
 

@@ -1,4 +1,4 @@
-use Rattle.std.proofs.Common.{◌<◌, sym}
+use Rattle.std.proofs.Common.{sym}
 use Rattle.qz_tables.proofs.Filled.{filled_at}
 use Rattle.qz_tables.proofs.indexed.find_slot.Goals as goal
 

@@ -11,3 +11,6 @@ returns-clause-apart g c = rw (← c.self.view_is) (λ s t r q e h same. one_slo
 
 pub returns-clause-listed : goal.returns-clause-listed
 returns-clause-listed g c = rw (← c.self.view_is) (λ k r e. row_slot g.R.Id.Ord.cmp g.R.Keyed.id g.met.R.Id.Ord.total c.self.inside.rows.slots c.self.inside.order.items k r c.self.invariant.1 e)
+
+pub returns-clause-once : goal.returns-clause-once
+returns-clause-once g c = rw (← c.self.view_is) c.self.invariant.2

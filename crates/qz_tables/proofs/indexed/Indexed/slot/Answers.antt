@@ -1,7 +1,6 @@
-use Rattle.std.proofs.Common.{◌≡◌, Some, None, get_or, refl, sym, ap, ◌∙◌, subst}
-use Rattle.std.specs.Prelude.{IsSomeAnd, IsSome, Option, Bool, true}
+use Rattle.std.proofs.Common.{None, get_or, refl, sym, ◌∙◌, subst}
+use Rattle.std.specs.Prelude.{IsSome}
 use Rattle.std.specs.Ordering.{is_eq}
-use Rattle.qz_types.specs.Sorted.{row_of, IsAscending}
 use Rattle.qz_tables.proofs.OnceLemmas.{known, row_whole}
 use Rattle.qz_tables.proofs.indexed.Indexed.slot.Goals as goal
 

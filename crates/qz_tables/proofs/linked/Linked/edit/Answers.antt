@@ -7,11 +7,13 @@ use Rattle.qz_tables.specs.Ids.{changed_at}
 use Rattle.qz_tables.specs.Linking.{links_of}
 use Rattle.qz_tables.specs.Links.{KeepsLinks}
 use Rattle.qz_tables.specs.Slots.{rows_at}
-use Rattle.qz_tables.proofs.LinkLemmas.{alike-edited, once-alike, links-alike}
+use Rattle.qz_tables.proofs.LinkLemmas.{alike-edited, once-alike, by_job-alike, links-alike}
 use Rattle.qz_tables.proofs.linked.Linked.edit.Goals as goal
 
 pub invariant_of-self : goal.invariant_of-self
-invariant_of-self c = once-alike c.self.inside.rows.slots c.edit.new.self.slots c.self.inside.linked.items (alike-edited c.args.edit.now c.self.inside.rows.slots c.edit.new.self.slots c.edit.ensures.slots) c.self.invariant
+invariant_of-self c =
+    let alike = alike-edited c.args.edit.now c.self.inside.rows.slots c.edit.new.self.slots c.edit.ensures.slots in
+    (once-alike c.self.inside.rows.slots c.edit.new.self.slots c.self.inside.linked.items alike c.self.invariant.0, by_job-alike c.self.inside.rows.slots c.edit.new.self.slots c.self.inside.linked.items alike c.self.invariant.1)
 
 pub returns-clause-rows : goal.returns-clause-rows
 returns-clause-rows c = c.edit.ensures.rows ∙ ap (λ v. changed_at key_cmp (λ (r : TriggerData). r.spec.key) c.args.key.now (trigger_edited c.args.edit.now) v.rows) c.self.view_is

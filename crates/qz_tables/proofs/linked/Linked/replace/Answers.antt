@@ -6,7 +6,7 @@ use Rattle.qz_tables.specs.Ids.{changed_at}
 use Rattle.qz_tables.specs.Linking.{links_of}
 use Rattle.qz_tables.specs.Links.{KeepsLinks}
 use Rattle.qz_tables.specs.Slots.{rows_at}
-use Rattle.qz_tables.proofs.LinkLemmas.{AreAlike, trigger_key, if_found, tie_is, alike-replaced, links-alike, once-alike}
+use Rattle.qz_tables.proofs.LinkLemmas.{AreAlike, trigger_key, if_found, tie_is, alike-replaced, links-alike, once-alike, by_job-alike}
 use Rattle.qz_tables.proofs.linked.Linked.replace.Goals as goal
 
 pub returns-clause-row : goal.returns-clause-row
@@ -27,4 +27,4 @@ returns-clause-links c =
     subst (λ v. KeepsLinks v.links (links_of (rows_at c.change.new.self.slots c.self.inside.linked.items))) c.self.view_is (links-alike c.self.inside.rows.slots c.change.new.self.slots c.self.inside.linked.items (alike c))
 
 pub invariant_of-self : goal.invariant_of-self
-invariant_of-self c = once-alike c.self.inside.rows.slots c.change.new.self.slots c.self.inside.linked.items (alike c) c.self.invariant
+invariant_of-self c = (once-alike c.self.inside.rows.slots c.change.new.self.slots c.self.inside.linked.items (alike c) c.self.invariant.0, by_job-alike c.self.inside.rows.slots c.change.new.self.slots c.self.inside.linked.items (alike c) c.self.invariant.1)
