@@ -44,7 +44,7 @@ kept-by_command T T' m actor (AddTrigger spec replace) r good valid is e = kept-
 kept-by_command T T' m actor (DeleteTrigger key) r good valid is e = kept-delete_trigger T T' m key r valid is e
 kept-by_command T T' m actor (PauseTrigger key) r good valid is e = kept-pause_trigger T T' m key r valid is e
 kept-by_command T T' m actor (ResumeTrigger key) r good valid is e = kept-resume_trigger T T' m key r valid is e
-kept-by_command T T' m actor (PauseGroup group) r good valid is e = kept-pause_group T T' m group r valid is e
+kept-by_command T T' m actor (PauseGroup group) r good valid is e = kept-pause_group T T' m group r good valid is e
 kept-by_command T T' m actor (ResumeGroup group) r good valid is e = kept-resume_group T T' m group r valid is e
 kept-by_command T T' m actor (AddCalendar calendar replace) r good valid is e = kept-add_calendar T T' m calendar replace r valid is e
 kept-by_command T T' m actor (DeleteCalendar name) r good valid is e = kept-delete_calendar T T' m name r valid is e
@@ -69,7 +69,7 @@ kept-by_command T T' m Client (Recover node) r good valid is e = refused-keeps T
 kept-by_command T T' m (Node me) (Recover node) r good valid is e = kept-recover T T' m me node r valid is e
 kept-by_command T T' m actor Upgrade r good valid is e = kept-upgrade T T' m r valid is e
 kept-by_command T T' m actor (ResetTrigger key) r good valid is e = kept-reset_trigger T T' m key r valid is e
-kept-by_command T T' m actor (PauseJobGroup group) r good valid is e = kept-pause_job_group T T' m group r valid is e
+kept-by_command T T' m actor (PauseJobGroup group) r good valid is e = kept-pause_job_group T T' m group r good valid is e
 kept-by_command T T' m actor (ResumeJobGroup group) r good valid is e = kept-resume_job_group T T' m group r valid is e
 
 command_of : (e : EntryData) → IsTrue (is_entry e) → IsTrue (is_command e.command)
@@ -103,6 +103,8 @@ valid-empty version = record {
       next_epoch = omega arith;
       threshold = refl;
       horizon = horizon_is version;
+      group_names = tt;
+      job_group_names = tt;
     };
   };
   acquired_match = record { one_row = tt; a_trigger = tt };

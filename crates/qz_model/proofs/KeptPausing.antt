@@ -1,7 +1,8 @@
 -- Pausing and resuming triggers and groups of them keeps the tables valid.
-use Rattle.std.proofs.Common.{◌≡◌, ℕ, ◌+◌, ◌≤◌, ℤ, Bool, true, false, not, ◌&&◌, List, length, nat_le, cond, None, refl, sym, ap, ◌∙◌, subst, arith}
+use Rattle.std.proofs.Common.{◌≡◌, ℕ, ◌+◌, ◌≤◌, ℤ, Bool, true, false, not, ◌&&◌, List, length, nat_le, cond, None, IsTrue, refl, sym, ap, ◌∙◌, subst, arith}
 use Rattle.std.proofs.lemmas.Bool.{leb-false}
 use Rattle.std.proofs.lemmas.Cmp.{nat_list_cmp_total}
+use Rattle.qz_civil.specs.Timings.{is_name}
 use Rattle.qz_types.specs.Rows.{TriggerData, FiredData}
 use Rattle.qz_types.specs.Changes.{with_state, with_states, without_acquired}
 use Rattle.qz_types.specs.States.{paused, resumed}
@@ -15,7 +16,7 @@ use Rattle.qz_types.specs.declared.replies.Refusal.TheVariants.{TooMany}
 use Rattle.qz_types.specs.Tables.{SchedulerTables, IsMoment}
 use Rattle.qz_types.specs.Outcomes.{accepted}
 use Rattle.qz_types.specs.Words.{text_cmp, same_text, trigger_of, with_trigger, group_of, is_paused, put_group, without_group}
-use Rattle.qz_model.specs.Invariant.{is_blocked_or_done, is_blocked, is_live_state, TablesValid}
+use Rattle.qz_model.specs.Invariant.{AreNames, is_blocked_or_done, is_blocked, is_live_state, TablesValid}
 use Rattle.qz_model.specs.Pausing.{is_in_group, is_row_of_group, pause_trigger, resume_trigger, pause_group_refusal, pause_group, is_resumed_with_group, resume_group, is_in_job_group, is_row_of_job_group, pause_job_group_refusal, pause_job_group, is_resumed_with_job_group, resume_job_group}
 use Rattle.qz_model.specs.Tests.{refuse_if, is_row_of_trigger}
 use Rattle.qz_model.specs.Triggers.{unknown_trigger}
@@ -24,7 +25,7 @@ use Rattle.qz_model.proofs.LookUps.{IsAscending-filter}
 use Rattle.qz_model.proofs.References.{references-groups, references-job_groups}
 use Rattle.qz_model.proofs.Replaced.{ordered-replaced, length-replaced}
 use Rattle.qz_model.proofs.Refusals.{not_refused}
-use Rattle.qz_model.proofs.RowPoints.{All-weaker, length-filter_le}
+use Rattle.qz_model.proofs.RowPoints.{All-weaker, All-left, All-put, length-filter_le}
 use Rattle.qz_model.proofs.StateChanges.{KeepsAcquired, StatesFit, has_key, valid-with_states, valid-same_rows, valid-with_state, valid-same_row}
 
 -- Pausing keeps what is blocked blocked, blocks nothing else, and makes nothing live.
@@ -134,9 +135,9 @@ kept-resume_trigger T T' m key r valid is e =
 
 -- Groups.
 
-pub valid-groups : (T : SchedulerTables) (groups : List (List ℕ)) → TablesValid T → IsAscending text_cmp (λ r. r) groups → length groups ≤ GROUP_LIMIT → TablesValid (record T { paused_groups = groups })
-valid-groups T groups valid ordered short = record {
-  references_and_limits = references-groups T valid.references_and_limits groups ordered short;
+pub valid-groups : (T : SchedulerTables) (groups : List (List ℕ)) → TablesValid T → IsAscending text_cmp (λ r. r) groups → length groups ≤ GROUP_LIMIT → AreNames groups → TablesValid (record T { paused_groups = groups })
+valid-groups T groups valid ordered short named = record {
+  references_and_limits = references-groups T valid.references_and_limits groups ordered short named;
   acquired_match = valid.acquired_match;
   concurrency_agrees = valid.concurrency_agrees;
   one_exclusive = valid.one_exclusive;
@@ -167,6 +168,15 @@ pub length-without_group : (group : List ℕ) (groups : List (List ℕ)) → len
 unfolding without_group
 length-without_group group groups = length-filter_le _ groups
 
+-- a name more, and one less
+named-without_group : (group : List ℕ) (groups : List (List ℕ)) → AreNames groups → AreNames (without_group group groups)
+unfolding without_group
+named-without_group group groups named = All-left (λ g. IsTrue (is_name g)) (λ g. IsTrue (is_name g)) (same_text group) groups named (λ g other is. is)
+
+named-with_group : (group : List ℕ) (groups : List (List ℕ)) → IsTrue (is_name group) → AreNames groups → AreNames (put_group group (without_group group groups))
+unfolding put_group
+named-with_group group groups good named = All-put text_cmp (λ r. r) (λ g. IsTrue (is_name g)) group (without_group group groups) good (named-without_group group groups named)
+
 room_for_group : (limit : ℕ) (group : List ℕ) (groups : List (List ℕ)) → refuse_if (not (is_paused group groups) && nat_le limit (length groups)) (TooMany limit) None ≡ None → length groups ≤ limit
     → length (put_group group (without_group group groups)) ≤ limit
 room_for_group limit group groups clear within = elim (is_paused group groups) as (λ b. refuse_if (not b && nat_le limit (length groups)) (TooMany limit) None ≡ None
@@ -179,13 +189,14 @@ room_for_paused : (T : SchedulerTables) (group : List ℕ) → pause_group_refus
 unfolding pause_group_refusal
 room_for_paused T group clear within = room_for_group GROUP_LIMIT group T.paused_groups clear within
 
-pub kept-pause_group : (T T' : SchedulerTables) (m : ℤ) (group : List ℕ) (r : Reply) → TablesValid T → IsMoment T.horizon m → pause_group T m group ≡ accepted T' r → TablesValid T'
-kept-pause_group T T' m group r valid is e =
+pub kept-pause_group : (T T' : SchedulerTables) (m : ℤ) (group : List ℕ) (r : Reply) → IsTrue (is_name group) → TablesValid T → IsMoment T.horizon m → pause_group T m group ≡ accepted T' r → TablesValid T'
+kept-pause_group T T' m group r good valid is e =
     let way = passes (pause_group_refusal T group) _ T' r e in
     let same : accepted (record T { paused_groups = put_group group (without_group group T.paused_groups); triggers = with_states paused (is_in_group group) T.triggers; fired = without_acquired (is_row_of_group group) T.fired; last_moment = m }) _ ≡ accepted T' r = way.outcome in
     let was = valid.references_and_limits in
     let first : TablesValid (record T { last_moment = m; paused_groups = put_group group (without_group group T.paused_groups) }) =
-    valid-groups (record T { last_moment = m }) (put_group group (without_group group T.paused_groups)) (valid-moment T m valid is) (ordered-with_group group T.paused_groups was.ordered.paused_groups) (room_for_paused T group way.clear was.limits.paused_groups) in
+    valid-groups (record T { last_moment = m }) (put_group group (without_group group T.paused_groups)) (valid-moment T m valid is) (ordered-with_group group T.paused_groups was.ordered.paused_groups) (room_for_paused T group way.clear was.limits.paused_groups)
+    (named-with_group group T.paused_groups good was.limits.group_names) in
     subst TablesValid (cc)
     (valid-with_states (record T { last_moment = m; paused_groups = put_group group (without_group group T.paused_groups) }) paused (is_in_group group) (is_row_of_group group) first (paused-fits (is_in_group group) T.fired)
     (λ t f own job. ap (λ k. same_text group k.group) own) (λ t passes. paused-leaves t.state))
@@ -195,15 +206,15 @@ kept-resume_group T T' m group r valid is e =
     let was = valid.references_and_limits in
     let first : TablesValid (record T { last_moment = m; paused_groups = without_group group T.paused_groups }) =
     valid-groups (record T { last_moment = m }) (without_group group T.paused_groups) (valid-moment T m valid is) (ordered-without_group group T.paused_groups was.ordered.paused_groups)
-    (omega (arith, length-without_group group T.paused_groups, was.limits.paused_groups)) in
+    (omega (arith, length-without_group group T.paused_groups, was.limits.paused_groups)) (named-without_group group T.paused_groups was.limits.group_names) in
     subst TablesValid (cc)
     (valid-same_rows (record T { last_moment = m; paused_groups = without_group group T.paused_groups }) resumed (is_resumed_with_group T group) first (resumed-fits (is_resumed_with_group T group) T.fired) resumed-keeps)
 
 -- Groups of jobs.
 
-pub valid-job_groups : (T : SchedulerTables) (groups : List (List ℕ)) → TablesValid T → IsAscending text_cmp (λ r. r) groups → length groups ≤ JOB_GROUP_LIMIT → TablesValid (record T { paused_job_groups = groups })
-valid-job_groups T groups valid ordered short = record {
-  references_and_limits = references-job_groups T valid.references_and_limits groups ordered short;
+pub valid-job_groups : (T : SchedulerTables) (groups : List (List ℕ)) → TablesValid T → IsAscending text_cmp (λ r. r) groups → length groups ≤ JOB_GROUP_LIMIT → AreNames groups → TablesValid (record T { paused_job_groups = groups })
+valid-job_groups T groups valid ordered short named = record {
+  references_and_limits = references-job_groups T valid.references_and_limits groups ordered short named;
   acquired_match = valid.acquired_match;
   concurrency_agrees = valid.concurrency_agrees;
   one_exclusive = valid.one_exclusive;
@@ -223,14 +234,15 @@ room_for_paused_jobs : (T : SchedulerTables) (group : List ℕ) → pause_job_gr
 unfolding pause_job_group_refusal
 room_for_paused_jobs T group clear within = room_for_group JOB_GROUP_LIMIT group T.paused_job_groups clear within
 
-pub kept-pause_job_group : (T T' : SchedulerTables) (m : ℤ) (group : List ℕ) (r : Reply) → TablesValid T → IsMoment T.horizon m → pause_job_group T m group ≡ accepted T' r → TablesValid T'
-kept-pause_job_group T T' m group r valid is e =
+pub kept-pause_job_group : (T T' : SchedulerTables) (m : ℤ) (group : List ℕ) (r : Reply) → IsTrue (is_name group) → TablesValid T → IsMoment T.horizon m → pause_job_group T m group ≡ accepted T' r → TablesValid T'
+kept-pause_job_group T T' m group r good valid is e =
     let way = passes (pause_job_group_refusal T group) _ T' r e in
     let same : accepted (record T { paused_job_groups = put_group group (without_group group T.paused_job_groups); triggers = with_states paused (is_in_job_group group) T.triggers; fired = without_acquired (is_row_of_job_group group) T.fired; last_moment = m }) _ ≡ accepted T' r = way.outcome in
     let was = valid.references_and_limits in
     let first : TablesValid (record T { last_moment = m; paused_job_groups = put_group group (without_group group T.paused_job_groups) }) =
     valid-job_groups (record T { last_moment = m }) (put_group group (without_group group T.paused_job_groups)) (valid-moment T m valid is) (ordered-with_group group T.paused_job_groups was.ordered.paused_job_groups)
-    (room_for_paused_jobs T group way.clear was.limits.paused_job_groups) in
+    (room_for_paused_jobs T group way.clear was.limits.paused_job_groups)
+    (named-with_group group T.paused_job_groups good was.limits.job_group_names) in
     subst TablesValid (cc)
     (valid-with_states (record T { last_moment = m; paused_job_groups = put_group group (without_group group T.paused_job_groups) }) paused (is_in_job_group group) (is_row_of_job_group group) first (paused-fits (is_in_job_group group) T.fired)
     (λ t f own job. ap (λ k. same_text group k.group) job) (λ t passes. paused-leaves t.state))
@@ -240,6 +252,6 @@ kept-resume_job_group T T' m group r valid is e =
     let was = valid.references_and_limits in
     let first : TablesValid (record T { last_moment = m; paused_job_groups = without_group group T.paused_job_groups }) =
     valid-job_groups (record T { last_moment = m }) (without_group group T.paused_job_groups) (valid-moment T m valid is) (ordered-without_group group T.paused_job_groups was.ordered.paused_job_groups)
-    (omega (arith, length-without_group group T.paused_job_groups, was.limits.paused_job_groups)) in
+    (omega (arith, length-without_group group T.paused_job_groups, was.limits.paused_job_groups)) (named-without_group group T.paused_job_groups was.limits.job_group_names) in
     subst TablesValid (cc)
     (valid-same_rows (record T { last_moment = m; paused_job_groups = without_group group T.paused_job_groups }) resumed (is_resumed_with_job_group T group) first (resumed-fits (is_resumed_with_job_group T group) T.fired) resumed-keeps)

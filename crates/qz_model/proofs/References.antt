@@ -6,7 +6,7 @@ use Rattle.qz_types.specs.Rows.{JobData, TriggerData, MemberData, FiredData, is_
 use Rattle.qz_types.specs.declared.limits.TheConstants.{JOB_LIMIT, TRIGGER_LIMIT, MEMBER_LIMIT, FIRED_LIMIT, NUMBER_LIMIT, CALENDAR_LIMIT, ZONE_LIMIT, GROUP_LIMIT, JOB_GROUP_LIMIT}
 use Rattle.qz_types.specs.Tables.{SchedulerTables}
 use Rattle.qz_types.specs.Words.{key_cmp, text_cmp}
-use Rattle.qz_model.specs.Invariant.{AreStored, IsHorizon, ReferencesAndLimits}
+use Rattle.qz_model.specs.Invariant.{AreNames, AreStored, IsHorizon, ReferencesAndLimits}
 
 module _ (T : SchedulerTables) (was : ReferencesAndLimits T) where
   pub references-moment : (m : ℤ) → ReferencesAndLimits (record T { last_moment = m })
@@ -26,6 +26,8 @@ module _ (T : SchedulerTables) (was : ReferencesAndLimits T) where
       next_epoch = limits.next_epoch;
       threshold = limits.threshold;
       horizon = limits.horizon;
+      group_names = limits.group_names;
+      job_group_names = limits.job_group_names;
     };
   }
 
@@ -46,6 +48,8 @@ module _ (T : SchedulerTables) (was : ReferencesAndLimits T) where
       next_epoch = limits.next_epoch;
       threshold = is;
       horizon = limits.horizon;
+      group_names = limits.group_names;
+      job_group_names = limits.job_group_names;
     };
   }
 
@@ -66,6 +70,8 @@ module _ (T : SchedulerTables) (was : ReferencesAndLimits T) where
       next_epoch = limits.next_epoch;
       threshold = limits.threshold;
       horizon = is;
+      group_names = limits.group_names;
+      job_group_names = limits.job_group_names;
     };
   }
 
@@ -87,6 +93,8 @@ module _ (T : SchedulerTables) (was : ReferencesAndLimits T) where
       next_epoch = limits.next_epoch;
       threshold = limits.threshold;
       horizon = limits.horizon;
+      group_names = limits.group_names;
+      job_group_names = limits.job_group_names;
     };
   }
 
@@ -108,6 +116,8 @@ module _ (T : SchedulerTables) (was : ReferencesAndLimits T) where
       next_epoch = limits.next_epoch;
       threshold = limits.threshold;
       horizon = limits.horizon;
+      group_names = limits.group_names;
+      job_group_names = limits.job_group_names;
     };
   }
 
@@ -129,6 +139,8 @@ module _ (T : SchedulerTables) (was : ReferencesAndLimits T) where
       next_epoch = number;
       threshold = limits.threshold;
       horizon = limits.horizon;
+      group_names = limits.group_names;
+      job_group_names = limits.job_group_names;
     };
   }
 
@@ -150,11 +162,13 @@ module _ (T : SchedulerTables) (was : ReferencesAndLimits T) where
       next_epoch = limits.next_epoch;
       threshold = limits.threshold;
       horizon = limits.horizon;
+      group_names = limits.group_names;
+      job_group_names = limits.job_group_names;
     };
   }
 
-  pub references-groups : (groups : List (List ℕ)) → IsAscending text_cmp (λ r. r) groups → length groups ≤ GROUP_LIMIT → ReferencesAndLimits (record T { paused_groups = groups })
-  references-groups groups ordered short = let order = was.ordered in let limits = was.limits in record {
+  pub references-groups : (groups : List (List ℕ)) → IsAscending text_cmp (λ r. r) groups → length groups ≤ GROUP_LIMIT → AreNames groups → ReferencesAndLimits (record T { paused_groups = groups })
+  references-groups groups ordered short named = let order = was.ordered in let limits = was.limits in record {
     ordered = record { jobs = order.jobs; triggers = order.triggers; calendars = order.calendars; zones = order.zones; paused_groups = ordered; paused_job_groups = order.paused_job_groups; members = order.members; fired = order.fired };
     stored = was.stored;
     limits = record {
@@ -170,11 +184,13 @@ module _ (T : SchedulerTables) (was : ReferencesAndLimits T) where
       next_epoch = limits.next_epoch;
       threshold = limits.threshold;
       horizon = limits.horizon;
+      group_names = named;
+      job_group_names = limits.job_group_names;
     };
   }
 
-  pub references-job_groups : (groups : List (List ℕ)) → IsAscending text_cmp (λ r. r) groups → length groups ≤ JOB_GROUP_LIMIT → ReferencesAndLimits (record T { paused_job_groups = groups })
-  references-job_groups groups ordered short = let order = was.ordered in let limits = was.limits in record {
+  pub references-job_groups : (groups : List (List ℕ)) → IsAscending text_cmp (λ r. r) groups → length groups ≤ JOB_GROUP_LIMIT → AreNames groups → ReferencesAndLimits (record T { paused_job_groups = groups })
+  references-job_groups groups ordered short named = let order = was.ordered in let limits = was.limits in record {
     ordered = record { jobs = order.jobs; triggers = order.triggers; calendars = order.calendars; zones = order.zones; paused_groups = order.paused_groups; paused_job_groups = ordered; members = order.members; fired = order.fired };
     stored = was.stored;
     limits = record {
@@ -190,6 +206,8 @@ module _ (T : SchedulerTables) (was : ReferencesAndLimits T) where
       next_epoch = limits.next_epoch;
       threshold = limits.threshold;
       horizon = limits.horizon;
+      group_names = limits.group_names;
+      job_group_names = named;
     };
   }
 
@@ -211,6 +229,8 @@ module _ (T : SchedulerTables) (was : ReferencesAndLimits T) where
       next_epoch = limits.next_epoch;
       threshold = limits.threshold;
       horizon = limits.horizon;
+      group_names = limits.group_names;
+      job_group_names = limits.job_group_names;
     };
   }
 
@@ -232,5 +252,7 @@ module _ (T : SchedulerTables) (was : ReferencesAndLimits T) where
       next_epoch = limits.next_epoch;
       threshold = limits.threshold;
       horizon = limits.horizon;
+      group_names = limits.group_names;
+      job_group_names = limits.job_group_names;
     };
   }

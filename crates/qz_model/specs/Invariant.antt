@@ -4,6 +4,7 @@ use Rattle.std.specs.Option.{IsSomeAnd}
 use Rattle.std.specs.List.{AllByRecursion, count_by}
 use Rattle.std.specs.Fmt.{decimal}
 use Rattle.std.specs.Ordering.{nat_cmp}
+use Rattle.qz_civil.specs.Timings.{is_name}
 use Rattle.qz_civil.specs.declared.limits.TheConstants.{LAST, VERSION_ONE_LAST}
 use Rattle.qz_types.specs.Sorted.{IsAscending}
 use Rattle.qz_types.specs.Rows.{JobData, TriggerData, CalendarData, ZoneData, MemberData, FiredData, is_interval}
@@ -47,7 +48,11 @@ pub record AreStored (jobs : List JobData) (triggers : List TriggerData) (calend
 abbrev pub IsHorizon : ℤ → Type 0
 IsHorizon horizon = (horizon ≡ VERSION_ONE_LAST) ⊎ (horizon ≡ LAST)
 
--- No table and no number passes its limit.
+-- each of these groups is a name of a length that a group may have
+abbrev pub AreNames : List (List ℕ) → Type 0
+AreNames groups = AllByRecursion (λ group. IsTrue (is_name group)) groups
+
+-- No table, no number and no name of a paused group passes its limit.
 pub record AreWithinLimits (T : SchedulerTables) : Type 0 where
   pub jobs : length T.jobs ≤ JOB_LIMIT
   pub triggers : length T.triggers ≤ TRIGGER_LIMIT
@@ -61,6 +66,8 @@ pub record AreWithinLimits (T : SchedulerTables) : Type 0 where
   pub next_epoch : T.next_epoch ≤ NUMBER_LIMIT
   pub threshold : IsTrue (is_interval T.threshold)
   pub horizon : IsHorizon T.horizon
+  pub group_names : AreNames T.paused_groups
+  pub job_group_names : AreNames T.paused_job_groups
 
 pub record ReferencesAndLimits (T : SchedulerTables) : Type 0 where
   pub ordered : AreOrdered T

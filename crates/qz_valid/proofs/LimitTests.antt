@@ -1,15 +1,17 @@
--- What the tests of counts and numbers decide.
-use Rattle.std.proofs.Common.{◌≡◌, ◌≤◌, ℤ, pos, true, ◌&&◌, length}
+-- What the tests of counts, numbers and names of paused groups decide.
+use Rattle.std.proofs.Common.{◌≡◌, ℕ, ◌≤◌, ℤ, pos, true, ◌&&◌, List, length, IsTrue}
+use Rattle.std.specs.List.{list_all}
 use Rattle.std.specs.Bool.{Decides}
 use Rattle.std.specs.Ordering.{int_eq}
 use Rattle.std.proofs.lemmas.Bool.Decides.{Decides-and, Decides-or, Decides-like, Decides-int_eq}
+use Rattle.qz_civil.specs.Timings.{is_name}
 use Rattle.qz_civil.specs.declared.limits.TheConstants.{LAST, VERSION_ONE_LAST}
 use Rattle.qz_types.specs.Rows.{is_interval}
 use Rattle.qz_types.specs.Tables.{SchedulerTables, IsMoment}
 use Rattle.qz_types.specs.declared.limits.TheConstants.{JOB_LIMIT, TRIGGER_LIMIT, CALENDAR_LIMIT, ZONE_LIMIT, GROUP_LIMIT, JOB_GROUP_LIMIT, MEMBER_LIMIT, FIRED_LIMIT, NUMBER_LIMIT}
-use Rattle.qz_model.specs.Invariant.{IsHorizon, AreWithinLimits}
-use Rattle.qz_valid.specs.Limits.{is_moment, is_horizon, counts_fit, numbers_fit}
-use Rattle.qz_valid.proofs.Deciding.{itself, le_decided, int_le_decided}
+use Rattle.qz_model.specs.Invariant.{IsHorizon, AreNames, AreWithinLimits}
+use Rattle.qz_valid.specs.Limits.{is_moment, is_horizon, counts_fit, numbers_fit, names_fit}
+use Rattle.qz_valid.proofs.Deciding.{itself, le_decided, int_le_decided, all_decided}
 
 pub moment_decided : (horizon m : ℤ) → Decides (is_moment horizon m) (IsMoment horizon m)
 moment_decided horizon m =
@@ -60,13 +62,28 @@ numbers_decided T = Decides-like (numbers_fit T)
     (Decides-and _ _ (itself (is_interval T.threshold))
     (Decides-and _ _ (horizon_decided T.horizon) (moment_decided T.horizon T.last_moment)))))
 
--- what is said of both
+-- what is said of the names
+record NamesFit (T : SchedulerTables) : Type 0 where
+  pub groups : AreNames T.paused_groups
+  pub job_groups : AreNames T.paused_job_groups
+
+names_are : (groups : List (List ℕ)) → Decides (list_all is_name groups) (AreNames groups)
+names_are groups = all_decided is_name (λ group. IsTrue (is_name group)) (λ group. itself (is_name group)) groups
+
+names_decided : (T : SchedulerTables) → Decides (names_fit T) (NamesFit T)
+unfolding names_fit
+names_decided T = Decides-like (names_fit T)
+    (λ p. record { groups = p.0; job_groups = p.1 })
+    (λ (n : NamesFit T). (n.groups, n.job_groups))
+    (Decides-and _ _ (names_are T.paused_groups) (names_are T.paused_job_groups))
+
+-- what is said of all three
 pub record WithinLimits (T : SchedulerTables) : Type 0 where
   pub limits : AreWithinLimits T
   pub moment : IsMoment T.horizon T.last_moment
 
-pub limits_decided : (T : SchedulerTables) → Decides (counts_fit T && numbers_fit T) (WithinLimits T)
-limits_decided T = Decides-like (counts_fit T && numbers_fit T)
+pub limits_decided : (T : SchedulerTables) → Decides (counts_fit T && (numbers_fit T && names_fit T)) (WithinLimits T)
+limits_decided T = Decides-like (counts_fit T && (numbers_fit T && names_fit T))
     (λ p. record {
       limits = record {
         jobs = p.0.jobs;
@@ -77,12 +94,14 @@ limits_decided T = Decides-like (counts_fit T && numbers_fit T)
         paused_job_groups = p.0.paused_job_groups;
         members = p.0.members;
         fired = p.0.fired;
-        next_entry = p.1.next_entry;
-        next_epoch = p.1.next_epoch;
-        threshold = p.1.threshold;
-        horizon = p.1.horizon;
+        next_entry = p.1.0.next_entry;
+        next_epoch = p.1.0.next_epoch;
+        threshold = p.1.0.threshold;
+        horizon = p.1.0.horizon;
+        group_names = p.1.1.groups;
+        job_group_names = p.1.1.job_groups;
       };
-      moment = p.1.moment;
+      moment = p.1.0.moment;
     })
     (λ (w : WithinLimits T). (
       record {
@@ -95,12 +114,15 @@ limits_decided T = Decides-like (counts_fit T && numbers_fit T)
         members = w.limits.members;
         fired = w.limits.fired;
       },
-      record {
-        next_entry = w.limits.next_entry;
-        next_epoch = w.limits.next_epoch;
-        threshold = w.limits.threshold;
-        horizon = w.limits.horizon;
-        moment = w.moment;
-      },
+      (
+        record {
+          next_entry = w.limits.next_entry;
+          next_epoch = w.limits.next_epoch;
+          threshold = w.limits.threshold;
+          horizon = w.limits.horizon;
+          moment = w.moment;
+        },
+        record { groups = w.limits.group_names; job_groups = w.limits.job_group_names },
+      ),
     ))
-    (Decides-and (counts_fit T) (numbers_fit T) (counts_decided T) (numbers_decided T))
+    (Decides-and (counts_fit T) (numbers_fit T && names_fit T) (counts_decided T) (Decides-and (numbers_fit T) (names_fit T) (numbers_decided T) (names_decided T)))

@@ -18,7 +18,7 @@ use Rattle.qz_model.specs.Plan.{zone_named_by, is_known_zone}
 use Rattle.qz_model.proofs.RowPoints.{All-weaker, All-both}
 use Rattle.qz_valid.specs.Calendars.{calendar_fits}
 use Rattle.qz_valid.specs.Fired.{fired_fits}
-use Rattle.qz_valid.specs.Limits.{counts_fit, numbers_fit}
+use Rattle.qz_valid.specs.Limits.{counts_fit, numbers_fit, names_fit}
 use Rattle.qz_valid.specs.Members.{member_fits}
 use Rattle.qz_valid.specs.Names.{name_fits, AreApart}
 use Rattle.qz_valid.specs.Triggers.{trigger_fits}
@@ -207,5 +207,5 @@ module _ (T : SchedulerTables) (acquired exclusive : List Key) (a_set : Counts A
   told ordered within fit (Ok b) apart = decided ordered within fit b apart
 
 -- tables past a limit aren't valid
-pub past_limits : (T : SchedulerTables) → (counts_fit T && numbers_fit T) ≡ false → TablesValid T → ⊥
+pub past_limits : (T : SchedulerTables) → (counts_fit T && (numbers_fit T && names_fit T)) ≡ false → TablesValid T → ⊥
 past_limits T fails v = let passes = (limits_decided T).1 (record { limits = v.references_and_limits.limits; moment = v.next_times.moment }) in absurd (cc)

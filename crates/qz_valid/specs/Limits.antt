@@ -1,7 +1,8 @@
--- Tests of how many rows tables have, and of their numbers.
+-- Tests of how many rows tables have, of their numbers, and of the names of paused groups.
 use Rattle.std.specs.Prelude.{ℤ, pos, Bool, ◌&&◌, ◌||◌, nat_le, length}
+use Rattle.std.specs.List.{list_all}
 use Rattle.std.specs.Ordering.{int_eq}
-use Rattle.qz_civil.specs.Timings.{is_within}
+use Rattle.qz_civil.specs.Timings.{is_name, is_within}
 use Rattle.qz_civil.specs.declared.limits.TheConstants.{LAST, VERSION_ONE_LAST}
 use Rattle.qz_types.specs.Rows.{is_interval}
 use Rattle.qz_types.specs.Tables.{SchedulerTables}
@@ -33,3 +34,7 @@ numbers_fit T = nat_le T.next_entry NUMBER_LIMIT
     && (is_interval T.threshold
     && (is_horizon T.horizon
     && is_moment T.horizon T.last_moment)))
+
+-- each paused group is a name of a length that a group may have
+unfoldable pub names_fit : SchedulerTables → Bool
+names_fit T = list_all is_name T.paused_groups && list_all is_name T.paused_job_groups

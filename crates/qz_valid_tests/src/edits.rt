@@ -17,6 +17,10 @@ pub(super) enum Edit {
     Zone(&'static str),
     Member(&'static str, u64),
     Fired(GivenFired),
+    /// A paused group of triggers.
+    Group(&'static str),
+    /// A paused group of jobs.
+    JobGroup(&'static str),
     NoJob(&'static str),
     NoTrigger(&'static str),
     NoCalendar(&'static str),
@@ -78,6 +82,22 @@ fn put_member(tables: &mut Tables, row: MemberRow)
     }
 }
 
+fn put_group(tables: &mut Tables, name: Text)
+    requires { 0 < tables.old.spare.paused_groups }
+{
+    if tables.get_group(&name).is_none() {
+        tables.insert_group(name);
+    }
+}
+
+fn put_job_group(tables: &mut Tables, name: Text)
+    requires { 0 < tables.old.spare.paused_job_groups }
+{
+    if tables.get_job_group(&name).is_none() {
+        tables.insert_job_group(name);
+    }
+}
+
 fn put_fired(tables: &mut Tables, row: FiredRow)
     requires { 0 < tables.old.spare.fired }
 {
@@ -121,6 +141,23 @@ fn put(alloc: Global, tables: &mut Tables, edit: Edit) -> Result<(), NoMemory> {
             if let Some(row) = fired(alloc, &given)? {
                 put_fired(tables, row);
             }
+        }
+        _ => {}
+    }
+    Ok(())
+}
+
+// Puts in the paused group of the edit, if it has one.
+fn put_paused(alloc: Global, tables: &mut Tables, edit: Edit) -> Result<(), NoMemory> {
+    tables.reserve(1)?;
+    match edit {
+        Edit::Group(name) => {
+            let name = Text::from_str(alloc, name)?;
+            put_group(tables, name);
+        }
+        Edit::JobGroup(name) => {
+            let name = Text::from_str(alloc, name)?;
+            put_job_group(tables, name);
         }
         _ => {}
     }
@@ -176,6 +213,7 @@ fn set(tables: &mut Tables, edit: Edit) {
 /// Makes the edit.
 pub(super) fn make(alloc: Global, tables: &mut Tables, edit: Edit) -> Result<(), NoMemory> {
     put(alloc, tables, edit)?;
+    put_paused(alloc, tables, edit)?;
     remove_keyed(alloc, tables, edit)?;
     remove_named(alloc, tables, edit)?;
     set(tables, edit);

@@ -4,6 +4,14 @@ use crate::edits::Edit;
 use crate::rows::GivenTrigger;
 use qz_types::{LAST, TriggerState, VERSION_ONE_LAST};
 
+// 200 bytes
+const LONGEST: &str =
+    "gggggggggggggggggggggggggggggggggggggggggggggggggggggggggggggggggggggggggggggggggggggggggggggggggggggggggggggggggggggggggggggggggggggggggggggggggggggggggggggggggggggggggggggggggggggggggggggggggggggggg";
+
+// 201 bytes
+const TOO_LONG: &str =
+    "ggggggggggggggggggggggggggggggggggggggggggggggggggggggggggggggggggggggggggggggggggggggggggggggggggggggggggggggggggggggggggggggggggggggggggggggggggggggggggggggggggggggggggggggggggggggggggggggggggggggggg";
+
 pub(super) const CASES: &[Given] = &[
     ("nothing", &[], true),
     ("a trigger's job is gone", &[Edit::NoJob("k")], false),
@@ -115,6 +123,31 @@ pub(super) const CASES: &[Given] = &[
     (
         "the next epoch is too great",
         &[Edit::NextEpoch((1 << 62) + 1)],
+        false,
+    ),
+    (
+        "paused groups with the longest name",
+        &[Edit::Group(LONGEST), Edit::JobGroup(LONGEST)],
+        true,
+    ),
+    (
+        "a paused group of triggers without a name",
+        &[Edit::Group("")],
+        false,
+    ),
+    (
+        "a paused group of triggers whose name is too long",
+        &[Edit::Group(TOO_LONG)],
+        false,
+    ),
+    (
+        "a paused group of jobs without a name",
+        &[Edit::JobGroup("")],
+        false,
+    ),
+    (
+        "a paused group of jobs whose name is too long",
+        &[Edit::JobGroup(TOO_LONG)],
         false,
     ),
 ];

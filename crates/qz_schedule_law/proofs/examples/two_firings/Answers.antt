@@ -43,6 +43,8 @@ returns-clause-tables c = record {
       next_epoch = omega arith;
       threshold = refl;
       horizon = inr refl;
+      group_names = tt;
+      job_group_names = tt;
     };
   };
   acquired_match = record { one_row = tt; a_trigger = tt };
