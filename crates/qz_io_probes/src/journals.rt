@@ -1,10 +1,11 @@
 //! Journals.
-ghost use Rattle.std.specs.Prelude.{◌≡◌, ◌≢◌, ◌↔◌, ◌⊎◌, ◌+◌, ◌^◌, ◌<◌, ◌≤◌, [], ◌∷◌, ◌++◌, List, ℕ, length, drop, OnOk, OnErr, IfOk, IfErr, IsOk, IsTrue, MatchResult, Ok, Err, Some, None};
+ghost use Rattle.std.specs.Prelude.{◌≡◌, ◌≢◌, ◌↔◌, ◌⊎◌, ◌+◌, ◌^◌, ◌<◌, ◌≤◌, [], ◌∷◌, ◌++◌, List, ℕ, length, take, drop, OnOk, OnErr, IfOk, IfErr, IsOk, IsTrue, MatchResult, Ok, Err, Some, None};
 ghost use Rattle.qz_civil.specs.Causes.{Rose, HasCause};
 ghost use Rattle.qz_disk.specs.Disk.{Only, LeavesOnly, Restarts, Torn, written};
 ghost use Rattle.qz_journal.specs.Commits.{IsFull, need_of, room_of};
-ghost use Rattle.qz_journal.specs.Layout.{is_version, IsPayload, open_gate, body_of, Holds, HasStore, IsBeforeOrAfter, end_of};
+ghost use Rattle.qz_journal.specs.Layout.{is_version, IsPayload, open_gate, body_of, Holds, HasStore, new_header, IsBeforeOrAfter, end_of};
 ghost use Rattle.qz_journal.specs.Opening.{IsFound, IsRefused};
+ghost use Rattle.qz_journal.specs.Slots.{slots_of};
 ghost use Rattle.qz_journal.specs.Through.{IsKept, OnlyReads, OnlyReadsUnless};
 
 use qz_civil::{Failed, List};
@@ -23,6 +24,7 @@ pub fn fits(offset: u64, count: u64, length: u32) -> Result<(), JournalFull>
 /// Makes an empty journal, as `qz_journal::create` does.
 pub fn create<D: Disk>(disk: &mut D, kind: u8) -> Result<(), CreateError>
     ensures empty { D.honest → OnOk result (Holds (D.state disk.new).content 2 kind []) }
+    ensures header { D.honest → OnOk result (take 16 (D.state disk.new).content ≡ new_header 2 kind) }
     ensures durable { D.honest → OnOk result (Only (D.state disk.new).content (D.state disk.new)) }
     ensures keeps { D.honest → OnOk result (drop 17 (D.state disk.new).content ≡ drop 17 (D.state disk.old).content) }
     ensures any_moment { D.honest → (bytes : List ℕ) → Only bytes (D.state disk.old)
@@ -41,6 +43,7 @@ pub fn create<D: Disk>(disk: &mut D, kind: u8) -> Result<(), CreateError>
 pub fn create_version<D: Disk>(disk: &mut D, version: u8, kind: u8) -> Result<(), CreateError>
     requires { IsTrue (is_version version) }
     ensures empty { D.honest → OnOk result (Holds (D.state disk.new).content version kind []) }
+    ensures header { D.honest → OnOk result (take 16 (D.state disk.new).content ≡ new_header version kind) }
     ensures durable { D.honest → OnOk result (Only (D.state disk.new).content (D.state disk.new)) }
     ensures keeps { D.honest → OnOk result (drop 17 (D.state disk.new).content ≡ drop 17 (D.state disk.old).content) }
     ensures any_moment { D.honest → (bytes : List ℕ) → Only bytes (D.state disk.old)
@@ -67,6 +70,7 @@ pub fn append<D: Disk>(journal: &mut Journal<D>, payload: &[u8]) -> Result<(), A
     ensures unchanged { result ≢ Err AppendError.Fault → OnErr result (journal.new ≡ journal.old) }
     ensures was_open { OnOk result (journal.old.closed ≡ None) }
     ensures same_kind { (journal.new.version ≡ journal.old.version) × (journal.new.kind ≡ journal.old.kind) }
+    ensures same_slots { journal.new.slots ≡ journal.old.slots }
     ensures completes { journal.old.closed ≡ None → need_of (length payload.now) ≤ room_of journal.old.gate journal.old.count
         → (Rose (D.faults journal.old.disk) (D.faults journal.new.disk) → ⊥) → IsOk result }
     ensures ok { OnOk result ((journal.new.closed ≡ None) × (journal.new.gate ≡ journal.old.gate + (5 + length payload.now))
@@ -75,14 +79,19 @@ pub fn append<D: Disk>(journal: &mut Journal<D>, payload: &[u8]) -> Result<(), A
     ensures reads_nothing { D.honest → (D.state journal.new.disk).bytes_read ≡ (D.state journal.old.disk).bytes_read }
     ensures bytes { D.honest → OnOk result ((D.state journal.new.disk).content
         ≡ written journal.old.gate (open_gate ∷ []) (written (journal.old.gate + 1) (body_of payload.now ++ 0 ∷ []) (D.state journal.old.disk).content)) }
+    ensures front { D.honest → journal.old.closed ≡ None
+        → LeavesOnly (D.state journal.old.disk) (D.state journal.new.disk) (λ b. take journal.old.gate b ≡ take journal.old.gate (D.state journal.old.disk).content) }
     ensures stands { D.honest → (payloads : List (List ℕ)) → Holds (D.state journal.old.disk).content journal.old.version journal.old.kind payloads
+        → journal.old.gate ≡ end_of payloads
         → OnOk result (Holds (D.state journal.new.disk).content journal.old.version journal.old.kind (payloads ++ payload.now ∷ [])) }
     ensures durable { D.honest → OnOk result (Only (D.state journal.new.disk).content (D.state journal.new.disk)) }
     ensures content { D.honest → journal.old.closed ≡ None
         → (payloads : List (List ℕ)) → Holds (D.state journal.old.disk).content journal.old.version journal.old.kind payloads
+        → journal.old.gate ≡ end_of payloads
         → IsBeforeOrAfter journal.old.version journal.old.kind payloads payload.now (D.state journal.new.disk).content }
     ensures any_moment { D.honest → journal.old.closed ≡ None
         → (payloads : List (List ℕ)) → Holds (D.state journal.old.disk).content journal.old.version journal.old.kind payloads
+        → journal.old.gate ≡ end_of payloads
         → LeavesOnly (D.state journal.old.disk) (D.state journal.new.disk) (IsBeforeOrAfter journal.old.version journal.old.kind payloads payload.now) }
 {
     journal.append(payload)
@@ -95,6 +104,7 @@ pub fn mount<D: Disk>(
     kind: u8,
 ) -> Result<(Journal<D>, List<List<u8>>), (MountError, D)>
     ensures stands { D.honest → IfOk result (λ r. Holds (D.state r.0.disk).content r.0.version kind r.1) }
+    ensures slots { D.honest → IfOk result (λ r. r.0.slots ≡ slots_of (D.state r.0.disk).content) }
     ensures ground { IfOk result (λ r. (r.0.kind ≡ kind) × (r.0.closed ≡ None)
         × (r.0.gate ≡ end_of r.1) × (r.0.count ≡ length r.1)) }
     ensures reads { D.honest → IfOk result (λ r. OnlyReads (D.state disk) (D.state r.0.disk)) }
@@ -114,6 +124,7 @@ pub fn mount<D: Disk>(
 pub fn crash<D: Disk>(journal: &mut Journal<D>) -> Result<(), Failed>
     ensures closed { journal.new.closed ≡ Some journal.old.gate }
     ensures same { (journal.new.version ≡ journal.old.version) × (journal.new.kind ≡ journal.old.kind) × (journal.new.gate ≡ journal.old.gate) × (journal.new.count ≡ journal.old.count) }
+    ensures same_slots { journal.new.slots ≡ journal.old.slots }
     ensures cause { HasCause (D.faults journal.old.disk) (D.faults journal.new.disk) result }
     ensures told { D.honest → Restarts result (D.state journal.old.disk) (D.state journal.new.disk) }
     ensures images { D.honest → (b : List ℕ) → (D.state journal.new.disk).IsImage b → (D.state journal.old.disk).IsImage b }
@@ -128,6 +139,8 @@ pub fn remount<D: Disk>(
     journal: &mut Journal<D>,
 ) -> Result<List<List<u8>>, MountError>
     ensures stands { D.honest → IfOk result (λ payloads. Holds (D.state journal.new.disk).content journal.new.version journal.old.kind payloads) }
+    ensures slots { D.honest → OnOk result (journal.new.slots ≡ slots_of (D.state journal.new.disk).content) }
+    ensures slots_err { OnErr result (journal.new.slots ≡ journal.old.slots) }
     ensures ground { IfOk result (λ payloads. (journal.new.closed ≡ None)
         × (journal.new.gate ≡ end_of payloads) × (journal.new.count ≡ length payloads)) }
     ensures closed { OnErr result ((journal.new.closed ≡ Some journal.old.gate) × (journal.new.version ≡ journal.old.version)

@@ -1,19 +1,11 @@
 -- The headers of the two kinds, and their versions.
-use Rattle.std.proofs.Common.{◌≡◌, ◌≢◌, ℕ, ◌<◌, true, false, List, length, take, drop, get_or, sym, ◌∙◌, ap, subst, arith, length-take, take-append-drop, ◌++◌}
+use Rattle.std.proofs.Common.{◌≡◌, ◌≢◌, ℕ, ◌<◌, true, false, List, length, take, get_or, sym, ◌∙◌, ap, arith, length-take}
 use Rattle.std.proofs.lemmas.Bool.Decides.{nat_tests}
 use Rattle.std.proofs.lemmas.List.{take-take, get_or-take}
 use Rattle.qz_journal.specs.Layout.{front_of, is_version, IsHeader, HasHeader, IsFront, IsStore, other_kind}
 
--- one version and kind have one header
-pub one_header : (version kind : ℕ) (a b : List ℕ) → IsHeader version kind a → IsHeader version kind b → a ≡ b
-one_header version kind a b is_a is_b =
-    sym (take-append-drop 6 a)
-    ∙ ap (λ (l : List ℕ). l ++ drop 6 a) (is_a.front ∙ sym is_b.front)
-    ∙ ap (λ (l : List ℕ). take 6 b ++ l) (is_a.reserved ∙ sym is_b.reserved)
-    ∙ take-append-drop 6 b
-
 pub header_length : (version kind : ℕ) (head : List ℕ) → IsHeader version kind head → length head ≡ 16
-header_length version kind head is = ap length (sym (take-append-drop 6 head) ∙ ap (λ (l : List ℕ). l ++ drop 6 head) is.front ∙ ap (λ (l : List ℕ). front_of version kind ++ l) is.reserved)
+header_length version kind head is = is.long
 
 -- the fifth byte is the version
 fifth_is : (version kind : ℕ) (head : List ℕ) → take 6 head ≡ front_of version kind → get_or head 4 0 ≡ version
@@ -26,10 +18,10 @@ one_version v w kind head is_v is_w = sym (fifth_is v kind head is_v.front) ∙ 
 pub no_version : (kind : ℕ) (head : List ℕ) → is_version (get_or head 4 0) ≡ false → (version : ℕ) → IsHeader version kind head → ⊥
 no_version kind head none version is = let both : true ≡ false = sym is.known ∙ ap is_version (sym (fifth_is version kind head is.front)) ∙ none in cc
 
--- it is another header than that of its fifth byte
-pub other_header : (kind : ℕ) (a b : List ℕ) → IsHeader (get_or a 4 0) kind b → a ≢ b → (version : ℕ) → IsHeader version kind a → ⊥
-other_header kind a b is_b differ version is_a =
-    differ (one_header (get_or a 4 0) kind a b (subst (λ n. IsHeader n kind a) (sym (fifth_is version kind a is_a.front)) is_a) is_b)
+-- the first bytes are others than those of its fifth byte
+pub other_header : (kind : ℕ) (head first : List ℕ) → first ≡ take 6 head → first ≢ front_of (get_or head 4 0) kind → (version : ℕ) → IsHeader version kind head → ⊥
+other_header kind head first first_is differ version is =
+    differ (first_is ∙ is.front ∙ ap (λ n. front_of n kind) (sym (fifth_is version kind head is.front)))
 
 -- fewer bytes are none
 pub too_short : (kind : ℕ) (bytes : List ℕ) → length bytes < 16 → HasHeader kind bytes → ⊥

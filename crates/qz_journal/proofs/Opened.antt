@@ -15,13 +15,13 @@ use Rattle.qz_journal.proofs.Stands.{end_of-push}
 use Rattle.qz_journal.proofs.Walk.{holds_at, damaged_at}
 
 pub found_whole : (r : Result Found MountError) (version kind : ℕ) (bytes content : List ℕ) → bytes ≡ content → IsHeader version kind (take 16 bytes) → 16 ≤ length bytes
-    → IfOk r (λ f. f.version ≡ version) → IfOk r (λ f. All IsPayload f.payloads) → IfOk r (λ f. EndsAt bytes f.payloads f.is_whole) → IfOk r (λ f. f.is_whole ≡ true → Holds content f.version kind f.payloads)
+    → IfOk r (λ f. f.version ≡ version) → IfOk r (λ f. All IsPayload f.payloads) → IfOk r (λ f. EndsAt bytes 16 f.payloads f.is_whole) → IfOk r (λ f. f.is_whole ≡ true → Holds content f.version kind f.payloads)
 found_whole (Ok f) version kind bytes content same header long v_is sizes ends = λ is.
     subst (λ (n : ℕ). Holds content n kind f.payloads) (sym v_is) (subst (λ (b : List ℕ). Holds b version kind f.payloads) same (holds_at bytes version kind f.payloads f.is_whole header long sizes ends is))
 found_whole (Err e) version kind bytes content same header long v_is sizes ends = tt
 
 pub found_damaged : (r : Result Found MountError) (version kind : ℕ) (bytes content : List ℕ) → bytes ≡ content → IsHeader version kind (take 16 bytes)
-    → IfOk r (λ f. All IsPayload f.payloads) → IfOk r (λ f. EndsAt bytes f.payloads f.is_whole) → IfOk r (λ f. f.gate ≡ end_of f.payloads)
+    → IfOk r (λ f. All IsPayload f.payloads) → IfOk r (λ f. EndsAt bytes 16 f.payloads f.is_whole) → IfOk r (λ f. f.gate ≡ end_of f.payloads)
     → IfOk r (λ f. f.is_whole ≡ false → IsDamagedBehind content kind f.payloads f.gate)
 found_damaged (Ok f) version kind bytes content same header sizes ends gate = λ is.
     subst (λ (b : List ℕ). IsDamagedBehind b kind f.payloads f.gate) same (damaged_at bytes version kind f.gate f.payloads f.is_whole header sizes ends gate is)

@@ -11,11 +11,15 @@ front_of version kind = 81 ∷ 90 ∷ 50 ∷ 51 ∷ version ∷ kind ∷ []
 abbrev pub is_version : ℕ → Bool
 is_version version = (version == 1) || (version == 2)
 
--- The first 16 bytes of a store of this version and kind. Ten of them are kept for later versions.
+-- The first 16 bytes of a store of this version and kind. Six of them say so; the other ten are the slots.
 pub record IsHeader (version kind : ℕ) (head : List ℕ) : Type 0 where
   pub known : is_version version ≡ true
   pub front : take 6 head ≡ front_of version kind
-  pub reserved : drop 6 head ≡ replicate 10 0
+  pub long : length head ≡ 16
+
+-- the header that a new store is given, with both slots closed
+abbrev pub new_header : ℕ → ℕ → List ℕ
+new_header version kind = front_of version kind ++ replicate 10 0
 
 -- The bytes begin with the header of a store of this kind, in a version that is read.
 abbrev pub HasHeader : ℕ → List ℕ → Type 0
@@ -53,7 +57,11 @@ abbrev pub blocks : List (List ℕ) → List ℕ
 blocks [] = []
 blocks (p ∷ ps) = open_gate ∷ (body_of p ++ blocks ps)
 
--- the offset after them
+-- the offset after them, where the first stands at this offset
+abbrev pub end_from : ℕ → List (List ℕ) → ℕ
+end_from start ps = start + length (blocks ps)
+
+-- the offset after them, where the first follows the header
 abbrev pub end_of : List (List ℕ) → ℕ
 end_of ps = 16 + length (blocks ps)
 

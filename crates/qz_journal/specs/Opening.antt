@@ -28,10 +28,11 @@ pub record IsDamagedBehind (bytes : List ℕ) (kind : ℕ) (payloads : List (Lis
   pub at_is : at ≡ end_of payloads
   pub bad : IsBad tail
 
--- After the header and the blocks of these payloads a gate is closed, or else it is missing or what follows it is cut.
-pub record EndsAt (bytes : List ℕ) (payloads : List (List ℕ)) (is_whole : Bool) : Type 0 where
+-- From this offset on the blocks of these payloads stand, and after them a gate is closed, or else it is missing or what
+-- follows it is cut.
+pub record EndsAt (bytes : List ℕ) (start : ℕ) (payloads : List (List ℕ)) (is_whole : Bool) : Type 0 where
   pub tail : List ℕ
-  pub whole : drop 16 bytes ≡ blocks payloads ++ tail
+  pub whole : drop start bytes ≡ blocks payloads ++ tail
   pub shut : is_whole ≡ true → IsShut tail
   pub stuck : is_whole ≡ false → IsBad tail
 

@@ -2,6 +2,7 @@
 use Rattle.std.specs.Prelude.{ℕ, Option}
 use Rattle.qz_disk.specs.declared.disk.Disk.{Ghosts}
 use Rattle.qz_journal.specs.declared.journal.Journal.{Journal}
+use Rattle.qz_journal.specs.declared.slots.Slots.{Slots}
 
 -- the disk that it is on
 abbrev pub disk_of : {D : Type 0} {g : Ghosts D} → Journal D g → D
@@ -26,3 +27,7 @@ count_of j = j.count
 -- the gate's offset, while it is closed by a fault or a crash
 abbrev pub closed_at : {D : Type 0} {g : Ghosts D} → Journal D g → Option ℕ
 closed_at j = j.closed
+
+-- the slots of its header
+abbrev pub slots_of : {D : Type 0} {g : Ghosts D} → Journal D g → Slots
+slots_of j = j.slots

@@ -1,10 +1,10 @@
 //! One payload more.
-ghost use Rattle.std.specs.Prelude.{◌≡◌, ◌↔◌, ◌⊎◌, ◌+◌, ◌-◌, ◌^◌, ◌<◌, ◌≤◌, [], ◌∷◌, ◌++◌, List, ℕ, length, max, OnOk, OnErr, IfErr, IsOk, Ok, Err, Some, None, ◌≢◌, vec_capacity};
+ghost use Rattle.std.specs.Prelude.{◌≡◌, ◌↔◌, ◌⊎◌, ◌+◌, ◌-◌, ◌^◌, ◌<◌, ◌≤◌, [], ◌∷◌, ◌++◌, List, ℕ, length, take, max, OnOk, OnErr, IfErr, IsOk, Ok, Err, Some, None, ◌≢◌, vec_capacity};
 ghost use Rattle.std.specs.Int.{w32, to_be_bytes};
 ghost use Rattle.qz_civil.specs.Causes.{Rose, HasCause};
 ghost use Rattle.qz_disk.specs.Disk.{Only, LeavesOnly, written};
-ghost use Rattle.qz_journal.specs.Layout.{IsPayload, open_gate, body_of, Holds, IsBeforeOrAfter};
-ghost use Rattle.qz_journal.specs.Commits.{IsPlaced, IsFull, need_of, room_of};
+ghost use Rattle.qz_journal.specs.Layout.{IsPayload, open_gate, body_of, end_of, Holds, IsBeforeOrAfter};
+ghost use Rattle.qz_journal.specs.Commits.{IsFull, need_of, room_of};
 ghost use Rattle.qz_journal.specs.Through.{PutsThrough};
 
 use crate::layout::{CLOSED_GATE, FRAME_LENGTH, MAX_BYTES, MAX_COMMIT, MAX_PAYLOADS, OPEN_GATE};
@@ -51,11 +51,14 @@ fn put_commit<D: Disk>(disk: &mut D, gate: u64, commit: &[u8]) -> Result<(), Fai
     ensures bytes { D.honest → OnOk result ((D.state disk.new).content
         ≡ written gate (open_gate ∷ []) (written (gate + 1) commit.now (D.state disk.old).content)) }
     ensures durable { D.honest → OnOk result (Only (D.state disk.new).content (D.state disk.new)) }
-    ensures stands { D.honest → (version kind count : ℕ) (payloads : List (List ℕ)) (payload : List ℕ) → IsPayload payload
-        → commit.now ≡ body_of payload ++ 0 ∷ [] → ∥ IsPlaced (D.state disk.old).content version kind gate count ∥₁ → Holds (D.state disk.old).content version kind payloads
+    // No byte before the gate changes.
+    ensures front { D.honest → Only (D.state disk.old).content (D.state disk.old)
+        → LeavesOnly (D.state disk.old) (D.state disk.new) (λ b. take gate b ≡ take gate (D.state disk.old).content) }
+    ensures stands { D.honest → (version kind : ℕ) (payloads : List (List ℕ)) (payload : List ℕ) → IsPayload payload
+        → commit.now ≡ body_of payload ++ 0 ∷ [] → gate ≡ end_of payloads → Holds (D.state disk.old).content version kind payloads
         → OnOk result (Holds (D.state disk.new).content version kind (payloads ++ payload ∷ [])) }
-    ensures any_moment { D.honest → (version kind count : ℕ) (payloads : List (List ℕ)) (payload : List ℕ) → IsPayload payload
-        → commit.now ≡ body_of payload ++ 0 ∷ [] → ∥ IsPlaced (D.state disk.old).content version kind gate count ∥₁ → Holds (D.state disk.old).content version kind payloads
+    ensures any_moment { D.honest → (version kind : ℕ) (payloads : List (List ℕ)) (payload : List ℕ) → IsPayload payload
+        → commit.now ≡ body_of payload ++ 0 ∷ [] → gate ≡ end_of payloads → Holds (D.state disk.old).content version kind payloads
         → Only (D.state disk.old).content (D.state disk.old)
         → LeavesOnly (D.state disk.old) (D.state disk.new) (IsBeforeOrAfter version kind payloads payload) }
 {
@@ -95,6 +98,7 @@ impl<D: Disk> Journal<D> {
         ensures unchanged { result ≢ Err AppendError.Fault → OnErr result (self.new ≡ self.old) }
         ensures was_open { OnOk result (self.old.closed ≡ None) }
         ensures same_kind { (self.new.version ≡ self.old.version) × (self.new.kind ≡ self.old.kind) }
+        ensures same_slots { self.new.slots ≡ self.old.slots }
         ensures completes { self.old.closed ≡ None → need_of (length payload.now) ≤ room_of self.old.gate self.old.count
             → (Rose (D.faults self.old.disk) (D.faults self.new.disk) → ⊥) → IsOk result }
         ensures ok { OnOk result ((self.new.closed ≡ None) × (self.new.gate ≡ self.old.gate + (5 + length payload.now))
@@ -106,19 +110,27 @@ impl<D: Disk> Journal<D> {
         ensures bytes { D.honest → OnOk result ((D.state self.new.disk).content
             ≡ written self.old.gate (open_gate ∷ []) (written (self.old.gate + 1) (body_of payload.now ++ 0 ∷ []) (D.state self.old.disk).content)) }
 
-        // At `Ok` the bytes hold the payloads and then this one, and so does what a crash leaves.
+        // No byte before the gate changes, not even by a crash at any moment of the call. So the header stays, with its slots.
+        ensures front { D.honest → self.old.closed ≡ None
+            → LeavesOnly (D.state self.old.disk) (D.state self.new.disk) (λ b. take self.old.gate b ≡ take self.old.gate (D.state self.old.disk).content) }
+
+        // Where the content holds payloads that end at the gate: at `Ok` it holds these and then this one, and so does what a
+        // crash leaves. After an opening of a tail they end at the gate if the slot that it began at was true.
         ensures stands { D.honest → (payloads : List (List ℕ)) → Holds (D.state self.old.disk).content self.old.version self.old.kind payloads
+            → self.old.gate ≡ end_of payloads
             → OnOk result (Holds (D.state self.new.disk).content self.old.version self.old.kind (payloads ++ payload.now ∷ [])) }
         ensures durable { D.honest → OnOk result (Only (D.state self.new.disk).content (D.state self.new.disk)) }
 
         // Whatever is answered, the content holds the payloads without this one or with it.
         ensures content { D.honest → self.old.closed ≡ None
             → (payloads : List (List ℕ)) → Holds (D.state self.old.disk).content self.old.version self.old.kind payloads
+            → self.old.gate ≡ end_of payloads
             → IsBeforeOrAfter self.old.version self.old.kind payloads payload.now (D.state self.new.disk).content }
 
         // A crash at any moment of the call leaves the payloads without this one or with it.
         ensures any_moment { D.honest → self.old.closed ≡ None
             → (payloads : List (List ℕ)) → Holds (D.state self.old.disk).content self.old.version self.old.kind payloads
+            → self.old.gate ≡ end_of payloads
             → LeavesOnly (D.state self.old.disk) (D.state self.new.disk) (IsBeforeOrAfter self.old.version self.old.kind payloads payload.now) }
     {
         if let Some(at) = self.closed {

@@ -1,6 +1,6 @@
 //! The parts of a store file.
-ghost use Rattle.std.specs.Prelude.{◌≡◌, ◌↔◌, ◌++◌, ◌∷◌, [], ◌≤◌, ℕ, length, true, false, None, vec_capacity, IsTrue, IfSome, IfNone};
-ghost use Rattle.qz_journal.specs.Layout.{is_version, IsHeader, IsFront, IsPayload, body_of, open_gate, other_kind};
+ghost use Rattle.std.specs.Prelude.{◌≡◌, ◌↔◌, ◌++◌, ◌∷◌, [], ◌≤◌, ℕ, length, take, true, false, None, vec_capacity, IsTrue, IfSome, IfNone};
+ghost use Rattle.qz_journal.specs.Layout.{is_version, IsHeader, new_header, IsFront, IsPayload, body_of, open_gate, other_kind};
 ghost use Rattle.qz_journal.specs.Opening.{IsCut};
 
 /// The kind of a store of triggers, as the header has it.
@@ -13,10 +13,10 @@ pub const STATES: u8 = b'S';
 pub const MAX_PAYLOAD: usize = 32768;
 
 /// The most bytes that a store has, header included.
-pub(crate) const MAX_BYTES: u64 = 1 << 29;
+pub const MAX_BYTES: u64 = 1 << 29;
 
 /// The most payloads that a store has.
-pub(crate) const MAX_PAYLOADS: u64 = 1 << 23;
+pub const MAX_PAYLOADS: u64 = 1 << 23;
 
 pub(crate) const HEADER_LENGTH: usize = 16;
 
@@ -24,7 +24,7 @@ pub(crate) const HEADER_LENGTH: usize = 16;
 pub(crate) const FRONT_LENGTH: usize = 6;
 
 // What a payload takes beside its bytes: a gate and four bytes of length.
-pub(crate) const FRAME_LENGTH: usize = 5;
+pub const FRAME_LENGTH: usize = 5;
 
 // The length of the longest commit: the length of a payload, the payload and a gate.
 pub(crate) const MAX_COMMIT: usize = MAX_PAYLOAD + FRAME_LENGTH;
@@ -39,6 +39,12 @@ pub(crate) const OPEN_GATE: u8 = 0xa5;
 
 pub(crate) const CLOSED_GATE: u8 = 0;
 
+// The first byte of the head of a snapshot.
+pub(crate) const HEAD: u8 = 0xf0;
+
+// The length of a head up to the end of the number of payloads before it.
+pub(crate) const HEAD_LENGTH: usize = 5;
+
 /// The version of the format that `create` writes. Versions 1 and 2 are read.
 pub(crate) const VERSION: u8 = 2;
 
@@ -48,13 +54,14 @@ fn is_version(version: u8) -> bool
     version == 1 || version == 2
 }
 
-// The header of a store of this version and kind.
-pub(crate) fn header(version: u8, kind: u8) -> [u8; 16]
+// The bytes of a store without payloads: its header, with both slots closed, and a closed gate.
+pub(crate) fn empty_store(version: u8, kind: u8) -> [u8; 17]
     requires { IsTrue (is_version version) }
-    ensures { IsHeader version kind result }
+    ensures bytes { result ≡ new_header version kind ++ 0 ∷ [] }
+    ensures header { IsHeader version kind (take 16 result) }
 {
     [
-        b'Q', b'Z', b'2', b'3', version, kind, 0, 0, 0, 0, 0, 0, 0, 0, 0, 0,
+        b'Q', b'Z', b'2', b'3', version, kind, 0, 0, 0, 0, 0, 0, 0, 0, 0, 0, 0,
     ]
 }
 
@@ -67,8 +74,9 @@ pub(crate) fn version_of(kind: u8, front: &[u8; HEADER_LENGTH]) -> Option<u8>
     if !is_version(version) {
         return None;
     }
-    let wanted = header(version, kind);
-    if *front != wanted {
+    let (first, _) = front.split_at(FRONT_LENGTH);
+    let wanted = [b'Q', b'Z', b'2', b'3', version, kind];
+    if first != wanted.as_slice() {
         return None;
     }
     Some(version)

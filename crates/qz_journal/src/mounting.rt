@@ -4,6 +4,7 @@ ghost use Rattle.qz_civil.specs.Causes.{Rose, HasCause};
 ghost use Rattle.qz_disk.specs.Disk.{Only, LeavesOnly, Restarts};
 ghost use Rattle.qz_journal.specs.Layout.{Holds, IsHeader, is_version, end_of};
 ghost use Rattle.qz_journal.specs.Opening.{IsRefused, IsRefusedBehind};
+ghost use Rattle.qz_journal.specs.Slots.{slots_of};
 ghost use Rattle.qz_journal.specs.Through.{OnlyReads, OnlyReadsUnless};
 
 use crate::layout::{MAX_COMMIT, VERSION, WINDOW};
@@ -22,8 +23,8 @@ pub struct Salvaged {
 }
 
 impl<D: Disk> Journal<D> {
-    /// Opens the journal of this kind, `TRIGGERS` or `STATES`, on a disk, and gives its payloads. Its version is then that of
-    /// the header, 1 or 2. The call syncs first, so that what it reads is what a crash leaves, and writes nothing. An `Err`
+    /// Opens the journal of this kind, `TRIGGERS` or `STATES`, on a disk, and gives all its payloads, wherever its slots lead.
+    /// Its version is then that of the header, 1 or 2. The call syncs first, so that what it reads is what a crash leaves, and writes nothing. An `Err`
     /// hands the disk back.
     pub fn mount(
         alloc: Global,
@@ -31,6 +32,7 @@ impl<D: Disk> Journal<D> {
         kind: u8,
     ) -> Result<(Journal<D>, List<List<u8>>), (MountError, D)>
         ensures stands { D.honest → IfOk result (λ r. Holds (D.state r.0.disk).content r.0.version kind r.1) }
+        ensures slots { D.honest → IfOk result (λ r. r.0.slots ≡ slots_of (D.state r.0.disk).content) }
         ensures ground { IfOk result (λ r. (r.0.kind ≡ kind) × (r.0.closed ≡ None)
             × (r.0.gate ≡ end_of r.1) × (r.0.count ≡ length r.1)) }
         ensures reads { D.honest → IfOk result (λ r. OnlyReads (D.state disk) (D.state r.0.disk)) }
@@ -60,6 +62,7 @@ impl<D: Disk> Journal<D> {
         kind: u8,
     ) -> Result<(Journal<D>, List<List<u8>>), (MountError, Salvaged, D)>
         ensures stands { D.honest → IfOk result (λ r. Holds (D.state r.0.disk).content r.0.version kind r.1) }
+        ensures slots { D.honest → IfOk result (λ r. r.0.slots ≡ slots_of (D.state r.0.disk).content) }
         ensures ground { IfOk result (λ r. (r.0.kind ≡ kind) × (r.0.closed ≡ None)
             × (r.0.gate ≡ end_of r.1) × (r.0.count ≡ length r.1)) }
         ensures reads { D.honest → IfOk result (λ r. OnlyReads (D.state disk) (D.state r.0.disk)) }
@@ -81,6 +84,7 @@ impl<D: Disk> Journal<D> {
         };
         let Found {
             version,
+            slots,
             payloads,
             gate,
             is_whole,
@@ -102,6 +106,7 @@ impl<D: Disk> Journal<D> {
             kind,
             gate,
             count,
+            slots,
             closed: None,
             commit,
         };
@@ -113,6 +118,7 @@ impl<D: Disk> Journal<D> {
     pub fn crash(&mut self) -> Result<(), Failed>
         ensures closed { self.new.closed ≡ Some self.old.gate }
         ensures same { (self.new.version ≡ self.old.version) × (self.new.kind ≡ self.old.kind) × (self.new.gate ≡ self.old.gate) × (self.new.count ≡ self.old.count) }
+        ensures same_slots { self.new.slots ≡ self.old.slots }
         ensures cause { HasCause (D.faults self.old.disk) (D.faults self.new.disk) result }
         ensures told { D.honest → Restarts result (D.state self.old.disk) (D.state self.new.disk) }
         ensures images { D.honest → (b : List ℕ) → (D.state self.new.disk).IsImage b → (D.state self.old.disk).IsImage b }
@@ -126,6 +132,8 @@ impl<D: Disk> Journal<D> {
     /// After an `Err` the journal is closed.
     pub fn remount(&mut self, alloc: Global) -> Result<List<List<u8>>, MountError>
         ensures stands { D.honest → IfOk result (λ payloads. Holds (D.state self.new.disk).content self.new.version self.old.kind payloads) }
+        ensures slots { D.honest → OnOk result (self.new.slots ≡ slots_of (D.state self.new.disk).content) }
+        ensures slots_err { OnErr result (self.new.slots ≡ self.old.slots) }
         ensures ground { IfOk result (λ payloads. (self.new.closed ≡ None)
             × (self.new.gate ≡ end_of payloads) × (self.new.count ≡ length payloads)) }
         ensures closed { OnErr result ((self.new.closed ≡ Some self.old.gate) × (self.new.version ≡ self.old.version)
@@ -143,6 +151,7 @@ impl<D: Disk> Journal<D> {
         self.closed = Some(self.gate);
         let Found {
             version,
+            slots,
             payloads,
             gate,
             is_whole,
@@ -153,6 +162,7 @@ impl<D: Disk> Journal<D> {
         self.version = version;
         self.gate = gate;
         self.count = payloads.len() as u64;
+        self.slots = slots;
         self.closed = None;
         Ok(payloads)
     }

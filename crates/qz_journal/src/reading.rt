@@ -2,22 +2,32 @@
 ghost use Rattle.std.specs.Prelude.{◌≡◌, ◌⊎◌, ◌+◌, ◌-◌, ◌≤◌, ◌<◌, ◌++◌, ◌^◌, ⊤, ℕ, List as Items, All, length, take, drop, min, IfOk, IfErr, OnOk, OnErr, Ok, Err, true, false};
 ghost use Rattle.qz_civil.specs.Causes.{Rose, HasCause};
 ghost use Rattle.qz_disk.specs.Disk.{Only, LeavesOnly};
-ghost use Rattle.qz_journal.specs.Layout.{is_version, IsHeader, IsPayload, Holds, blocks, end_of};
+ghost use Rattle.qz_journal.specs.Layout.{is_version, IsHeader, IsPayload, Holds, blocks, end_from, end_of};
 ghost use Rattle.qz_journal.specs.Opening.{EndsAt, IsDamagedBehind, IsRefusedBehind};
+ghost use Rattle.qz_journal.specs.Slots.{slots_of};
 ghost use Rattle.qz_journal.specs.Through.{OnlyReads, OnlyReadsUnless, ReadsBetween};
 
 use crate::MountError;
 use crate::layout::{HEADER_LENGTH, MAX_BLOCK, WINDOW, version_of};
 use crate::parsing::take_blocks;
+use crate::slots::{Slots, slots_in};
 use qz_civil::{Failed, List};
 use qz_disk::Disk;
 use std::alloc::Global;
 
-// The version of a store, and what its gates lead to: payloads, and after them a closed gate or a bad place, at the offset
-// `gate`.
+// What the header of a store says.
+#[derive(Clone, Copy)]
+pub(crate) struct Header {
+    pub(crate) version: u8,
+    pub(crate) slots: Slots,
+}
+
+// What the header of a store says, and what its gates lead to: payloads, and after them a closed gate or a bad place, at the
+// offset `gate`.
 #[derive(Drop)]
 pub(crate) struct Found {
     pub(crate) version: u8,
+    pub(crate) slots: Slots,
     pub(crate) payloads: List<List<u8>>,
     pub(crate) gate: u64,
     pub(crate) is_whole: bool,
@@ -32,6 +42,7 @@ pub(crate) fn read_payloads<D: Disk>(
     ensures whole { D.honest → IfOk result (λ f. f.is_whole ≡ true → Holds (D.state disk.old).content f.version kind f.payloads) }
     ensures version { IfOk result (λ f. is_version f.version ≡ true) }
     ensures header { D.honest → IfOk result (λ f. IsHeader f.version kind (take 16 (D.state disk.old).content)) }
+    ensures slots { D.honest → IfOk result (λ f. f.slots ≡ slots_of (D.state disk.old).content) }
     ensures damaged { D.honest → IfOk result (λ f. f.is_whole ≡ false → IsDamagedBehind (D.state disk.old).content kind f.payloads f.gate) }
     ensures gate { IfOk result (λ f. f.gate ≡ end_of f.payloads) }
     ensures inside { IfOk result (λ f. f.is_whole ≡ true → f.gate < D.len disk.new) }
@@ -46,12 +57,12 @@ pub(crate) fn read_payloads<D: Disk>(
     let Ok(len) = synced_length(disk) else {
         return Err(MountError::Fault);
     };
-    let version = read_header(disk, len, kind)?;
-    read_blocks(alloc, disk, len, version)
+    let header = read_header(disk, len, kind)?;
+    read_blocks(alloc, disk, len, HEADER_LENGTH as u64, header)
 }
 
 // Syncs, and asks for the length.
-fn synced_length<D: Disk>(disk: &mut D) -> Result<u64, Failed>
+pub(crate) fn synced_length<D: Disk>(disk: &mut D) -> Result<u64, Failed>
     ensures length { IfOk result (λ n. n ≡ D.len disk.new) }
     ensures durable { D.honest → OnOk result (Only (D.state disk.new).content (D.state disk.new)) }
     ensures content { D.honest → OnOk result ((D.state disk.new).content ≡ (D.state disk.old).content) }
@@ -63,16 +74,17 @@ fn synced_length<D: Disk>(disk: &mut D) -> Result<u64, Failed>
     disk.len()
 }
 
-// The version of the store of this kind with whose header the disk, of this length, begins.
+// The header, of a store of this kind, with which the disk, of this length, begins.
 #[tactic(auto, using(crate::proofs::Headers::too_short))]
-fn read_header<D: Disk>(disk: &mut D, len: u64, kind: u8) -> Result<u8, MountError>
+pub(crate) fn read_header<D: Disk>(disk: &mut D, len: u64, kind: u8) -> Result<Header, MountError>
     requires { len ≡ D.len disk.old }
     ensures length { D.len disk.new ≡ D.len disk.old }
     ensures long { OnOk result (16 ≤ len) }
-    ensures header { D.honest → IfOk result (λ version. IsHeader version kind (take 16 (D.state disk.old).content)) }
-    ensures known { IfOk result (λ version. is_version version ≡ true) }
+    ensures header { D.honest → IfOk result (λ h. IsHeader h.version kind (take 16 (D.state disk.old).content)) }
+    ensures slots { D.honest → IfOk result (λ h. h.slots ≡ slots_of (D.state disk.old).content) }
+    ensures known { IfOk result (λ h. is_version h.version ≡ true) }
     ensures reads { D.honest → OnOk result (ReadsBetween 0 16 (D.state disk.old) (D.state disk.new)) }
-    ensures reads_err { D.honest → OnErr result (ReadsBetween 0 len (D.state disk.old) (D.state disk.new)) }
+    ensures reads_err { D.honest → OnErr result (ReadsBetween 0 (min 16 len) (D.state disk.old) (D.state disk.new)) }
     ensures refused { D.honest → (payloads : Items (Items ℕ)) → IfErr result (IsRefusedBehind (D.state disk.old).content kind payloads) }
     ensures later { D.faults disk.old ≤ D.faults disk.new }
     ensures fault { result ≡ Err MountError.Fault → Rose (D.faults disk.old) (D.faults disk.new) }
@@ -85,40 +97,47 @@ fn read_header<D: Disk>(disk: &mut D, len: u64, kind: u8) -> Result<u8, MountErr
         return Err(MountError::Fault);
     }
     match version_of(kind, &front) {
-        Some(version) => Ok(version),
+        Some(version) => Ok(Header {
+            version,
+            slots: slots_in(&front),
+        }),
         None => Err(MountError::NotAStore),
     }
 }
 
-// The payloads after the header of a disk of this length, which has this version.
-fn read_blocks<D: Disk>(
+// The payloads from this offset on, of a disk of this length with this header.
+pub(crate) fn read_blocks<D: Disk>(
     alloc: Global,
     disk: &mut D,
     len: u64,
-    version: u8,
+    start: u64,
+    header: Header,
 ) -> Result<Found, MountError>
     requires length { len ≡ D.len disk.old }
-    requires long { 16 ≤ len }
+    requires long { start ≤ len }
     ensures length { D.len disk.new ≡ D.len disk.old }
-    ensures version { IfOk result (λ f. f.version ≡ version) }
-    ensures gate { IfOk result (λ f. f.gate ≡ end_of f.payloads) }
+    ensures version { IfOk result (λ f. f.version ≡ header.version) }
+    ensures slots { IfOk result (λ f. f.slots ≡ header.slots) }
+    ensures gate { IfOk result (λ f. f.gate ≡ end_from start f.payloads) }
     ensures inside { IfOk result (λ f. f.is_whole ≡ true → f.gate < len) }
     ensures sizes { IfOk result (λ f. All IsPayload f.payloads) }
-    ensures ends { D.honest → IfOk result (λ f. EndsAt (D.state disk.old).content f.payloads f.is_whole) }
-    ensures reads { D.honest → IfOk result (λ f. ReadsBetween 16 (min len (end_of f.payloads + WINDOW)) (D.state disk.old) (D.state disk.new)) }
-    ensures reads_err { D.honest → OnErr result (ReadsBetween 16 len (D.state disk.old) (D.state disk.new)) }
+    ensures ends { D.honest → IfOk result (λ f. EndsAt (D.state disk.old).content start f.payloads f.is_whole) }
+    ensures reads { D.honest → IfOk result (λ f. ReadsBetween start (min len (end_from start f.payloads + WINDOW)) (D.state disk.old) (D.state disk.new)) }
+    ensures reads_err { D.honest → OnErr result (ReadsBetween start len (D.state disk.old) (D.state disk.new)) }
     ensures err { IfErr result (λ e. (e ≡ MountError.NoMemory) ⊎ ((e ≡ MountError.Fault) × Rose (D.faults disk.old) (D.faults disk.new))) }
     ensures later { D.faults disk.old ≤ D.faults disk.new }
 {
+    let Header { version, slots } = header;
     let mut payloads = List::new(alloc);
     let mut window = Vec::new(alloc);
     // the offset after the window
-    let mut position = HEADER_LENGTH as u64;
+    let mut position = start;
     'pieces: loop {
         let (rest, is_whole) = take_blocks(alloc, &mut payloads, &window)?;
         if is_whole || rest.len() >= MAX_BLOCK || position == len {
             return Ok(Found {
                 version,
+                slots,
                 payloads,
                 gate: position - rest.len() as u64,
                 is_whole,

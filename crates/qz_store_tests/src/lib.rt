@@ -1,4 +1,4 @@
-//! Tests of the crates of the store: transactions, disks, the journal, both stores and the cluster.
+//! Tests of the crates of the store: transactions, disks, both stores and the cluster.
 #![tactic(auto)]
 
 #[cfg(test)]
@@ -11,8 +11,6 @@ mod entries;
 mod files;
 #[cfg(test)]
 mod job_groups;
-#[cfg(test)]
-mod journal;
 #[cfg(test)]
 mod model;
 #[cfg(test)]

@@ -5,8 +5,9 @@ use Rattle.std.specs.Prelude.{Option, Some, None}
 use Rattle.std.specs.List.{AllByRecursion}
 use Rattle.qz_disk.specs.Disk.{DiskState, Only, IsLawful as DiskIsLawful, LeavesOnly}
 use Rattle.qz_disk.proofs.Moments.{started, weaker}
-use Rattle.qz_journal.specs.Layout.{is_version, Holds, IsBeforeOrAfter}
+use Rattle.qz_journal.specs.Layout.{is_version, Holds, IsBeforeOrAfter, end_of}
 use Rattle.qz_journal.proofs.Once.{holds_once}
+use Rattle.qz_journal.proofs.Stands.{end_of-push}
 use Rattle.qz_stores.specs.Kinds.{StoreKind, HasRecord, IsLawful, IsAccepted, history_of, with_entry}
 use Rattle.qz_stores.specs.Bytes.{Encode, HoldEntries, MayHold, MayBe, MayFollow, BeginsNew, Stands}
 use Rattle.qz_stores.proofs.Blocks.{All-pushed}
@@ -59,13 +60,27 @@ module _ {H S E R : Type 0} (k : StoreKind H S E R) (version : ℕ) where
   as_journal : (v number : ℕ) (b : List ℕ) (ps : List (List ℕ)) → v ≡ version → number ≡ k.number → Holds b version k.number ps → Holds b v number ps
   as_journal v number b ps v_is number_is holds = subst (λ (w : ℕ). Holds b w number ps) (sym v_is) (subst (λ (n : ℕ). Holds b version n ps) (sym number_is) holds)
 
-  pub holds_with : (v number : ℕ) (found old new : List E) (e : E) (p b c : List ℕ) → v ≡ version → number ≡ k.number → new ≡ old ++ e ∷ [] → k.IsRecordOf p e
-      → ((ps : List (List ℕ)) → Holds b v number ps → Holds c v number (ps ++ p ∷ [])) → HoldEntries k version b (found ++ old) → HoldEntries k version c (found ++ new)
-  holds_with v number found old new e p b c v_is number_is is p_is grows held =
+  -- the gate comes after whatever payloads the bytes hold
+  abbrev IsGate : ℕ → List ℕ → Type 0
+  IsGate gate b = (ps : List (List ℕ)) → Holds b version k.number ps → gate ≡ end_of ps
+
+  pub holds_with : (v number gate : ℕ) (found old new : List E) (e : E) (p b c : List ℕ) → v ≡ version → number ≡ k.number → new ≡ old ++ e ∷ [] → k.IsRecordOf p e
+      → ((ps : List (List ℕ)) → Holds b v number ps → gate ≡ end_of ps → Holds c v number (ps ++ p ∷ [])) → IsGate gate b → HoldEntries k version b (found ++ old) → HoldEntries k version c (found ++ new)
+  holds_with v number gate found old new e p b c v_is number_is is p_is grows gated held =
       let ps = held.store.0 in
-      let after = as_held v number c (ps ++ p ∷ []) v_is number_is (grows ps (as_journal v number b ps v_is number_is held.store.1)) in
+      let after = as_held v number c (ps ++ p ∷ []) v_is number_is (grows ps (as_journal v number b ps v_is number_is held.store.1) (gated ps held.store.1)) in
       subst (HoldEntries k version c) (sym (more found old new e is))
       (holding c (ps ++ p ∷ []) ((found ++ old) ++ e ∷ []) after (Encode-pushed k ps (found ++ old) p e (held.encode ps held.store.1) p_is))
+
+  -- and the gate after one more comes after them
+  pub gated_with : (v number gate after : ℕ) (es : List E) (p b c : List ℕ) → v ≡ version → number ≡ k.number → after ≡ gate + (5 + length p)
+      → ((ps : List (List ℕ)) → Holds b v number ps → gate ≡ end_of ps → Holds c v number (ps ++ p ∷ [])) → IsGate gate b → HoldEntries k version b es → IsGate after c
+  gated_with v number gate after es p b c v_is number_is after_is grows gated held qs holds =
+      let ps = held.store.0 in
+      let at : gate ≡ end_of ps = gated ps held.store.1 in
+      let there = as_held v number c (ps ++ p ∷ []) v_is number_is (grows ps (as_journal v number b ps v_is number_is held.store.1) at) in
+      let same : ps ++ p ∷ [] ≡ qs = holds_once c version version k.number (ps ++ p ∷ []) qs there holds in
+      omega (arith, after_is, at, end_of-push ps p, ap end_of same)
 
   -- where the content is the only image
   pub images_of : (es : List E) (u : Option E) (s : DiskState) → u ≡ None → Only s.content s → HoldEntries k version s.content es → (b : List ℕ) → s.IsImage b → MayHold k version es u b
@@ -79,11 +94,11 @@ module _ {H S E R : Type 0} (k : StoreKind H S E R) (version : ℕ) where
       inr (holding b (ps ++ p ∷ []) (es ++ e ∷ []) (as_held v number b (ps ++ p ∷ []) v_is number_is after) (Encode-pushed k ps es p e encode p_is))
 
   -- what a journal leaves at each moment of an append
-  pub leaves_one : (v number : ℕ) (es : List E) (e : E) (p b : List ℕ) (s t : DiskState) → v ≡ version → number ≡ k.number → k.IsRecordOf p e → HoldEntries k version b es
-      → ((ps : List (List ℕ)) → Holds b v number ps → LeavesOnly s t (IsBeforeOrAfter v number ps p)) → LeavesOnly s t (MayHold k version es (Some e))
-  leaves_one v number es e p b s t v_is number_is p_is held leaves =
+  pub leaves_one : (v number gate : ℕ) (es : List E) (e : E) (p b : List ℕ) (s t : DiskState) → v ≡ version → number ≡ k.number → k.IsRecordOf p e → HoldEntries k version b es → IsGate gate b
+      → ((ps : List (List ℕ)) → Holds b v number ps → gate ≡ end_of ps → LeavesOnly s t (IsBeforeOrAfter v number ps p)) → LeavesOnly s t (MayHold k version es (Some e))
+  leaves_one v number gate es e p b s t v_is number_is p_is held gated leaves =
       let ps = held.store.0 in
-      weaker s t _ _ (leaves ps (as_journal v number b ps v_is number_is held.store.1)) (λ c either. either_is v number ps es e p c v_is number_is (held.encode ps held.store.1) p_is either)
+      weaker s t _ _ (leaves ps (as_journal v number b ps v_is number_is held.store.1) (gated ps held.store.1)) (λ c either. either_is v number ps es e p c v_is number_is (held.encode ps held.store.1) p_is either)
 
   -- each image after a fault
   pub images_undecided : (es : List E) (u : Option E) (e : E) (s t : DiskState) → u ≡ Some e → DiskIsLawful t → LeavesOnly s t (MayHold k version es (Some e)) → (b : List ℕ) → t.IsImage b → MayHold k version es u b

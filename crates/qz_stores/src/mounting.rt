@@ -1,10 +1,10 @@
 //! Opening what is on a disk.
-ghost use Rattle.std.specs.Prelude.{◌≡◌, ◌⊎◌, ◌^◌, ◌<◌, ◌≤◌, [], length, None, true, IfOk, IfErr, MatchResult};
+ghost use Rattle.std.specs.Prelude.{◌≡◌, ◌⊎◌, ◌^◌, ◌<◌, ◌≤◌, ℕ, List, [], length, None, true, IfOk, IfErr, MatchResult};
 ghost use Rattle.std.specs.List.{AllByRecursion};
 ghost use Rattle.qz_civil.specs.Causes.{Rose};
-ghost use Rattle.qz_journal.specs.Layout.{end_of};
+ghost use Rattle.qz_journal.specs.Layout.{Holds, end_of};
 ghost use Rattle.qz_journal.specs.Through.{OnlyReads, OnlyReadsUnless};
-ghost use Rattle.qz_journal.specs.View.{disk_of as journal_disk, version_of, kind_of, count_of, closed_at};
+ghost use Rattle.qz_journal.specs.View.{disk_of as journal_disk, version_of, kind_of, gate_of, count_of, closed_at};
 ghost use Rattle.qz_stores.specs.Kinds.{HasRecord};
 ghost use Rattle.qz_stores.specs.Bytes.{HoldEntries, Stands, IsHistory};
 ghost use Rattle.qz_stores.specs.Opening.{IsOpened, IsRefused, IsFirstBad};
@@ -56,6 +56,7 @@ fn begin<D: Disk, K: Kind>(alloc: Global, journal: Journal<D>, replayed: Reread<
     requires open { closed_at journal ≡ None }
     requires counted { count_of journal ≡ length replayed.entries.items }
     requires stands { D.honest → HoldEntries K.kind replayed.version (D.state (journal_disk journal)).content replayed.entries.items }
+    requires gated { D.honest → (payloads : List (List ℕ)) → Holds (D.state (journal_disk journal)).content replayed.version K.kind.number payloads → gate_of journal ≡ end_of payloads }
     requires recorded { ∥ AllByRecursion (HasRecord K.kind) replayed.entries.items ∥₁ }
     requires legal { ∥ K.kind.IsLegalFrom (K.kind.empty replayed.version) replayed.entries.items ∥₁ }
     ensures journal { result.journal ≡ journal }
@@ -68,7 +69,7 @@ fn begin<D: Disk, K: Kind>(alloc: Global, journal: Journal<D>, replayed: Reread<
         entries,
         state,
     } = replayed;
-    let count = journal.count();
+    let count = journal.payloads();
     Store {
         alloc,
         journal,

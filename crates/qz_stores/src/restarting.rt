@@ -76,7 +76,7 @@ impl<D: Disk, K: Kind> Store<D, K> {
             state,
         } = reread;
         self.version = version;
-        self.count = self.journal.count();
+        self.count = self.journal.payloads();
         self.state = state;
         self.found = entries;
         self.added = Log::new();

@@ -2,8 +2,8 @@
 ghost use Rattle.std.specs.Prelude.{◌≡◌, ◌++◌, List as Entries, ℕ, length, None, true};
 ghost use Rattle.std.proofs.Props.{props};
 ghost use Rattle.std.specs.List.{AllByRecursion};
-ghost use Rattle.qz_journal.specs.Layout.{is_version};
-ghost use Rattle.qz_journal.specs.View.{disk_of, version_of, kind_of, count_of, closed_at};
+ghost use Rattle.qz_journal.specs.Layout.{is_version, Holds, end_of};
+ghost use Rattle.qz_journal.specs.View.{disk_of, version_of, kind_of, gate_of, count_of, closed_at};
 ghost use Rattle.qz_stores.specs.Kinds.{HasRecord};
 ghost use Rattle.qz_stores.specs.Bytes.{HoldEntries, MayHold, MayFollow};
 ghost use Rattle.qz_stores.specs.Facts.{HoldEntries-prop, MayHold-prop};
@@ -44,5 +44,6 @@ pub struct Store<D: Disk, K: Kind> {
     ghost recorded: { ∥ AllByRecursion (HasRecord K.kind) (found.items ++ added.items) ∥₁ },
     ghost passed: { ∥ MayFollow K.kind (K.state state) undecided ∥₁ },
     ghost stands: { D.honest → is_open ≡ true → HoldEntries K.kind version (D.state (disk_of journal)).content (found.items ++ added.items) } by { Prim.hlevel (props, HoldEntries-prop) },
+    ghost gated: { D.honest → is_open ≡ true → (payloads : Entries (Entries ℕ)) → Holds (D.state (disk_of journal)).content version K.kind.number payloads → gate_of journal ≡ end_of payloads },
     ghost images: { D.honest → (b : Entries ℕ) → (D.state (disk_of journal)).IsImage b → MayHold K.kind version (found.items ++ added.items) undecided b } by { Prim.hlevel (props, MayHold-prop) },
 }

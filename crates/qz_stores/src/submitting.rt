@@ -124,7 +124,7 @@ impl<D: Disk, K: Kind> Store<D, K> {
         ensures ok { OnOk result (HasRoom length (view self.now)) }
         ensures err { IfErr result (IsUnwritten length (view self.now)) }
     {
-        match fits(self.journal.gate(), self.journal.count(), length) {
+        match fits(self.journal.gate(), self.journal.payloads(), length) {
             Ok(()) => Ok(()),
             Err(JournalFull { need, room }) => Err(SubmitError::JournalFull { need, room }),
         }
@@ -159,7 +159,7 @@ impl<D: Disk, K: Kind> Store<D, K> {
                 let Ready { record: _, change } = ready;
                 let reply = self.state.commit(&entry, change);
                 self.added = Log::and(&self.added, &entry);
-                self.count = self.journal.count();
+                self.count = self.journal.payloads();
                 Ok((entry, reply))
             }
             // A fault: the journal is open, and the record has room.

@@ -48,3 +48,9 @@ returns-clause-content g c = search rules
 
 pub returns-clause-any_moment : goal.returns-clause-any_moment
 returns-clause-any_moment g c = search rules
+
+pub returns-clause-same_slots : goal.returns-clause-same_slots
+returns-clause-same_slots g c = search rules
+
+pub returns-clause-front : goal.returns-clause-front
+returns-clause-front g c = search rules

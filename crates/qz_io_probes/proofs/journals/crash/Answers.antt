@@ -18,3 +18,6 @@ returns-clause-images g c = search rules
 
 pub returns-clause-any_moment : goal.returns-clause-any_moment
 returns-clause-any_moment g c = search rules
+
+pub returns-clause-same_slots : goal.returns-clause-same_slots
+returns-clause-same_slots g c = search rules

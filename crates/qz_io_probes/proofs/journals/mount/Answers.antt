@@ -27,3 +27,6 @@ returns-clause-later g c = search rules
 
 pub returns-clause-fault : goal.returns-clause-fault
 returns-clause-fault g c = search rules
+
+pub returns-clause-slots : goal.returns-clause-slots
+returns-clause-slots g c = search rules

@@ -1,10 +1,10 @@
-use Rattle.qz_journal.proofs.Creation.{created}
+use Rattle.qz_journal.proofs.Creation.{created, new_gate}
 use Rattle.qz_journal.proofs.creating.create_version.Goals as goal
 
 pub returns-in-Ok-put_through-clause-any_moment : goal.returns-in-Ok-put_through-clause-any_moment
 returns-in-Ok-put_through-clause-any_moment g c h bytes only =
-    created c.args.version c.args.kind _ bytes _ _ _ _ c.empty_bytes.ensures.header c.empty_bytes.ensures.gate (c.look.ensures.unchanged h) (c.look.ensures.any_moment h) only (c.put_through.ensures.told h)
+    created c.args.version c.args.kind _ bytes _ _ _ _ c.empty_store.ensures.header (new_gate c.args.version c.args.kind _ c.empty_store.ensures.bytes) (c.look.ensures.unchanged h) (c.look.ensures.any_moment h) only (c.put_through.ensures.told h)
 
 pub returns-in-Err-clause-any_moment : goal.returns-in-Err-clause-any_moment
 returns-in-Err-clause-any_moment g c h bytes only =
-    created c.args.version c.args.kind _ bytes _ _ _ _ c.empty_bytes.ensures.header c.empty_bytes.ensures.gate (c.look.ensures.unchanged h) (c.look.ensures.any_moment h) only (c.put_through.ensures.told h)
+    created c.args.version c.args.kind _ bytes _ _ _ _ c.empty_store.ensures.header (new_gate c.args.version c.args.kind _ c.empty_store.ensures.bytes) (c.look.ensures.unchanged h) (c.look.ensures.any_moment h) only (c.put_through.ensures.told h)

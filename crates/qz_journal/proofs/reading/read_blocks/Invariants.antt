@@ -1,6 +1,6 @@
 use Rattle.std.proofs.Common.{◌≡◌, ◌+◌, ◌-◌, ◌≤◌, ◌++◌, length, drop}
 use Rattle.std.specs.Prelude.{All}
-use Rattle.qz_journal.specs.Layout.{IsPayload, blocks, end_of}
+use Rattle.qz_journal.specs.Layout.{IsPayload, blocks, end_from}
 use Rattle.qz_journal.specs.Through.{ReadsBetween}
 use Rattle.qz_journal.proofs.reading.read_blocks.Given as goal
 
@@ -9,11 +9,11 @@ abbrev pub invariant-pieces : goal.invariant-pieces
 invariant-pieces g l = record {
   within : l.position ≤ l.len;
   same_length : g.D.Disk.len l.disk ≡ l.len;
-  place : l.position ≡ end_of l.payloads + length l.window.items;
+  place : l.position ≡ end_from l.start l.payloads + length l.window.items;
   ahead : length l.window.items ≤ 65536;
   sizes : All IsPayload l.payloads;
-  whole : g.D.Disk.honest → drop 16 (g.D.Disk.state l.fn.disk).content ≡ blocks l.payloads ++ (l.window.items ++ drop l.position (g.D.Disk.state l.fn.disk).content);
-  reads : g.D.Disk.honest → ReadsBetween 16 l.position (g.D.Disk.state l.fn.disk) (g.D.Disk.state l.disk);
+  whole : g.D.Disk.honest → drop l.start (g.D.Disk.state l.fn.disk).content ≡ blocks l.payloads ++ (l.window.items ++ drop l.position (g.D.Disk.state l.fn.disk).content);
+  reads : g.D.Disk.honest → ReadsBetween l.start l.position (g.D.Disk.state l.fn.disk) (g.D.Disk.state l.disk);
   later : g.D.Disk.faults l.fn.disk ≤ g.D.Disk.faults l.disk;
 }
 

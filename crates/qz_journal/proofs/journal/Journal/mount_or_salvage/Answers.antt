@@ -1,6 +1,7 @@
-use Rattle.std.proofs.Common.{ℕ, List, sym, subst, arith}
+use Rattle.std.proofs.Common.{ℕ, List, ap, ◌∙◌, sym, subst, arith}
 use Rattle.qz_journal.proofs.Opened.{damaged_anywhere}
 use Rattle.qz_journal.specs.Layout.{Holds}
+use Rattle.qz_journal.specs.Slots.{slot}
 use Rattle.qz_journal.proofs.journal.Journal.mount_or_salvage.Goals as goal
 
 pub returns-clause-stands : goal.returns-clause-stands
@@ -13,12 +14,9 @@ invariant_of-journal g c = record {
   known = c.in-Ok.ensures.version;
   inside = λ _. c.in-Ok.ensures.inside c.if-not-is_whole.false;
   durable = λ h _. c.in-Ok.ensures.durable h;
-  placed = λ h _. ∣ record {
-    payloads = c.in-Ok.found.payloads;
-    stands = subst (λ (b : List ℕ). Holds b c.in-Ok.found.version c.args.kind c.in-Ok.found.payloads) (sym (c.in-Ok.ensures.reads h).content) (c.in-Ok.ensures.whole h c.if-not-is_whole.false);
-    gate_is = c.in-Ok.ensures.gate;
-    count_is = c.len-count.ensures;
-  } ∣₁;
+  after_header = omega (arith, c.in-Ok.ensures.gate);
+  slot_a = λ h _. ap (λ s. s.a) (c.in-Ok.ensures.slots h) ∙ ap (slot 6) (sym (c.in-Ok.ensures.reads h).content);
+  slot_b = λ h _. ap (λ s. s.b) (c.in-Ok.ensures.slots h) ∙ ap (slot 11) (sym (c.in-Ok.ensures.reads h).content);
 }
 
 pub returns-in-Err-clause-refused : goal.returns-in-Err-clause-refused

@@ -1,6 +1,7 @@
-use Rattle.std.proofs.Common.{sym, subst, List, [], ℕ}
+use Rattle.std.proofs.Common.{sym, ap, ◌∙◌, subst, List, [], ℕ, arith}
 use Rattle.std.proofs.lemmas.Result.{err_from_is_err_and}
 use Rattle.qz_journal.specs.Layout.{Holds}
+use Rattle.qz_journal.specs.Slots.{slot}
 use Rattle.qz_journal.proofs.Once.{holds_once, version_once, only_outside, refused_behind}
 use Rattle.qz_journal.specs.declared.errors.MountError.TheVariants as mount
 use Rattle.qz_journal.proofs.journal.Journal.remount.Goals as goal
@@ -28,12 +29,9 @@ invariant_of-self-2 g c = record {
   known = c.in_ok-version.ensures.version;
   inside = λ _. c.in_ok-version.ensures.inside c.if-not-is_whole.false;
   durable = λ h _. c.in_ok-version.ensures.durable h;
-  placed = λ h _. ∣ record {
-    payloads = c.in_ok-version.field-0.payloads;
-    stands = subst (λ (b : List ℕ). Holds b c.in_ok-version.field-0.version c.args.self.now.kind c.in_ok-version.field-0.payloads) (sym (c.in_ok-version.ensures.reads h).content) (c.in_ok-version.ensures.whole h c.if-not-is_whole.false);
-    gate_is = c.in_ok-version.ensures.gate;
-    count_is = c.len.ensures;
-  } ∣₁;
+  after_header = omega (arith, c.in_ok-version.ensures.gate);
+  slot_a = λ h _. ap (λ s. s.a) (c.in_ok-version.ensures.slots h) ∙ ap (slot 6) (sym (c.in_ok-version.ensures.reads h).content);
+  slot_b = λ h _. ap (λ s. s.b) (c.in_ok-version.ensures.slots h) ∙ ap (slot 11) (sym (c.in_ok-version.ensures.reads h).content);
 }
 
 pub returns-in_err-version-clause-refused : goal.returns-in_err-version-clause-refused

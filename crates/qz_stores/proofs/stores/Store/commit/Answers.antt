@@ -13,7 +13,7 @@ pub invariant_of-self-clause-counted : goal.invariant_of-self-clause-counted
 invariant_of-self-clause-counted g c =
     let s = c.args.self.now in
     Appending.counted_with s.found.items s.added.items _ c.args.entry s.count _ c.and.ensures s.counted
-    (c.count-self.ensures ∙ c.in-Ok.ensures.ok.2 ∙ ap (λ n. n + 1) (s.placed c.requires.open))
+    (c.payloads-self.ensures ∙ c.in-Ok.ensures.ok.2 ∙ ap (λ n. n + 1) (s.placed c.requires.open))
 
 pub invariant_of-self-clause-legal : goal.invariant_of-self-clause-legal
 invariant_of-self-clause-legal g c =
@@ -37,21 +37,27 @@ invariant_of-self-clause-passed g c = Appending.none_follows g.K.Kind.kind _ _ (
 pub invariant_of-self-clause-stands : goal.invariant_of-self-clause-stands
 invariant_of-self-clause-stands g c honest now =
     let s = c.args.self.now in
-    Appending.holds_with g.K.Kind.kind s.version s.journal.version s.journal.kind s.found.items s.added.items _ c.args.entry c.as_slice.result.now _ _ (s.in_version c.requires.open) s.number c.and.ensures
-    (subst (λ (b : List ℕ). g.K.Kind.kind.IsRecordOf b c.args.entry) (sym (c.as_slice.ensures ∙ c.requires.record.0)) c.requires.recorded) (c.in-Ok.ensures.stands honest) (s.stands honest now)
+    Appending.holds_with g.K.Kind.kind s.version s.journal.version s.journal.kind s.journal.gate s.found.items s.added.items _ c.args.entry c.as_slice.result.now _ _ (s.in_version c.requires.open) s.number c.and.ensures
+    (subst (λ (b : List ℕ). g.K.Kind.kind.IsRecordOf b c.args.entry) (sym (c.as_slice.ensures ∙ c.requires.record.0)) c.requires.recorded) (c.in-Ok.ensures.stands honest) (s.gated honest now) (s.stands honest now)
+
+pub invariant_of-self-clause-gated : goal.invariant_of-self-clause-gated
+invariant_of-self-clause-gated g c honest now =
+    let s = c.args.self.now in
+    Appending.gated_with g.K.Kind.kind s.version s.journal.version s.journal.kind s.journal.gate _ (s.found.items ++ s.added.items) c.as_slice.result.now _ _ (s.in_version c.requires.open) s.number
+    c.in-Ok.ensures.ok.1 (c.in-Ok.ensures.stands honest) (s.gated honest c.requires.open) (s.stands honest c.requires.open)
 
 pub invariant_of-self-clause-images : goal.invariant_of-self-clause-images
 invariant_of-self-clause-images g c honest =
     let s = c.args.self.now in
     Appending.images_of g.K.Kind.kind s.version _ s.undecided (g.D.Disk.state c.append.new.self.disk) (s.settled c.requires.open) (c.in-Ok.ensures.durable honest)
-    (Appending.holds_with g.K.Kind.kind s.version s.journal.version s.journal.kind s.found.items s.added.items _ c.args.entry c.as_slice.result.now _ _ (s.in_version c.requires.open) s.number c.and.ensures
-    (subst (λ (b : List ℕ). g.K.Kind.kind.IsRecordOf b c.args.entry) (sym (c.as_slice.ensures ∙ c.requires.record.0)) c.requires.recorded) (c.in-Ok.ensures.stands honest) (s.stands honest c.requires.open))
+    (Appending.holds_with g.K.Kind.kind s.version s.journal.version s.journal.kind s.journal.gate s.found.items s.added.items _ c.args.entry c.as_slice.result.now _ _ (s.in_version c.requires.open) s.number c.and.ensures
+    (subst (λ (b : List ℕ). g.K.Kind.kind.IsRecordOf b c.args.entry) (sym (c.as_slice.ensures ∙ c.requires.record.0)) c.requires.recorded) (c.in-Ok.ensures.stands honest) (s.gated honest c.requires.open) (s.stands honest c.requires.open))
 
 pub returns-in-Ok-clause-any_moment : goal.returns-in-Ok-clause-any_moment
 returns-in-Ok-clause-any_moment g c honest =
     let s = c.args.self.now in
-    let leaves = Appending.leaves_one g.K.Kind.kind s.version s.journal.version s.journal.kind (s.found.items ++ s.added.items) c.args.entry c.as_slice.result.now _ _ _ (s.in_version c.requires.open) s.number (subst (λ (b : List ℕ). g.K.Kind.kind.IsRecordOf b c.args.entry) (sym (c.as_slice.ensures ∙ c.requires.record.0)) c.requires.recorded)
-    (s.stands honest c.requires.open) (c.append.ensures.any_moment honest (s.ready c.requires.open)) in
+    let leaves = Appending.leaves_one g.K.Kind.kind s.version s.journal.version s.journal.kind s.journal.gate (s.found.items ++ s.added.items) c.args.entry c.as_slice.result.now _ _ _ (s.in_version c.requires.open) s.number (subst (λ (b : List ℕ). g.K.Kind.kind.IsRecordOf b c.args.entry) (sym (c.as_slice.ensures ∙ c.requires.record.0)) c.requires.recorded)
+    (s.stands honest c.requires.open) (s.gated honest c.requires.open) (c.append.ensures.any_moment honest (s.ready c.requires.open)) in
     Appending.leaves_with g.K.Kind.kind s.version g.met.K.Kind.lawful s.found.items s.added.items _ c.args.entry _ _ s.undecided s.undecided c.and.ensures (s.settled c.requires.open) (s.settled c.requires.open) leaves
 
 pub returns-in-Ok-clause-ok : goal.returns-in-Ok-clause-ok
@@ -89,13 +95,13 @@ invariant_of-self-in-Err-clause-passed g c =
 pub invariant_of-self-in-Err-clause-images : goal.invariant_of-self-in-Err-clause-images
 invariant_of-self-in-Err-clause-images g c honest =
     let s = c.args.self.now in
-    let leaves = Appending.leaves_one g.K.Kind.kind s.version s.journal.version s.journal.kind (s.found.items ++ s.added.items) c.args.entry c.as_slice.result.now _ _ _ (s.in_version c.requires.open) s.number (subst (λ (b : List ℕ). g.K.Kind.kind.IsRecordOf b c.args.entry) (sym (c.as_slice.ensures ∙ c.requires.record.0)) c.requires.recorded)
-    (s.stands honest c.requires.open) (c.append.ensures.any_moment honest (s.ready c.requires.open)) in
+    let leaves = Appending.leaves_one g.K.Kind.kind s.version s.journal.version s.journal.kind s.journal.gate (s.found.items ++ s.added.items) c.args.entry c.as_slice.result.now _ _ _ (s.in_version c.requires.open) s.number (subst (λ (b : List ℕ). g.K.Kind.kind.IsRecordOf b c.args.entry) (sym (c.as_slice.ensures ∙ c.requires.record.0)) c.requires.recorded)
+    (s.stands honest c.requires.open) (s.gated honest c.requires.open) (c.append.ensures.any_moment honest (s.ready c.requires.open)) in
     Appending.images_undecided g.K.Kind.kind s.version (s.found.items ++ s.added.items) _ c.args.entry _ _ c.close.ensures.undecided (g.met.D.Disk.lawful honest c.append.new.self.disk) leaves
 
 pub returns-in-Err-clause-any_moment : goal.returns-in-Err-clause-any_moment
 returns-in-Err-clause-any_moment g c honest =
     let s = c.args.self.now in
-    let leaves = Appending.leaves_one g.K.Kind.kind s.version s.journal.version s.journal.kind (s.found.items ++ s.added.items) c.args.entry c.as_slice.result.now _ _ _ (s.in_version c.requires.open) s.number (subst (λ (b : List ℕ). g.K.Kind.kind.IsRecordOf b c.args.entry) (sym (c.as_slice.ensures ∙ c.requires.record.0)) c.requires.recorded)
-    (s.stands honest c.requires.open) (c.append.ensures.any_moment honest (s.ready c.requires.open)) in
+    let leaves = Appending.leaves_one g.K.Kind.kind s.version s.journal.version s.journal.kind s.journal.gate (s.found.items ++ s.added.items) c.args.entry c.as_slice.result.now _ _ _ (s.in_version c.requires.open) s.number (subst (λ (b : List ℕ). g.K.Kind.kind.IsRecordOf b c.args.entry) (sym (c.as_slice.ensures ∙ c.requires.record.0)) c.requires.recorded)
+    (s.stands honest c.requires.open) (s.gated honest c.requires.open) (c.append.ensures.any_moment honest (s.ready c.requires.open)) in
     Appending.leaves_undecided g.K.Kind.kind s.version g.met.K.Kind.lawful (s.found.items ++ s.added.items) c.args.entry _ _ s.undecided _ c.close.ensures.undecided leaves

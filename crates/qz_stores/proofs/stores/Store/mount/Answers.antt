@@ -1,6 +1,6 @@
 use Rattle.std.proofs.Common.{◌≡◌, ◌∙◌, ◌++◌, ℕ, true, take, refl, sym, ap, subst}
-use Rattle.qz_journal.specs.Layout.{is_version, IsHeader, Holds}
-use Rattle.qz_journal.proofs.Once.{version_once, not_damaged}
+use Rattle.qz_journal.specs.Layout.{is_version, IsHeader, Holds, end_of}
+use Rattle.qz_journal.proofs.Once.{holds_once, version_once, not_damaged}
 use Rattle.qz_stores.specs.Bytes.{BeginsNew, HoldEntries}
 use Rattle.qz_stores.specs.Facts.{Encode-length}
 use Rattle.qz_stores.specs.Kinds.{history_of}
@@ -27,6 +27,13 @@ begin-requires-clause-stands g c honest =
     let holds = held_now c.number.result k.number _ _ c.in-Ok.payloads _ c.number.ensures refl (c.in-Ok.ensures.stands honest) in
     let held = holding k journal.version _ c.in-Ok.payloads entries holds c.in-Ok-replay.ensures.replayed.encode in
     subst (λ (v : ℕ). HoldEntries k v (g.D.Disk.state journal.disk).content entries) (sym (c.in-Ok-replay.ensures.version ∙ c.version.ensures.value)) held
+
+pub begin-requires-clause-gated : goal.begin-requires-clause-gated
+begin-requires-clause-gated g c honest ps held =
+    let k = g.K.Kind.kind in
+    let journal = c.in-Ok.journal in
+    let holds = held_now c.number.result k.number _ _ c.in-Ok.payloads _ c.number.ensures refl (c.in-Ok.ensures.stands honest) in
+    c.in-Ok.ensures.ground.2 ∙ ap end_of (holds_once (g.D.Disk.state journal.disk).content journal.version _ k.number c.in-Ok.payloads ps holds held)
 
 pub begin-requires-clause-legal : goal.begin-requires-clause-legal
 begin-requires-clause-legal g c =

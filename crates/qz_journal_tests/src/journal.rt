@@ -61,15 +61,16 @@ const ANY_BYTES: &[u8] = b"\0and any bytes";
 
 const NOT_A_STORE: Found = Err(MountError::NotAStore);
 
-/// No header, half of one, one of the other kind, ones of other versions, one with a byte that is reserved, and whole ones.
+/// No header, half of one, one of the other kind, ones of other versions, and whole ones, of which two have bytes in a slot.
 const HEADERS: &[Opening] = &[
     (b"", ANY_BYTES, NOT_A_STORE),
     (b"QZ23\x01", ANY_BYTES, NOT_A_STORE),
     (b"QZ23\x01S\0\0\0\0\0\0\0\0\0\0", ANY_BYTES, NOT_A_STORE),
     (b"QZ23\x00T\0\0\0\0\0\0\0\0\0\0", ANY_BYTES, NOT_A_STORE),
     (b"QZ23\x03T\0\0\0\0\0\0\0\0\0\0", ANY_BYTES, NOT_A_STORE),
-    (b"QZ23\x01T\0\0\0\0\0\0\0\0\0\x01", ANY_BYTES, NOT_A_STORE),
-    (b"QZ23\x02T\0\0\0\0\0\0\0\0\0\x01", ANY_BYTES, NOT_A_STORE),
+    (b"QZ23\x01T\0\0\0\0\0\0\0\0\0", b"", NOT_A_STORE),
+    (b"QZ23\x01T\0\0\0\0\0\0\0\0\0\x01", ANY_BYTES, Ok(&[])),
+    (b"QZ23\x02T\xa5\0\0\0\x10\0\0\0\0\0", ANY_BYTES, Ok(&[])),
     (HEADER, ANY_BYTES, Ok(&[])),
     (OLD_HEADER, ANY_BYTES, Ok(&[])),
     (OLD_HEADER, b"\xa5\0\0\0\x01\x07\0", Ok(&[1])),

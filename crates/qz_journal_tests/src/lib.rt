@@ -1,0 +1,11 @@
+//! Tests of the journal: stores that are whole, damaged or cut, openings of a tail, and slots.
+#![tactic(auto)]
+
+#[cfg(test)]
+mod journal;
+#[cfg(test)]
+mod rows;
+#[cfg(test)]
+mod slots;
+#[cfg(test)]
+mod tails;
