@@ -1,6 +1,6 @@
 //! Records: the version, and what stands after it, once for all that has a record. They are written in version two, and
 //! read in both.
-ghost use Rattle.std.specs.Prelude.{◌≡◌, ◌≤◌, ◌++◌, ℕ, length, IfOk, OnOk, Ok};
+ghost use Rattle.std.specs.Prelude.{◌≡◌, ◌+◌, ◌≤◌, ◌++◌, ℕ, length, IfOk, OnOk, Ok};
 ghost use Rattle.qz_codec.specs.declared.limits.TheConstants.{RECORD_LIMIT};
 ghost use Rattle.qz_codec.specs.Records.{recorded, IsRecord};
 ghost use Rattle.qz_values.specs.Reading.{Gives};
@@ -133,6 +133,7 @@ pub(crate) fn write<R: Recorded>(alloc: Global, value: &R) -> Result<List<u8>, N
     requires { R.can_put value.now }
     ensures bytes { IfOk result (λ bytes. bytes ≡ recorded R.fields Two value.now) }
     ensures size { IfOk result (λ bytes. (1 ≤ length bytes) × (length bytes ≤ RECORD_LIMIT)) }
+    ensures short { IfOk result (λ bytes. length bytes ≤ R.most + 1) }
     ensures valid { OnOk result (R.has_record Two value.now) }
     ensures unique { IfOk result (λ bytes. (x : R) → IsRecord R.fields R.has_record bytes x → x ≡ value.now) }
 {
@@ -148,6 +149,7 @@ pub fn put_row<R: Row>(alloc: Global, row: &R) -> Result<List<u8>, NoMemory>
     requires { R.can_put row.now }
     ensures bytes { IfOk result (λ bytes. bytes ≡ recorded R.fields Two row.now) }
     ensures size { IfOk result (λ bytes. (1 ≤ length bytes) × (length bytes ≤ RECORD_LIMIT)) }
+    ensures short { IfOk result (λ bytes. length bytes ≤ R.most + 1) }
     // So its record is read as this row.
     ensures valid { OnOk result (R.has_record Two row.now) }
     // No other row has this record.

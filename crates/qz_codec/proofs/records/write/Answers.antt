@@ -11,6 +11,12 @@ returns-clause-size g c =
     let same : length c.from_vec.result ≡ length (recorded g.R.Recorded.fields Two c.args.value.now) = ap length whole in
     (omega arith, omega (arith, record_short c.is_format.ensures.format Two c.args.value.now c.in_ok-put_fields.ensures.valid, c.is_format.ensures.short))
 
+pub returns-clause-short : goal.returns-clause-short
+returns-clause-short g c =
+    let whole : c.from_vec.result ≡ recorded g.R.Recorded.fields Two c.args.value.now = grind (arith, common_steps) in
+    let same : length c.from_vec.result ≡ length (recorded g.R.Recorded.fields Two c.args.value.now) = ap length whole in
+    omega (arith, same, record_short c.is_format.ensures.format Two c.args.value.now c.in_ok-put_fields.ensures.valid)
+
 pub returns-clause-unique : goal.returns-clause-unique
 returns-clause-unique g c =
     let whole : c.from_vec.result ≡ recorded g.R.Recorded.fields Two c.args.value.now = grind (arith, common_steps) in

@@ -1,0 +1,13 @@
+mod Begins
+mod Faults
+mod Filled
+mod HeadBytes
+mod KindByKind
+mod Midway
+mod Openings
+mod Orders
+mod Rooms
+mod RowLists
+mod Snapshotted
+mod Unique
+mod Written

@@ -1,0 +1,38 @@
+use Rattle.std.proofs.Common.{◌≡◌, ℕ, List, ◌∙◌, ◌∷◌, ◌++◌, [], None, sym, ap, arith, length-append}
+use Rattle.std.specs.Vec.Iter.{into_iter_items}
+use Rattle.qz_types.specs.Words.{key_cmp, job_of, put_job}
+use Rattle.qz_model.proofs.RowLaws.{key_total}
+use Rattle.qz_types.specs.Tables.{SchedulerTables}
+use Rattle.qz_types.specs.Rows.{JobData}
+use Rattle.qz_snapshot.proofs.Orders.{next_absent, next_put}
+use Rattle.qz_snapshot.proofs.Filled.{pushed, shorter}
+use Rattle.qz_snapshot.proofs.filling.fill_jobs.Goals as goal
+
+pub insert_job-requires-clause-absent : goal.insert_job-requires-clause-absent
+unfolding job_of
+insert_job-requires-clause-absent c =
+    ap (λ (T : SchedulerTables). job_of c.in-Some.row.key T.jobs) c.loop-row.invariant.tables
+    ∙ next_absent key_cmp (λ r. r.key) key_total c.args.rows.items c.loop-row.yielded (into_iter_items c.loop-row.row-iterator) (into_iter_items c.next.new.self) c.in-Some.row c.requires.ascending c.loop-row.invariant.all c.in-Some.ensures.steps.0
+
+pub loop-row-preserved : goal.loop-row-preserved
+unfolding put_job
+loop-row-preserved c = record {
+  all = pushed c.args.rows.items c.loop-row.yielded (into_iter_items c.loop-row.row-iterator) (into_iter_items c.next.new.self) c.in-Some.row c.loop-row.invariant.all c.in-Some.ensures.steps.0;
+  left = shorter (into_iter_items c.loop-row.row-iterator) (into_iter_items c.next.new.self) c.in-Some.row _ _ c.loop-row.invariant.left c.in-Some.ensures.steps.0 c.in-Some.ensures.steps.1;
+  tables = c.insert_job.ensures.tables ∙ ap (λ (T : SchedulerTables). record T { jobs = put_job c.in-Some.row T.jobs }) c.loop-row.invariant.tables
+      ∙ ap (λ (rows : List JobData). record c.args.tables.now.tables { jobs = rows })
+      (next_put key_cmp (λ r. r.key) key_total c.args.rows.items c.loop-row.yielded (into_iter_items c.loop-row.row-iterator) (into_iter_items c.next.new.self) c.in-Some.row c.requires.ascending c.loop-row.invariant.all c.in-Some.ensures.steps.0);
+  spare =
+      let before = c.loop-row.invariant.spare in
+      let one = c.insert_job.ensures.spare in
+      record {
+        jobs = omega (arith, before.jobs, one.jobs, length-append c.loop-row.yielded (c.in-Some.row ∷ []));
+        triggers = omega (arith, before.triggers, one.triggers);
+        calendars = omega (arith, before.calendars, one.calendars);
+        zones = omega (arith, before.zones, one.zones);
+        paused_groups = omega (arith, before.paused_groups, one.paused_groups);
+        paused_job_groups = omega (arith, before.paused_job_groups, one.paused_job_groups);
+        members = omega (arith, before.members, one.members);
+        fired = omega (arith, before.fired, one.fired);
+      };
+}

@@ -1,0 +1,168 @@
+//! The payloads of a snapshot, from tables.
+ghost use Rattle.std.specs.Prelude.{◌≡◌, ◌+◌, ◌*◌, ◌^◌, ◌<◌, ◌≤◌, ◌∷◌, ◌++◌, List, ℕ, All, OnOk, IfOk, IfSome, IfNone, fold, length, map, true, false};
+ghost use Rattle.qz_journal.specs.Layout.{IsPayload, blocks};
+ghost use Rattle.qz_journal.specs.declared.layout.TheConstants.{MAX_BYTES, MAX_PAYLOADS};
+ghost use Rattle.qz_model.specs.Invariant.{AreNames};
+ghost use Rattle.qz_pieces.specs.Pieces.{with_row, AreShort, pieces};
+ghost use Rattle.qz_snapshot.specs.Checkpoints.{plan_rows, state_rows, rows_written, snapshot_written, PlansHaveRecords, StatesHaveRecords, LackRoom, HaveRoom};
+ghost use Rattle.qz_snapshot.specs.Heads.{head_bytes, HasWidths};
+ghost use Rattle.qz_snapshot.specs.Snapshots.{IsSnapshot, numbers_of};
+
+use crate::heads::{HEAD_LENGTH, Head, Numbers, put_head};
+use crate::rows::add_rows;
+use qz_journal::{FRAME_LENGTH, MAX_BYTES, MAX_PAYLOADS};
+use qz_pieces::{Pieces, RowKind};
+use qz_tables::Tables;
+use qz_types::NoMemory;
+use std::alloc::Global;
+
+/// The payloads of a snapshot of the tables, which so many entries left, where they have room after the closed gate at this
+/// offset, with so many payloads before it; else None.
+pub(crate) fn payloads_of(
+    alloc: Global,
+    tables: &Tables,
+    offset: u64,
+    count: u64,
+    entries: u64,
+) -> Result<Option<Vec<Vec<u8>>>, NoMemory>
+    requires counted { entries ≤ count }
+    requires groups { AreNames tables.now.tables.paused_groups }
+    requires job_groups { AreNames tables.now.tables.paused_job_groups }
+    ensures payloads { IfOk result (λ o. IfSome o (λ ps. map (λ p. p.items) ps.items ≡ snapshot_written tables.now.tables count entries)) }
+    ensures sizes { IfOk result (λ o. IfSome o (λ ps. All IsPayload (map (λ p. p.items) ps.items))) }
+    ensures snapshot { IfOk result (λ o. IfSome o (λ _. IsSnapshot (snapshot_written tables.now.tables count entries) tables.now.tables count entries)) }
+    ensures room { IfOk result (λ o. IfSome o (λ _. HaveRoom (snapshot_written tables.now.tables count entries) offset count)) }
+    ensures lack { IfOk result (λ o. IfNone o (LackRoom (snapshot_written tables.now.tables count entries) offset count)) }
+{
+    let pieces = cut_rows(alloc, tables)?;
+    if !have_room(offset, count, &pieces) {
+        return Ok(None);
+    }
+    let head = head_of(tables, count, entries, pieces.len());
+    Ok(Some(after_head(alloc, &head, pieces)?))
+}
+
+// A head, and these pieces.
+fn after_head(
+    alloc: Global,
+    head: &Head,
+    mut pieces: Vec<Vec<u8>>,
+) -> Result<Vec<Vec<u8>>, NoMemory>
+    ensures { IfOk result (λ ps. map (λ p. p.items) ps.items ≡ head_bytes head.now ∷ map (λ p. p.items) pieces.items) }
+{
+    let mut first = Vec::new(alloc);
+    put_head(&mut first, head)?;
+    let mut payloads = Vec::new(alloc);
+    payloads.push(first)?;
+    payloads.append(&mut pieces)?;
+    Ok(payloads)
+}
+
+// The head of a snapshot of the tables.
+fn head_of(tables: &Tables, before: u64, entries: u64, pieces: usize) -> Head
+    requires before { before < 2 ^ 32 }
+    requires entries { entries < 2 ^ 32 }
+    requires pieces { pieces < 2 ^ 32 }
+    ensures head { result ≡ record { payloads = before; entries = entries; pieces = pieces; numbers = numbers_of tables.now.tables } }
+    ensures widths { HasWidths result }
+{
+    Head {
+        payloads: before as u32,
+        entries: entries as u32,
+        pieces: pieces as u32,
+        numbers: Numbers {
+            next_entry: tables.next_entry(),
+            next_epoch: tables.next_epoch(),
+            threshold: tables.threshold(),
+            last_moment: tables.last_moment(),
+            horizon: tables.horizon(),
+        },
+    }
+}
+
+// Whether a head and these pieces have room after the closed gate at this offset, with so many payloads before it.
+fn have_room(offset: u64, count: u64, pieces: &[Vec<u8>]) -> bool
+    requires { All IsPayload (map (λ p. p.items) pieces.now) }
+    ensures room { result ≡ true → (head : List ℕ) → length head ≡ 53 → HaveRoom (head ∷ map (λ p. p.items) pieces.now) offset count }
+    ensures lack { result ≡ false → (head : List ℕ) → length head ≡ 53 → LackRoom (head ∷ map (λ p. p.items) pieces.now) offset count }
+{
+    if pieces.len() as u64 >= MAX_PAYLOADS.saturating_sub(count) {
+        return false;
+    }
+    let need = (FRAME_LENGTH + HEAD_LENGTH) as u64 + bytes_of(pieces);
+    need <= (MAX_BYTES - 1).saturating_sub(offset)
+}
+
+// How many bytes these payloads take in a journal.
+fn bytes_of(payloads: &[Vec<u8>]) -> u64
+    requires sizes { All IsPayload (map (λ p. p.items) payloads.now) }
+    requires few { length payloads.now ≤ MAX_PAYLOADS }
+    ensures bytes { result ≡ length (blocks (map (λ p. p.items) payloads.now)) }
+    ensures most { result ≤ length payloads.now * 32773 }
+{
+    let mut bytes = 0;
+    for place in 0..payloads.len() {
+        bytes += (FRAME_LENGTH + payloads[place].len()) as u64;
+    }
+    bytes
+}
+
+// The pieces of the rows of the tables.
+fn cut_rows(alloc: Global, tables: &Tables) -> Result<Vec<Vec<u8>>, NoMemory>
+    requires groups { AreNames tables.now.tables.paused_groups }
+    requires job_groups { AreNames tables.now.tables.paused_job_groups }
+    ensures pieces { IfOk result (λ ps. map (λ p. p.items) ps.items ≡ pieces (rows_written tables.now.tables)) }
+    ensures short { OnOk result (AreShort (rows_written tables.now.tables)) }
+    ensures recorded { OnOk result (PlansHaveRecords tables.now.tables × StatesHaveRecords tables.now.tables) }
+{
+    let mut pieces = Pieces::new(alloc)?;
+    add_plans(alloc, &mut pieces, tables)?;
+    add_states(alloc, &mut pieces, tables)?;
+    Ok(pieces.into_pieces()?)
+}
+
+// Puts in what is to fire and when: jobs, triggers, calendars and zones.
+fn add_plans(alloc: Global, pieces: &mut Pieces, tables: &Tables) -> Result<(), NoMemory>
+    ensures rows { OnOk result (pieces.new ≡ fold with_row pieces.old (plan_rows tables.now.tables)) }
+    ensures short { OnOk result (AreShort (plan_rows tables.now.tables)) }
+    ensures recorded { OnOk result (PlansHaveRecords tables.now.tables) }
+{
+    add_rows(alloc, pieces, RowKind::Job, &tables.sorted_jobs(alloc)?)?;
+    add_rows(
+        alloc,
+        pieces,
+        RowKind::Trigger,
+        &tables.sorted_triggers(alloc)?,
+    )?;
+    add_rows(
+        alloc,
+        pieces,
+        RowKind::Calendar,
+        &tables.sorted_calendars(alloc)?,
+    )?;
+    add_rows(alloc, pieces, RowKind::Zone, &tables.sorted_zones(alloc)?)
+}
+
+// Puts in the rest: paused groups of triggers, members, fired rows and paused groups of jobs.
+fn add_states(alloc: Global, pieces: &mut Pieces, tables: &Tables) -> Result<(), NoMemory>
+    requires groups { AreNames tables.now.tables.paused_groups }
+    requires job_groups { AreNames tables.now.tables.paused_job_groups }
+    ensures rows { OnOk result (pieces.new ≡ fold with_row pieces.old (state_rows tables.now.tables)) }
+    ensures short { OnOk result (AreShort (state_rows tables.now.tables)) }
+    ensures recorded { OnOk result (StatesHaveRecords tables.now.tables) }
+{
+    add_rows(alloc, pieces, RowKind::Group, &tables.sorted_groups(alloc)?)?;
+    add_rows(
+        alloc,
+        pieces,
+        RowKind::Member,
+        &tables.sorted_members(alloc)?,
+    )?;
+    add_rows(alloc, pieces, RowKind::Fired, &tables.sorted_fired(alloc)?)?;
+    add_rows(
+        alloc,
+        pieces,
+        RowKind::JobGroup,
+        &tables.sorted_job_groups(alloc)?,
+    )
+}
