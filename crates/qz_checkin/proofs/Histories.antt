@@ -1,8 +1,13 @@
--- Histories that go on.
-use Rattle.std.proofs.Common.{◌≡◌, List, [], ◌∷◌, ◌++◌, refl}
+-- Histories that go on, and histories of one whole list.
+use Rattle.std.proofs.Common.{◌≡◌, ℕ, List, [], ◌∷◌, ◌++◌, refl}
+use Rattle.std.specs.Prelude.{Option}
 use Rattle.qz_types.specs.Entries.{StateEntryData}
+use Rattle.qz_stores.proofs.Histories as store
 use Rattle.qz_checkin.specs.Rows.{StateTables, IsAccepted, state_transaction}
-use Rattle.qz_checkin.specs.History.{rows_left, IsLegalFrom, replay_from}
+use Rattle.qz_checkin.specs.History.{StateHistory, rows_left, IsLegalFrom, replay_from, replay_states}
+use Rattle.qz_checkin.specs.Kinds.{state_kind}
+use Rattle.qz_checkin.specs.Laws.{state_lawful}
+use Rattle.qz_checkin.specs.Bytes.{Whole, IsWhole, MayBe, AreEnds}
 
 pub replay_from-append : (T : StateTables) (es fs : List StateEntryData) → replay_from T (es ++ fs) ≡ replay_from (replay_from T es) fs
 replay_from-append T [] fs = refl
@@ -15,3 +20,11 @@ IsLegalFrom-append T (e ∷ es) fs legal more = (legal.0, IsLegalFrom-append (ro
 -- an accepted entry may follow
 pub IsLegalFrom-entry : (T : StateTables) (es : List StateEntryData) (e : StateEntryData) → IsLegalFrom T es → IsAccepted (state_transaction (replay_from T es) e) → IsLegalFrom T (es ++ e ∷ [])
 IsLegalFrom-entry T es e legal now = IsLegalFrom-append T es (e ∷ []) legal (now, tt)
+
+-- ends of one whole list leave the same rows
+pub same_rows : (h g : StateHistory) → AreEnds h g → replay_states h ≡ replay_states g
+same_rows h g = store.same_state state_kind state_lawful h g
+
+-- what a crash leaves is a whole list
+pub may_hold : (w : Whole) (h : StateHistory) (undecided : Option StateEntryData) (bytes : List ℕ) → MayBe w h undecided bytes → (v : Whole) × IsWhole v bytes
+may_hold w h undecided bytes = store.may_hold state_kind state_lawful w h undecided bytes

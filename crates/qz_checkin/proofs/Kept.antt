@@ -1,5 +1,5 @@
 -- What holds of each state store.
-use Rattle.std.proofs.Common.{List, [], ◌∷◌, refl}
+use Rattle.std.proofs.Common.{List, [], ◌∷◌, refl, subst}
 use Rattle.std.proofs.Math.Logic.{∥∥₁_elim}
 use Rattle.qz_disk.specs.declared.disk.Disk.{Ghosts}
 use Rattle.qz_types.specs.Entries.{StateEntryData}
@@ -18,4 +18,4 @@ IsLegalFrom-prop T (e ∷ es) p q = λ i. (IsAccepted-prop (state_transaction T 
 
 -- its history is legal
 pub legal : {D : Type 0} {g : Ghosts D} (s : StateStore D g) → IsLegalFrom new_state_tables (entries_of s)
-legal s = ∥∥₁_elim s.store.legal (IsLegalFrom-prop new_state_tables (entries_of s)) (λ l. l)
+legal s = ∥∥₁_elim s.store.legal (IsLegalFrom-prop new_state_tables (entries_of s)) (λ l. subst (λ (T : StateTables). IsLegalFrom T (entries_of s)) (s.store.new_base refl) l)

@@ -1,7 +1,8 @@
-pub mod Appending
 pub mod Histories
+pub mod Images
 pub mod Kept
 pub mod Looking
+pub mod Openings
 pub mod Outcomes
 pub mod Refused
 pub mod RowEdits

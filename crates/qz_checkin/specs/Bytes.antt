@@ -1,40 +1,41 @@
--- Which bytes are those of which history.
+-- Which bytes are those of which lists and histories.
 use Rattle.std.specs.Prelude.{ℕ, List, Option}
 use Rattle.qz_types.specs.Entries.{StateEntryData}
-use Rattle.qz_stores.specs.Kinds.{history_of as kind_history}
+use Rattle.qz_stores.specs.Bases as list
 use Rattle.qz_stores.specs.Bytes as store
+use Rattle.qz_stores.specs.Opening as opening
 use Rattle.qz_checkin.specs.History.{StateHistory}
-use Rattle.qz_checkin.specs.Entries.{StatesState}
 use Rattle.qz_checkin.specs.Kinds.{state_kind}
-
--- each payload is the record of an entry, in order
-abbrev pub Encode : List (List ℕ) → List StateEntryData → Type 0
-Encode payloads entries = store.Encode state_kind payloads entries
-
--- the bytes are a store of states of this format version, and its payloads are records of these entries
-abbrev pub HoldEntries : ℕ → List ℕ → List StateEntryData → Type 0
-HoldEntries version bytes entries = store.HoldEntries state_kind version bytes entries
-
--- the history of these entries from a new store on, which is the same in either version
-abbrev pub history_of : List StateEntryData → StateHistory
-history_of entries = kind_history state_kind 2 entries
 
 -- the history begins with a new store of this format version
 abbrev pub BeginsNew : ℕ → StateHistory → Type 0
 BeginsNew version h = store.BeginsNew state_kind version h
 
--- The bytes are those of this history: it begins with a new store, and the payloads are records of its entries.
-abbrev pub Stands : List ℕ → StateHistory → Type 0
-Stands bytes h = store.Stands state_kind bytes h
+-- a whole list of entries, in a store of some format version
+abbrev pub Whole : Type 0
+Whole = list.WholeList StateEntryData
+
+-- The bytes are a state store of this version. Its payloads are records of these entries, a new store accepts the entries one
+-- by one, and no slot is open.
+abbrev pub IsWhole : Whole → List ℕ → Type 0
+IsWhole w bytes = list.IsWhole state_kind w bytes
+
+-- The bytes are a state store of this version, and its payloads are records of all that the history has.
+abbrev pub StandsFrom : ℕ → List ℕ → StateHistory → Type 0
+StandsFrom version bytes h = opening.StandsFrom state_kind version bytes h
+
+-- The bytes hold a whole list that begins with this one, and the history is an end of it.
+abbrev pub Stands : Whole → List ℕ → StateHistory → Type 0
+Stands w bytes h = list.Stands state_kind w bytes h
 
 -- for the history, or for it with the undecided entry
-abbrev pub MayBe : StateHistory → Option StateEntryData → List ℕ → Type 0
-MayBe h undecided bytes = store.MayBe state_kind h undecided bytes
+abbrev pub MayBe : Whole → StateHistory → Option StateEntryData → List ℕ → Type 0
+MayBe w h undecided bytes = store.MayBe state_kind w h undecided bytes
 
--- a history that a store can have: it begins with a new store, and each entry has a record and was accepted
-abbrev pub IsHistory : StateHistory → Type 0
-IsHistory h = store.IsHistory state_kind h
+-- Both histories are ends of one whole list.
+abbrev pub AreEnds : StateHistory → StateHistory → Type 0
+AreEnds h g = list.AreEnds state_kind h g
 
--- The closed gate comes after payloads that are the records of the history's entries.
-abbrev pub IsPlaced : StatesState → Type 0
-IsPlaced s = store.IsPlaced state_kind s
+-- What a restart may find: another end of the history's whole list, or of that with the undecided entry.
+abbrev pub IsDecided : StateHistory → Option StateEntryData → StateHistory → Type 0
+IsDecided h undecided found = list.IsDecided state_kind h undecided found

@@ -1,5 +1,5 @@
 -- The state store as a kind of store.
-use Rattle.std.specs.Prelude.{⊤, ◌≡◌, None}
+use Rattle.std.specs.Prelude.{⊤, ◌≡◌, false, [], List, None}
 use Rattle.std.proofs.Props.{props}
 use Rattle.qz_types.specs.Entries.{StateEntryData}
 use Rattle.qz_journal.specs.declared.layout.TheConstants.{STATES}
@@ -13,17 +13,25 @@ use Rattle.qz_checkin.specs.Entries.{answer_of, state_record_of}
 pub rows_once : (T U : StateTables) → IsProp (T ≡ U)
 rows_once T U = hlevel props
 
+pub entries_once : (es fs : List StateEntryData) → IsProp (es ≡ fs)
+entries_once es fs = hlevel props
+
 -- Each entry may be submitted; it is answered as the transaction at the rows, and leaves what that leaves. A state store is
--- the same in either version.
+-- the same in either version, and has no snapshots.
 abbrev pub state_kind : StoreKind StateHistory StateTables StateEntryData ⊤
 state_kind = record {
   number = STATES;
   record_of = state_record_of;
   IsRecordOf = IsStateRecord;
+  is_part = λ payload. false;
+  BeginSnapshot = λ payloads T before entries. ⊥;
+  has_snapshots = false;
+  snapshot_of = λ T before entries. [];
   IsProper = λ e. ⊤;
   empty = λ version. new_state_tables;
   IsValid = StatesValid;
   states_once = rows_once;
+  lists_once = entries_once;
   version_refusal = λ T e. None;
   answer = λ T e. answer_of (state_transaction T e);
   after = λ T e. rows_left T (state_transaction T e);

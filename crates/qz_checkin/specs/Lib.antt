@@ -1,4 +1,5 @@
 pub mod Bytes
+pub mod Edits
 pub mod Entries
 pub mod History
 pub mod InMemory

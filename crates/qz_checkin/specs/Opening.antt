@@ -6,7 +6,7 @@ use Rattle.qz_checkin.specs.Entries.{StatesState}
 use Rattle.qz_checkin.specs.Kinds.{state_kind}
 
 -- What holds of a store at each moment, whatever its disk tells: its history is legal and begins with a new store, its
--- rows are valid, and while it is open its gate comes after the records of its entries.
+-- rows are valid, and while it is open no more entries than payloads come before its gate.
 abbrev pub IsSound : StatesState → Type 0
 IsSound s = store.IsSound state_kind s
 

@@ -7,15 +7,16 @@ ghost use Rattle.qz_checkin.specs.InMemory.{tables_in};
 use crate::rows::States;
 use qz_civil::List;
 use qz_codec::{ReadError, get_state, put_state};
-use qz_journal::STATES;
-use qz_stores::{Kind, TakeError};
+use qz_disk::Disk;
+use qz_journal::{Journal, STATES};
+use qz_stores::{CheckpointError, Kind, TakeError};
 use qz_types::{NoMemory, Refusal, StateEntry, StateRow, StepRefused};
 use std::alloc::Global;
 
 /// A history from a new store on, as it was read from a disk, and the rows that it leaves.
 pub type Reread = qz_stores::Reread<States>;
 
-#[tactic(auto, using(crate::proofs::RowEdits::valid_new, crate::proofs::Outcomes::refusal_as, crate::proofs::Outcomes::passes, crate::proofs::Outcomes::passes_as, crate::proofs::Outcomes::answered, crate::proofs::Outcomes::left_as))]
+#[tactic(auto, using(crate::specs::Edits::valid_new, crate::proofs::Outcomes::refusal_as, crate::proofs::Outcomes::passes, crate::proofs::Outcomes::passes_as, crate::proofs::Outcomes::answered, crate::proofs::Outcomes::left_as))]
 impl Kind for States {
     type Entry = StateEntry;
 
@@ -48,6 +49,18 @@ impl Kind for States {
             rows: Vec::new(alloc),
             last_moment: 0,
         }
+    }
+
+    // A state store has no snapshots.
+    fn is_part(_payload: &[u8]) -> bool {
+        false
+    }
+
+    fn read_base(
+        _alloc: Global,
+        _payloads: &List<List<u8>>,
+    ) -> Result<Option<(States, u32)>, NoMemory> {
+        Ok(None)
     }
 
     fn take(&mut self, alloc: Global, payload: &[u8]) -> Result<StateEntry, TakeError> {
@@ -86,6 +99,16 @@ impl Kind for States {
 
     fn commit(&mut self, entry: &StateEntry, row: Option<StateRow>) {
         self.apply_reserved(entry, row)
+    }
+
+    // None is made, and nothing is done.
+    fn checkpoint<D: Disk>(
+        &self,
+        _alloc: Global,
+        _journal: &mut Journal<D>,
+        _entries: u64,
+    ) -> Result<bool, CheckpointError> {
+        Ok(false)
     }
 
     ghost lawful = { state_lawful };

@@ -13,7 +13,9 @@ mod submitting;
 mod transactions;
 
 pub use kinds::Reread;
-pub use laws::submitting_keeps_stores_sound;
+pub use laws::{
+    histories_of_one_list, restarting_keeps_stores_sound, submitting_keeps_stores_sound,
+};
 pub use qz_journal::MountError;
 pub use qz_types::SubmitError;
 pub use stores::StateStore;

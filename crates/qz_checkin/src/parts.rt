@@ -63,7 +63,7 @@ impl<D: Disk> StateStore<D> {
     pub fn history_len(&self) -> u64
         ensures { result ≡ length (view self.now).history.entries }
     {
-        self.store.history_len()
+        self.store.listed()
     }
 
     /// Whether a call of this store was answered `Fault`, or it crashed, and it wasn't opened since.

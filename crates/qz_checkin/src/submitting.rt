@@ -16,9 +16,9 @@ impl<D: Disk> StateStore<D> {
     /// Records that a node lives. `at` is a reading of the clock, in ms since 1970-01-01T00:00:00Z; `seat` says which of
     /// the callers that share the store asked, 0 for a lone caller; `interval` is how often the node means to check in,
     /// in ms. `RowsFull` is the refusal where the node has no row and there are as many as there may be. The errors are
-    /// decided in their order, `Closed` and `Refused` without memory; `NoMemory` comes only where the transaction would
-    /// be accepted, and there it may come before `JournalFull`. All memory is taken before the first device call. After
-    /// an error other than `Fault` all is as it was, and no device call was made.
+    /// decided in their order, `Closed` and `Refused` without memory; `NoMemory` is returned only when the transaction would
+    /// be accepted, and then it may be returned before `JournalFull`. All memory is taken before the first device call.
+    /// After an error other than `Fault` all is as it was, and no device call was made.
     pub fn check_in(
         &mut self,
         at: i64,

@@ -1,15 +1,15 @@
 -- A command that is a leave.
 use Rattle.std.proofs.Common.{◌≡◌, true, refl, sym, subst}
-use Rattle.std.specs.Prelude.{ℤ, IfOk}
+use Rattle.std.specs.Prelude.{ℤ, IfOk, IfErr}
 use Rattle.std.specs.declared.result.Result.{Result}
 use Rattle.qz_types.specs.Rows.{MemberData}
 use Rattle.qz_types.specs.declared.commands.Command.{Command}
 use Rattle.qz_types.specs.declared.commands.Command.TheVariants as command
 use Rattle.qz_types.specs.declared.commands.Actor.TheVariants as actor
-use Rattle.qz_trigger_store.specs.Entries.{TriggerState}
+use Rattle.qz_trigger_store.specs.Entries.{TriggerState, trigger_entry}
 use Rattle.qz_steps.specs.declared.steps.StepReply.{StepReply}
 use Rattle.qz_cluster.specs.Script.{entry_of}
-use Rattle.qz_cluster.specs.Submitting.{Submitted, is_leave}
+use Rattle.qz_cluster.specs.Submitting.{Submitted, Unsubmitted, is_leave}
 use Rattle.qz_cluster.specs.declared.errors.StepEnd.{StepEnd}
 
 is_leaving : (c : Command) → is_leave c ≡ true → command.Leave ≡ c
@@ -43,3 +43,7 @@ is_leaving (command.ResumeJobGroup group) is = cc
 pub left : (me : MemberData) (c : Command) (at : ℤ) (result : Result StepReply StepEnd) (s t : TriggerState) → is_leave c ≡ true
     → IfOk result (λ r. Submitted (entry_of (actor.Node me) command.Leave at) r s t) → IfOk result (λ r. Submitted (entry_of (actor.Node me) c at) r s t)
 left me c at result s t is way = subst (λ x. IfOk result (λ r. Submitted (entry_of (actor.Node me) x at) r s t)) (is_leaving c is) way
+
+pub left_cut : (me : MemberData) (c : Command) (at : ℤ) (result : Result StepReply StepEnd) (s t : TriggerState) → is_leave c ≡ true
+    → IfErr result (λ e. Unsubmitted trigger_entry (entry_of (actor.Node me) command.Leave at) e s t) → IfErr result (λ e. Unsubmitted trigger_entry (entry_of (actor.Node me) c at) e s t)
+left_cut me c at result s t is way = subst (λ x. IfErr result (λ e. Unsubmitted trigger_entry (entry_of (actor.Node me) x at) e s t)) (is_leaving c is) way

@@ -3,11 +3,16 @@ pub mod Closings
 pub mod Counts
 pub mod Effects
 pub mod FoundRows
+pub mod Founds
 pub mod Leaving
+pub mod NodeCases
 pub mod Plain
 pub mod Restarts
+pub mod SameScripts
 pub mod Scripts
 pub mod Sound
 pub mod StepCases
+pub mod Told
 pub mod Unaccepted
+pub mod Under
 pub mod ValidScripts

@@ -1,5 +1,6 @@
 -- Without a fault a step is a plain scheduler's, at stores that are open.
 use Rattle.std.proofs.Common.{◌≡◌, ◌⊎◌, inl, inr, ℤ, Bool, true, false, not, List, Option, Some, None, refl, sym, ap, subst, ◌∙◌}
+use Rattle.std.proofs.Math.Logic.{∥∥₁_elim}
 use Rattle.std.specs.Prelude.{◌&&◌, ◌||◌}
 use Rattle.qz_types.specs.Rows.{MemberData}
 use Rattle.qz_types.specs.Entries.{EntryData, StateEntryData}
@@ -10,22 +11,29 @@ use Rattle.qz_steps.specs.declared.steps.Step.{Step}
 use Rattle.qz_steps.specs.declared.steps.Step.TheVariants.{Client, Join, CheckIn, Node, Forget, Stop, Restart, Resume, Show}
 use Rattle.qz_steps.specs.declared.steps.StepReply.{StepReply}
 use Rattle.qz_steps.specs.declared.steps.StepReply.TheVariants as reply
-use Rattle.qz_stores.specs.Stores.{Refuses, IsDecided}
+use Rattle.qz_stores.specs.Bases.{IsDecided}
+use Rattle.qz_stores.specs.Stores.{Refuses}
+use Rattle.qz_stores.proofs.Histories.{same_state}
 use Rattle.qz_model.specs.History.{History, replay}
 use Rattle.qz_trigger_store.specs.Entries.{TriggerState, trigger_entry}
+use Rattle.qz_trigger_store.specs.Kinds.{tables_once, trigger_kind}
+use Rattle.qz_trigger_store.specs.Laws.{trigger_lawful}
 use Rattle.qz_checkin.specs.Entries.{StatesState, of_states}
-use Rattle.qz_checkin.specs.History.{StateHistory}
+use Rattle.qz_checkin.specs.History.{StateHistory, replay_states}
+use Rattle.qz_checkin.specs.Kinds.{rows_once, state_kind}
+use Rattle.qz_checkin.specs.Laws.{state_lawful}
 use Rattle.qz_cluster.specs.Asking.{answer_to}
 use Rattle.qz_cluster.specs.Script.{TimedStep, StepEffect, refuse, with_optional, with_optional_state}
 use Rattle.qz_cluster.specs.Steps.{ClusterState, needs_triggers, needs_states, is_closed_for, is_restart, is_show, is_unheld, rows_of, first_refusal, state_entry_of_step, entry_of_step, held_after, Stays, StatesDone, TriggersDone, AtStates, AtTriggers, StepCase}
 use Rattle.qz_cluster.proofs.Closings.{IsReady}
 use Rattle.qz_cluster.proofs.Effects.{onto_triggers, onto_states, plain_effect, effect_at, effect_is, submit_accepted, submit_refused, submit_state_accepted, submit_state_refused}
 
--- a step's reply, both histories and the held epochs are those of this effect
+-- A step's reply, the tables and rows that both histories leave, and the held epochs are those of this effect. (A restart may
+-- find a history with another base, which leaves the same.)
 pub record IsPlain (r : StepReply) (effect : StepEffect) (S S' : ClusterState) : Type 0 where
   pub reply : r ≡ effect.reply
-  pub history : S'.triggers.history ≡ with_optional effect.entry S.triggers.history
-  pub states : S'.states.history ≡ with_optional_state effect.state_entry S.states.history
+  pub tables : replay S'.triggers.history ≡ replay (with_optional effect.entry S.triggers.history)
+  pub rows : replay_states S'.states.history ≡ replay_states (with_optional_state effect.state_entry S.states.history)
   pub held : S'.held ≡ effect.held
 
 -- No store is closed for any step.
@@ -73,14 +81,14 @@ module _ (S S' : ClusterState) (x : Step) (at : ℤ) where
   stopped_plain : is_unheld x S.held ≡ true → Stays S S' → IsPlain reply.Stopped Here S S'
   stopped_plain unheld stays =
       subst (λ (b : Bool). IsPlain reply.Stopped (At b (first_refusal S x at) (state_entry_of_step S x at) (entry_of_step S.held x at)) S S') (sym unheld)
-      (record { reply = refl; history = stays.stores.triggers.history; states = stays.stores.states.history; held = stays.held })
+      (record { reply = refl; tables = ap replay (stays.stores.triggers.history); rows = ap replay_states (stays.stores.states.history); held = stays.held })
 
   -- it wasn't, and was refused before it submitted anything
   first_plain : (y : Refusal) → is_unheld x S.held ≡ false → first_refusal S x at ≡ Some y → Stays S S' → IsPlain (reply.Refused y) Here S S'
   first_plain y held refused stays =
       subst (λ (b : Bool). IsPlain (reply.Refused y) (At b (first_refusal S x at) (state_entry_of_step S x at) (entry_of_step S.held x at)) S S') (sym held)
       (subst (λ (o : Option Refusal). IsPlain (reply.Refused y) (At false o (state_entry_of_step S x at) (entry_of_step S.held x at)) S S') (sym refused)
-      (record { reply = refl; history = stays.stores.triggers.history; states = stays.stores.states.history; held = stays.held }))
+      (record { reply = refl; tables = ap replay (stays.stores.triggers.history); rows = ap replay_states (stays.stores.states.history); held = stays.held }))
 
   -- it submitted its entries, which came to this effect
   submitted_plain : (r : StepReply) (effect : StepEffect) → is_unheld x S.held ≡ false → first_refusal S x at ≡ None
@@ -112,10 +120,10 @@ module _ (S S' : ClusterState) (x : Step) (at : ℤ) where
       → AtStates (λ e s s'. Refuses of_states e y s s') Step_at S S' ⊎ AtTriggers (λ e s s'. Refuses trigger_entry e y s s') S.held Step_at S S' → IsPlain (reply.Refused y) Here S S'
   entry_plain y held unrefused (inl refused) =
       submitted_plain (reply.Refused y) (refuse y S.held) held unrefused (at_states_is y refused)
-      (record { reply = refl; history = refused.triggers.history; states = refused.states.same.history; held = refused.held })
+      (record { reply = refl; tables = ap replay (refused.triggers.history); rows = ap replay_states (refused.states.same.history); held = refused.held })
   entry_plain y held unrefused (inr refused) =
       submitted_plain (reply.Refused y) (record (refuse y S.held) { state_entry = state_entry_of_step S x at }) held unrefused (at_triggers_is y refused)
-      (record { reply = refl; history = refused.triggers.same.history; states = states_done_history _ S.states S'.states refused.states; held = refused.held_is })
+      (record { reply = refl; tables = ap replay (refused.triggers.same.history); rows = ap replay_states (states_done_history _ S.states S'.states refused.states); held = refused.held_is })
 
   -- it was done
   done_plain : (y : Reply) → is_unheld x S.held ≡ false → first_refusal S x at ≡ None → StatesDone (state_entry_of_step S x at) S.states S'.states
@@ -124,7 +132,7 @@ module _ (S S' : ClusterState) (x : Step) (at : ℤ) where
       submitted_plain (reply.Ok y) (record { reply = reply.Ok y; entry = entry_of_step S.held x at; state_entry = state_entry_of_step S x at; held = held_after x S.held y }) held unrefused
       (ap (onto_states (rows_of S) S.held (state_entry_of_step S x at)) (triggers_done_effect S S.held (held_after x S.held) (entry_of_step S.held x at) y S'.triggers triggers)
       ∙ states_done_effect S S.held (held_after x S.held y) (state_entry_of_step S x at) (entry_of_step S.held x at) (reply.Ok y) S'.states states)
-      (record { reply = refl; history = triggers_done_history _ y S.triggers S'.triggers triggers; states = states_done_history _ S.states S'.states states; held = now })
+      (record { reply = refl; tables = ap replay (triggers_done_history _ y S.triggers S'.triggers triggers); rows = ap replay_states (states_done_history _ S.states S'.states states); held = now })
 
   plain_here : (honest : Type 0) (r : StepReply) → StepCase honest Step_at r S S' → IsReady S → (r ≡ reply.Fault → ⊥) → is_restart x ≡ false → is_show x ≡ false → IsPlain r Here S S'
   plain_here honest reply.Closed case ready no_fault works acts = absurd (not_closed x S ready case.needs_closed)
@@ -143,14 +151,14 @@ module _ (S S' : ClusterState) (x : Step) (at : ℤ) where
 same_question : (p q : Question) → ◌≡◌ {A = Step} (Show q) (Show p) → p ≡ q
 same_question p q is = cc
 
--- Of a restart. An open store has nothing undecided, so it finds the history that it had.
+-- Of a restart. An open store has nothing undecided, so what it finds leaves the tables and the rows that it had.
 
-triggers_found : (h : History) (u : Option EntryData) (found : History) → u ≡ None → IsDecided trigger_entry h u found → found ≡ h
-triggers_found h None found none is = is
+triggers_found : (h : History) (u : Option EntryData) (found : History) → u ≡ None → IsDecided trigger_kind h u found → replay found ≡ replay h
+triggers_found h None found none is = sym (same_state trigger_kind trigger_lawful h found is)
 triggers_found h (Some e) found none is = let bad : ◌≡◌ {A = Option EntryData} (Some e) None = none in absurd cc
 
-states_found : (h : StateHistory) (u : Option StateEntryData) (found : StateHistory) → u ≡ None → IsDecided of_states h u found → found ≡ h
-states_found h None found none is = is
+states_found : (h : StateHistory) (u : Option StateEntryData) (found : StateHistory) → u ≡ None → IsDecided state_kind h u found → replay_states found ≡ replay_states h
+states_found h None found none is = sym (same_state state_kind state_lawful h found is)
 states_found h (Some e) found none is = let bad : ◌≡◌ {A = Option StateEntryData} (Some e) None = none in absurd cc
 
 restart_plain : (honest : Type 0) (at : ℤ) (r : StepReply) (S S' : ClusterState) → StepCase honest (record { step = Restart; at = at }) r S S' → IsReady S → (r ≡ reply.Fault → ⊥) → honest
@@ -164,8 +172,8 @@ restart_plain honest at reply.Fault S S' case ready no_fault is = absurd (no_fau
 restart_plain honest at (reply.Shown s) S S' case ready no_fault is = let bad : ◌≡◌ {A = Step} Restart (Show case.question) = case.asked in absurd cc
 restart_plain honest at reply.Restarted S S' case ready no_fault is = record {
   reply = refl;
-  history = triggers_found S.triggers.history S.triggers.undecided S'.triggers.history ready.triggers_settled (case.triggers.decided is);
-  states = states_found S.states.history S.states.undecided S'.states.history ready.states_settled (case.states.decided is);
+  tables = ∥∥₁_elim (case.triggers.decided is) (tables_once _ _) (triggers_found S.triggers.history S.triggers.undecided S'.triggers.history ready.triggers_settled);
+  rows = ∥∥₁_elim (case.states.decided is) (rows_once _ _) (states_found S.states.history S.states.undecided S'.states.history ready.states_settled);
   held = case.held;
 }
 
@@ -181,8 +189,8 @@ show_plain honest q at reply.Fault S S' case ready no_fault = absurd (no_fault r
 show_plain honest q at reply.Restarted S S' case ready no_fault = let bad : false ≡ true = case.asked in absurd cc
 show_plain honest q at (reply.Shown s) S S' case ready no_fault = record {
   reply = ap reply.Shown (case.shown ∙ ap (answer_to (replay S.triggers.history)) (same_question case.question q case.asked));
-  history = case.stays.stores.triggers.history;
-  states = case.stays.stores.states.history;
+  tables = ap replay (case.stays.stores.triggers.history);
+  rows = ap replay_states (case.stays.stores.states.history);
   held = case.stays.held;
 }
 

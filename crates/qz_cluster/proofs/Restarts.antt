@@ -1,28 +1,36 @@
 -- The case of a restart, step by step.
-use Rattle.std.proofs.Common.{◌≡◌, inl, inr, ⊎_elim, ℕ, ℤ, ◌≤◌, List, true, false, sym, ◌∙◌, subst, arith}
+use Rattle.std.proofs.Common.{◌≡◌, ◌⊎◌, inl, inr, ⊎_elim, ℕ, ℤ, ◌≤◌, List, true, false, refl, sym, ◌∙◌, subst, arith}
+use Rattle.std.proofs.Math.Logic.{∥∥₁_elim}
 use Rattle.std.specs.Prelude.{IfOk, IfErr, Ok, Err}
 use Rattle.std.specs.declared.result.Result.{Result}
 use Rattle.qz_civil.specs.Causes.{Rose}
 use Rattle.qz_disk.specs.declared.disk.Disk.{Ghosts}
-use Rattle.qz_disk.proofs.Moments.{then_leaves}
+use Rattle.qz_journal.specs.declared.errors.MountError.{MountError}
+use Rattle.qz_journal.specs.declared.errors.MountError.TheVariants as mount
+use Rattle.qz_types.specs.declared.stores.Store.{Store}
 use Rattle.qz_steps.specs.declared.steps.Step.{Step}
 use Rattle.qz_steps.specs.declared.steps.Step.TheVariants.{Restart, Show}
 use Rattle.qz_steps.specs.declared.steps.StepReply.{StepReply}
 use Rattle.qz_steps.specs.declared.steps.StepReply.TheVariants as reply
-use Rattle.qz_stores.specs.Stores.{EntryKind, StoreState, Shuts, Opens, IsDecided}
-use Rattle.qz_trigger_store.specs.Entries.{trigger_entry}
-use Rattle.qz_trigger_store.specs.Bytes.{MayBe}
-use Rattle.qz_trigger_store.specs.View.{view as store_view, disk_state, IsOfEither, LeavesEither}
+use Rattle.qz_stores.specs.Bases.{IsDecided, Opens}
+use Rattle.qz_stores.specs.Kinds.{StoreKind}
+use Rattle.qz_stores.specs.Stores.{StoreState, Shuts}
+use Rattle.qz_stores.proofs.Moments.{shut_before}
+use Rattle.qz_trigger_store.specs.Kinds.{trigger_kind}
+use Rattle.qz_trigger_store.specs.Laws.{trigger_lawful}
+use Rattle.qz_trigger_store.specs.View.{view as store_view, LeavesEither}
 use Rattle.qz_trigger_store.specs.declared.stores.TriggerStore.{TriggerStore}
-use Rattle.qz_checkin.specs.Entries.{of_states}
-use Rattle.qz_checkin.specs.Bytes.{MayBe as StatesMayBe}
-use Rattle.qz_checkin.specs.View.{view as states_view, disk_state as rows_disk_state, IsOfEither as AreOfEither, LeavesEither as LeaveEither}
+use Rattle.qz_checkin.specs.Kinds.{state_kind}
+use Rattle.qz_checkin.specs.Laws.{state_lawful}
+use Rattle.qz_checkin.specs.View.{view as states_view, LeavesEither as LeaveEither}
 use Rattle.qz_checkin.specs.declared.stores.StateStore.{StateStore}
+use Rattle.qz_cluster.specs.Restarting.{unread}
 use Rattle.qz_cluster.specs.Steps.{ClusterState, BothShut, StepCase, EndCase}
 use Rattle.qz_cluster.specs.View.{KeepsUnlessDone}
 use Rattle.qz_cluster.specs.declared.clusters.Cluster.{Cluster}
 use Rattle.qz_cluster.specs.declared.errors.StepEnd.{StepEnd}
 use Rattle.qz_cluster.specs.declared.errors.StepEnd.TheVariants as ends
+use Rattle.qz_cluster.proofs.Under.{never, case_under, end_under}
 
 -- One store.
 
@@ -34,11 +42,11 @@ shut_again s t u first second = record {
   later = omega (arith, first.later, second.later);
 }
 
-pub opens_after : {H E R : Type 0} (kind : EntryKind H E R) (honest : Type 0) (s t u : StoreState H E) → Shuts s t → Opens kind honest t u → Opens kind honest s u
+pub opens_after : {H S E R : Type 0} (kind : StoreKind H S E R) (honest : Type 0) (s t u : StoreState H E) → Shuts s t → Opens kind honest t u → Opens kind honest s u
 opens_after kind honest s t u first second = record {
   is_open = second.is_open;
   undecided = second.undecided;
-  decided = λ h. subst (λ x. IsDecided kind x s.undecided u.history) first.history (subst (λ x. IsDecided kind t.history x u.history) first.undecided (second.decided h));
+  decided = λ h. subst (λ x. ∥ IsDecided kind x s.undecided u.history ∥₁) first.history (subst (λ x. ∥ IsDecided kind t.history x u.history ∥₁) first.undecided (second.decided h));
   later = omega (arith, first.later, second.later);
 }
 
@@ -74,8 +82,8 @@ restarted_after honest at reply.Closed S mid new triggers states is = impossible
 restarted_after honest at reply.Stopped S mid new triggers states is = impossible (sym is.unheld)
 restarted_after honest at reply.Restarted S mid new triggers states is = record {
   asked = is.asked;
-  triggers = opens_after trigger_entry honest S.triggers mid.triggers new.triggers triggers is.triggers;
-  states = opens_after of_states honest S.states mid.states new.states states is.states;
+  triggers = opens_after trigger_kind honest S.triggers mid.triggers new.triggers triggers is.triggers;
+  states = opens_after state_kind honest S.states mid.states new.states states is.states;
   are_triggers = is.are_triggers;
   are_states = is.are_states;
   held = is.held;
@@ -97,30 +105,54 @@ cut_after honest at ends.NoMemory S mid new triggers states (inr (inr is)) = inr
 -- Moments.
 
 pub triggers_leave : {D : Type 0} {g : Ghosts D} (s t u : TriggerStore D g) → Shuts (store_view s) (store_view t) → LeavesEither s t → LeavesEither t u → LeavesEither s u
-triggers_leave s t u shut first second =
-    then_leaves (disk_state s) (disk_state t) (disk_state u) _ _ (IsOfEither (store_view s) (store_view u)) first second
-    (λ b is. inl (⊎_elim (λ x. x) (here b) is)) (λ b is. ⊎_elim (λ x. inl (here b x)) inr is) where
-      here : (b : List ℕ) → MayBe (store_view t).history (store_view t).undecided b → MayBe (store_view s).history (store_view s).undecided b
-      here b is = subst (λ x. MayBe x (store_view s).undecided b) shut.history (subst (λ x. MayBe (store_view t).history x b) shut.undecided is)
+triggers_leave s t u shut first second = shut_before trigger_lawful s.store t.store u.store shut first second
 
 pub states_leave : {D : Type 0} {g : Ghosts D} (s t u : StateStore D g) → Shuts (states_view s) (states_view t) → LeaveEither s t → LeaveEither t u → LeaveEither s u
-states_leave s t u shut first second =
-    then_leaves (rows_disk_state s) (rows_disk_state t) (rows_disk_state u) _ _ (AreOfEither (states_view s) (states_view u)) first second
-    (λ b is. inl (⊎_elim (λ x. x) (here b) is)) (λ b is. ⊎_elim (λ x. inl (here b x)) inr is) where
-      here : (b : List ℕ) → StatesMayBe (states_view t).history (states_view t).undecided b → StatesMayBe (states_view s).history (states_view s).undecided b
-      here b is = subst (λ x. StatesMayBe x (states_view s).undecided b) shut.history (subst (λ x. StatesMayBe (states_view t).history x b) shut.undecided is)
+states_leave s t u shut first second = shut_before state_lawful s.store t.store u.store shut first second
 
 -- Results.
 
-pub restarted : (honest : Type 0) (at : ℤ) (result : Result StepReply StepEnd) (S mid new : ClusterState) → Shuts S.triggers mid.triggers → Shuts S.states mid.states
-    → IfOk result (λ r. StepCase honest (record { step = Restart; at = at }) r mid new) → IfOk result (λ r. StepCase honest (record { step = Restart; at = at }) r S new)
-restarted honest at (Ok r) S mid new triggers states is = restarted_after honest at r S mid new triggers states is
-restarted honest at (Err end) S mid new triggers states is = tt
+-- Where the disks told what they held before the crashes, they do after them.
 
-pub cut : (honest : Type 0) (at : ℤ) (result : Result StepReply StepEnd) (S mid new : ClusterState) → Shuts S.triggers mid.triggers → Shuts S.states mid.states
-    → IfErr result (λ e. EndCase honest (record { step = Restart; at = at }) e mid new) → IfErr result (λ e. EndCase honest (record { step = Restart; at = at }) e S new)
-cut honest at (Ok r) S mid new triggers states is = tt
-cut honest at (Err end) S mid new triggers states is = cut_after honest at end S mid new triggers states is
+module _ (P Q : Type 0) (tells : P → ∥ Q ∥₁) (at : ℤ) where
+  pub restarted : (result : Result StepReply StepEnd) (S mid new : ClusterState) → Shuts S.triggers mid.triggers → Shuts S.states mid.states
+      → IfOk result (λ r. StepCase Q (record { step = Restart; at = at }) r mid new) → IfOk result (λ r. StepCase P (record { step = Restart; at = at }) r S new)
+  restarted (Ok r) S mid new triggers states is = restarted_after P at r S mid new triggers states (case_under P Q tells _ mid new r is)
+  restarted (Err end) S mid new triggers states is = tt
+
+  pub cut : (result : Result StepReply StepEnd) (S mid new : ClusterState) → Shuts S.triggers mid.triggers → Shuts S.states mid.states
+      → IfErr result (λ e. EndCase Q (record { step = Restart; at = at }) e mid new) → IfErr result (λ e. EndCase P (record { step = Restart; at = at }) e S new)
+  cut (Ok r) S mid new triggers states is = tt
+  cut (Err end) S mid new triggers states is = cut_after P at end S mid new triggers states (end_under P Q tells _ mid new end is)
+
+-- A store that couldn't be read.
+
+abbrev pub MayFail : MountError → Type 0
+MayFail error = (error ≡ mount.Fault) ⊎ (error ≡ mount.NoMemory)
+
+lost_not : {P : Type 0} (place : ℕ) → (P → ∥ MayFail (mount.Damaged place) ∥₁) → P → ⊥
+lost_not place refused p =
+    ∥∥₁_elim (refused p) never (λ (may : MayFail (mount.Damaged place)). ⊎_elim (λ is. let bad : mount.Damaged place ≡ mount.Fault = is in absurd cc) (λ is. let bad : mount.Damaged place ≡ mount.NoMemory = is in absurd cc) may)
+
+none_not : {P : Type 0} → (P → ∥ MayFail mount.NotAStore ∥₁) → P → ⊥
+none_not refused p =
+    ∥∥₁_elim (refused p) never (λ (may : MayFail mount.NotAStore). ⊎_elim (λ is. let bad : mount.NotAStore ≡ mount.Fault = is in absurd cc) (λ is. let bad : mount.NotAStore ≡ mount.NoMemory = is in absurd cc) may)
+
+unread_end : (P : Type 0) (store : Store) (error : MountError) (at : ℤ) (S new : ClusterState) → BothShut S new → (P → ∥ MayFail error ∥₁)
+    → IfErr (unread store error) (λ e. EndCase P (record { step = Restart; at = at }) e S new)
+unread_end P store mount.Fault at S new shut refused = tt
+unread_end P store mount.NotAStore at S new shut refused = record { asked = refl; shut = shut; dishonest = none_not refused }
+unread_end P store (mount.Damaged place) at S new shut refused = record { asked = refl; shut = shut; dishonest = lost_not place refused }
+unread_end P store mount.NoMemory at S new shut refused = inr (inr (record { asked = refl; shut = shut }))
+
+pub unread_ends : (P : Type 0) (store : Store) (error : MountError) (at : ℤ) (result : Result StepReply StepEnd) (S new : ClusterState) → result ≡ unread store error
+    → BothShut S new → (P → ∥ MayFail error ∥₁) → IfErr result (λ e. EndCase P (record { step = Restart; at = at }) e S new)
+unread_ends P store error at result S new is shut refused =
+    subst (λ (r : Result StepReply StepEnd). IfErr r (λ e. EndCase P (record { step = Restart; at = at }) e S new)) (sym is) (unread_end P store error at S new shut refused)
+
+-- a closed store that no call was made of
+pub stays_shut : {H E : Type 0} (s : StoreState H E) → s.is_open ≡ false → Shuts s s
+stays_shut s closed = record { history = refl; is_open = closed; undecided = refl; later = omega arith }
 
 -- A restart is answered as closed, stopped or refused never.
 keeps_at : {D : Type 0} {g : Ghosts D} (honest : Type 0) (at : ℤ) (r : StepReply) (S new : ClusterState) (c d : Cluster D g) → StepCase honest (record { step = Restart; at = at }) r S new → KeepsUnlessDone r c d

@@ -17,7 +17,7 @@ use Rattle.qz_cluster.proofs.Unaccepted.{same_here}
 use Rattle.qz_cluster.specs.declared.errors.StepEnd.{StepEnd}
 use Rattle.qz_cluster.specs.declared.errors.StepEnd.TheVariants as ends
 
-not_closed : {A : Type 0} (b : Bool) → b ≡ true → b ≡ false → A
+pub not_closed : {A : Type 0} (b : Bool) → b ≡ true → b ≡ false → A
 not_closed b is isnt = cc
 
 -- It ends at the state store, which didn't accept.
@@ -66,7 +66,7 @@ second_open false b is = cc
 
 -- A step of a node that checks in and joins.
 
-join_submits : (node : List ℕ) (interval at : ℤ) (S : ClusterState) → is_closed S ≡ false → Submits (record { step = Join node interval; at = at }) S
+pub join_submits : (node : List ℕ) (interval at : ℤ) (S : ClusterState) → is_closed S ≡ false → Submits (record { step = Join node interval; at = at }) S
 join_submits node interval at S ready = record { allowed = record { needs_open = ready; is_held = refl; works = refl; acts = refl }; unrefused = refl }
 
 pub join_declined : (honest : Type 0) (node : List ℕ) (interval at : ℤ) (result : Result StepReply StepEnd) (S new : ClusterState) → is_closed S ≡ false

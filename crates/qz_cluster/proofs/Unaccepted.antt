@@ -1,5 +1,5 @@
 -- What comes of a step, by a store's answer to its entry.
-use Rattle.std.proofs.Common.{◌≡◌, true, refl, arith}
+use Rattle.std.proofs.Common.{◌≡◌, true, refl, sym, subst, arith}
 use Rattle.std.specs.Prelude.{⊤, ◌≢◌, Ok, Err, IsOk, IfOk, IfErr, OnErr}
 use Rattle.std.specs.declared.result.Result.{Result}
 use Rattle.qz_disk.specs.declared.disk.Disk.{Ghosts}
@@ -37,6 +37,10 @@ states_reply e (Err (submit.Refused refusal)) s t is = is
 states_reply e (Err (submit.JournalFull need room)) s t is = tt
 states_reply e (Err submit.NoMemory) s t is = tt
 states_reply e (Err submit.Fault) s t is = is
+
+pub states_replied : (e : StateEntryData) (r : Result ⊤ SubmitError) (result : Result StepReply StepEnd) (s t : StatesState) → result ≡ answered r → Submits of_states e r s t
+    → IfOk result (λ r. StatesSubmitted e r s t)
+states_replied e r result s t is came = subst (λ (x : Result StepReply StepEnd). IfOk x (λ r. StatesSubmitted e r s t)) (sym is) (states_reply e r s t came)
 
 pub states_end : (e : StateEntryData) (r : Result ⊤ SubmitError) (s t : StatesState) → Submits of_states e r s t → IfErr (answered r) (λ end. Unsubmitted of_states e end s t)
 states_end e (Ok tt) s t is = tt
@@ -96,7 +100,7 @@ unjoined_stays submit.Fault c d same = tt
 
 -- A call that changes nothing keeps the stores, whatever it answers.
 pub nothing_changes : {D : Type 0} {g : Ghosts D} (c : Cluster D g) → KeepsStores c c
-nothing_changes c = (((refl, refl, refl, refl, refl, refl, refl, refl), refl), (refl, refl, refl, refl, refl, refl, refl, refl))
+nothing_changes c = (((refl, (refl, refl, refl, refl, refl), refl, refl, refl, refl, refl, refl), refl), (refl, (refl, refl, refl, refl, refl), refl, refl, refl, refl, refl, refl))
 
 -- an entry that would be accepted, for which there is no memory
 pub starves_here : {H E R : Type 0} (kind : EntryKind H E R) (e : E) (s : StoreState H E) → s.is_open ≡ true → IsOk (kind.answer s.history e) → Starves kind e s s

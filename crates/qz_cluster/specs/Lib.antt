@@ -1,4 +1,6 @@
 pub mod Asking
+pub mod Checkpoints
+pub mod Found
 pub mod Mounting
 pub mod Restarting
 pub mod Script

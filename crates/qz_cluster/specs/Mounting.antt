@@ -1,5 +1,5 @@
 -- What an opening of both stores finds on their disks.
-use Rattle.std.specs.Prelude.{⊤, ◌≡◌, ◌≤◌}
+use Rattle.std.specs.Prelude.{⊤, ◌≡◌, ℕ, ◌≤◌}
 use Rattle.qz_civil.specs.Causes.{Rose}
 use Rattle.qz_disk.specs.declared.disk.Disk.{Ghosts}
 use Rattle.qz_journal.specs.declared.errors.MountError.{MountError}
@@ -7,7 +7,7 @@ use Rattle.qz_journal.specs.declared.errors.MountError.TheVariants as mount
 use Rattle.qz_journal.specs.Through.{OnlyReads, OnlyReadsUnless}
 use Rattle.qz_types.specs.declared.stores.Store.{Store}
 use Rattle.qz_types.specs.declared.stores.Store.TheVariants.{Triggers, States}
-use Rattle.qz_trigger_store.specs.Bytes.{Stands}
+use Rattle.qz_trigger_store.specs.Bytes.{StandsFrom}
 use Rattle.qz_trigger_store.specs.Entries.{TriggerState}
 use Rattle.qz_trigger_store.specs.Opening.{IsOpened, IsRefused}
 use Rattle.qz_checkin.specs.Opening.{IsRefused as AreRefused}
@@ -28,7 +28,7 @@ RefusedBy g States error triggers states = AreRefused (g.state states).content e
 -- where the state store is refused, the trigger store stands: it could have been opened
 abbrev pub StandsBefore : {D : Type 0} → Ghosts D → Store → D → Type 0
 StandsBefore g Triggers triggers = ⊤
-StandsBefore g States triggers = (s : TriggerState) × IsOpened s × Stands (g.state triggers).content s.history
+StandsBefore g States triggers = (version : ℕ) × (s : TriggerState) × IsOpened s × StandsFrom version (g.state triggers).content s.history
 
 -- the count of the disk that failed rose
 abbrev pub RoseOf : {D : Type 0} → Ghosts D → Store → D → D → D → D → Type 0

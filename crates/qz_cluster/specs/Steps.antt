@@ -17,11 +17,14 @@ use Rattle.qz_steps.specs.declared.steps.Step.{Step}
 use Rattle.qz_steps.specs.declared.steps.Step.TheVariants.{Client, Join, CheckIn, Node, Forget, Stop, Restart, Resume, Show}
 use Rattle.qz_steps.specs.declared.steps.StepReply.{StepReply}
 use Rattle.qz_steps.specs.declared.steps.StepReply.TheVariants as reply
-use Rattle.qz_stores.specs.Stores.{Same, Appends, Refuses, Overflows, Starves, Fails, Shuts, Opens}
+use Rattle.qz_stores.specs.Bases.{Opens}
+use Rattle.qz_stores.specs.Stores.{Same, Appends, Refuses, Overflows, Starves, Fails, Shuts}
 use Rattle.qz_model.specs.History.{replay}
 use Rattle.qz_trigger_store.specs.Entries.{TriggerState, trigger_entry}
+use Rattle.qz_trigger_store.specs.Kinds.{trigger_kind}
 use Rattle.qz_trigger_store.specs.Opening.{IsOpened}
 use Rattle.qz_checkin.specs.Entries.{StatesState, of_states}
+use Rattle.qz_checkin.specs.Kinds.{state_kind}
 use Rattle.qz_checkin.specs.History.{replay_states}
 use Rattle.qz_checkin.specs.Rows.{StateTables, state_moment}
 use Rattle.qz_checkin.specs.Lateness.{fresh_refusal}
@@ -263,12 +266,12 @@ pub record FailedStep (t : TimedStep) (S S' : ClusterState) : Type 0 where
   pub submits : Submits t S
   pub which : AtStates (Fails of_states) t S S' ⊎ AtTriggers (Fails trigger_entry) (held_after_fault t.step S.held) t S S'
 
--- Both disks restarted, and both stores were opened anew. Where the disks are honest, each history is the one before, or
--- that with the entry of which it wasn't known whether the disk has it.
+-- Both disks restarted, and both stores were opened anew. Where the disks tell what they hold, each history is an end of the
+-- whole list that the one before is an end of, or of that list with the entry of which it wasn't known whether the disk has it.
 pub record RestartedStep (honest : Type 0) (t : TimedStep) (S S' : ClusterState) : Type 0 where
   pub asked : is_restart t.step ≡ true
-  pub triggers : Opens trigger_entry honest S.triggers S'.triggers
-  pub states : Opens of_states honest S.states S'.states
+  pub triggers : Opens trigger_kind honest S.triggers S'.triggers
+  pub states : Opens state_kind honest S.states S'.states
   pub are_triggers : IsOpened S'.triggers
   pub are_states : AreOpened S'.states
   pub held : S'.held ≡ []
@@ -294,7 +297,8 @@ StepCase honest t reply.Fault S S' = FailedStep t S S' ⊎ FailedRestart t S S'
 StepCase honest t reply.Restarted S S' = RestartedStep honest t S S'
 StepCase honest t (reply.Shown s) S S' = AnsweredStep t s S S'
 
--- A valid step at its reading of the clock was answered so. Whether the disks are honest matters to a restart alone.
+-- A valid step at its reading of the clock was answered so. Whether the disks tell what they hold matters to a
+-- restart alone.
 pub record IsStep (honest : Type 0) (t : TimedStep) (r : StepReply) (S S' : ClusterState) : Type 0 where
   pub valid : IsTrue (is_step t.step)
   pub case : StepCase honest t r S S'
@@ -330,7 +334,7 @@ pub record StarvedRestart (t : TimedStep) (S S' : ClusterState) : Type 0 where
   pub asked : is_restart t.step ≡ true
   pub shut : BothShut S S'
 
--- A disk has no store any more, or a damaged one. An honest disk always has what was acknowledged.
+-- A disk has no store any more, or a damaged one. A disk that tells what it holds always has what was acknowledged.
 pub record LostStore (honest : Type 0) (t : TimedStep) (S S' : ClusterState) : Type 0 where
   pub asked : is_restart t.step ≡ true
   pub shut : BothShut S S'

@@ -8,8 +8,8 @@ use Rattle.qz_steps.specs.declared.steps.StepReply.{StepReply}
 use Rattle.qz_steps.specs.declared.steps.StepReply.TheVariants as reply
 use Rattle.qz_checkin.specs.declared.stores.StateStore.{StateStore}
 use Rattle.qz_trigger_store.specs.declared.stores.TriggerStore.{TriggerStore}
-use Rattle.qz_trigger_store.specs.View.{view as store_view, disk_of as store_disk, disk_state, IsAsBefore, LeavesEither}
-use Rattle.qz_checkin.specs.View.{view as states_view, disk_of as rows_disk, disk_state as rows_disk_state, IsAsBefore as AreAsBefore, LeavesEither as LeaveEither}
+use Rattle.qz_trigger_store.specs.View.{view as store_view, disk_of as store_disk, disk_state, IsAsBefore, LeavesEither, IsTold as TriggersTold}
+use Rattle.qz_checkin.specs.View.{view as states_view, disk_of as rows_disk, disk_state as rows_disk_state, IsAsBefore as AreAsBefore, LeavesEither as LeaveEither, IsTold as StatesTold}
 use Rattle.qz_cluster.specs.Steps.{ClusterState}
 use Rattle.qz_cluster.specs.declared.clusters.Cluster.{Cluster}
 
@@ -37,6 +37,10 @@ triggers_disk c = disk_state c.triggers
 
 abbrev pub states_disk : {D : Type 0} {g : Ghosts D} → Cluster D g → DiskState
 states_disk c = rows_disk_state c.states
+
+-- Both disks are honest, and each held a whole list when its store was opened.
+abbrev pub IsTold : {D : Type 0} {g : Ghosts D} → Cluster D g → Type 0
+IsTold c = TriggersTold c.triggers × StatesTold c.states
 
 -- nothing of the trigger store and of its disk has changed
 abbrev pub KeepsTriggers : {D : Type 0} {g : Ghosts D} → Cluster D g → Cluster D g → Type 0

@@ -5,7 +5,7 @@ ghost use Rattle.qz_tables.specs.Due.{due_first};
 ghost use Rattle.qz_steps.specs.declared.steps.Step.TheVariants as step_is;
 ghost use Rattle.qz_cluster.specs.Asking.{with_job, time_of, answer_to, has_row};
 ghost use Rattle.qz_cluster.specs.Steps.{StepCase, EndCase};
-ghost use Rattle.qz_cluster.specs.View.{view, KeepsUnlessDone, EachLeavesEither};
+ghost use Rattle.qz_cluster.specs.View.{view, KeepsUnlessDone, EachLeavesEither, IsTold};
 
 use crate::{Cluster, StepEnd};
 use qz_civil::beside;
@@ -17,8 +17,8 @@ use qz_types::{FiredRow, JobRow, Key, NoMemory, TriggerRow};
 impl<D: Disk> Cluster<D> {
     /// Answers a question by the tables as they are.
     pub(crate) fn show(&self, question: &Question) -> Result<StepReply, StepEnd>
-        ensures ok { (at : ℤ) → IfOk result (λ r. StepCase D.honest (record { step = step_is.Show question.now; at = at }) r (view self.now) (view self.now)) }
-        ensures err { (at : ℤ) → IfErr result (λ e. EndCase D.honest (record { step = step_is.Show question.now; at = at }) e (view self.now) (view self.now)) }
+        ensures ok { (at : ℤ) → IfOk result (λ r. StepCase (IsTold self.now) (record { step = step_is.Show question.now; at = at }) r (view self.now) (view self.now)) }
+        ensures err { (at : ℤ) → IfErr result (λ e. EndCase (IsTold self.now) (record { step = step_is.Show question.now; at = at }) e (view self.now) (view self.now)) }
         ensures keeps { IfOk result (λ r. KeepsUnlessDone r self.now self.now) }
         ensures any_moment { D.honest → EachLeavesEither self.now self.now }
     {

@@ -9,7 +9,7 @@ ghost use Rattle.qz_trigger_store.specs.Entries.{trigger_entry};
 ghost use Rattle.qz_cluster.specs.Script.{entry_of, held_after_join};
 ghost use Rattle.qz_cluster.specs.Steps.{StepCase, EndCase, is_closed};
 ghost use Rattle.qz_cluster.specs.Submitting.{Submitted, Unsubmitted, held_by};
-ghost use Rattle.qz_cluster.specs.View.{view, KeepsTriggers, KeepsStores, KeepsUnlessDone, KeepsUnlessJoined, EachLeavesEither};
+ghost use Rattle.qz_cluster.specs.View.{view, KeepsTriggers, KeepsStores, KeepsUnlessDone, KeepsUnlessJoined, EachLeavesEither, IsTold};
 
 use crate::entries::client_entry;
 use crate::held::{epoch_of, put_reserved, room_for_one};
@@ -24,8 +24,8 @@ impl<D: Disk> Cluster<D> {
     pub(crate) fn join(&mut self, node: Text, interval: i64, at: i64) -> Result<StepReply, StepEnd>
         requires node { IsTrue (is_node node) }
         requires interval { IsTrue (is_interval interval) }
-        ensures ok { IfOk result (λ r. StepCase D.honest (record { step = step_is.Join node interval; at = at }) r (view self.old) (view self.new)) }
-        ensures err { IfErr result (λ e. EndCase D.honest (record { step = step_is.Join node interval; at = at }) e (view self.old) (view self.new)) }
+        ensures ok { IfOk result (λ r. StepCase (IsTold self.old) (record { step = step_is.Join node interval; at = at }) r (view self.old) (view self.new)) }
+        ensures err { IfErr result (λ e. EndCase (IsTold self.old) (record { step = step_is.Join node interval; at = at }) e (view self.old) (view self.new)) }
         ensures keeps { IfOk result (λ r. KeepsUnlessJoined r self.old self.new) }
         ensures unchanged { OnErr result (KeepsTriggers self.old self.new) }
         ensures any_moment { D.honest → EachLeavesEither self.old self.new }
@@ -54,8 +54,8 @@ impl<D: Disk> Cluster<D> {
         requires rows { rows.items ≡ without_member node (view self.old).held }
         requires room { vec_len rows < vec_capacity rows }
         requires name { name ≡ node }
-        ensures ok { IfOk result (λ r. StepCase D.honest (record { step = step_is.Join node interval; at = at }) r (view self.old) (view self.new)) }
-        ensures err { IfErr result (λ e. EndCase D.honest (record { step = step_is.Join node interval; at = at }) e (view self.old) (view self.new)) }
+        ensures ok { IfOk result (λ r. StepCase (IsTold self.old) (record { step = step_is.Join node interval; at = at }) r (view self.old) (view self.new)) }
+        ensures err { IfErr result (λ e. EndCase (IsTold self.old) (record { step = step_is.Join node interval; at = at }) e (view self.old) (view self.new)) }
         ensures keeps { IfOk result (λ r. KeepsUnlessJoined r self.old self.new) }
         ensures unchanged { OnErr result (KeepsTriggers self.old self.new) }
         ensures any_moment { D.honest → EachLeavesEither self.old self.new }
@@ -138,8 +138,8 @@ impl<D: Disk> Cluster<D> {
     ) -> Result<StepReply, StepEnd>
         requires node { IsTrue (is_node node.now) }
         requires interval { IsTrue (is_interval interval) }
-        ensures ok { IfOk result (λ r. StepCase D.honest (record { step = step_is.CheckIn node.now interval; at = at }) r (view self.old) (view self.new)) }
-        ensures err { IfErr result (λ e. EndCase D.honest (record { step = step_is.CheckIn node.now interval; at = at }) e (view self.old) (view self.new)) }
+        ensures ok { IfOk result (λ r. StepCase (IsTold self.old) (record { step = step_is.CheckIn node.now interval; at = at }) r (view self.old) (view self.new)) }
+        ensures err { IfErr result (λ e. EndCase (IsTold self.old) (record { step = step_is.CheckIn node.now interval; at = at }) e (view self.old) (view self.new)) }
         ensures keeps { IfOk result (λ r. KeepsUnlessDone r self.old self.new) }
         ensures unchanged { OnErr result (KeepsStores self.old self.new) }
         ensures any_moment { D.honest → EachLeavesEither self.old self.new }
@@ -162,8 +162,8 @@ impl<D: Disk> Cluster<D> {
         at: i64,
     ) -> Result<StepReply, StepEnd>
         requires { IsTrue (is_node failed.now) }
-        ensures ok { IfOk result (λ r. StepCase D.honest (record { step = step_is.Forget node.now failed.now; at = at }) r (view self.old) (view self.new)) }
-        ensures err { IfErr result (λ e. EndCase D.honest (record { step = step_is.Forget node.now failed.now; at = at }) e (view self.old) (view self.new)) }
+        ensures ok { IfOk result (λ r. StepCase (IsTold self.old) (record { step = step_is.Forget node.now failed.now; at = at }) r (view self.old) (view self.new)) }
+        ensures err { IfErr result (λ e. EndCase (IsTold self.old) (record { step = step_is.Forget node.now failed.now; at = at }) e (view self.old) (view self.new)) }
         ensures keeps { IfOk result (λ r. KeepsUnlessDone r self.old self.new) }
         ensures unchanged { OnErr result (KeepsStores self.old self.new) }
         ensures any_moment { D.honest → EachLeavesEither self.old self.new }

@@ -20,10 +20,10 @@ pub enum StepEnd {
     /// The step would be accepted, and its record needs more bytes than are left.
     #[error("the journal is full: {need} bytes are needed and {room} are left")]
     JournalFull { need: u64, room: u64 },
-    /// A restart found no store on this disk. No honest disk loses one.
+    /// A restart found no store on this disk. No honest disk that held a whole list loses one.
     #[error("the disk has no store any more")]
     NotAStore { store: Store },
-    /// A restart found a damaged store, at this offset. No honest disk damages one.
+    /// A restart found a damaged store, at this offset. No honest disk that held a whole list damages one.
     #[error("the store is damaged at {at}")]
     Damaged { store: Store, at: u64 },
     #[error("no memory")]

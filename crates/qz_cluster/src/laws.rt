@@ -13,9 +13,9 @@ ghost use Rattle.qz_checkin.specs.Opening.{IsSound as AreSound};
 ghost use Rattle.qz_cluster.specs.Steps.{ClusterState, IsStep, IsCutShort};
 ghost use Rattle.qz_cluster.specs.declared.errors.StepEnd.{StepEnd as End};
 
-/// A step leaves in each store a legal history from a new store on, valid tables or rows, and in an open one a gate after
-/// the records of the history's entries, where it found them so; and so does a script, step by step, also where the last
-/// step is cut short; and whether the disks are honest or not. It does nothing: its contract says so.
+/// A step leaves in each store a legal history, valid tables or rows, and in an open one no more entries than payloads,
+/// where it found them so; and so does a script, step by step, also where the last step is cut short; and whether the disks
+/// are honest or not. It does nothing: its contract says so.
 #[tactic(auto, using(crate::proofs::Sound::step_sound, crate::proofs::Sound::cut_sound))]
 pub fn steps_keep_stores_sound()
     ensures done { (t : TimedStep) (r : Answered) (S new : ClusterState) → IsStep ⊥ t r S new → IsSound S.triggers × AreSound S.states → IsSound new.triggers × AreSound new.states }

@@ -3,6 +3,7 @@
 
 mod asking;
 mod checking_in;
+mod checkpoints;
 mod clusters;
 mod entries;
 mod errors;
@@ -16,6 +17,7 @@ mod resuming;
 mod steps;
 mod submitting;
 
+pub use checkpoints::Checked;
 pub use clusters::Cluster;
 pub use errors::{MountFault, StepEnd};
 pub use laws::{scripts_keep_legal_histories, steps_keep_stores_sound};

@@ -10,7 +10,7 @@ ghost use Rattle.qz_trigger_store.specs.Entries.{trigger_entry};
 ghost use Rattle.qz_cluster.specs.Script.{entry_of, held_after_command};
 ghost use Rattle.qz_cluster.specs.Steps.{StepCase, EndCase, is_recover, command_refusal};
 ghost use Rattle.qz_cluster.specs.Submitting.{Submitted, Unsubmitted, held_by, is_leave};
-ghost use Rattle.qz_cluster.specs.View.{view, KeepsStores, KeepsUnlessDone, EachLeavesEither};
+ghost use Rattle.qz_cluster.specs.View.{view, KeepsStores, KeepsUnlessDone, EachLeavesEither, IsTold};
 
 use crate::entries::node_entry;
 use crate::held::{epoch_of, others};
@@ -30,8 +30,8 @@ impl<D: Disk> Cluster<D> {
         requires valid { IsTrue (is_command command) }
         requires node { IsTrue (is_of_node command) }
         requires name { IsTrue (is_node node) }
-        ensures ok { IfOk result (λ r. StepCase D.honest (record { step = step_is.Node node command; at = at }) r (view self.old) (view self.new)) }
-        ensures err { IfErr result (λ e. EndCase D.honest (record { step = step_is.Node node command; at = at }) e (view self.old) (view self.new)) }
+        ensures ok { IfOk result (λ r. StepCase (IsTold self.old) (record { step = step_is.Node node command; at = at }) r (view self.old) (view self.new)) }
+        ensures err { IfErr result (λ e. EndCase (IsTold self.old) (record { step = step_is.Node node command; at = at }) e (view self.old) (view self.new)) }
         ensures keeps { IfOk result (λ r. KeepsUnlessDone r self.old self.new) }
         ensures unchanged { OnErr result (KeepsStores self.old self.new) }
         ensures any_moment { D.honest → EachLeavesEither self.old self.new }

@@ -1,13 +1,13 @@
 //! Opening and giving back.
-ghost use Rattle.std.specs.Prelude.{◌≡◌, ◌⊎◌, ◌≤◌, [], IfOk, IfErr, MatchResult};
-ghost use Rattle.qz_model.specs.History.{History};
+ghost use Rattle.std.specs.Prelude.{◌≡◌, ◌⊎◌, ◌≤◌, [], length, IfOk, IfErr, MatchResult};
 ghost use Rattle.qz_journal.specs.Through.{OnlyReads};
-ghost use Rattle.qz_trigger_store.specs.Bytes.{Stands, IsHistory};
+ghost use Rattle.qz_trigger_store.specs.Bytes.{Whole, IsWhole};
 ghost use Rattle.qz_trigger_store.specs.Opening.{IsOpened};
-ghost use Rattle.qz_trigger_store.specs.View.{added_of, keeps_of, keeps_entries};
-ghost use Rattle.qz_checkin.specs.Bytes.{Stands as StatesStand, IsHistory as IsStateHistory};
-ghost use Rattle.qz_checkin.specs.History.{StateHistory};
+ghost use Rattle.qz_trigger_store.specs.View.{found_of, added_of, behind_of, keeps_of, keeps_entries, GoesOnFrom};
+ghost use Rattle.qz_checkin.specs.Bytes.{Whole as WholeRows, IsWhole as IsWholeRows};
 ghost use Rattle.qz_checkin.specs.Opening.{IsOpened as AreOpened};
+ghost use Rattle.qz_checkin.specs.View.{GoesOnFrom as RowsGoOnFrom, IsTold as RowsAreTold};
+ghost use Rattle.qz_cluster.specs.Found.{IsFoundIn, AreFoundIn};
 ghost use Rattle.qz_cluster.specs.Mounting.{DisksAfter, RefusedBy, RoseOf, StandsBefore, CountsRise};
 ghost use Rattle.qz_cluster.specs.Steps.{is_closed};
 ghost use Rattle.qz_cluster.specs.View.{view, triggers_of, states_of, disk_of_triggers, disk_of_states, triggers_disk, states_disk};
@@ -20,10 +20,12 @@ use qz_types::Store;
 use std::alloc::Global;
 
 impl<D: Disk> Cluster<D> {
-    /// Opens both stores, the trigger store first. No node holds an epoch yet. It syncs first, and writes nothing. An
-    /// `Err` hands the disks back and names the store: `NotAStore` is returned where the header isn't that store's,
-    /// `Damaged` also at the gate of the first payload that is no record or whose transaction is refused, and `Fault` only
-    /// where the disk's count of faults rose. What the trigger store keeps in memory is said by `keep`.
+    /// Opens both stores, the trigger store first, which is read from its slot in use on. No node holds an epoch yet. The
+    /// opening syncs first, and writes nothing. An `Err` hands the disks back and names the store: `NotAStore` is returned where the
+    /// header isn't that store's; `Damaged` names the gate of a slot that leads to no snapshot of valid tables, and of a slot
+    /// that is open in the state store, or the gate of the first payload that is no record or whose transaction is refused;
+    /// and `Fault` is returned only where the disk's count of faults rose. What the trigger store keeps in memory is said by
+    /// `keep`.
     pub fn mount(
         alloc: Global,
         triggers: D,
@@ -34,15 +36,20 @@ impl<D: Disk> Cluster<D> {
         ensures nothing_held { IfOk result (λ c. (view c).held ≡ []) }
         ensures nothing_added { IfOk result (λ c. added_of (triggers_of c) ≡ []) }
         ensures keeps { IfOk result (λ c. keeps_of (triggers_of c) ≡ keeps_entries keep) }
-        ensures stands { D.honest → IfOk result (λ c. Stands (D.state triggers).content (view c).triggers.history × StatesStand (D.state states).content (view c).states.history) }
+        ensures behind { IfOk result (λ c. behind_of (triggers_of c) ≡ length (found_of (triggers_of c))) }
+        // What was read is an end of what the bytes hold.
+        ensures found { D.honest → IfOk result (λ c. IsFoundIn (D.state triggers).content (view c).triggers × AreFoundIn (D.state states).content (view c).states) }
+        ensures rows_told { D.honest → IfOk result (λ c. RowsAreTold (states_of c)) }
         ensures reads { D.honest → IfOk result (λ c. OnlyReads (D.state triggers) (triggers_disk c) × OnlyReads (D.state states) (states_disk c)) }
         ensures reads_err { D.honest → IfErr result (λ e. DisksAfter D.Disk e.0.store e.0.error triggers states e.1 e.2) }
         ensures refused { D.honest → IfErr result (λ e. RefusedBy D.Disk e.0.store e.0.error triggers states) }
         ensures first { D.honest → IfErr result (λ e. StandsBefore D.Disk e.0.store triggers) }
-        // Where the bytes are those of histories, it comes to these, or memory or a disk fails.
-        ensures whole { D.honest → (h : History) → (k : StateHistory) → IsHistory h → IsStateHistory k
-            → Stands (D.state triggers).content h → StatesStand (D.state states).content k
-            → MatchResult result (λ c. ((view c).triggers.history ≡ h) × ((view c).states.history ≡ k)) (λ e. (e.0.error ≡ MountError.Fault) ⊎ (e.0.error ≡ MountError.NoMemory)) }
+        // Where the bytes hold whole lists, both stores are opened and go on from these, or memory or a disk fails.
+        ensures whole { D.honest → (w : Whole) → (v : WholeRows) → IsWhole w (D.state triggers).content → IsWholeRows v (D.state states).content
+            → MatchResult result (λ c. GoesOnFrom (triggers_of c) w × RowsGoOnFrom (states_of c) v) (λ e. (e.0.error ≡ MountError.Fault) ⊎ (e.0.error ≡ MountError.NoMemory)) }
+        // The same of each store by itself.
+        ensures goes_on { D.honest → (w : Whole) → IsWhole w (D.state triggers).content → IfOk result (λ c. GoesOnFrom (triggers_of c) w) }
+        ensures rows_go_on { D.honest → (v : WholeRows) → IsWholeRows v (D.state states).content → IfOk result (λ c. RowsGoOnFrom (states_of c) v) }
         ensures later { IfOk result (λ c. (D.faults triggers ≤ (view c).triggers.faults) × (D.faults states ≤ (view c).states.faults)) }
         ensures fault { IfErr result (λ e. CountsRise D.Disk triggers states e.1 e.2
             × (e.0.error ≡ MountError.Fault → RoseOf D.Disk e.0.store triggers states e.1 e.2)) }

@@ -3,7 +3,7 @@ ghost use Rattle.std.specs.Prelude.{◌≡◌, ℤ, [], false, IfOk, IfErr};
 ghost use Rattle.qz_steps.specs.declared.steps.Step.TheVariants as step_is;
 ghost use Rattle.qz_cluster.specs.Restarting.{unread};
 ghost use Rattle.qz_cluster.specs.Steps.{StepCase, EndCase};
-ghost use Rattle.qz_cluster.specs.View.{view, KeepsUnlessDone, EachLeavesEither};
+ghost use Rattle.qz_cluster.specs.View.{view, KeepsUnlessDone, EachLeavesEither, IsTold};
 
 use crate::{Cluster, StepEnd};
 use qz_disk::Disk;
@@ -15,8 +15,8 @@ impl<D: Disk> Cluster<D> {
     /// Both disks restart before anything on them is read, and both stores are read before one is opened. No node holds
     /// an epoch then.
     pub(crate) fn restart(&mut self) -> Result<StepReply, StepEnd>
-        ensures ok { (at : ℤ) → IfOk result (λ r. StepCase D.honest (record { step = step_is.Restart; at = at }) r (view self.old) (view self.new)) }
-        ensures err { (at : ℤ) → IfErr result (λ e. EndCase D.honest (record { step = step_is.Restart; at = at }) e (view self.old) (view self.new)) }
+        ensures ok { (at : ℤ) → IfOk result (λ r. StepCase (IsTold self.old) (record { step = step_is.Restart; at = at }) r (view self.old) (view self.new)) }
+        ensures err { (at : ℤ) → IfErr result (λ e. EndCase (IsTold self.old) (record { step = step_is.Restart; at = at }) e (view self.old) (view self.new)) }
         ensures keeps { IfOk result (λ r. KeepsUnlessDone r self.old self.new) }
         ensures any_moment { D.honest → EachLeavesEither self.old self.new }
     {
@@ -35,8 +35,8 @@ impl<D: Disk> Cluster<D> {
         requires triggers { (view self.old).triggers.is_open ≡ false }
         requires states { (view self.old).states.is_open ≡ false }
         requires held { (view self.old).held ≡ [] }
-        ensures ok { (at : ℤ) → IfOk result (λ r. StepCase D.honest (record { step = step_is.Restart; at = at }) r (view self.old) (view self.new)) }
-        ensures err { (at : ℤ) → IfErr result (λ e. EndCase D.honest (record { step = step_is.Restart; at = at }) e (view self.old) (view self.new)) }
+        ensures ok { (at : ℤ) → IfOk result (λ r. StepCase (IsTold self.old) (record { step = step_is.Restart; at = at }) r (view self.old) (view self.new)) }
+        ensures err { (at : ℤ) → IfErr result (λ e. EndCase (IsTold self.old) (record { step = step_is.Restart; at = at }) e (view self.old) (view self.new)) }
         ensures any_moment { D.honest → EachLeavesEither self.old self.new }
     {
         match self.triggers.reread() {

@@ -6,7 +6,7 @@ ghost use Rattle.qz_model.specs.Membership.{live_epoch, is_live};
 ghost use Rattle.qz_steps.specs.declared.steps.Step.TheVariants as step_is;
 ghost use Rattle.qz_cluster.specs.Asking.{may_resume, resume_refusal};
 ghost use Rattle.qz_cluster.specs.Steps.{StepCase, EndCase};
-ghost use Rattle.qz_cluster.specs.View.{view, KeepsStores, KeepsUnlessDone, EachLeavesEither};
+ghost use Rattle.qz_cluster.specs.View.{view, KeepsStores, KeepsUnlessDone, EachLeavesEither, IsTold};
 
 use crate::held::{epoch_of, put_reserved};
 use crate::{Cluster, StepEnd};
@@ -19,8 +19,8 @@ impl<D: Disk> Cluster<D> {
     /// that epoch, or holds one.
     pub(crate) fn resume(&mut self, node: Text, epoch: u64) -> Result<StepReply, StepEnd>
         requires { IsTrue (is_node node) }
-        ensures ok { (at : ℤ) → IfOk result (λ r. StepCase D.honest (record { step = step_is.Resume node epoch; at = at }) r (view self.old) (view self.new)) }
-        ensures err { (at : ℤ) → IfErr result (λ e. EndCase D.honest (record { step = step_is.Resume node epoch; at = at }) e (view self.old) (view self.new)) }
+        ensures ok { (at : ℤ) → IfOk result (λ r. StepCase (IsTold self.old) (record { step = step_is.Resume node epoch; at = at }) r (view self.old) (view self.new)) }
+        ensures err { (at : ℤ) → IfErr result (λ e. EndCase (IsTold self.old) (record { step = step_is.Resume node epoch; at = at }) e (view self.old) (view self.new)) }
         ensures keeps { IfOk result (λ r. KeepsUnlessDone r self.old self.new) }
         ensures quiet { KeepsStores self.old self.new }
         ensures any_moment { D.honest → EachLeavesEither self.old self.new }
@@ -71,8 +71,8 @@ impl<D: Disk> Cluster<D> {
         requires node { IsTrue (is_node node) }
         requires open { (view self.old).triggers.is_open ≡ true }
         requires unrefused { resume_refusal (replay (view self.old).triggers.history) (view self.old).held node epoch ≡ None }
-        ensures ok { (at : ℤ) → IfOk result (λ r. StepCase D.honest (record { step = step_is.Resume node epoch; at = at }) r (view self.old) (view self.new)) }
-        ensures err { (at : ℤ) → IfErr result (λ e. EndCase D.honest (record { step = step_is.Resume node epoch; at = at }) e (view self.old) (view self.new)) }
+        ensures ok { (at : ℤ) → IfOk result (λ r. StepCase (IsTold self.old) (record { step = step_is.Resume node epoch; at = at }) r (view self.old) (view self.new)) }
+        ensures err { (at : ℤ) → IfErr result (λ e. EndCase (IsTold self.old) (record { step = step_is.Resume node epoch; at = at }) e (view self.old) (view self.new)) }
         ensures keeps { IfOk result (λ r. KeepsUnlessDone r self.old self.new) }
         ensures quiet { KeepsStores self.old self.new }
         ensures any_moment { D.honest → EachLeavesEither self.old self.new }

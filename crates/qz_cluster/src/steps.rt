@@ -3,7 +3,7 @@ ghost use Rattle.std.specs.Prelude.{◌≡◌, ℤ, true, IsTrue, IfOk, IfErr, O
 ghost use Rattle.qz_steps.specs.Steps.{is_step};
 ghost use Rattle.qz_steps.specs.declared.steps.Step.TheVariants as step_is;
 ghost use Rattle.qz_cluster.specs.Steps.{StepCase, IsStep, IsCutShort, is_quiet};
-ghost use Rattle.qz_cluster.specs.View.{view, Keeps, KeepsUnanswered, KeepsStores, KeepsUnlessDone, EachLeavesEither};
+ghost use Rattle.qz_cluster.specs.View.{view, Keeps, KeepsUnanswered, KeepsStores, KeepsUnlessDone, EachLeavesEither, IsTold};
 
 use crate::entries::client_entry;
 use crate::held::{epoch_of, remove};
@@ -19,8 +19,8 @@ impl<D: Disk> Cluster<D> {
     /// that goes on; `NotAStore` and `Damaged` only at a restart, and only where a disk lost what was acknowledged.
     pub fn step(&mut self, step: Step, at: i64) -> Result<StepReply, StepEnd>
         requires { IsTrue (is_step step) }
-        ensures ok { IfOk result (λ r. IsStep D.honest (record { step = step; at = at }) r (view self.old) (view self.new)) }
-        ensures err { IfErr result (λ e. IsCutShort D.honest (record { step = step; at = at }) e (view self.old) (view self.new)) }
+        ensures ok { IfOk result (λ r. IsStep (IsTold self.old) (record { step = step; at = at }) r (view self.old) (view self.new)) }
+        ensures err { IfErr result (λ e. IsCutShort (IsTold self.old) (record { step = step; at = at }) e (view self.old) (view self.new)) }
         // Unless the step was done or a disk failed, both stores and their disks are as they were; only a join may have checked in.
         ensures keeps { IfOk result (λ r. Keeps step r self.old self.new) }
         ensures unchanged { OnErr result (KeepsUnanswered step self.old self.new) }
@@ -42,7 +42,7 @@ impl<D: Disk> Cluster<D> {
 
     // A node stops: it holds its epoch no longer.
     fn stop(&mut self, node: &Text) -> StepReply
-        ensures ok { (at : ℤ) → StepCase D.honest (record { step = step_is.Stop node.now; at = at }) result (view self.old) (view self.new) }
+        ensures ok { (at : ℤ) → StepCase (IsTold self.old) (record { step = step_is.Stop node.now; at = at }) result (view self.old) (view self.new) }
         ensures keeps { KeepsUnlessDone result self.old self.new }
         ensures quiet { KeepsStores self.old self.new }
         ensures any_moment { D.honest → EachLeavesEither self.old self.new }

@@ -1,5 +1,5 @@
 -- The same of what a member submits.
-use Rattle.std.proofs.Common.{◌≡◌, ℕ, ℤ, ◌≤◌, ◌+◌, ◌==◌, true, false, cond, List, ◌∷◌, count_by, Option, Some, None, is_some, IsTrue, refl, sym, ap, ◌∙◌, subst, arith}
+use Rattle.std.proofs.Common.{◌≡◌, ℕ, ℤ, ◌≤◌, ◌+◌, ◌==◌, true, false, cond, List, ◌∷◌, count_by, Option, Some, is_some, IsTrue, refl, sym, ap, ◌∙◌, subst, arith}
 use Rattle.std.proofs.lemmas.Bool.{eqb-true, eq-eqb, false_from_ne_true}
 use Rattle.qz_types.specs.Entries.{EntryData, is_entry}
 use Rattle.qz_types.specs.Rows.{JobData, MemberData}
@@ -14,7 +14,7 @@ use Rattle.qz_types.specs.declared.replies.Reply.{Reply}
 use Rattle.qz_types.specs.declared.replies.Reply.TheVariants as reply
 use Rattle.qz_model.specs.History.{replay}
 use Rattle.qz_model.proofs.NamedRows.{same_text_laws}
-use Rattle.qz_model.proofs.RowLaws.{member_of-alike, member_of-node, member_of-without_member}
+use Rattle.qz_model.proofs.RowLaws.{member_of-node, member_of-without_member}
 use Rattle.qz_model.proofs.RowPoints.{All-weaker, count_by-cons, count_by-none}
 use Rattle.qz_stores.specs.Stores.{Appends}
 use Rattle.qz_trigger_store.specs.Entries.{trigger_entry}
@@ -23,7 +23,7 @@ use Rattle.qz_cluster.specs.Steps.{ClusterState}
 use Rattle.qz_open.specs.Opened.{Execution, without_entry, without_node, open_after_reply, open_after_command}
 use Rattle.qz_open.proofs.Facts.{Ends, completes, recovers, joins, Begins}
 use Rattle.qz_open.proofs.Nodes.{text_trans, none_of_leaver, leave_reply}
-use Rattle.qz_open.proofs.Steps.{way, Stands, Holds, some_is_none, true_is_false, apart_without, left_out, entry_facts, valid_then, goes_on}
+use Rattle.qz_open.proofs.Steps.{way, Stands, Holds, true_is_false, apart_without, left_out, entry_facts, valid_then, goes_on}
 
 module _ (S S' : ClusterState) (os : List Execution) (node : List ℕ) (c : Command) (at : ℤ) (me : MemberData) (r : Reply) (good : IsTrue (is_entry (entry_of (actor.Node me) c at)))
     (no_join : (name : List ℕ) → c ≡ command.Join name → ⊥) (no_recovery : (name : List ℕ) → c ≡ command.Recover name → ⊥) (on : Appends trigger_entry (entry_of (actor.Node me) c at) r S.triggers S'.triggers) (h : Holds S os) where

@@ -44,6 +44,14 @@ impl PlainStore {
         }
     }
 
+    /// A store of these tables, which are valid.
+    pub fn from_tables(tables: Tables) -> Self
+        requires { ∥ TablesValid tables.tables ∥₁ }
+        ensures { result ≡ tables }
+    {
+        PlainStore { tables }
+    }
+
     /// The tables of a plain store are valid. It does nothing: its contract says so.
     pub fn is_valid(&self)
         ensures { ∥ TablesValid self.now.tables ∥₁ }

@@ -29,7 +29,7 @@ has_place : (size gate count : ℕ) → need_of size ≤ room_of gate count → 
 has_place size gate count room = grind (arith, nat_tests)
 
 pub accepts : (before : ℕ) (s t : TriggerState) (states : RowState) (at : ℤ) (n : ℕ) (command : NodeCommand) (r : Reply) → before ≤ length s.history.entries → n < 2 ^ 32
-    → is_old (replay s.history) ≡ false → TablesValid (replay s.history) → (s.is_open ≡ true → s.payloads ≡ length s.history.entries) → IsTime at → (replay s.history).last_moment ≤ℤ at → CanAsk n at command (seen (replay s.history))
+    → is_old (replay s.history) ≡ false → TablesValid (replay s.history) → (s.is_open ≡ true → length s.history.entries ≤ s.payloads) → IsTime at → (replay s.history).last_moment ≤ℤ at → CanAsk n at command (seen (replay s.history))
     → Appends trigger_entry (entry_of (replay s.history) at n command) r s t
     → Accepts at n command r (record { view = seen (replay s.history); log = log_of before s; states = states }) (record { view = seen (replay t.history); log = log_of before t; states = states })
 accepts before s t states at n command r within small current valid counted time later can appends =

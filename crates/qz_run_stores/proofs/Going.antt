@@ -1,5 +1,5 @@
 -- Each call of a store lets it go on.
-use Rattle.std.proofs.Common.{◌≡◌, ◌≤◌, ◌∷◌, ◌++◌, [], List, true, false, Bool, length, take, drop, sym, refl, ap, ◌∙◌, subst, arith}
+use Rattle.std.proofs.Common.{◌≡◌, ◌+◌, ◌≤◌, ◌∷◌, ◌++◌, [], List, true, false, Bool, length, length-append, take, drop, sym, refl, ap, ◌∙◌, subst, arith}
 use Rattle.std.proofs.lemmas.List.{append-nil, take-append-le, take-append-drop}
 use Rattle.std.specs.Prelude.{⊤, ℕ, Result, Ok, Err}
 use Rattle.qz_civil.specs.Causes.{Rose}
@@ -13,13 +13,16 @@ use Rattle.qz_model.specs.History.{History, replay}
 use Rattle.qz_trigger_store.specs.Entries.{TriggerState, is_old, trigger_entry}
 use Rattle.qz_trigger_store.proofs.Horizons.{stays_current}
 use Rattle.qz_run_stores.proofs.Declining.{same_history}
-use Rattle.qz_trigger_store.specs.View.{view, version_of, found_of, keeps_of}
+use Rattle.qz_trigger_store.specs.View.{view, version_of, base_count_of, base_of, found_of, keeps_of}
 use Rattle.qz_trigger_store.specs.declared.stores.TriggerStore.{TriggerStore}
 use Rattle.qz_checkin.specs.Entries.{StatesState, of_states}
-use Rattle.qz_checkin.specs.History.{StateHistory}
+use Rattle.qz_checkin.specs.History.{StateHistory, replay_states}
 use Rattle.qz_checkin.specs.View.{view as states_view}
 use Rattle.qz_checkin.specs.declared.stores.StateStore.{StateStore}
+use Rattle.qz_run.specs.Stores.{RowState}
+use Rattle.qz_run_stores.specs.Accounts.{row_events_onto}
 use Rattle.qz_run_stores.specs.Asked.{AreAsked}
+use Rattle.qz_run_stores.specs.Logs.{has_row}
 use Rattle.qz_run_stores.specs.Ways.{KeepsTriggers, KeepsStates}
 use Rattle.qz_run_stores.specs.Going.{Went, TriggersWent, StatesWent}
 
@@ -86,6 +89,13 @@ module _ {H E R : Type 0} (kind : EntryKind H E R) (entries : H → List E) (gro
       let more = submit_adds e r s t done in
       ap (take n) more.1 ∙ take-append-le n (entries s.history) more.0 within ∙ same
 
+  -- They are no fewer.
+  within_by : (n : ℕ) (e : E) (r : Result R SubmitError) (s t : StoreState H E) → Submits kind e r s t → n ≤ length (entries s.history) → n ≤ length (entries t.history)
+  within_by n e r s t done within =
+      let more = submit_adds e r s t done in
+      let longer : length (entries t.history) ≡ length (entries s.history) + length more.0 = ap length more.1 ∙ length-append (entries s.history) more.0 in
+      omega (arith, within, longer)
+
 -- A store that isn't old doesn't become so, whatever it answers.
 pub current_then : (e : EntryData) (r : Result Reply SubmitError) (s t : TriggerState) → is_old (replay s.history) ≡ false → Submits trigger_entry e r s t → is_old (replay t.history) ≡ false
 current_then e (Ok r) s t new is = stays_current e r s t new is
@@ -99,17 +109,30 @@ pub entries_stay_then : (n : ℕ) (before : List EntryData) (e : EntryData) (r :
     → take n s.history.entries ≡ before → take n t.history.entries ≡ before
 entries_stay_then = stay_by trigger_entry (λ (h : History). h.entries) (λ e h. refl)
 
+pub within_then : (n : ℕ) (e : StateEntryData) (r : Result ⊤ SubmitError) (s t : StatesState) → Submits of_states e r s t → n ≤ length s.history.entries → n ≤ length t.history.entries
+within_then = within_by of_states (λ (h : StateHistory). h.entries) (λ e h. refl)
+
+pub entries_within_then : (n : ℕ) (e : EntryData) (r : Result Reply SubmitError) (s t : TriggerState) → Submits trigger_entry e r s t → n ≤ length s.history.entries → n ≤ length t.history.entries
+entries_within_then = within_by trigger_entry (λ (h : History). h.entries) (λ e h. refl)
+
+-- After an error a run sees the rows as they were.
+abbrev pub rows_at : ℕ → StateHistory → RowState
+rows_at n h = record { has = has_row (replay_states h); log = row_events_onto [] (drop n h.entries) }
+
+pub same_rows : (n : ℕ) (e : StateEntryData) (x : SubmitError) (s t : StatesState) → Submits of_states e (Err x) s t → rows_at n t.history ≡ rows_at n s.history
+same_rows n e x s t is = ap (rows_at n) (same_history of_states e x s t is)
+
 -- The entries of a history whose first ones are those of the beginning.
 went_on_with : {E : Type 0} (n : ℕ) (before es : List E) → take n es ≡ before → es ≡ before ++ drop n es
 went_on_with n before es stay = sym (take-append-drop n es) ∙ ap (λ xs. xs ++ drop n es) stay
 
 -- How the stores went on, in one.
 module _ {D : Type 0} {g : Ghosts D} where
-  pub triggers_went : (n : ℕ) (b s : TriggerStore D g) → version_of s ≡ version_of b → found_of s ≡ found_of b → keeps_of s ≡ keeps_of b → take n (view s).history.entries ≡ (view b).history.entries → ∥ AreAsked (replay (view b).history) (drop n (view s).history.entries) ∥₁ → ∥ KeepsTriggers b s ∥₁
+  pub triggers_went : (n : ℕ) (b s : TriggerStore D g) → version_of s ≡ version_of b → base_count_of s ≡ base_count_of b → base_of s ≡ base_of b → found_of s ≡ found_of b → keeps_of s ≡ keeps_of b → take n (view s).history.entries ≡ (view b).history.entries → ∥ AreAsked (replay (view b).history) (drop n (view s).history.entries) ∥₁ → ∥ KeepsTriggers b s ∥₁
       → (view b).faults ≤ (view s).faults → ((view b).is_open ≡ true → (view s).is_open ≡ false → Rose (view b).faults (view s).faults) → TriggersWent b s
-  triggers_went n b s version found keeps stay asked kept later closes =
+  triggers_went n b s version count base found keeps stay asked kept later closes =
       let es = (view s).history.entries in
-      record { went = record { later = later; closes = closes }; version = version; found = found; keeps = keeps; added = drop n es; entries = went_on_with n _ es stay; asked = asked; kept = kept }
+      record { went = record { later = later; closes = closes }; version = version; base = (count, base); found = found; keeps = keeps; added = drop n es; entries = went_on_with n _ es stay; asked = asked; kept = kept }
 
   pub states_went : (n : ℕ) (b s : StateStore D g) → take n (states_view s).history.entries ≡ (states_view b).history.entries → ∥ KeepsStates b s ∥₁ → (states_view b).faults ≤ (states_view s).faults
       → ((states_view b).is_open ≡ true → (states_view s).is_open ≡ false → Rose (states_view b).faults (states_view s).faults) → StatesWent b s

@@ -1,5 +1,5 @@
 -- A moment that a run may have is one of the tables of a store that isn't old.
-use Rattle.std.proofs.Common.{◌≡◌, ◌⊎◌, inl, inr, ◌∙◌, ℤ, ◌≤ℤ◌, true, false, sym, ap, subst}
+use Rattle.std.proofs.Common.{◌≡◌, inl, inr, ◌∙◌, ℤ, ◌≤ℤ◌, true, false, sym, ap, subst}
 use Rattle.std.specs.Ordering.{int_eq}
 use Rattle.qz_civil.specs.declared.limits.TheConstants.{VERSION_ONE_LAST}
 use Rattle.qz_types.specs.Tables.{SchedulerTables, IsMoment}

@@ -12,18 +12,19 @@ use Rattle.qz_types.specs.declared.replies.Reply.{Reply}
 use Rattle.qz_types.specs.declared.errors.SubmitError.{SubmitError}
 use Rattle.qz_types.specs.declared.errors.SubmitError.TheVariants as submit
 use Rattle.qz_stores.specs.Stores.{EntryKind, StoreState, Submits, MayBeOf}
+use Rattle.qz_stores.proofs.Moments.{now}
 use Rattle.qz_model.specs.History.{History}
 use Rattle.qz_trigger_store.specs.Bytes.{Stands}
 use Rattle.qz_trigger_store.specs.Entries.{trigger_entry}
+use Rattle.qz_trigger_store.specs.Laws.{trigger_lawful}
 use Rattle.qz_trigger_store.specs.View.{view, disk_of, disk_state, LeavesEither}
 use Rattle.qz_trigger_store.specs.declared.stores.TriggerStore.{TriggerStore}
-use Rattle.qz_trigger_store.proofs.Appending.{may_be}
-use Rattle.qz_checkin.specs.Bytes.{Stands as StatesStand}
+use Rattle.qz_checkin.specs.Bytes.{Stands as RowsStand}
 use Rattle.qz_checkin.specs.Entries.{of_states}
 use Rattle.qz_checkin.specs.History.{StateHistory}
+use Rattle.qz_checkin.specs.Laws.{state_lawful}
 use Rattle.qz_checkin.specs.View.{view as states_view, disk_of as states_disk_of, disk_state as states_disk_state, LeavesEither as LeaveEither}
 use Rattle.qz_checkin.specs.declared.stores.StateStore.{StateStore}
-use Rattle.qz_checkin.proofs.Appending.{may_be as states_may_be}
 use Rattle.qz_run_stores.specs.Ways.{IsBetween, first_entries, first_rows, KeepsTriggers, KeepsStates}
 
 -- One submission to a store whose histories have first parts.
@@ -80,10 +81,10 @@ longer es e = omega (arith, length-append es (e ∷ []))
 
 module _ {D : Type 0} {g : Ghosts D} where
   pub triggers_begin : ((d : D) → g.honest → IsLawful (g.state d)) → (s : TriggerStore D g) → ∥ KeepsTriggers s s ∥₁
-  triggers_begin lawful s = ∣ (λ honest. started (disk_state s) _ (lawful (disk_of s) honest) (λ bytes is. inr (may_be _ _ _ bytes (s.store.images honest bytes is)))) ∣₁
+  triggers_begin lawful s = ∣ (λ honest w on. (on, started (disk_state s) _ (lawful (disk_of s) honest) (λ bytes is. inr (now trigger_lawful s.store honest w on bytes is)))) ∣₁
 
   pub states_begin : ((d : D) → g.honest → IsLawful (g.state d)) → (s : StateStore D g) → ∥ KeepsStates s s ∥₁
-  states_begin lawful s = ∣ (λ honest. started (states_disk_state s) _ (lawful (states_disk_of s) honest) (λ bytes is. inr (states_may_be _ _ _ bytes (s.store.images honest bytes is)))) ∣₁
+  states_begin lawful s = ∣ (λ honest v on. (on, started (states_disk_state s) _ (lawful (states_disk_of s) honest) (λ bytes is. inr (now state_lawful s.store honest v on bytes is)))) ∣₁
 
   pub triggers_kept : (b s t : TriggerStore D g) (e : EntryData) (r : Result Reply SubmitError) → length (view b).history.entries ≤ length (view s).history.entries → Submits trigger_entry e r (view s) (view t)
       → (g.honest → LeavesEither s t) → ∥ KeepsTriggers b s ∥₁ → ∥ KeepsTriggers b t ∥₁
@@ -92,9 +93,14 @@ module _ {D : Type 0} {g : Ghosts D} where
       let grows : (e : EntryData) (h : History) → size h ≤ size (trigger_entry.with_entry e h) = λ e h. longer h.entries e in
       let whole : (h : History) → first_entries (size h) h ≡ h = λ h i. record h { entries = take-length h.entries i } in
       let front : (e : EntryData) (h : History) (k : ℕ) → k ≤ size h → first_entries k (trigger_entry.with_entry e h) ≡ first_entries k h = λ e h k le i. record h { entries = take-append-le k h.entries (e ∷ []) le i } in
-      ∥∥₁_map kept (λ so_far honest. then_leaves (disk_state b) (disk_state s) (disk_state t) _ _ _ (so_far honest) (leaves honest)
-      (λ bytes was. between_then trigger_entry Stands first_entries size grows whole front (view b) (view s) (view t) e r bytes within s.store.settled done was)
-      (λ bytes is. either_between trigger_entry Stands first_entries size grows whole front (view b) (view s) (view t) e r bytes within s.store.settled done is))
+      ∥∥₁_map kept (λ so_far honest w on.
+      let first = so_far honest w on in
+      let second = leaves honest w first.0 in (
+        second.0,
+        then_leaves (disk_state b) (disk_state s) (disk_state t) _ _ _ first.1 second.1
+            (λ bytes was. between_then trigger_entry (Stands w) first_entries size grows whole front (view b) (view s) (view t) e r bytes within s.store.settled done was)
+            (λ bytes is. either_between trigger_entry (Stands w) first_entries size grows whole front (view b) (view s) (view t) e r bytes within s.store.settled done is),
+      ))
 
   pub states_kept : (b s t : StateStore D g) (e : StateEntryData) (r : Result ⊤ SubmitError) → length (states_view b).history.entries ≤ length (states_view s).history.entries → Submits of_states e r (states_view s) (states_view t)
       → (g.honest → LeaveEither s t) → ∥ KeepsStates b s ∥₁ → ∥ KeepsStates b t ∥₁
@@ -103,6 +109,11 @@ module _ {D : Type 0} {g : Ghosts D} where
       let grows : (e : StateEntryData) (h : StateHistory) → size h ≤ size (of_states.with_entry e h) = λ e h. longer h.entries e in
       let whole : (h : StateHistory) → first_rows (size h) h ≡ h = λ h i. record h { entries = take-length h.entries i } in
       let front : (e : StateEntryData) (h : StateHistory) (k : ℕ) → k ≤ size h → first_rows k (of_states.with_entry e h) ≡ first_rows k h = λ e h k le i. record h { entries = take-append-le k h.entries (e ∷ []) le i } in
-      ∥∥₁_map kept (λ so_far honest. then_leaves (states_disk_state b) (states_disk_state s) (states_disk_state t) _ _ _ (so_far honest) (leaves honest)
-      (λ bytes was. between_then of_states StatesStand first_rows size grows whole front (states_view b) (states_view s) (states_view t) e r bytes within s.store.settled done was)
-      (λ bytes is. either_between of_states StatesStand first_rows size grows whole front (states_view b) (states_view s) (states_view t) e r bytes within s.store.settled done is))
+      ∥∥₁_map kept (λ so_far honest v on.
+      let first = so_far honest v on in
+      let second = leaves honest v first.0 in (
+        second.0,
+        then_leaves (states_disk_state b) (states_disk_state s) (states_disk_state t) _ _ _ first.1 second.1
+            (λ bytes was. between_then of_states (RowsStand v) first_rows size grows whole front (states_view b) (states_view s) (states_view t) e r bytes within s.store.settled done was)
+            (λ bytes is. either_between of_states (RowsStand v) first_rows size grows whole front (states_view b) (states_view s) (states_view t) e r bytes within s.store.settled done is),
+      ))

@@ -5,7 +5,7 @@ use Rattle.qz_disk.specs.declared.disk.Disk.{Ghosts}
 use Rattle.qz_types.specs.Entries.{EntryData, StateEntryData}
 use Rattle.qz_model.specs.History.{replay}
 use Rattle.qz_stores.specs.Stores.{StoreState}
-use Rattle.qz_trigger_store.specs.View.{view, version_of, found_of, keeps_of}
+use Rattle.qz_trigger_store.specs.View.{view, version_of, base_count_of, base_of, found_of, keeps_of}
 use Rattle.qz_trigger_store.specs.declared.stores.TriggerStore.{TriggerStore}
 use Rattle.qz_checkin.specs.View.{view as states_view}
 use Rattle.qz_checkin.specs.declared.stores.StateStore.{StateStore}
@@ -17,11 +17,12 @@ pub record Went {H E : Type 0} (s t : StoreState H E) : Type 0 where
   pub later : s.faults ≤ t.faults
   pub closes : s.is_open ≡ true → t.is_open ≡ false → Rose s.faults t.faults
 
--- The trigger store went on with further entries, which are those by which nodes of a run ask; its version, what it found at its
+-- The trigger store went on with further entries, which are those by which nodes of a run ask; its version, its base, what it found at its
 -- opening and whether it keeps what it accepts are as they were.
 pub record TriggersWent {D : Type 0} {g : Ghosts D} (begun now : TriggerStore D g) : Type 0 where
   pub went : Went (view begun) (view now)
   pub version : version_of now ≡ version_of begun
+  pub base : (base_count_of now ≡ base_count_of begun) × (base_of now ≡ base_of begun)
   pub found : found_of now ≡ found_of begun
   pub keeps : keeps_of now ≡ keeps_of begun
   pub added : List EntryData

@@ -28,7 +28,7 @@ impl<D: Disk> RunStores<D> {
         ensures begins { (entries_before result ≡ length (view triggers).history.entries) × (rows_before result ≡ length (states_view states).history.entries) }
         ensures fresh { ((run_state result).log ≡ []) × ((run_state result).states.log ≡ []) }
     {
-        let entries_before = triggers.history_len();
+        let entries_before = triggers.listed();
         let rows_before = states.history_len();
         let triggers_begun = Snapshot::of(&triggers);
         let states_begun = Snapshot::of(&states);

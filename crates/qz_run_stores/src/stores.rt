@@ -3,7 +3,7 @@ ghost use Rattle.std.specs.Prelude.{◌≡◌, ◌≤◌, length, take, drop, tr
 ghost use Rattle.qz_civil.specs.Causes.{Rose};
 ghost use Rattle.qz_model.specs.History.{replay};
 ghost use Rattle.qz_trigger_store.specs.Entries.{is_old};
-ghost use Rattle.qz_trigger_store.specs.View.{view, version_of, found_of, keeps_of};
+ghost use Rattle.qz_trigger_store.specs.View.{view, version_of, base_count_of, base_of, found_of, keeps_of};
 ghost use Rattle.qz_checkin.specs.View.{view as states_view};
 ghost use Rattle.qz_run_stores.specs.Asked.{AreAsked};
 ghost use Rattle.qz_run_stores.specs.Ways.{KeepsTriggers, KeepsStates};
@@ -20,7 +20,7 @@ pub struct RunStores<D: Disk> {
     pub(crate) alloc: Global,
     pub(crate) triggers: TriggerStore<D>,
     pub(crate) states: StateStore<D>,
-    // how many entries their histories had when the run began
+    // how many entries their histories listed when the run began
     pub(crate) entries_before: u64,
     pub(crate) rows_before: u64,
     // the stores as the run found them, which contracts alone see
@@ -32,6 +32,8 @@ pub struct RunStores<D: Disk> {
     ghost entries_counted: { entries_before ≡ length (view triggers_begun.value).history.entries },
     ghost rows_counted: { rows_before ≡ length (states_view states_begun.value).history.entries },
     ghost version_stays: { version_of triggers ≡ version_of triggers_begun.value },
+    ghost base_count_stays: { base_count_of triggers ≡ base_count_of triggers_begun.value },
+    ghost base_stays: { base_of triggers ≡ base_of triggers_begun.value },
     ghost found_stays: { found_of triggers ≡ found_of triggers_begun.value },
     ghost keeps_stays: { keeps_of triggers ≡ keeps_of triggers_begun.value },
     ghost entries_stay: { take entries_before (view triggers).history.entries ≡ (view triggers_begun.value).history.entries },

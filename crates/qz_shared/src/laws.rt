@@ -30,9 +30,9 @@ pub fn refused_as_seen<S: RowStore>()
         → (t.shut ≡ false) × (S.kind.answer (history_at S.kind S.listed opened t.seen) e ≡ Err refusal) }
 {}
 
-/// A store that was just opened may go under a row: its history is short, since each entry has a record before the gate,
-/// whose offset is a `u64`.
+/// A store that was just opened may go under a row: its history is short, since no more entries than payloads come before the
+/// gate. (A journal takes 2^23 payloads, and the head of a snapshot tells at most 2^32 before it.)
 #[tactic(auto, using(crate::proofs::Short::opened_short))]
 pub fn opened_is_short<K: Kind>()
-    ensures { (s : StoreState K.History K.Entry) → IsOpened K.kind s → s.gate < 2 ^ 64 → length (K.kind.entries s.history) < 2 ^ 62 }
+    ensures { (s : StoreState K.History K.Entry) → IsOpened K.kind s → s.payloads < 2 ^ 62 → length (K.kind.entries s.history) < 2 ^ 62 }
 {}

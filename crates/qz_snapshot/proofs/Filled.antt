@@ -1,6 +1,6 @@
 -- Rows that are put in one by one.
 use Rattle.qz_types.specs.Tables.{SchedulerTables}
-use Rattle.std.proofs.Common.{◌≡◌, ℕ, ◌+◌, List, [], ◌∷◌, ◌++◌, length, refl, sym, ap, ◌∙◌, arith, append_assoc, append-nil, length-append}
+use Rattle.std.proofs.Common.{◌≡◌, ℕ, ◌+◌, List, [], ◌∷◌, ◌++◌, length, refl, sym, ap, ◌∙◌, arith, append_assoc, append-nil}
 
 pub pushed : {R : Type 0} (all xs left rest : List R) (r : R) → xs ++ left ≡ all → left ≡ r ∷ rest → (xs ++ r ∷ []) ++ rest ≡ all
 pushed {R} all xs left rest r parts is = append_assoc xs (r ∷ []) rest ∙ ap (λ (l : List R). xs ++ l) (sym is) ∙ parts

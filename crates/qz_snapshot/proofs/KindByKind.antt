@@ -1,20 +1,18 @@
 -- The rows of a snapshot, taken kind by kind.
-use Rattle.std.proofs.Common.{◌≡◌, ℕ, List, [], ◌∷◌, ◌++◌, refl, sym, ap, subst, ◌∙◌, arith, append-nil}
-use Rattle.std.specs.List.{AllZip}
+use Rattle.std.proofs.Common.{◌≡◌, ℕ, List, [], ◌++◌, refl, sym, ap, subst, ◌∙◌, arith, append-nil}
 use Rattle.qz_types.specs.Rows.{JobData, TriggerData, CalendarData, ZoneData, MemberData, FiredData}
 use Rattle.qz_types.specs.Tables.{SchedulerTables}
 use Rattle.qz_values.specs.declared.versions.Version.{Version}
 use Rattle.qz_values.specs.Fields.{IsName, text}
 use Rattle.qz_codec.specs.Calendars.{calendar_row, IsCalendarRow}
 use Rattle.qz_codec.specs.Layout.{job, member}
-use Rattle.qz_codec.specs.Records.{IsRecord}
 use Rattle.qz_codec.specs.Rows.{trigger, fired, IsTrigger, IsFired}
 use Rattle.qz_codec.specs.Values.{IsJob, IsMember}
 use Rattle.qz_codec.specs.Zones.{zone_row, IsZoneRow}
 use Rattle.qz_pieces.specs.declared.kinds.RowKind.{RowKind}
 use Rattle.qz_pieces.specs.declared.kinds.RowKind.TheVariants.{Job, Trigger, Calendar, Zone, Group, Member, Fired, JobGroup}
 use Rattle.qz_pieces.specs.Pieces.{RowBytes}
-use Rattle.qz_snapshot.specs.Rows.{of_kind, BeginsOther, BeginWith}
+use Rattle.qz_snapshot.specs.Rows.{of_kind, BeginWith}
 use Rattle.qz_snapshot.specs.Snapshots.{AreRowsOf}
 use Rattle.qz_snapshot.proofs.RowLists.{parts_once}
 use Rattle.qz_snapshot.proofs.Unique.{from1, from2, from3, from4, from5, from6, from7, is1, is2, is3, is4, is5, is6, is7, other_from}

@@ -2,12 +2,12 @@ mod Begins
 mod Faults
 mod Filled
 mod HeadBytes
+pub mod Kind
 mod KindByKind
 mod Midway
-mod Openings
 mod Orders
 mod Rooms
 mod RowLists
 mod Snapshotted
-mod Unique
+pub mod Unique
 mod Written

@@ -4,9 +4,8 @@ use Rattle.std.proofs.lemmas.Bool.{lt-ltb}
 use Rattle.qz_journal.proofs.Stands.{length-body, blocks-push}
 use Rattle.qz_journal.proofs.TrueTails.{blocks-append}
 use Rattle.qz_journal.specs.declared.layout.TheConstants.{MAX_BYTES, MAX_PAYLOADS}
-use Rattle.qz_journal.specs.Commits.{need_of, room_of}
+use Rattle.qz_journal.specs.Commits.{need_of, room_of, LackRoom, HaveRoom}
 use Rattle.qz_journal.specs.Layout.{body_of, blocks, end_of}
-use Rattle.qz_snapshot.specs.Checkpoints.{LackRoom, HaveRoom}
 
 pub with_head : (head : List ℕ) (ps : List (List ℕ)) → length head ≡ 53 → length (blocks (head ∷ ps)) ≡ 58 + length (blocks ps)
 with_head head ps long = omega (arith, length-append (body_of head) (blocks ps), length-body head, long)

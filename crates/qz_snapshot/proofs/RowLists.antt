@@ -16,7 +16,7 @@ cut_more : {A : Type 0} (kind : RowKind) (fields : Version → A → List ℕ) (
 cut_more kind fields c [] x = refl
 cut_more kind fields c (y ∷ xs) x = cut_more kind fields (with_row c (record { kind = kind; bytes = recorded fields Two y })) xs x
 
-all_more : {A : Type 0} (P : A → Type 0) (xs : List A) (x : A) → AllByRecursion P xs → P x → AllByRecursion P (xs ++ x ∷ [])
+pub all_more : {A : Type 0} (P : A → Type 0) (xs : List A) (x : A) → AllByRecursion P xs → P x → AllByRecursion P (xs ++ x ∷ [])
 all_more P [] x all is = (is, tt)
 all_more P (y ∷ xs) x all is = (all.0, all_more P xs x all.1 is)
 

@@ -1,5 +1,5 @@
 -- What a checkpoint writes, and what a crash in it leaves.
-use Rattle.std.specs.Prelude.{◌≡◌, ◌⊎◌, ℕ, ◌+◌, ◌-◌, ◌<◌, ◌≤◌, List, ◌∷◌, ◌++◌, length, take, Some, None}
+use Rattle.std.specs.Prelude.{◌≡◌, ◌⊎◌, ℕ, ◌≤◌, List, ◌∷◌, ◌++◌, length, take, Some, None}
 use Rattle.std.specs.List.{AllByRecursion}
 use Rattle.qz_types.specs.Tables.{SchedulerTables}
 use Rattle.qz_values.specs.Fields.{IsName, text}
@@ -9,9 +9,8 @@ use Rattle.qz_codec.specs.Layout.{job, member}
 use Rattle.qz_codec.specs.Rows.{trigger, fired, IsTrigger, IsFired}
 use Rattle.qz_codec.specs.Values.{IsJob, IsMember}
 use Rattle.qz_codec.specs.Zones.{zone_row, IsZoneRow}
-use Rattle.qz_journal.specs.declared.layout.TheConstants.{MAX_BYTES, MAX_PAYLOADS}
 use Rattle.qz_journal.specs.declared.slots.Slots.{Slots}
-use Rattle.qz_journal.specs.Layout.{Holds, blocks, end_of}
+use Rattle.qz_journal.specs.Layout.{Holds, end_of}
 use Rattle.qz_journal.specs.Slots.{slot, other_slot, free_slot, offset_in}
 use Rattle.qz_pieces.specs.declared.kinds.RowKind.TheVariants.{Job, Trigger, Calendar, Zone, Group, Member, Fired, JobGroup}
 use Rattle.qz_pieces.specs.Pieces.{RowBytes, pieces}
@@ -55,14 +54,6 @@ head_written T before entries = record { payloads = before; entries = entries; p
 -- the payloads of the snapshot
 abbrev pub snapshot_written : SchedulerTables → ℕ → ℕ → List (List ℕ)
 snapshot_written T before entries = head_bytes (head_written T before entries) ∷ pieces (rows_written T)
-
--- These payloads have no room after the closed gate at this offset, before which so many payloads stand. Each takes five
--- bytes more than it has.
-abbrev pub LackRoom : List (List ℕ) → ℕ → ℕ → Type 0
-LackRoom payloads offset count = (MAX_BYTES - (offset + 1) < length (blocks payloads)) ⊎ (MAX_PAYLOADS < count + length payloads)
-
-abbrev pub HaveRoom : List (List ℕ) → ℕ → ℕ → Type 0
-HaveRoom payloads offset count = (length (blocks payloads) ≤ MAX_BYTES - (offset + 1)) × (count + length payloads ≤ MAX_PAYLOADS)
 
 -- A crash while payloads are appended leaves some first ones of them, after those that stood there, and the old header.
 pub record IsPartly (version kind : ℕ) (old : List ℕ) (payloads more : List (List ℕ)) (bytes : List ℕ) : Type 0 where

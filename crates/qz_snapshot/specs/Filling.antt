@@ -1,14 +1,17 @@
 -- How many rows tables have.
-use Rattle.std.specs.Prelude.{ℕ, ◌≤◌, length}
+use Rattle.std.specs.Prelude.{length}
 use Rattle.qz_types.specs.Tables.{SchedulerTables}
+use Rattle.qz_tables.specs.declared.tables.RowCounts.{RowCounts}
 
--- No kind has more rows than this.
-pub record HaveAtMost (rows : ℕ) (T : SchedulerTables) : Type 0 where
-  pub jobs : length T.jobs ≤ rows
-  pub triggers : length T.triggers ≤ rows
-  pub calendars : length T.calendars ≤ rows
-  pub zones : length T.zones ≤ rows
-  pub paused_groups : length T.paused_groups ≤ rows
-  pub paused_job_groups : length T.paused_job_groups ≤ rows
-  pub members : length T.members ≤ rows
-  pub fired : length T.fired ≤ rows
+-- how many rows of each kind
+abbrev pub row_counts : SchedulerTables → RowCounts
+row_counts T = record {
+  jobs = length T.jobs;
+  triggers = length T.triggers;
+  calendars = length T.calendars;
+  zones = length T.zones;
+  paused_groups = length T.paused_groups;
+  paused_job_groups = length T.paused_job_groups;
+  members = length T.members;
+  fired = length T.fired;
+}

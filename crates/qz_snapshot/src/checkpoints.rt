@@ -2,12 +2,12 @@
 ghost use Rattle.std.specs.Prelude.{◌≡◌, ◌≢◌, ◌↔◌, ◌⊎◌, ◌+◌, ◌^◌, ◌<◌, ◌≤◌, [], ◌∷◌, ◌++◌, ℕ, List, All, take, OnOk, OnErr, IfErr, Ok, Err, Some, None, true, false, length, map};
 ghost use Rattle.qz_civil.specs.Causes.{Rose};
 ghost use Rattle.qz_disk.specs.Disk.{LeavesOnly};
-ghost use Rattle.qz_journal.specs.Commits.{need_of, room_of};
+ghost use Rattle.qz_journal.specs.Commits.{need_of, room_of, LackRoom, HaveRoom};
 ghost use Rattle.qz_journal.specs.Layout.{Holds, IsPayload, IsBeforeOrAfter, blocks, end_of};
 ghost use Rattle.qz_journal.specs.Slots.{IsSlotWrite, offset_in, with_offset, free_slot};
 ghost use Rattle.qz_journal.specs.View.{disk_of, version_of, kind_of, gate_of, count_of, closed_at, slots_of};
 ghost use Rattle.qz_model.specs.Invariant.{TablesValid};
-ghost use Rattle.qz_snapshot.specs.Checkpoints.{snapshot_written, LackRoom, HaveRoom, IsPartly, IsMidway};
+ghost use Rattle.qz_snapshot.specs.Checkpoints.{snapshot_written, IsPartly, IsMidway};
 ghost use Rattle.qz_snapshot.specs.Snapshots.{IsSnapshot};
 
 use crate::payloads::payloads_of;
@@ -39,6 +39,7 @@ pub fn checkpoint<D: Disk>(
     ensures fault { result ≡ Err SubmitError.Fault → Rose (D.faults (disk_of journal.old)) (D.faults (disk_of journal.new)) × (closed_at journal.new ≡ Some (gate_of journal.new)) }
     ensures causes { IfErr result (λ e. ((at : ℕ) × (e ≡ SubmitError.Closed at)) ⊎ ((e ≡ SubmitError.NoMemory) ⊎ (e ≡ SubmitError.Fault))) }
     ensures later { D.faults (disk_of journal.old) ≤ D.faults (disk_of journal.new) }
+    ensures more { count_of journal.old ≤ count_of journal.new }
     ensures same { (version_of journal.new ≡ version_of journal.old) × (kind_of journal.new ≡ kind_of journal.old) }
     // At true the journal is open, after the payloads of the snapshot.
     ensures ok { result ≡ Ok true → (closed_at journal.new ≡ None)
@@ -80,6 +81,7 @@ fn put_snapshot<D: Disk>(journal: &mut Journal<D>, payloads: &[Vec<u8>]) -> Resu
     requires room { HaveRoom (map (λ p. p.items) payloads.now) (gate_of journal.old) (count_of journal.old) }
     requires place { gate_of journal.old < 2 ^ 32 }
     ensures later { D.faults (disk_of journal.old) ≤ D.faults (disk_of journal.new) }
+    ensures more { count_of journal.old ≤ count_of journal.new }
     ensures fault { OnErr result (Rose (D.faults (disk_of journal.old)) (D.faults (disk_of journal.new)) × (closed_at journal.new ≡ Some (gate_of journal.new))) }
     ensures same { (version_of journal.new ≡ version_of journal.old) × (kind_of journal.new ≡ kind_of journal.old) }
     ensures ok { OnOk result ((closed_at journal.new ≡ None) × (gate_of journal.new ≡ gate_of journal.old + length (blocks (map (λ p. p.items) payloads.now)))
@@ -147,6 +149,7 @@ fn append_each<D: Disk>(journal: &mut Journal<D>, payloads: &[Vec<u8>]) -> Resul
     requires sizes { All IsPayload (map (λ p. p.items) payloads.now) }
     requires room { HaveRoom (map (λ p. p.items) payloads.now) (gate_of journal.old) (count_of journal.old) }
     ensures later { D.faults (disk_of journal.old) ≤ D.faults (disk_of journal.new) }
+    ensures more { count_of journal.old ≤ count_of journal.new }
     ensures fault { OnErr result (Rose (D.faults (disk_of journal.old)) (D.faults (disk_of journal.new)) × (closed_at journal.new ≡ Some (gate_of journal.new))) }
     ensures same { (version_of journal.new ≡ version_of journal.old) × (kind_of journal.new ≡ kind_of journal.old) × (slots_of journal.new ≡ slots_of journal.old) }
     ensures ok { OnOk result ((closed_at journal.new ≡ None) × (gate_of journal.new ≡ gate_of journal.old + length (blocks (map (λ p. p.items) payloads.now)))
@@ -172,6 +175,7 @@ fn append_one<D: Disk>(journal: &mut Journal<D>, payload: &[u8]) -> Result<(), F
     requires size { IsPayload payload.now }
     requires room { need_of (length payload.now) ≤ room_of (gate_of journal.old) (count_of journal.old) }
     ensures later { D.faults (disk_of journal.old) ≤ D.faults (disk_of journal.new) }
+    ensures more { count_of journal.old ≤ count_of journal.new }
     ensures fault { OnErr result (Rose (D.faults (disk_of journal.old)) (D.faults (disk_of journal.new)) × (closed_at journal.new ≡ Some (gate_of journal.new))) }
     ensures same { (version_of journal.new ≡ version_of journal.old) × (kind_of journal.new ≡ kind_of journal.old) × (slots_of journal.new ≡ slots_of journal.old) }
     ensures ok { OnOk result ((closed_at journal.new ≡ None) × (gate_of journal.new ≡ gate_of journal.old + (5 + length payload.now)) × (count_of journal.new ≡ count_of journal.old + 1)) }

@@ -5,11 +5,11 @@ ghost use Rattle.qz_types.specs.Sorted.{IsAscending};
 ghost use Rattle.qz_types.specs.Words.{key_cmp, text_cmp};
 ghost use Rattle.qz_tables.specs.Contents.{KeepsSpare};
 ghost use Rattle.qz_model.specs.Invariant.{AreOrdered};
-ghost use Rattle.qz_snapshot.specs.Filling.{HaveAtMost};
+ghost use Rattle.qz_snapshot.specs.Filling.{row_counts};
 
 use crate::heads::Numbers;
 use crate::parts::Parts;
-use qz_tables::Tables;
+use qz_tables::{RowCounts, Tables};
 use qz_types::{CalendarRow, FiredRow, JobRow, MemberRow, NoMemory, Text, TriggerRow, ZoneRow};
 use std::alloc::Global;
 
@@ -137,30 +137,30 @@ fn set_numbers(tables: &mut Tables, numbers: &Numbers)
     tables.set_horizon(numbers.horizon);
 }
 
-// How many rows the kind with the most has.
-fn most_rows(parts: &Parts) -> usize
-    ensures { HaveAtMost result parts.now }
+// How many rows of each kind there are.
+fn count_rows(parts: &Parts) -> RowCounts
+    ensures { result ≡ row_counts parts.now }
 {
-    parts
-        .jobs
-        .len()
-        .max(parts.triggers.len())
-        .max(parts.calendars.len())
-        .max(parts.zones.len())
-        .max(parts.paused_groups.len())
-        .max(parts.paused_job_groups.len())
-        .max(parts.members.len())
-        .max(parts.fired.len())
+    RowCounts {
+        jobs: parts.jobs.len(),
+        triggers: parts.triggers.len(),
+        calendars: parts.calendars.len(),
+        zones: parts.zones.len(),
+        paused_groups: parts.paused_groups.len(),
+        paused_job_groups: parts.paused_job_groups.len(),
+        members: parts.members.len(),
+        fired: parts.fired.len(),
+    }
 }
 
 /// The tables of these rows and numbers. The rows of each kind have to be in the order of their ids.
-pub fn fill(alloc: Global, parts: Parts) -> Result<Tables, NoMemory>
+pub(crate) fn fill(alloc: Global, parts: Parts) -> Result<Tables, NoMemory>
     requires { AreOrdered parts }
     ensures { IfOk result (λ tables. tables.tables ≡ parts) }
 {
-    let most = most_rows(&parts);
+    let counts = count_rows(&parts);
     let mut tables = Tables::new(alloc, ANY_VERSION);
-    tables.reserve(most)?;
+    tables.reserve_each(&counts)?;
     let Parts {
         jobs,
         triggers,

@@ -28,7 +28,7 @@ fn is_ascending<R: Keyed>(rows: &[R]) -> bool
 }
 
 /// Whether the rows of each kind are in the order of their ids.
-pub fn are_ordered(parts: &Parts) -> bool
+pub(crate) fn are_ordered(parts: &Parts) -> bool
     ensures { IsTrue result ↔ AreOrdered parts.now }
 {
     if !is_ascending(&parts.jobs) {

@@ -1,10 +1,11 @@
 //! The payloads of a snapshot, from tables.
 ghost use Rattle.std.specs.Prelude.{◌≡◌, ◌+◌, ◌*◌, ◌^◌, ◌<◌, ◌≤◌, ◌∷◌, ◌++◌, List, ℕ, All, OnOk, IfOk, IfSome, IfNone, fold, length, map, true, false};
+ghost use Rattle.qz_journal.specs.Commits.{LackRoom, HaveRoom};
 ghost use Rattle.qz_journal.specs.Layout.{IsPayload, blocks};
 ghost use Rattle.qz_journal.specs.declared.layout.TheConstants.{MAX_BYTES, MAX_PAYLOADS};
 ghost use Rattle.qz_model.specs.Invariant.{AreNames};
 ghost use Rattle.qz_pieces.specs.Pieces.{with_row, AreShort, pieces};
-ghost use Rattle.qz_snapshot.specs.Checkpoints.{plan_rows, state_rows, rows_written, snapshot_written, PlansHaveRecords, StatesHaveRecords, LackRoom, HaveRoom};
+ghost use Rattle.qz_snapshot.specs.Checkpoints.{plan_rows, state_rows, rows_written, snapshot_written, PlansHaveRecords, StatesHaveRecords};
 ghost use Rattle.qz_snapshot.specs.Heads.{head_bytes, HasWidths};
 ghost use Rattle.qz_snapshot.specs.Snapshots.{IsSnapshot, numbers_of};
 

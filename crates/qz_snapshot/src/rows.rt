@@ -32,7 +32,7 @@ pub fn add_row<R: Row>(
 
 /// Puts the records of rows into pieces, in their order, in version two and under this kind. After want of memory the rows
 /// so far are lost.
-pub fn add_rows<R: Row>(
+pub(crate) fn add_rows<R: Row>(
     alloc: Global,
     pieces: &mut Pieces,
     kind: RowKind,
@@ -51,7 +51,7 @@ pub fn add_rows<R: Row>(
 }
 
 /// The rows of this kind that stand first, and those after them.
-pub fn split_kind(kind: RowKind, rows: &[RecordOfRow]) -> (&[RecordOfRow], &[RecordOfRow])
+pub(crate) fn split_kind(kind: RowKind, rows: &[RecordOfRow]) -> (&[RecordOfRow], &[RecordOfRow])
     ensures parts { rows.now ≡ result.0.now ++ result.1.now }
     ensures first { AllByRecursion (λ r. r.kind ≡ kind) result.0.now }
     ensures rest { BeginsOther kind result.1.now }
@@ -66,7 +66,10 @@ pub fn split_kind(kind: RowKind, rows: &[RecordOfRow]) -> (&[RecordOfRow], &[Rec
 }
 
 /// The rows whose records these are, in version one or two, or None where one is no record of a row of this type.
-pub fn get_rows<R: Row>(alloc: Global, rows: &[RecordOfRow]) -> Result<Option<Vec<R>>, NoMemory>
+pub(crate) fn get_rows<R: Row>(
+    alloc: Global,
+    rows: &[RecordOfRow],
+) -> Result<Option<Vec<R>>, NoMemory>
     ensures found { IfOk result (λ o. IfSome o (λ found. AllZip (IsRecord R.fields R.has_record) (map (λ r. r.bytes) rows.now) found.items)) }
     ensures none { IfOk result (λ o. IfNone o ((found : List R) → AllZip (IsRecord R.fields R.has_record) (map (λ r. r.bytes) rows.now) found → ⊥)) }
 {
@@ -85,7 +88,7 @@ pub fn get_rows<R: Row>(alloc: Global, rows: &[RecordOfRow]) -> Result<Option<Ve
 /// The rows of this kind that stand first, and the records after them, or None where one of them is no record of a row of this
 /// type.
 #[tactic(auto, using(crate::proofs::RowLists::begin_with, crate::proofs::RowLists::begin_not))]
-pub fn take_kind<'a, R: Row>(
+pub(crate) fn take_kind<'a, R: Row>(
     alloc: Global,
     kind: RowKind,
     rows: &'a [RecordOfRow],

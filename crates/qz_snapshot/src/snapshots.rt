@@ -9,7 +9,7 @@ use qz_types::NoMemory;
 use std::alloc::Global;
 
 /// The head of the snapshot that these payloads begin with, and the records of its rows, or None where they begin with none.
-pub fn read_snapshot(
+pub(crate) fn read_snapshot(
     alloc: Global,
     payloads: &[&[u8]],
 ) -> Result<Option<(Head, Vec<RecordOfRow>)>, NoMemory>

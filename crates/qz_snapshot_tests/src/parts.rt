@@ -5,15 +5,15 @@ use qz_snapshot::{Head, Parts, add_row, put_head, read_parts};
 use qz_types::{MemberRow, NoMemory, Text};
 use std::alloc::Global;
 
-// The bytes of the head.
-fn head_bytes(alloc: Global) -> Result<Vec<u8>, NoMemory> {
+// The bytes of a head.
+pub(crate) fn head_bytes(alloc: Global, head: &Head) -> Result<Vec<u8>, NoMemory> {
     let mut out = Vec::new(alloc);
-    put_head(&mut out, &HEAD)?;
+    put_head(&mut out, head)?;
     Ok(out)
 }
 
 // The bytes of a piece with one member.
-fn piece_bytes(alloc: Global) -> Result<Vec<u8>, NoMemory> {
+pub(crate) fn piece_bytes(alloc: Global) -> Result<Vec<u8>, NoMemory> {
     let row = MemberRow {
         node: Text::from_str(alloc, "A")?,
         epoch: 1,
@@ -44,7 +44,7 @@ fn is_written(found: &Option<(Head, Parts)>) -> bool {
 #[test]
 fn a_snapshot_is_read_back(rt: HostRuntime) -> Result<(), NoMemory> {
     let alloc = rt.alloc();
-    let head = head_bytes(alloc)?;
+    let head = head_bytes(alloc, &HEAD)?;
     let piece = piece_bytes(alloc)?;
     let payloads: [&[u8]; 2] = [&head, &piece];
     assert!(rt; is_written(&read_parts(alloc, &payloads)?));
@@ -60,7 +60,7 @@ fn a_snapshot_is_read_back(rt: HostRuntime) -> Result<(), NoMemory> {
 #[test]
 fn a_spoiled_byte_is_seen(rt: HostRuntime) -> Result<(), NoMemory> {
     let alloc = rt.alloc();
-    let head = head_bytes(alloc)?;
+    let head = head_bytes(alloc, &HEAD)?;
     let piece = piece_bytes(alloc)?;
     for place in 0..head.len() {
         let mut spoiled = Vec::from_slice(alloc, &head)?;

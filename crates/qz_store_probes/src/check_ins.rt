@@ -1,13 +1,13 @@
 //! The state store.
 ghost use Rattle.std.specs.Prelude.{◌≡◌, ◌≢◌, ◌⊎◌, ◌≤◌, Err, IsTrue, IfOk, IfErr, OnErr, MatchResult};
 ghost use Rattle.qz_civil.specs.Causes.{Rose};
-ghost use Rattle.qz_checkin.specs.Bytes.{Stands, IsHistory};
+ghost use Rattle.qz_checkin.specs.Bytes.{Whole, IsWhole, Stands};
 ghost use Rattle.qz_checkin.specs.Entries.{of_states};
-ghost use Rattle.qz_checkin.specs.History.{StateHistory, replay_states};
+ghost use Rattle.qz_checkin.specs.History.{replay_states};
 ghost use Rattle.qz_checkin.specs.Lateness as lateness;
 ghost use Rattle.qz_checkin.specs.Opening.{IsOpened, IsRefused};
 ghost use Rattle.qz_checkin.specs.Rows.{state_moment};
-ghost use Rattle.qz_checkin.specs.View.{view, disk_state, IsAsBefore, LeavesEither};
+ghost use Rattle.qz_checkin.specs.View.{view, disk_state, whole_of, GoesOnFrom, IsTold, IsAsBefore, LeavesEither};
 ghost use Rattle.qz_journal.specs.Through.{OnlyReads, OnlyReadsUnless};
 ghost use Rattle.qz_stores.specs.Stores.{Submits};
 ghost use Rattle.qz_types.specs.Rows.{is_node, is_interval};
@@ -21,12 +21,13 @@ use std::alloc::Global;
 /// Opens the state store on a disk, as `StateStore::mount` does.
 pub fn mount_states<D: Disk>(alloc: Global, disk: D) -> Result<StateStore<D>, (MountError, D)>
     ensures opened { IfOk result (λ store. IsOpened (view store)) }
-    ensures stands { D.honest → IfOk result (λ store. Stands (D.state disk).content (view store).history) }
+    ensures stands { D.honest → IfOk result (λ store. IsWhole (whole_of store) (D.state disk).content × GoesOnFrom store (whole_of store)) }
+    ensures told { D.honest → IfOk result IsTold }
     ensures reads { D.honest → IfOk result (λ store. OnlyReads (D.state disk) (disk_state store)) }
     ensures reads_err { D.honest → IfErr result (λ e. OnlyReadsUnless (e.0 ≡ MountError.Fault) (D.state disk) (D.state e.1)) }
     ensures refused { D.honest → IfErr result (λ e. IsRefused (D.state disk).content e.0) }
-    ensures whole { D.honest → (h : StateHistory) → IsHistory h → Stands (D.state disk).content h
-        → MatchResult result (λ store. (view store).history ≡ h) (λ e. (e.0 ≡ MountError.Fault) ⊎ (e.0 ≡ MountError.NoMemory)) }
+    ensures whole { D.honest → (w : Whole) → IsWhole w (D.state disk).content
+        → MatchResult result (λ store. GoesOnFrom store w × Stands w (D.state disk).content (view store).history) (λ e. (e.0 ≡ MountError.Fault) ⊎ (e.0 ≡ MountError.NoMemory)) }
     ensures later { IfOk result (λ store. D.faults disk ≤ (view store).faults) }
     ensures fault { IfErr result (λ e. (D.faults disk ≤ D.faults e.1)
         × (e.0 ≡ MountError.Fault → Rose (D.faults disk) (D.faults e.1))) }

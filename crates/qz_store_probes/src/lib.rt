@@ -9,6 +9,6 @@ mod runs;
 
 pub use check_ins::{check_in, failed, forget, late_place, mount_states};
 pub use clusters::{mount, step};
-pub use histories::{check, crash, mount_triggers, open, submit};
+pub use histories::{behind, check, checkpoint, crash, mount_triggers, open, submit};
 pub use records::{get_command, get_row, get_state, put_command, put_row, put_state};
 pub use runs::{next_due, node_checks_in, node_submits};

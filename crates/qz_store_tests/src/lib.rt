@@ -24,6 +24,8 @@ mod restarts;
 #[cfg(test)]
 mod rows;
 #[cfg(test)]
+mod snapshots;
+#[cfg(test)]
 mod states;
 #[cfg(test)]
 mod trigger_store;

@@ -1,17 +1,19 @@
--- A history with one entry more, and what a disk holds of it.
-use Rattle.std.proofs.Common.{true, ◌≡◌, ◌⊎◌, inl, inr, ℕ, ◌+◌, List, [], ◌∷◌, ◌++◌, length, length-append, sym, ◌∙◌, ap, subst, arith, append_assoc, append-nil}
+-- One entry more, and what a disk holds of it.
+use Rattle.std.proofs.Common.{◌≡◌, ◌⊎◌, inl, inr, ⊎_elim, ℕ, ◌+◌, ◌≤◌, List, [], ◌∷◌, ◌++◌, length, length-append, take, sym, ◌∙◌, ap, subst, arith, append_assoc, append-nil}
 use Rattle.std.proofs.Math.Logic.{∥∥₁_map}
 use Rattle.std.specs.Prelude.{Option, Some, None}
 use Rattle.std.specs.List.{AllByRecursion}
 use Rattle.qz_disk.specs.Disk.{DiskState, Only, IsLawful as DiskIsLawful, LeavesOnly}
-use Rattle.qz_disk.proofs.Moments.{started, weaker}
-use Rattle.qz_journal.specs.Layout.{is_version, Holds, IsBeforeOrAfter, end_of}
+use Rattle.qz_disk.proofs.Moments.{weaker}
+use Rattle.qz_journal.specs.Layout.{Holds, IsBeforeOrAfter, end_of}
 use Rattle.qz_journal.proofs.Once.{holds_once}
+use Rattle.qz_journal.proofs.SlotBytes.{take-shorter}
 use Rattle.qz_journal.proofs.Stands.{end_of-push}
-use Rattle.qz_stores.specs.Kinds.{StoreKind, HasRecord, IsLawful, IsAccepted, history_of, with_entry}
-use Rattle.qz_stores.specs.Bytes.{Encode, HoldEntries, MayHold, MayBe, MayFollow, BeginsNew, Stands}
+use Rattle.qz_stores.specs.Kinds.{StoreKind, HasRecord, IsLawful, IsAccepted}
+use Rattle.qz_stores.specs.Bases.{HoldAll, MayHoldAll, IsEndOf}
+use Rattle.qz_stores.specs.Bytes.{MayFollow}
 use Rattle.qz_stores.proofs.Blocks.{All-pushed}
-use Rattle.qz_stores.proofs.Replays.{Encode-pushed}
+use Rattle.qz_stores.proofs.WholeBytes.{whole_next, whole_same, end_leaves, end_more}
 
 -- In memory.
 
@@ -22,8 +24,8 @@ none_more {E} found added none = ap (λ (l : List E). found ++ l) none ∙ appen
 pub more : {E : Type 0} (found old new : List E) (e : E) → new ≡ old ++ e ∷ [] → found ++ new ≡ (found ++ old) ++ e ∷ []
 more {E} found old new e is = ap (λ (l : List E). found ++ l) is ∙ sym (append_assoc found old (e ∷ []))
 
-pub counted_with : {E : Type 0} (found old new : List E) (e : E) (n m : ℕ) → new ≡ old ++ e ∷ [] → n ≡ length (found ++ old) → m ≡ n + 1 → m ≡ length (found ++ new)
-counted_with {E} found old new e n m is n_is m_is =
+pub counted_with : {E : Type 0} (found old new : List E) (e : E) (base n m : ℕ) → new ≡ old ++ e ∷ [] → n ≡ base + length (found ++ old) → m ≡ n + 1 → m ≡ base + length (found ++ new)
+counted_with {E} found old new e base n m is n_is m_is =
     omega (arith, ap (λ (l : List E). length l) (more found old new e is), length-append (found ++ old) (e ∷ []), n_is, m_is)
 
 pub recorded_with : {E : Type 0} (P : E → Type 0) (found old new : List E) (e : E) → new ≡ old ++ e ∷ [] → ∥ AllByRecursion P (found ++ old) ∥₁ → P e → ∥ AllByRecursion P (found ++ new) ∥₁
@@ -36,6 +38,11 @@ module _ {H S E R : Type 0} (k : StoreKind H S E R) where
       ∥∥₁_map legal (λ l. subst (k.IsLegalFrom N) (sym (more found old new e is))
       (lawful.legal_more N (found ++ old) e l (subst (λ (U : S). IsAccepted k U e) same passes)))
 
+  -- the state after it
+  pub grown : IsLawful k → (N T U : S) (es fs : List E) (e : E) → fs ≡ es ++ e ∷ [] → T ≡ k.replay_from N es → U ≡ k.after T e → U ≡ k.replay_from N fs
+  grown lawful N T U es fs e fs_is same next =
+      next ∙ ap (λ (V : S). k.after V e) same ∙ sym (lawful.replay_more N es e) ∙ ap (k.replay_from N) (sym fs_is)
+
   -- which entry is undecided
 
   pub none_follows : (T : S) (u : Option E) → u ≡ None → ∥ MayFollow k T u ∥₁
@@ -44,112 +51,81 @@ module _ {H S E R : Type 0} (k : StoreKind H S E R) where
   pub one_follows : (T : S) (u : Option E) (e : E) → u ≡ Some e → HasRecord k e → IsAccepted k T e → ∥ MayFollow k T u ∥₁
   one_follows T u e is valid passes = subst (λ v. ∥ MayFollow k T v ∥₁) (sym is) ∣ (valid, passes) ∣₁
 
-module _ {H S E R : Type 0} (k : StoreKind H S E R) (version : ℕ) where
-  -- On the disk.
+-- what leaves only bytes of two sorts leaves only bytes of both
+pub both_leave : (s t : DiskState) (P Q : List ℕ → Type 0) → LeavesOnly s t P → LeavesOnly s t Q → LeavesOnly s t (λ b. P b × Q b)
+both_leave s t P Q one two = record {
+  later = one.later;
+  each = λ b since. (one.each b since, two.each b since);
+  before = λ n b le since. ⊎_elim inl (λ p. ⊎_elim inl (λ q. inr (p, q)) (two.before n b le since)) (one.before n b le since);
+}
 
-  pub holding : (b : List ℕ) (ps : List (List ℕ)) (es : List E) → Holds b version k.number ps → Encode k ps es → HoldEntries k version b es
-  holding b ps es holds encode = record {
-    store = (ps, holds);
-    encode = λ qs also. subst (λ (l : List (List ℕ)). Encode k l es) (holds_once b version version k.number ps qs holds also) encode;
-  }
+module _ {H S E R : Type 0} (k : StoreKind H S E R) (lawful : IsLawful k) (v : ℕ) where
+  -- the gate and the count of payloads are those of whatever payloads the bytes hold
+  abbrev pub IsGate : ℕ → ℕ → List ℕ → Type 0
+  IsGate gate count b = (ps : List (List ℕ)) → Holds b v k.number ps → (gate ≡ end_of ps) × (count ≡ length ps)
 
-  -- the journal's own version and number are those
-  as_held : (v number : ℕ) (b : List ℕ) (ps : List (List ℕ)) → v ≡ version → number ≡ k.number → Holds b v number ps → Holds b version k.number ps
-  as_held v number b ps v_is number_is holds = subst (λ (n : ℕ). Holds b version n ps) number_is (subst (λ (w : ℕ). Holds b w number ps) v_is holds)
+  -- what the whole list leaves is what the history leaves
+  pub whole_leaves : (n : ℕ) (B T : S) (found added es : List E) → T ≡ k.replay_from B (found ++ added) → IsEndOf k v (k.history n B found) es → T ≡ k.replay_from (k.empty v) (es ++ added)
+  whole_leaves n B T found added es state is =
+      let h = k.history n B (found ++ added) in
+      state ∙ sym (λ i. k.replay_from (lawful.base_is n B (found ++ added) i) (lawful.entries_are n B (found ++ added) i)) ∙ end_leaves k lawful v h (es ++ added) (end_more k lawful v n B found added es is)
 
-  as_journal : (v number : ℕ) (b : List ℕ) (ps : List (List ℕ)) → v ≡ version → number ≡ k.number → Holds b version k.number ps → Holds b v number ps
-  as_journal v number b ps v_is number_is holds = subst (λ (w : ℕ). Holds b w number ps) (sym v_is) (subst (λ (n : ℕ). Holds b version n ps) (sym number_is) holds)
+  as_held : (w number : ℕ) (b : List ℕ) (ps : List (List ℕ)) → w ≡ v → number ≡ k.number → Holds b w number ps → Holds b v k.number ps
+  as_held w number b ps w_is number_is holds = subst (λ (n : ℕ). Holds b v n ps) number_is (subst (λ (x : ℕ). Holds b x number ps) w_is holds)
 
-  -- the gate comes after whatever payloads the bytes hold
-  abbrev IsGate : ℕ → List ℕ → Type 0
-  IsGate gate b = (ps : List (List ℕ)) → Holds b version k.number ps → gate ≡ end_of ps
+  as_journal : (w number : ℕ) (b : List ℕ) (ps : List (List ℕ)) → w ≡ v → number ≡ k.number → Holds b v k.number ps → Holds b w number ps
+  as_journal w number b ps w_is number_is holds = subst (λ (x : ℕ). Holds b x number ps) (sym w_is) (subst (λ (n : ℕ). Holds b v n ps) (sym number_is) holds)
 
-  pub holds_with : (v number gate : ℕ) (found old new : List E) (e : E) (p b c : List ℕ) → v ≡ version → number ≡ k.number → new ≡ old ++ e ∷ [] → k.IsRecordOf p e
-      → ((ps : List (List ℕ)) → Holds b v number ps → gate ≡ end_of ps → Holds c v number (ps ++ p ∷ [])) → IsGate gate b → HoldEntries k version b (found ++ old) → HoldEntries k version c (found ++ new)
-  holds_with v number gate found old new e p b c v_is number_is is p_is grows gated held =
-      let ps = held.store.0 in
-      let after = as_held v number c (ps ++ p ∷ []) v_is number_is (grows ps (as_journal v number b ps v_is number_is held.store.1) (gated ps held.store.1)) in
-      subst (HoldEntries k version c) (sym (more found old new e is))
-      (holding c (ps ++ p ∷ []) ((found ++ old) ++ e ∷ []) after (Encode-pushed k ps (found ++ old) p e (held.encode ps held.store.1) p_is))
+  -- A journal in this version and of this kind appends a record of an entry that is accepted.
+  module _ (w number gate count : ℕ) (p : List ℕ) (e : E) (es : List E) (b : List ℕ) (w_is : w ≡ v) (number_is : number ≡ k.number) (is : k.IsRecordOf p e) (held : HoldAll k v b es) (gated : IsGate gate count b)
+      (passes : IsAccepted k (k.replay_from (k.empty v) es) e) (late : 16 ≤ gate) where
+    pub next_held : (c : List ℕ) → ((ps : List (List ℕ)) → Holds b w number ps → gate ≡ end_of ps → Holds c w number (ps ++ p ∷ [])) → take gate c ≡ take gate b → HoldAll k v c (es ++ e ∷ [])
+    next_held c grows front =
+        let ps = held.store.0 in
+        let holds = held.store.1 in
+        whole_next k lawful v b c p ps es e holds held (as_held w number c (ps ++ p ∷ []) w_is number_is (grows ps (as_journal w number b ps w_is number_is holds) (gated ps holds).0)) (take-shorter 16 gate c b late front) is passes
 
-  -- and the gate after one more comes after them
-  pub gated_with : (v number gate after : ℕ) (es : List E) (p b c : List ℕ) → v ≡ version → number ≡ k.number → after ≡ gate + (5 + length p)
-      → ((ps : List (List ℕ)) → Holds b v number ps → gate ≡ end_of ps → Holds c v number (ps ++ p ∷ [])) → IsGate gate b → HoldEntries k version b es → IsGate after c
-  gated_with v number gate after es p b c v_is number_is after_is grows gated held qs holds =
-      let ps = held.store.0 in
-      let at : gate ≡ end_of ps = gated ps held.store.1 in
-      let there = as_held v number c (ps ++ p ∷ []) v_is number_is (grows ps (as_journal v number b ps v_is number_is held.store.1) at) in
-      let same : ps ++ p ∷ [] ≡ qs = holds_once c version version k.number (ps ++ p ∷ []) qs there holds in
-      omega (arith, after_is, at, end_of-push ps p, ap end_of same)
+    pub next_gate : (after more : ℕ) (c : List ℕ) → after ≡ gate + (5 + length p) → more ≡ count + 1 → ((ps : List (List ℕ)) → Holds b w number ps → gate ≡ end_of ps → Holds c w number (ps ++ p ∷ [])) → IsGate after more c
+    next_gate after more c after_is more_is grows qs holds =
+        let ps = held.store.0 in
+        let here = gated ps held.store.1 in
+        let there = as_held w number c (ps ++ p ∷ []) w_is number_is (grows ps (as_journal w number b ps w_is number_is held.store.1) here.0) in
+        let same : ps ++ p ∷ [] ≡ qs = holds_once c v v k.number (ps ++ p ∷ []) qs there holds in
+        (omega (arith, after_is, here.0, end_of-push ps p, ap end_of same), omega (arith, more_is, here.1, length-append ps (p ∷ []), ap (λ (l : List (List ℕ)). length l) same))
+
+    either_is : (ps : List (List ℕ)) (c : List ℕ) → Holds b v k.number ps → IsBeforeOrAfter w number ps p c → take gate c ≡ take gate b → MayHoldAll k v es (Some e) c
+    either_is ps c holds (inl before) front = inl (whole_same k lawful v b c ps es holds held (as_held w number c ps w_is number_is before) (take-shorter 16 gate c b late front))
+    either_is ps c holds (inr after) front = inr (whole_next k lawful v b c p ps es e holds held (as_held w number c (ps ++ p ∷ []) w_is number_is after) (take-shorter 16 gate c b late front) is passes)
+
+    -- a crash at any moment of that leaves the whole list, or it and the entry
+    pub next_leaves : (s t : DiskState) → ((ps : List (List ℕ)) → Holds b w number ps → gate ≡ end_of ps → LeavesOnly s t (IsBeforeOrAfter w number ps p)) → LeavesOnly s t (λ c. take gate c ≡ take gate b) → LeavesOnly s t (MayHoldAll k v es (Some e))
+    next_leaves s t leaves front =
+        let ps = held.store.0 in
+        let holds = held.store.1 in
+        weaker s t _ _ (both_leave s t _ _ (leaves ps (as_journal w number b ps w_is number_is holds) (gated ps holds).0) front) (λ c both. either_is ps c holds both.0 both.1)
+
+  -- the list with what was added, as one
+  pub whole_with : (es old new : List E) (e : E) (c : List ℕ) → new ≡ old ++ e ∷ [] → HoldAll k v c ((es ++ old) ++ e ∷ []) → HoldAll k v c (es ++ new)
+  whole_with es old new e c is held = subst (HoldAll k v c) (sym (more es old new e is)) held
 
   -- where the content is the only image
-  pub images_of : (es : List E) (u : Option E) (s : DiskState) → u ≡ None → Only s.content s → HoldEntries k version s.content es → (b : List ℕ) → s.IsImage b → MayHold k version es u b
-  images_of es u s none only held b is = subst (λ v. MayHold k version es v b) (sym none) (subst (λ (l : List ℕ). HoldEntries k version l es) (sym (only b is)) held)
-
-  -- without the record or with it
-  either_is : (v number : ℕ) (ps : List (List ℕ)) (es : List E) (e : E) (p b : List ℕ) → v ≡ version → number ≡ k.number → Encode k ps es → k.IsRecordOf p e → IsBeforeOrAfter v number ps p b
-      → MayHold k version es (Some e) b
-  either_is v number ps es e p b v_is number_is encode p_is (inl before) = inl (holding b ps es (as_held v number b ps v_is number_is before) encode)
-  either_is v number ps es e p b v_is number_is encode p_is (inr after) =
-      inr (holding b (ps ++ p ∷ []) (es ++ e ∷ []) (as_held v number b (ps ++ p ∷ []) v_is number_is after) (Encode-pushed k ps es p e encode p_is))
-
-  -- what a journal leaves at each moment of an append
-  pub leaves_one : (v number gate : ℕ) (es : List E) (e : E) (p b : List ℕ) (s t : DiskState) → v ≡ version → number ≡ k.number → k.IsRecordOf p e → HoldEntries k version b es → IsGate gate b
-      → ((ps : List (List ℕ)) → Holds b v number ps → gate ≡ end_of ps → LeavesOnly s t (IsBeforeOrAfter v number ps p)) → LeavesOnly s t (MayHold k version es (Some e))
-  leaves_one v number gate es e p b s t v_is number_is p_is held gated leaves =
-      let ps = held.store.0 in
-      weaker s t _ _ (leaves ps (as_journal v number b ps v_is number_is held.store.1) (gated ps held.store.1)) (λ c either. either_is v number ps es e p c v_is number_is (held.encode ps held.store.1) p_is either)
+  pub images_of : (es : List E) (u : Option E) (s : DiskState) → u ≡ None → Only s.content s → HoldAll k v s.content es → (b : List ℕ) → s.IsImage b → MayHoldAll k v es u b
+  images_of es u s none only held b is = subst (λ x. MayHoldAll k v es x b) (sym none) (subst (λ (l : List ℕ). HoldAll k v l es) (sym (only b is)) held)
 
   -- each image after a fault
-  pub images_undecided : (es : List E) (u : Option E) (e : E) (s t : DiskState) → u ≡ Some e → DiskIsLawful t → LeavesOnly s t (MayHold k version es (Some e)) → (b : List ℕ) → t.IsImage b → MayHold k version es u b
-  images_undecided es u e s t u_is lawful leaves b is = subst (λ v. MayHold k version es v b) (sym u_is) (leaves.each b (lawful.counts_now s.clock b leaves.later is))
-
-  -- As histories.
-
-  pub begins_new : IsLawful k → is_version version ≡ true → (es : List E) → BeginsNew k version (history_of k version es)
-  begins_new lawful known es = record { known = known; count = lawful.base_count_is 0 (k.empty version) es; base = lawful.base_is 0 (k.empty version) es }
-
-  pub stands_as : IsLawful k → (es : List E) (b : List ℕ) → HoldEntries k version b es → Stands k b (history_of k version es)
-  stands_as lawful es b held = record {
-    version = version;
-    begins = begins_new lawful held.store.1.header.known es;
-    held = subst (HoldEntries k version b) (sym (lawful.entries_are 0 (k.empty version) es)) held;
-  }
-
-  -- the history of these entries, with one more
-  pub entry_more : IsLawful k → (es : List E) (e : E) → with_entry k e (history_of k version es) ≡ history_of k version (es ++ e ∷ [])
-  entry_more lawful es e = λ i. k.history (lawful.base_count_is 0 (k.empty version) es i) (lawful.base_is 0 (k.empty version) es i) (lawful.entries_are 0 (k.empty version) es i ++ e ∷ [])
-
-  pub may_be : IsLawful k → (es : List E) (u : Option E) (b : List ℕ) → MayHold k version es u b → MayBe k (history_of k version es) u b
-  may_be lawful es None b held = stands_as lawful es b held
-  may_be lawful es (Some e) b (inl held) = inl (stands_as lawful es b held)
-  may_be lawful es (Some e) b (inr held) = inr (subst (Stands k b) (sym (entry_more lawful es e)) (stands_as lawful (es ++ e ∷ []) b held))
-
-  pub stands_found : IsLawful k → (es : List E) (b c : List ℕ) → b ≡ c → HoldEntries k version b es → Stands k c (history_of k version es)
-  stands_found lawful es b c same held = stands_as lawful es c (subst (λ (l : List ℕ). HoldEntries k version l es) same held)
+  pub images_undecided : (es : List E) (u : Option E) (e : E) (s t : DiskState) → u ≡ Some e → DiskIsLawful t → LeavesOnly s t (MayHoldAll k v es (Some e)) → (b : List ℕ) → t.IsImage b → MayHoldAll k v es u b
+  images_undecided es u e s t u_is lawful leaves b is = subst (λ x. MayHoldAll k v es x b) (sym u_is) (leaves.each b (lawful.counts_now s.clock b leaves.later is))
 
   -- the moments of an append that went through
-  pub leaves_with : IsLawful k → (found old new : List E) (e : E) (s t : DiskState) (u v : Option E) → new ≡ old ++ e ∷ [] → u ≡ None → v ≡ None
-      → LeavesOnly s t (MayHold k version (found ++ old) (Some e)) → LeavesOnly s t (λ b. MayBe k (history_of k version (found ++ old)) u b ⊎ MayBe k (history_of k version (found ++ new)) v b)
-  leaves_with lawful found old new e s t u v is u_is v_is leaves = weaker s t _ _ leaves part where
-    part : (b : List ℕ) → MayHold k version (found ++ old) (Some e) b → MayBe k (history_of k version (found ++ old)) u b ⊎ MayBe k (history_of k version (found ++ new)) v b
-    part b (inl before) = inl (subst (λ w. MayBe k (history_of k version (found ++ old)) w b) (sym u_is) (stands_as lawful (found ++ old) b before))
-    part b (inr after) =
-        inr (subst (λ w. MayBe k (history_of k version (found ++ new)) w b) (sym v_is) (stands_as lawful (found ++ new) b (subst (HoldEntries k version b) (sym (more found old new e is)) after)))
+  pub leaves_with : (es old new : List E) (e : E) (s t : DiskState) (u x : Option E) → new ≡ old ++ e ∷ [] → u ≡ None → x ≡ None
+      → LeavesOnly s t (MayHoldAll k v (es ++ old) (Some e)) → LeavesOnly s t (λ b. MayHoldAll k v (es ++ old) u b ⊎ MayHoldAll k v (es ++ new) x b)
+  leaves_with es old new e s t u x is u_is x_is leaves =
+      weaker s t _ _ leaves (λ b either. ⊎_elim (λ before. inl (subst (λ y. MayHoldAll k v (es ++ old) y b) (sym u_is) before)) (λ after. inr (subst (λ y. MayHoldAll k v (es ++ new) y b) (sym x_is) (whole_with es old new e b is after))) either)
 
-  -- the moments of one that failed
-  pub leaves_undecided : IsLawful k → (es : List E) (e : E) (s t : DiskState) (u v : Option E) → v ≡ Some e
-      → LeavesOnly s t (MayHold k version es (Some e)) → LeavesOnly s t (λ b. MayBe k (history_of k version es) u b ⊎ MayBe k (history_of k version es) v b)
-  leaves_undecided lawful es e s t u v v_is leaves =
-      weaker s t _ _ leaves (λ b either. inr (subst (λ w. MayBe k (history_of k version es) w b) (sym v_is) (may_be lawful es (Some e) b either)))
-
-  -- the moments of a call that touched no device
-  pub leaves_same : IsLawful k → (s t : DiskState) (es : List E) (h : H) (u v : Option E) → DiskIsLawful s → t ≡ s → ((b : List ℕ) → s.IsImage b → MayHold k version es u b)
-      → LeavesOnly s t (λ b. MayBe k (history_of k version es) u b ⊎ MayBe k h v b)
-  leaves_same lawful s t es h u v disk same images =
-      subst (λ (w : DiskState). LeavesOnly s w (λ b. MayBe k (history_of k version es) u b ⊎ MayBe k h v b)) (sym same) (started s _ disk (λ b is. inl (may_be lawful es u b (images b is))))
+  -- and of one that failed
+  pub leaves_undecided : (es : List E) (e : E) (s t : DiskState) (u x : Option E) → x ≡ Some e → LeavesOnly s t (MayHoldAll k v es (Some e)) → LeavesOnly s t (λ b. MayHoldAll k v es u b ⊎ MayHoldAll k v es x b)
+  leaves_undecided es e s t u x x_is leaves = weaker s t _ _ leaves (λ b either. inr (subst (λ y. MayHoldAll k v es y b) (sym x_is) either))
 
   -- the moments of calls after which each image was one before
-  pub leaves_images : IsLawful k → (es : List E) (h : H) (u v : Option E) (s t : DiskState) → LeavesOnly s t s.IsImage → ((b : List ℕ) → s.IsImage b → MayHold k version es u b)
-      → LeavesOnly s t (λ b. MayBe k (history_of k version es) u b ⊎ MayBe k h v b)
-  leaves_images lawful es h u v s t leaves images = weaker s t _ _ leaves (λ b is. inl (may_be lawful es u b (images b is)))
+  pub leaves_images : (es : List E) (u : Option E) (s t : DiskState) → LeavesOnly s t s.IsImage → ((b : List ℕ) → s.IsImage b → MayHoldAll k v es u b) → LeavesOnly s t (MayHoldAll k v es u)
+  leaves_images es u s t leaves images = weaker s t _ _ leaves images

@@ -1,5 +1,5 @@
 -- What a commit makes of a store.
-use Rattle.std.proofs.Common.{◌≡◌, ◌≤◌, ℕ, ◌+◌, List, length, true, false, sym, ◌∙◌, ap, subst, arith}
+use Rattle.std.proofs.Common.{◌≡◌, ◌≤◌, ℕ, ◌+◌, List, [], ◌∷◌, ◌++◌, length, true, false, sym, ◌∙◌, ap, subst, arith}
 use Rattle.std.proofs.Math.Logic.{◌↔◌}
 use Rattle.std.specs.Prelude.{Option, Some, None, Ok, Err, IsOk}
 use Rattle.std.specs.declared.result.Result.{Result}
@@ -11,15 +11,19 @@ use Rattle.qz_types.specs.declared.errors.SubmitError.{SubmitError}
 use Rattle.qz_types.specs.declared.errors.SubmitError.TheVariants as submit
 use Rattle.qz_stores.specs.Stores.{StoreState, HasRoom, Appends, Fails, Submits}
 use Rattle.qz_types.specs.declared.replies.Refusal.{Refusal}
-use Rattle.qz_stores.specs.Kinds.{StoreKind, IsLawful, IsAccepted, unless_refused, submitted, replay, history_of, with_entry, entry_kind}
+use Rattle.qz_stores.specs.Kinds.{StoreKind, IsLawful, IsAccepted, unless_refused, submitted, replay, with_entry, entry_kind}
 
 module _ {H S E R : Type 0} (k : StoreKind H S E R) where
-  -- what the history of these entries leaves
-  pub replay_is : IsLawful k → (version : ℕ) (es : List E) → replay k (history_of k version es) ≡ k.replay_from (k.empty version) es
-  replay_is lawful version es = λ i. k.replay_from (lawful.base_is 0 (k.empty version) es i) (lawful.entries_are 0 (k.empty version) es i)
+  -- what a history leaves
+  pub replay_is : IsLawful k → (n : ℕ) (B : S) (es : List E) → replay k (k.history n B es) ≡ k.replay_from B es
+  replay_is lawful n B es = λ i. k.replay_from (lawful.base_is n B es i) (lawful.entries_are n B es i)
 
-  pub state_is : IsLawful k → (version : ℕ) (T : S) (es : List E) → T ≡ k.replay_from (k.empty version) es → T ≡ replay k (history_of k version es)
-  state_is lawful version T es is = is ∙ sym (replay_is lawful version es)
+  pub state_is : IsLawful k → (n : ℕ) (B T : S) (es : List E) → T ≡ k.replay_from B es → T ≡ replay k (k.history n B es)
+  state_is lawful n B T es is = is ∙ sym (replay_is lawful n B es)
+
+  -- a history, with one entry more
+  pub entry_more : IsLawful k → (n : ℕ) (B : S) (es : List E) (e : E) → with_entry k e (k.history n B es) ≡ k.history n B (es ++ e ∷ [])
+  entry_more lawful n B es e = λ i. k.history (lawful.base_count_is n B es i) (lawful.base_is n B es i) (lawful.entries_are n B es i ++ e ∷ [])
 
   -- an entry that the version of the store lets through is answered as its transaction
   pub current : (x : Option Refusal) (a : Result R Refusal) → x ≡ None → unless_refused x a ≡ a

@@ -1,12 +1,10 @@
 -- Payloads are the records of one history at most.
-use Rattle.std.proofs.Common.{◌≡◌, ◌⊎◌, inr, ℕ, List, [], ◌∷◌, ◌++◌, refl, sym, ◌∙◌, subst}
+use Rattle.std.proofs.Common.{◌≡◌, ℕ, List, [], ◌∷◌, ◌++◌, refl, subst}
 use Rattle.std.proofs.Math.Logic.{∥∥₁_elim}
 use Rattle.std.specs.List.{AllZip}
-use Rattle.qz_journal.specs.declared.errors.MountError.{MountError}
-use Rattle.qz_journal.specs.declared.errors.MountError.TheVariants as mount
-use Rattle.qz_stores.specs.Kinds.{StoreKind, IsLawful, history_of}
-use Rattle.qz_stores.specs.Bytes.{Encode, BeginsNew, IsHistory}
-use Rattle.qz_stores.specs.Opening.{IsUnfit, IsStopped, HaveUnfit}
+use Rattle.qz_stores.specs.Kinds.{StoreKind, IsLawful}
+use Rattle.qz_stores.specs.Bytes.{Encode}
+use Rattle.qz_stores.specs.Opening.{IsUnfit}
 
 module _ {H S E R : Type 0} (k : StoreKind H S E R) (lawful : IsLawful k) where
   -- Two lists of entries that have the same payloads as records are the same.
@@ -22,7 +20,7 @@ module _ {H S E R : Type 0} (k : StoreKind H S E R) (lawful : IsLawful k) where
       λ i. first i ∷ others i
 
   pub entries_unique : (ps : List (List ℕ)) (es fs : List E) → Encode k ps es → Encode k ps fs → es ≡ fs
-  entries_unique ps es fs p q = ∥∥₁_elim p (lawful.lists_once es fs) (λ x. ∥∥₁_elim q (lawful.lists_once es fs) (λ y. zip_unique ps es fs x y))
+  entries_unique ps es fs p q = ∥∥₁_elim p (k.lists_once es fs) (λ x. ∥∥₁_elim q (k.lists_once es fs) (λ y. zip_unique ps es fs x y))
 
   -- entries whose payloads go on with this one: those before it, its own, and those after it
   record IsCut (es hs : List E) (payload : List ℕ) : Type 0 where
@@ -50,26 +48,3 @@ module _ {H S E R : Type 0} (k : StoreKind H S E R) (lawful : IsLawful k) where
       → k.IsLegalFrom T hs → IsUnfit k (k.replay_from T es) payload → ⊥
   none_unfit T ps es hs payload more p q legal unfit =
       ∥∥₁_elim p (λ x y. absurd x) (λ a. ∥∥₁_elim q (λ x y. absurd x) (λ b. fits T es hs payload legal unfit (cut ps es hs payload more a b)))
-
-  -- payloads that are records of legal entries aren't stopped at
-  pub never_unfit : (version : ℕ) (payloads : List (List ℕ)) (es : List E) (at : ℕ) → Encode k payloads es → k.IsLegalFrom (k.empty version) es → HaveUnfit k version payloads at → ⊥
-  never_unfit version payloads es at encode legal stopped =
-      none_unfit (k.empty version) stopped.taken stopped.entries es stopped.payload stopped.more stopped.replayed.encode
-      (subst (λ (ps : List (List ℕ)). Encode k ps es) stopped.whole encode) legal stopped.unfit
-
-  -- why the payloads of a history aren't replayed: memory ran out
-  pub only_memory : (version : ℕ) (h : H) (payloads : List (List ℕ)) (e : MountError) → IsHistory k h → BeginsNew k version h → Encode k payloads (k.entries h) → IsStopped k version payloads e
-      → (e ≡ mount.Fault) ⊎ (e ≡ mount.NoMemory)
-  only_memory version h payloads mount.NoMemory is begins same stopped = inr refl
-  only_memory version h payloads mount.NotAStore is begins same stopped = absurd stopped
-  only_memory version h payloads mount.Fault is begins same stopped = absurd stopped
-  only_memory version h payloads (mount.Damaged at) is begins same stopped =
-      absurd (never_unfit version payloads (k.entries h) at same (subst (λ (T : S). k.IsLegalFrom T (k.entries h)) begins.base is.legal) stopped)
-
-  history_is : (version : ℕ) (h : H) (entries : List E) → BeginsNew k version h → entries ≡ k.entries h → history_of k version entries ≡ h
-  history_is version h entries begins same = (λ i. k.history (sym begins.count i) (sym begins.base i) (same i)) ∙ lawful.whole h
-
-  -- the history of a store that was just opened
-  pub opened_as : (version : ℕ) (h : H) (payloads : List (List ℕ)) (es entries : List E) → BeginsNew k version h → Encode k payloads (k.entries h) → Encode k payloads entries → es ≡ entries
-      → history_of k version es ≡ h
-  opened_as version h payloads es entries begins whole encode es_are = history_is version h es begins (es_are ∙ entries_unique payloads entries (k.entries h) encode whole)

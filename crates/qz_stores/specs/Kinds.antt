@@ -1,10 +1,13 @@
 -- What a kind of store is: its entries and their records, its states, and its histories. Whatever is said of stores is
 -- said of all kinds at once, and a store of triggers or of states is one of these.
-use Rattle.std.specs.Prelude.{◌≡◌, ℕ, List, [], ◌∷◌, ◌++◌, length, Option, Some, None, IsOk, Err}
+use Rattle.std.specs.Prelude.{◌≡◌, ℕ, Bool, true, false, List, [], ◌∷◌, ◌++◌, length, Option, Some, None, IsOk, Err}
+use Rattle.std.specs.List.{AllByRecursion}
 use Rattle.std.specs.declared.result.Result.{Result}
 use Rattle.qz_types.specs.declared.replies.Refusal.{Refusal}
 use Rattle.qz_types.specs.declared.errors.StepRefused.{StepRefused}
 use Rattle.qz_types.specs.declared.errors.StepRefused.TheVariants as step
+use Rattle.qz_journal.specs.Slots.{IsHead, number_at}
+use Rattle.qz_journal.specs.Layout.{is_version}
 use Rattle.qz_stores.specs.Stores.{EntryKind}
 
 -- A kind, by the types of its histories, its states, its entries and the replies to them.
@@ -15,14 +18,22 @@ pub record StoreKind (H S E R : Type 0) : Type 1 where
   pub record_of : E → List ℕ
   -- The bytes are a record of the entry, in a version that is read. An entry may have a record of each version.
   pub IsRecordOf : List ℕ → E → Type 0
+  -- Which payloads are parts of snapshots, and which payloads begin with a snapshot of this state, before which so many
+  -- payloads and so many entries come. A kind may have none.
+  pub is_part : List ℕ → Bool
+  pub BeginSnapshot : List (List ℕ) → S → ℕ → ℕ → Type 0
+  pub has_snapshots : Bool
+  -- the payloads of the snapshot that is written of this state, before which so many payloads and so many entries come
+  pub snapshot_of : S → ℕ → ℕ → List (List ℕ)
   -- the entries that a caller may submit
   pub IsProper : E → Type 0
   -- the state of a new store of this format version
   pub empty : ℕ → S
   -- what holds of each state that a store comes to
   pub IsValid : S → Type 0
-  -- that two states are the same is known in one way at most
+  -- that two states are the same, or two lists of entries, is known in one way at most
   pub states_once : (T U : S) → IsProp (T ≡ U)
+  pub lists_once : (es fs : List E) → IsProp (es ≡ fs)
   -- Why the version of the store refuses an entry that is submitted at this state, if it does. It has no say over the
   -- entries of a history, which were accepted before.
   pub version_refusal : S → E → Option Refusal
@@ -93,8 +104,15 @@ entry_kind k = record {
 pub record IsLawful {H S E R : Type 0} (k : StoreKind H S E R) : Type 0 where
   -- bytes are a record of one entry at most
   pub records_once : (bytes : List ℕ) (e f : E) → k.IsRecordOf bytes e → k.IsRecordOf bytes f → e ≡ f
-  -- that two lists of entries are the same is known in one way at most
-  pub lists_once : (es fs : List E) → IsProp (es ≡ fs)
+  -- no part of a snapshot is one
+  pub records_apart : (bytes : List ℕ) (e : E) → k.IsRecordOf bytes e → k.is_part bytes ≡ false
+  -- a snapshot begins with a head, which says how many payloads come before
+  pub headed : (payloads : List (List ℕ)) (T : S) (before entries : ℕ) → k.BeginSnapshot payloads T before entries
+      → (head : List ℕ) × (more : List (List ℕ)) × (payloads ≡ head ∷ more) × IsHead head × (number_at 1 head ≡ before)
+  -- payloads begin with one snapshot at most, whatever comes after it
+  pub snapshots_once : (payloads : List (List ℕ)) (T U : S) (before other entries others : ℕ) → k.BeginSnapshot payloads T before entries → k.BeginSnapshot payloads U other others → (T ≡ U) × (entries ≡ others)
+  pub snapshot_more : (payloads more : List (List ℕ)) (T : S) (before entries : ℕ) → k.BeginSnapshot payloads T before entries → k.BeginSnapshot (payloads ++ more) T before entries
+  pub none_made : k.has_snapshots ≡ false → (payloads : List (List ℕ)) (T : S) (before entries : ℕ) → k.BeginSnapshot payloads T before entries → ⊥
   -- entries are replayed one by one
   pub replay_none : (T : S) → k.replay_from T [] ≡ T
   pub replay_more : (T : S) (es : List E) (e : E) → k.replay_from T (es ++ e ∷ []) ≡ k.after (k.replay_from T es) e
@@ -102,6 +120,8 @@ pub record IsLawful {H S E R : Type 0} (k : StoreKind H S E R) : Type 0 where
   pub legal_none : (T : S) → k.IsLegalFrom T []
   pub legal_more : (T : S) (es : List E) (e : E) → k.IsLegalFrom T es → IsAccepted k (k.replay_from T es) e → k.IsLegalFrom T (es ++ e ∷ [])
   pub legal_at : (T : S) (es : List E) (e : E) (fs : List E) → k.IsLegalFrom T (es ++ e ∷ fs) → IsAccepted k (k.replay_from T es) e
+  -- entries that a new store accepts leave a valid state
+  pub valid_left : (version : ℕ) (es : List E) → is_version version ≡ true → AllByRecursion (HasRecord k) es → k.IsLegalFrom (k.empty version) es → ∥ k.IsValid (k.replay_from (k.empty version) es) ∥₁
   -- a history is its base and its list
   pub whole : (h : H) → k.history (k.base_count h) (k.base h) (k.entries h) ≡ h
   pub base_count_is : (n : ℕ) (T : S) (es : List E) → k.base_count (k.history n T es) ≡ n

@@ -117,18 +117,6 @@ pub record Shuts {H E : Type 0} (s t : StoreState H E) : Type 0 where
   pub undecided : t.undecided ≡ s.undecided
   pub later : s.faults ≤ t.faults
 
--- what a restart may find: the history, or it with the undecided entry
-abbrev pub IsDecided : {H E R : Type 0} → EntryKind H E R → H → Option E → H → Type 0
-IsDecided kind h None found = found ≡ h
-IsDecided kind h (Some e) found = (found ≡ h) ⊎ (found ≡ kind.with_entry e h)
-
--- A restart ended: the store is open with what was found. Where the disk is honest, that is decided by what it had.
-pub record Opens {H E R : Type 0} (kind : EntryKind H E R) (honest : Type 0) (s t : StoreState H E) : Type 0 where
-  pub is_open : t.is_open ≡ true
-  pub undecided : t.undecided ≡ None
-  pub decided : honest → IsDecided kind s.history s.undecided t.history
-  pub later : s.faults ≤ t.faults
-
 -- Why a record of this length isn't written: it has no room, so many bytes are needed and so many are left; or there is
 -- no memory for it.
 abbrev pub IsUnwritten : {H E : Type 0} → ℕ → StoreState H E → SubmitError → Type 0

@@ -1,11 +1,19 @@
 //! Kinds of stores.
-ghost use Rattle.std.specs.Prelude.{◌≡◌, IfOk, IfErr, OnOk, Ok, Err};
-ghost use Rattle.qz_journal.specs.Layout.{IsPayload};
+ghost use Rattle.std.specs.Prelude.{◌≡◌, ◌≢◌, ◌⊎◌, ◌≤◌, ◌++◌, ℕ, List as Items, length, true, false, None, IfOk, IfErr, OnOk, IfSome, IfNone, Ok, Err, Some};
+ghost use Rattle.qz_civil.specs.Causes.{Rose};
+ghost use Rattle.qz_disk.specs.Disk.{LeavesOnly};
+ghost use Rattle.qz_journal.specs.Commits.{LackRoom, HaveRoom};
+ghost use Rattle.qz_journal.specs.Layout.{IsPayload, Holds, end_of};
+ghost use Rattle.qz_journal.specs.Slots.{with_offset, free_slot};
+ghost use Rattle.qz_journal.specs.View.{disk_of, version_of, kind_of, gate_of, count_of, closed_at, slots_of};
+ghost use Rattle.qz_stores.specs.Checkpoints.{IsMidway};
 ghost use Rattle.qz_stores.specs.Kinds.{StoreKind, IsLawful, IsAccepted, IsRefusalOf, IsErrorOf};
-ghost use Rattle.qz_stores.specs.Opening.{IsUnfit};
+ghost use Rattle.qz_stores.specs.Opening.{BeginWell, IsUnfit};
 ghost use Rattle.qz_stores.specs.declared.kinds.TakeError.TheVariants as take_error;
 
 use qz_civil::List;
+use qz_disk::Disk;
+use qz_journal::Journal;
 use qz_types::{NoMemory, Refusal, StepRefused};
 use std::alloc::Global;
 
@@ -15,6 +23,14 @@ pub enum TakeError {
     /// It is no record, or its entry is refused.
     Unfit,
     NoMemory,
+}
+
+/// Why no snapshot was made.
+#[derive(Drop)]
+pub enum CheckpointError {
+    NoMemory,
+    /// The disk failed, and its count of faults rose. The journal is closed.
+    Fault,
 }
 
 /// A kind of store. A value of it is what such a store keeps in memory: the state that its history leaves.
@@ -51,6 +67,16 @@ pub trait Kind: Drop {
     fn new(alloc: Global, version: u8) -> Self
         ensures { state result ≡ kind.empty version };
 
+    /// Whether a payload is a part of a snapshot.
+    fn is_part(payload: &[u8]) -> bool
+        ensures { result ≡ kind.is_part payload.now };
+
+    /// The state of the snapshot that these payloads begin with, and how many entries came before it, or None where they begin
+    /// with none that an opening takes.
+    fn read_base(alloc: Global, payloads: &List<List<u8>>) -> Result<Option<(Self, u32)>, NoMemory>
+        ensures found { IfOk result (λ o. IfSome o (λ base. BeginWell kind payloads.now (state base.0) base.1)) }
+        ensures none { IfOk result (λ o. IfNone o ((T : State) (entries : ℕ) → BeginWell kind payloads.now T entries → ⊥)) };
+
     /// Reads the entry of a payload, and does it.
     fn take(&mut self, alloc: Global, payload: &[u8]) -> Result<Self::Entry, TakeError>
         ensures is_record { IfOk result (kind.IsRecordOf payload.now) }
@@ -86,6 +112,39 @@ pub trait Kind: Drop {
         requires ready { Prepares self.old entry.now change }
         ensures accepted { kind.answer (state self.old) entry.now ≡ Ok result }
         ensures state { state self.new ≡ kind.after (state self.old) entry.now };
+
+    /// Appends a snapshot of this state, which so many entries left, to an open journal of this kind, and makes it the one in use.
+    /// The answer is false exactly where the snapshot has no room, or the kind has none, and nothing was done then. `NoMemory`
+    /// comes before any device call. Else the answer is true, or `Fault` where the disk failed.
+    fn checkpoint<D: Disk>(
+        &self,
+        alloc: Global,
+        journal: &mut Journal<D>,
+        entries: u64,
+    ) -> Result<bool, CheckpointError>
+        requires open { closed_at journal.old ≡ None }
+        requires number { kind_of journal.old ≡ kind.number }
+        requires counted { entries ≤ count_of journal.old }
+        ensures no_room { result ≡ Ok false → kind.has_snapshots ≡ true → LackRoom (kind.snapshot_of (state self.now) (count_of journal.old) entries) (gate_of journal.old) (count_of journal.old) }
+        ensures room { (result ≡ Ok true) ⊎ (result ≡ Err CheckpointError.Fault) → HaveRoom (kind.snapshot_of (state self.now) (count_of journal.old) entries) (gate_of journal.old) (count_of journal.old) }
+        ensures unchanged { result ≢ Ok true → result ≢ Err CheckpointError.Fault → journal.new ≡ journal.old }
+        ensures open { result ≡ Ok true → closed_at journal.new ≡ None }
+        ensures same { (version_of journal.new ≡ version_of journal.old) × (kind_of journal.new ≡ kind_of journal.old) }
+        ensures more { result ≡ Ok true → count_of journal.old ≤ count_of journal.new }
+        ensures later { D.faults (disk_of journal.old) ≤ D.faults (disk_of journal.new) }
+        ensures fault { result ≡ Err CheckpointError.Fault → Rose (D.faults (disk_of journal.old)) (D.faults (disk_of journal.new)) }
+        // At true the slot that was free leads to the end of what stood before.
+        ensures slots { result ≡ Ok true → slots_of journal.new ≡ with_offset (free_slot (slots_of journal.old)) (Some (gate_of journal.old)) (slots_of journal.old) }
+        // Where the content holds payloads that end at the gate, at true the snapshot stands after them, and the gate after both.
+        ensures stands { D.honest → (payloads : Items (Items ℕ)) → Holds (D.state (disk_of journal.old)).content (version_of journal.old) kind.number payloads
+            → gate_of journal.old ≡ end_of payloads → count_of journal.old ≡ length payloads → result ≡ Ok true
+            → Holds (D.state (disk_of journal.new)).content (version_of journal.old) kind.number (payloads ++ kind.snapshot_of (state self.now) (count_of journal.old) entries)
+            × (gate_of journal.new ≡ end_of (payloads ++ kind.snapshot_of (state self.now) (count_of journal.old) entries))
+            × (count_of journal.new ≡ length (payloads ++ kind.snapshot_of (state self.now) (count_of journal.old) entries)) }
+        // A crash at any moment leaves them and some parts of snapshots, and slots that are true.
+        ensures any_moment { D.honest → (payloads : Items (Items ℕ)) → Holds (D.state (disk_of journal.old)).content (version_of journal.old) kind.number payloads
+            → gate_of journal.old ≡ end_of payloads → count_of journal.old ≡ length payloads
+            → LeavesOnly (D.state (disk_of journal.old)) (D.state (disk_of journal.new)) (IsMidway kind (version_of journal.old) (state self.now) entries (D.state (disk_of journal.old)).content payloads) };
 
     ghost lawful: { IsLawful kind };
 

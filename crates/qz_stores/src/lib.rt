@@ -1,6 +1,7 @@
 //! A store over a journal, whatever its entries are: its state, what one call makes of it, and the store itself.
 #![tactic(auto)]
 
+mod checkpoints;
 mod gates;
 mod kinds;
 mod mounting;
@@ -11,7 +12,7 @@ mod restarting;
 mod stores;
 mod submitting;
 
-pub use kinds::{Kind, TakeError};
+pub use kinds::{CheckpointError, Kind, TakeError};
 pub use rereads::Reread;
 pub use stores::Store;
 pub use submitting::Ready;

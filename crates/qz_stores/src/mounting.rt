@@ -1,95 +1,122 @@
 //! Opening what is on a disk.
-ghost use Rattle.std.specs.Prelude.{◌≡◌, ◌⊎◌, ◌^◌, ◌<◌, ◌≤◌, ℕ, List, [], length, None, true, IfOk, IfErr, MatchResult};
+ghost use Rattle.std.specs.Prelude.{◌≡◌, ◌⊎◌, ◌+◌, ◌-◌, ◌≤◌, ℕ, List, [], length, None, true, false, IfOk, IfErr, MatchResult};
 ghost use Rattle.std.specs.List.{AllByRecursion};
 ghost use Rattle.qz_civil.specs.Causes.{Rose};
 ghost use Rattle.qz_journal.specs.Layout.{Holds, end_of};
+ghost use Rattle.qz_journal.specs.Slots.{slots_of as slots_in, slot_in_use};
+ghost use Rattle.qz_journal.specs.Tails.{start_of};
 ghost use Rattle.qz_journal.specs.Through.{OnlyReads, OnlyReadsUnless};
-ghost use Rattle.qz_journal.specs.View.{disk_of as journal_disk, version_of, kind_of, gate_of, count_of, closed_at};
+ghost use Rattle.qz_journal.specs.View.{disk_of as journal_disk, version_of as journal_version, kind_of, gate_of, count_of, closed_at};
 ghost use Rattle.qz_stores.specs.Kinds.{HasRecord};
-ghost use Rattle.qz_stores.specs.Bytes.{HoldEntries, Stands, IsHistory};
-ghost use Rattle.qz_stores.specs.Opening.{IsOpened, IsRefused, IsFirstBad};
-ghost use Rattle.qz_stores.specs.View.{view, added_of, disk_state};
+ghost use Rattle.qz_stores.specs.Bases.{HoldAll, IsEndOf, WholeList, IsWhole, Stands};
+ghost use Rattle.qz_stores.specs.Bytes.{BeginsNew};
+ghost use Rattle.qz_stores.specs.Opening.{IsOpened, IsRefused, StandsFrom};
+ghost use Rattle.qz_stores.specs.View.{view, version_of, opened_of, found_of, added_of, behind_of, slots_of, disk_state, GoesOnFrom};
 
-use crate::replaying::replay;
+use crate::gates::first_gate;
+use crate::replaying::{first_bad, replay};
 use crate::{Kind, Reread, Store};
 use qz_disk::Disk;
-use qz_journal::{Journal, MountError, Salvaged};
+use qz_journal::{Journal, MountError};
 use qz_logs::Log;
 use std::alloc::Global;
+use std::snapshot::Snapshot;
 
 impl<D: Disk, K: Kind> Store<D, K> {
-    /// Opens the store that is on a disk, in the version of the format that its header has, and replays its history. It syncs first, so that what it reads is what a
-    /// crash leaves, and writes nothing. An `Err` hands the disk back. `NotAStore` is returned where the header isn't that
-    /// of a store of this kind, `Damaged` also at the gate of the first payload that is no record or whose command is
-    /// refused, and `Fault` only where the disk's count of faults rose.
+    /// Opens the store that is on a disk, in the version of the format that its header has, from the slot in use on: its base is
+    /// that of the snapshot there, or of a new store where no slot is open, and it replays the entries since. It syncs first, so
+    /// that what it reads is what a crash leaves, and writes nothing. An `Err` hands the disk back. `NotAStore` is returned where
+    /// the header isn't that of a store of this kind. `Damaged` names the gate of the slot in use also where no snapshot of a
+    /// valid state stands there, and else also the gate of the first payload that is no part of a snapshot, and is no record or
+    /// whose command is refused. `Fault` is returned only where the disk's count of faults rose.
     pub fn mount(alloc: Global, disk: D) -> Result<Store<D, K>, (MountError, D)>
         ensures opened { IfOk result (λ store. IsOpened K.kind (view store)) }
         ensures nothing_added { IfOk result (λ store. added_of store ≡ []) }
-        ensures stands { D.honest → IfOk result (λ store. Stands K.kind (D.state disk).content (view store).history) }
+        ensures behind { IfOk result (λ store. behind_of store ≡ length (found_of store)) }
+        ensures begins { IfOk result (λ store. slot_in_use (slots_of store) ≡ None → BeginsNew K.kind (version_of store) (view store).history) }
+        ensures bytes { D.honest → IfOk result (λ store. (opened_of store ≡ (D.state disk).content) × (slots_of store ≡ slots_in (D.state disk).content)) }
+        ensures stands { D.honest → IfOk result (λ store. StandsFrom K.kind (version_of store) (D.state disk).content (view store).history) }
         ensures reads { D.honest → IfOk result (λ store. OnlyReads (D.state disk) (disk_state store)) }
+        // No more is read than the header and what stands from the slot's offset on.
+        ensures reads_tail { D.honest → MatchResult result
+            (λ store. (disk_state store).bytes_read ≤ (D.state disk).bytes_read + (16 + (length (D.state disk).content - start_of (slots_in (D.state disk).content))))
+            (λ e. (D.state e.1).bytes_read ≤ (D.state disk).bytes_read + (16 + (length (D.state disk).content - start_of (slots_in (D.state disk).content)))) }
         ensures reads_err { D.honest → IfErr result (λ e. OnlyReadsUnless (e.0 ≡ MountError.Fault) (D.state disk) (D.state e.1)) }
         ensures refused { D.honest → IfErr result (λ e. IsRefused K.kind (D.state disk).content e.0) }
-        // Where the bytes are those of a history, it comes to that history, or memory or the disk fails.
-        ensures whole { D.honest → (h : K.History) → IsHistory K.kind h → Stands K.kind (D.state disk).content h
-            → MatchResult result (λ store. (view store).history ≡ h) (λ e. (e.0 ≡ MountError.Fault) ⊎ (e.0 ≡ MountError.NoMemory)) }
+        // Where the bytes hold a whole list, the store goes on from it and has an end of it, or memory or the disk fails.
+        ensures whole { D.honest → (w : WholeList K.Entry) → IsWhole K.kind w (D.state disk).content
+            → MatchResult result (λ store. GoesOnFrom store w × Stands K.kind w (D.state disk).content (view store).history) (λ e. (e.0 ≡ MountError.Fault) ⊎ (e.0 ≡ MountError.NoMemory)) }
+        // Where no slot is open, they hold the one that was read.
+        ensures without_slots { D.honest → IfOk result (λ store. slot_in_use (slots_in (D.state disk).content) ≡ None
+            → IsWhole K.kind (record { version = version_of store; entries = found_of store }) (D.state disk).content) }
+        // No slot is open in a store of a kind without snapshots.
+        ensures no_slots { K.kind.has_snapshots ≡ false → IfOk result (λ store. slot_in_use (slots_of store) ≡ None) }
         ensures later { IfOk result (λ store. D.faults disk ≤ (view store).faults) }
         ensures fault { IfErr result (λ e. (D.faults disk ≤ D.faults e.1)
             × (e.0 ≡ MountError.Fault → Rose (D.faults disk) (D.faults e.1))) }
     {
-        match Journal::mount_or_salvage(alloc, disk, K::number()) {
-            Ok((journal, payloads)) => match replay::<K>(alloc, journal.version(), &payloads) {
-                Ok(replayed) => Ok(begin(alloc, journal, replayed)),
-                Err(error) => Err((error, journal.into_disk())),
-            },
-            Err((MountError::Damaged { at }, salvaged, disk)) => {
-                Err((first_bad::<K>(alloc, &salvaged, at), disk))
+        match Journal::mount_tail_or_salvage(alloc, disk, K::number()) {
+            Ok((journal, start, payloads)) => {
+                match replay::<K>(alloc, journal.version(), journal.slot(), start, &payloads) {
+                    Ok(reread) => Ok(begin(alloc, journal, reread)),
+                    Err(error) => Err((error, journal.into_disk())),
+                }
             }
-            Err((error, _salvaged, disk)) => Err((error, disk)),
+            Err((error, salvaged, disk)) => match error {
+                MountError::Damaged { at } => {
+                    // the gate of a slot comes before the first gate
+                    if at < first_gate() {
+                        return Err((MountError::Damaged { at }, disk));
+                    }
+                    Err((first_bad::<K>(alloc, &salvaged, at), disk))
+                }
+                error => Err((error, disk)),
+            },
         }
     }
 }
 
-// An open store on a journal that holds the records of these entries.
-fn begin<D: Disk, K: Kind>(alloc: Global, journal: Journal<D>, replayed: Reread<K>) -> Store<D, K>
+// An open store on a journal in which this was read.
+fn begin<D: Disk, K: Kind>(alloc: Global, journal: Journal<D>, reread: Reread<K>) -> Store<D, K>
     requires number { kind_of journal ≡ K.kind.number }
-    requires version { version_of journal ≡ replayed.version }
+    requires version { journal_version journal ≡ reread.version }
     requires open { closed_at journal ≡ None }
-    requires counted { count_of journal ≡ length replayed.entries.items }
-    requires stands { D.honest → HoldEntries K.kind replayed.version (D.state (journal_disk journal)).content replayed.entries.items }
-    requires gated { D.honest → (payloads : List (List ℕ)) → Holds (D.state (journal_disk journal)).content replayed.version K.kind.number payloads → gate_of journal ≡ end_of payloads }
-    requires recorded { ∥ AllByRecursion (HasRecord K.kind) replayed.entries.items ∥₁ }
-    requires legal { ∥ K.kind.IsLegalFrom (K.kind.empty replayed.version) replayed.entries.items ∥₁ }
+    requires counted { reread.count ≤ count_of journal }
+    requires new { K.kind.has_snapshots ≡ false → (reread.base_count ≡ 0) × ((K.state reread.base.value) ≡ K.kind.empty reread.version) }
+    requires recorded { ∥ AllByRecursion (HasRecord K.kind) reread.entries.items ∥₁ }
+    requires legal { ∥ K.kind.IsLegalFrom (K.state reread.base.value) reread.entries.items ∥₁ }
+    requires ended { D.honest → (whole : List K.Entry) → HoldAll K.kind reread.version (D.state (journal_disk journal)).content whole → IsEndOf K.kind reread.version (K.kind.history reread.base_count (K.state reread.base.value) reread.entries.items) whole }
+    requires gated { D.honest → (whole : List K.Entry) → HoldAll K.kind reread.version (D.state (journal_disk journal)).content whole → (payloads : List (List ℕ)) → Holds (D.state (journal_disk journal)).content reread.version K.kind.number payloads
+        → (gate_of journal ≡ end_of payloads) × (count_of journal ≡ length payloads) }
     ensures journal { result.journal ≡ journal }
-    ensures version { result.version ≡ replayed.version }
-    ensures found { result.found.items ≡ replayed.entries.items }
-    ensures opened { (result.is_open ≡ true) × (result.undecided ≡ None) × (added_of result ≡ []) }
+    ensures version { result.version ≡ reread.version }
+    ensures base { (result.base_count ≡ reread.base_count) × ((K.state result.base.value) ≡ (K.state reread.base.value)) }
+    ensures found { result.found.items ≡ reread.entries.items }
+    ensures behind { behind_of result ≡ length reread.entries.items }
+    ensures opened { (result.is_open ≡ true) × (result.undecided ≡ None) × (added_of result ≡ []) × (opened_of result ≡ (D.state (journal_disk journal)).content) }
 {
     let Reread {
         version,
+        base_count,
+        base,
         entries,
+        count,
         state,
-    } = replayed;
-    let count = journal.payloads();
+    } = reread;
+    let opened = Snapshot::of(&journal);
     Store {
         alloc,
         journal,
         version,
+        base_count,
+        base,
         count,
+        snapshot: base_count,
         state,
+        opened,
         found: entries,
         added: Log::new(),
         is_open: true,
         undecided: None,
-    }
-}
-
-// The first bad place of a journal that is damaged after what was salvaged, at this offset.
-fn first_bad<K: Kind>(alloc: Global, salvaged: &Salvaged, at: u64) -> MountError
-    requires offsets { end_of salvaged.now.payloads < 2 ^ 64 }
-    ensures { IsFirstBad K.kind salvaged.now.version salvaged.now.payloads at result }
-{
-    match replay::<K>(alloc, salvaged.version, &salvaged.payloads) {
-        Ok(_) => MountError::Damaged { at },
-        Err(error) => error,
     }
 }

@@ -1,8 +1,8 @@
 //! What a store shows of itself.
-ghost use Rattle.std.specs.Prelude.{◌≡◌, true, ◌++◌, length, not};
+ghost use Rattle.std.specs.Prelude.{◌≡◌, ◌≤◌, ◌+◌, true, ◌++◌, length, not};
 ghost use Rattle.qz_journal.specs.Layout.{is_version};
 ghost use Rattle.qz_stores.specs.Kinds.{replay};
-ghost use Rattle.qz_stores.specs.View.{view, version_of, found_of, added_of, kept_of, disk_of};
+ghost use Rattle.qz_stores.specs.View.{view, version_of, base_count_of, behind_of, found_of, added_of, kept_of, disk_of};
 
 use crate::{Kind, Store};
 use qz_disk::Disk;
@@ -16,11 +16,26 @@ impl<D: Disk, K: Kind> Store<D, K> {
         self.version
     }
 
-    /// How many entries the history has.
+    /// How many entries there are in all, those that came before the base counted.
     pub fn history_len(&self) -> u64
-        ensures { result ≡ length (found_of self.now ++ added_of self.now) }
+        ensures { result ≡ base_count_of self.now + length (found_of self.now ++ added_of self.now) }
     {
         self.count
+    }
+
+    /// How many entries the history lists: those before the base are left out.
+    pub fn listed(&self) -> u64
+        ensures { result ≡ length (found_of self.now ++ added_of self.now) }
+    {
+        self.count - self.base_count
+    }
+
+    /// How many entries came after the snapshot in use, or in all where no slot is open.
+    pub fn behind(&self) -> u64
+        ensures value { result ≡ behind_of self.now }
+        ensures few { result ≤ base_count_of self.now + length (found_of self.now ++ added_of self.now) }
+    {
+        self.count - self.snapshot
     }
 
     /// Whether a call of this store was answered `Fault`, or a restart of it began and didn't end.
@@ -53,8 +68,12 @@ impl<D: Disk, K: Kind> Store<D, K> {
             alloc: _,
             journal,
             version: _,
+            base_count: _,
+            base: _,
             count: _,
+            snapshot: _,
             state: _,
+            opened: _,
             found: _,
             added: _,
             is_open: _,

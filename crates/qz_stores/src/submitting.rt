@@ -1,9 +1,9 @@
 //! One entry more.
-ghost use Rattle.std.specs.Prelude.{◌≡◌, ◌≢◌, ◌++◌, ◌∷◌, [], length, IsOk, IfOk, OnOk, OnErr, IfErr, Ok, Err, Some, None, true, false, MatchOption};
+ghost use Rattle.std.specs.Prelude.{◌≡◌, ◌≢◌, ◌+◌, ◌++◌, ◌∷◌, [], length, IsOk, IfOk, OnOk, OnErr, IfErr, Ok, Err, Some, None, true, false, MatchOption};
 ghost use Rattle.qz_journal.specs.Layout.{IsPayload};
 ghost use Rattle.qz_stores.specs.Stores.{HasRoom, IsUnwritten, Appends, Submits};
 ghost use Rattle.qz_stores.specs.Kinds.{IsAccepted, submitted, entry_kind};
-ghost use Rattle.qz_stores.specs.View.{view, version_of, found_of, added_of, kept_of, state_of, IsAsBefore, LeavesEither};
+ghost use Rattle.qz_stores.specs.View.{view, added_of, behind_of, kept_of, state_of, IsOpenedAsBefore, IsAsBefore, LeavesHistories};
 
 use crate::{Kind, Store};
 use qz_civil::List;
@@ -22,18 +22,19 @@ pub struct Ready<C: Drop> {
 
 impl<D: Disk, K: Kind> Store<D, K> {
     /// Does one transaction, and answers its reply once its record is on the disk. The errors are decided in their
-    /// order, `Closed` and `Refused` without memory, and of the refusals first what the version of the store refuses; `NoMemory` comes only where the transaction would be accepted,
-    /// and there it may come before `JournalFull`. All memory is taken before the first device call. After an error
+    /// order, `Closed` and `Refused` without memory, and of the refusals first what the version of the store refuses;
+    /// `NoMemory` is returned only where the transaction would be accepted, and there it may be returned before `JournalFull`. All memory is taken before the first device call. After an error
     /// other than `Fault` all is as it was, and no device call was made.
     pub fn submit(&mut self, entry: K::Entry) -> Result<K::Reply, SubmitError>
         requires { K.kind.IsProper entry }
         ensures one { Submits (entry_kind K.kind) entry result (view self.old) (view self.new) }
         ensures unchanged { result ≢ Err SubmitError.Fault → OnErr result (IsAsBefore self.old self.new) }
-        ensures version { version_of self.new ≡ version_of self.old }
-        ensures found { found_of self.new ≡ found_of self.old }
+        ensures opened { IsOpenedAsBefore self.old self.new }
         ensures entries { OnOk result (added_of self.new ≡ added_of self.old ++ entry ∷ []) }
+        ensures behind { OnOk result (behind_of self.new ≡ behind_of self.old + 1) }
         ensures recorded { OnOk result (K.kind.IsRecordOf (K.kind.record_of entry) entry) }
-        ensures any_moment { D.honest → LeavesEither self.old self.new }
+        // A crash at any moment leaves the history before the call or the one after it.
+        ensures leaves { D.honest → LeavesHistories self.old self.new }
     {
         match self.prepare(&entry) {
             Ok(ready) => {
@@ -148,18 +149,19 @@ impl<D: Disk, K: Kind> Store<D, K> {
         ensures err { IfErr result (λ e. (e ≡ SubmitError.Fault) × Submits (entry_kind K.kind) entry (Err e) (view self.old) (view self.new)) }
         ensures answered { IfOk result (λ r. K.kind.answer (state_of self.old) entry ≡ Ok r.1) }
         ensures state { OnOk result (state_of self.new ≡ K.kind.after (state_of self.old) entry) }
-        ensures version { version_of self.new ≡ version_of self.old }
-        ensures found { found_of self.new ≡ found_of self.old }
+        ensures opened { IsOpenedAsBefore self.old self.new }
         ensures entries { OnOk result (added_of self.new ≡ added_of self.old ++ entry ∷ []) }
+        ensures behind { OnOk result (behind_of self.new ≡ behind_of self.old + 1) }
         ensures same { OnErr result (added_of self.new ≡ added_of self.old) }
-        ensures any_moment { D.honest → LeavesEither self.old self.new }
+        // A crash at any moment leaves the history before the call or the one after it.
+        ensures leaves { D.honest → LeavesHistories self.old self.new }
     {
         match self.journal.append(ready.record.as_slice()) {
             Ok(()) => {
                 let Ready { record: _, change } = ready;
                 let reply = self.state.commit(&entry, change);
                 self.added = Log::and(&self.added, &entry);
-                self.count = self.journal.payloads();
+                self.count += 1;
                 Ok((entry, reply))
             }
             // A fault: the journal is open, and the record has room.

@@ -1,11 +1,10 @@
 -- The law on open executions, over the steps of a script.
-use Rattle.std.proofs.Common.{ℕ, ℤ, List, [], refl}
+use Rattle.std.proofs.Common.{ℕ, ℤ, List, [], refl, arith}
 use Rattle.std.specs.Prelude.{Bool, true, ⊤}
 use Rattle.qz_io.specs.Outside.{Outside}
 use Rattle.qz_steps.specs.declared.steps.StepReply.{StepReply}
 use Rattle.qz_model.proofs.Kept.{valid-empty}
 use Rattle.qz_trigger_store.specs.Opening.{IsSound}
-use Rattle.qz_trigger_store.proofs.Appending.{begins_new}
 use Rattle.qz_cluster.specs.Steps.{ClusterState}
 use Rattle.qz_open.specs.Opened.{AreAlwaysAlone}
 use Rattle.qz_open.specs.Runs.{IsStart, AlwaysSparesOthers}
@@ -29,10 +28,11 @@ module _ (honest : Type 0) (s : Status) (is_own : Bool) (S : ClusterState) (afte
 new_sound : (m n : ℕ) → IsSound (new_cluster m n).triggers
 new_sound m n = record {
   version = 2;
-  begins = begins_new 2 refl;
+  begins = λ _. record { known = refl; count = refl; base = refl };
+  base = ∣ valid-empty 2 ∣₁;
   legal = tt;
   state = ∣ valid-empty 2 ∣₁;
-  placed = λ is. record { payloads = []; encode = ∣ tt ∣₁; gate = refl; count = refl };
+  counted = λ _. omega arith;
 }
 
 new_start : (m n : ℕ) → IsStart (new_cluster m n)

@@ -22,6 +22,7 @@ use Rattle.qz_top.specs.Times.{IsOfTimes}
 use Rattle.qz_top.specs.declared.statuses.Status.{Status}
 use Rattle.qz_top.specs.declared.statuses.Status.TheVariants as status
 use Rattle.qz_top.specs.declared.ended.Ended.{Ended}
+use Rattle.qz_top.proofs.NodeRestLaws.{rests_words}
 use Rattle.qz_top.proofs.NodeRunLaws.{told_no_words}
 
 pub done_at : {D : Type 0} {g : Ghosts D} (jobs jobs' : List JobMeaning) (triggers states : D) (e : Ended D g) (old new : Outside) (v w : Result Wish WordFault) → v ≡ w
@@ -72,7 +73,7 @@ script_words triggers states e old new fault (inr none) is = not_of_opening none
 
 pub run_words : {D : Type 0} {g : Ghosts D} (p : Plan) (jobs jobs' : List JobMeaning) (triggers states : D) (e : Ended D g) (old new : Outside) (fault : WordFault)
     → RanNodes p jobs jobs' triggers states e old new → e.status ≡ status.BadWords fault → ⊥
-run_words p jobs jobs' triggers states e old new fault (inl (inl ran)) is = told_no_words p ran.work e.status fault jobs jobs' ran.opened ran.end ran.told is ran.worked
+run_words p jobs jobs' triggers states e old new fault (inl (inl ran)) is = told_no_words p ran.work ran.told_as fault jobs jobs' ran.opened ran.worked_to ran.told (rests_words fault ran.told_as e.status _ _ ran.rests is) ran.worked
 run_words p jobs jobs' triggers states e old new fault (inl (inr was)) is = let found : status.BadWords fault ≡ status.OldStore = sym is ∙ was.0.status_is in absurd cc
 run_words p jobs jobs' triggers states e old new fault (inr none) is = not_of_opening none.0.store none.0.error fault (sym none.0.status_is ∙ is)
 

@@ -80,9 +80,9 @@ DidFront-more honest at commands left rest c R S T a b e next p step = record {
 }
 
 -- the next one ends it
-pub DidFront-end : (honest : Type 0) (at : Option ℤ) (commands left rest : List Command) (c : Command) (end : LineEnd) (R S T : RunState) (a b e : Outside) → left ≡ c ∷ rest
-    → DidFront honest at commands left R S a b → StepDone honest (Err end) (given_command at c) S T b e → DidSome honest end at commands R T a e
-DidFront-end honest at commands left rest c end R S T a b e next p step = record {
+pub DidFront-end : (honest since : Type 0) (at : Option ℤ) (commands left rest : List Command) (c : Command) (end : LineEnd) (R S T : RunState) (a b e : Outside) → since ≡ honest → left ≡ c ∷ rest
+    → DidFront honest at commands left R S a b → StepDone since (Err end) (given_command at c) S T b e → DidSome honest end at commands R T a e
+DidFront-end honest since at commands left rest c end R S T a b e same next p step = record {
   done = p.done;
   next = c;
   left = rest;
@@ -90,7 +90,7 @@ DidFront-end honest at commands left rest c end R S T a b e next p step = record
   between = S;
   then = b;
   did = p.did;
-  ended = step;
+  ended = subst (λ (P : Type 0). StepDone P (Err end) (given_command at c) S T b e) same step;
 }
 
 -- none is left

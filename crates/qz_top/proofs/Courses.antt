@@ -20,10 +20,12 @@ use Rattle.qz_top.specs.Calls.{begun, HasSoundStores}
 use Rattle.qz_top.specs.Clients.{given_command, client_steps, DidCommands}
 use Rattle.qz_top.specs.LineOutcomes.{step_at, StepDone}
 use Rattle.qz_top.specs.Loads.{AloneInLoad, AloneInDocument, DidDocument, Loads}
+use Rattle.qz_top.specs.Resting.{MayBreak}
 use Rattle.qz_top.specs.Trails.{RunState, RanSteps}
 use Rattle.qz_top.specs.declared.line_handler.LineEnd.{LineEnd}
 use Rattle.qz_top.specs.declared.line_handler.LineEnd.TheVariants as ends
 use Rattle.qz_top.specs.declared.statuses.Status.{Status}
+use Rattle.qz_top.proofs.RestLaws.{rests_may, rested_trail, rested_sound}
 use Rattle.qz_top.proofs.RunLaws.{run_sound, last_sound}
 use Rattle.qz_top.proofs.TrailLaws.{RanSteps-none, RanSteps-more}
 
@@ -33,9 +35,9 @@ pub record CutAt (honest : Type 0) (last after : RunState) : Type 0 where
   pub stop : StepEnd
   pub is : IsCutShort honest step stop last.cluster after.cluster
 
--- nothing was done after the last answer, or a step was cut short
+-- nothing was done after the last answer, or a checkpoint was made, or a step was cut short
 abbrev pub CourseEnd : Type 0 → RunState → RunState → Type 0
-CourseEnd honest last after = (after.cluster ≡ last.cluster) ⊎ CutAt honest last after
+CourseEnd honest last after = (after.cluster ≡ last.cluster) ⊎ MayBreak last after ⊎ CutAt honest last after
 
 -- steps that were done, and what was left after the last one
 pub record Course (honest : Type 0) (before after : RunState) : Type 0 where
@@ -60,10 +62,12 @@ module _ (honest : Type 0) (before : RunState) (not_own : before.is_own ≡ fals
   some_course ends.NoMemory given steps replies between after old new ran gave_up =
       record { steps = steps; replies = replies; last = between; ran = ran; trail = gave_up.nothing.trail; end = inl (gave_up.nothing.stays (ran.own ∙ not_own)) }
   some_course (ends.CutShort end) given steps replies between after old new ran cut =
-      record { steps = steps; replies = replies; last = between; ran = ran; trail = cut.cut.trail; end = inr (record { step = step_at given cut.at; stop = end; is = cut.cut.cut }) }
+      record { steps = steps; replies = replies; last = between; ran = ran; trail = cut.cut.trail; end = inr (inr (record { step = step_at given cut.at; stop = end; is = cut.cut.cut })) }
 
   document_course : (s : Status) (document : Document) (after : RunState) (old new : Outside) → DidDocument honest s document before after old new → Course honest before after
-  document_course s document after old new (inl all) = all_course _ _ after all.did.steps
+  document_course s document after old new (inl all) =
+      let may = rests_may all.last after s all.rests in
+      record { steps = _; replies = _; last = all.last; ran = all.did.steps; trail = rested_trail all.last after may; end = inr (inl may) }
   document_course s document after old new (inr first) = some_course first.end (given_command document.at first.did.next) _ _ first.did.between after _ _ first.did.did.steps first.did.ended
 
   -- a load is a course
@@ -86,7 +90,8 @@ module _ (honest : Type 0) (S : ClusterState) (after : RunState) (opened : IsOpe
   sound_in_end = left_sound course.end where
     left_sound : CourseEnd honest course.last after → HasSoundStores after.cluster
     left_sound (inl same) = subst HasSoundStores (sym same) last_sound_in
-    left_sound (inr cut) = cut_sound honest cut.step cut.stop course.last.cluster after.cluster cut.is last_sound_in
+    left_sound (inr (inl may)) = rested_sound course.last after may last_sound_in
+    left_sound (inr (inr cut)) = cut_sound honest cut.step cut.stop course.last.cluster after.cluster cut.is last_sound_in
 
 -- Open executions.
 module _ (honest : Type 0) (S : ClusterState) (start : IsStart S) where

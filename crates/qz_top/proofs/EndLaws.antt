@@ -1,5 +1,5 @@
 -- How a script ends: the run that its lines make, by what ended them.
-use Rattle.std.proofs.Common.{◌≡◌, ◌≤◌, ◌<◌, ℕ, ◌+◌, ℤ, Bool, true, List, [], ◌∷◌, ◌++◌, length, take, drop, Option, Some, None, refl, sym, ap, ◌∙◌, subst, arith, append_assoc}
+use Rattle.std.proofs.Common.{◌≡◌, inl, ◌≤◌, ◌<◌, ℕ, ◌+◌, ℤ, Bool, true, List, [], ◌∷◌, ◌++◌, length, take, drop, Option, Some, None, refl, sym, ap, ◌∙◌, subst, arith, append_assoc}
 use Rattle.std.specs.Prelude.{⊤, Ok, Err, nat_lt}
 use Rattle.std.specs.List.{AllByRecursion}
 use Rattle.std.specs.Io.KnownBytes.{Appends}
@@ -31,11 +31,14 @@ use Rattle.qz_top.specs.Handling.{Does}
 use Rattle.qz_top.specs.Lines.{line_meaning, IsGood, readings_of, first_bad, first_bad_from}
 use Rattle.qz_top.specs.Moments.{Shows}
 use Rattle.qz_top.specs.Runs.{ReadToBad, WrotePart, Clocked, IsOfScript, IsRun}
-use Rattle.qz_top.specs.Seen.{view}
+use Rattle.qz_cluster.specs.View.{IsTold}
+use Rattle.qz_top.specs.Resting.{RestsRun}
+use Rattle.qz_top.specs.Seen.{view, told_of}
 use Rattle.qz_top.specs.Statuses.{Finishes}
 use Rattle.qz_top.specs.Trails.{texts, RunState}
 use Rattle.qz_top.specs.LineOutcomes.{Ran, RanPart, IsBad}
 use Rattle.qz_top.proofs.LineLaws.{first_bad_from-append, first_bad_from-bad, first_bad_from-many}
+use Rattle.qz_top.proofs.RestLaws.{nothing_so}
 use Rattle.qz_top.proofs.MomentLaws.{Shows-none, Shows-more, Shows-less}
 use Rattle.qz_top.proofs.OutcomeLaws.{Ran-none, Ran-more}
 
@@ -146,22 +149,25 @@ module _ {D K C : Type 0} (g : Ghosts D) (k : sink.Ghosts K) (c : clock.Ghosts C
   beside s = without_input k c s.out s.rest
 
   -- some run of lines
-  abbrev pub SomeRun : Status → RunState → RunState → Outside → Outside → Type 0
-  SomeRun s R S old new = (lines : List (List ℕ)) × (readings : List ℤ) × (replies : List StepReply) × IsRun g.honest s R S old new lines readings replies
+  abbrev pub SomeRun : Type 0 → Status → RunState → RunState → Outside → Outside → Type 0
+  SomeRun told s R S old new = (lines : List (List ℕ)) × (readings : List ℤ) × (replies : List StepReply) × IsRun told s R S old new lines readings replies
 
   -- lines that were done and answered
   pub record AllRan (lines : List (List ℕ)) (a b : State) : Type 0 where
     pub readings : List ℤ
-    pub ran : Ran g.honest lines readings (view a.handler) (view b.handler) (beside a) (beside b)
+    pub ran : Ran (told_of a.handler) lines readings (view a.handler) (view b.handler) (beside a) (beside b)
+    pub begun : b.handler.begun.value ≡ a.handler.begun.value
     pub later : k.faults a.out ≤ k.faults b.out
 
   pub all_ran : (lines : List (List ℕ)) (a b : State) → AllHandled (Does {g = g} k c) lines a b → AllRan lines a b
-  all_ran [] a b same = subst (AllRan [] a) (sym same) (record { readings = []; ran = Ran-none (view a.handler) (beside a); later = omega arith })
+  all_ran [] a b same = subst (AllRan [] a) (sym same) (record { readings = []; ran = Ran-none (view a.handler) (beside a); begun = refl; later = omega arith })
   all_ran (line ∷ lines) a b (between, one, others) =
       let more = all_ran lines between b others in
       record {
         readings = one.done.0 ++ more.readings;
-        ran = Ran-more (line ∷ []) lines one.done.0 more.readings (view a.handler) (view between.handler) (view b.handler) (beside a) (beside between) (beside b) one.done.1 more.ran;
+        ran = Ran-more (line ∷ []) lines one.done.0 more.readings (view a.handler) (view between.handler) (view b.handler) (beside a) (beside between) (beside b) one.done.1
+            (subst (λ (P : Type 0). Ran P lines more.readings (view between.handler) (view b.handler) (beside between) (beside b)) (ap IsTold one.shows.begun) more.ran);
+        begun = more.begun ∙ one.shows.begun;
         later = omega (arith, one.later, more.later);
       }
 
@@ -169,11 +175,11 @@ module _ {D K C : Type 0} (g : Ghosts D) (k : sink.Ghosts K) (c : clock.Ghosts C
   pub ran_to : (lines : List (List ℕ)) (a s b : State) → b ≡ s → AllHandled (Does {g = g} k c) lines a s → AllRan lines a b
   ran_to lines a s b same handled = subst (AllRan lines a) (sym same) (all_ran lines a s handled)
 
-  -- All lines were done, and then the output was flushed, or that failed.
-  pub IsRun-whole : (s : Status) (closed : Bool) (i j : Option (List ℕ)) (a b : State) (out : K) (m n : ℕ) → HandlesLines (Does {g = g} k c) (Ok tt) i j a b
-      → closed ≡ is_closed (view b.handler).cluster → Finishes s closed (output_alone k b.out) (output_alone k out) m n
-      → SomeRun s (view a.handler) (view b.handler) (around i a.out a.rest) (around j out b.rest)
-  IsRun-whole status.Ok closed i j a b out m n lines tells finishes =
+  -- All lines were done, a checkpoint was made where one was due, and then the output was flushed, or that failed.
+  pub IsRun-whole : (s : Status) (i j : Option (List ℕ)) (a b : State) (after : RunState) (out : K) (m n : ℕ) → HandlesLines (Does {g = g} k c) (Ok tt) i j a b
+      → RestsRun s (view b.handler) after → Finishes s (is_closed after.cluster) (output_alone k b.out) (output_alone k out) m n
+      → SomeRun (told_of a.handler) s (view a.handler) after (around i a.out a.rest) (around j out b.rest)
+  IsRun-whole status.Ok i j a b after out m n lines rests finishes =
       let all = ran_to lines.lines a lines.state b lines.ends.state_is lines.handled in (
         lines.lines,
         all.readings,
@@ -183,15 +189,15 @@ module _ {D K C : Type 0} (g : Ghosts D) (k : sink.Ghosts K) (c : clock.Ghosts C
           good = all.ran.did.good;
           last = view b.handler;
           steps = all.ran.did.steps;
-          end = refl;
-          closed = sym tells ∙ finishes.0;
+          end = rests;
+          closed = finishes.0;
           reads = λ bytes is. let whole = lines.ends.all bytes is in record { all = whole; no_bad = ap first_bad whole ∙ none_bad lines.lines all.ran.did.good lines.ends.within; ended = lines.ends.ended };
           clocked = exact_readings status.Ok _ _ lines.lines all.readings all.ran.did.count all.ran.did.told;
           writes = wrote_nothing (k.held a.out) (k.held b.out) (k.held out) _ all.ran.written finishes.1.0;
           hands_on = finishes.1.1;
         },
       )
-  IsRun-whole status.DiskFault closed i j a b out m n lines tells finishes =
+  IsRun-whole status.DiskFault i j a b after out m n lines rests finishes =
       let all = ran_to lines.lines a lines.state b lines.ends.state_is lines.handled in (
         lines.lines,
         all.readings,
@@ -201,15 +207,15 @@ module _ {D K C : Type 0} (g : Ghosts D) (k : sink.Ghosts K) (c : clock.Ghosts C
           good = all.ran.did.good;
           last = view b.handler;
           steps = all.ran.did.steps;
-          end = refl;
-          closed = sym tells ∙ finishes.0;
+          end = rests;
+          closed = finishes.0;
           reads = λ bytes is. let whole = lines.ends.all bytes is in record { all = whole; no_bad = ap first_bad whole ∙ none_bad lines.lines all.ran.did.good lines.ends.within; ended = lines.ends.ended };
           clocked = exact_readings status.DiskFault _ _ lines.lines all.readings all.ran.did.count all.ran.did.told;
           writes = wrote_nothing (k.held a.out) (k.held b.out) (k.held out) _ all.ran.written finishes.1.0;
           hands_on = finishes.1.1;
         },
       )
-  IsRun-whole status.WriteFault closed i j a b out m n lines tells finishes =
+  IsRun-whole status.WriteFault i j a b after out m n lines rests finishes =
       let all = ran_to lines.lines a lines.state b lines.ends.state_is lines.handled in (
         lines.lines,
         all.readings,
@@ -219,7 +225,7 @@ module _ {D K C : Type 0} (g : Ghosts D) (k : sink.Ghosts K) (c : clock.Ghosts C
           good = all.ran.did.good;
           last = view b.handler;
           steps = all.ran.did.steps;
-          end = refl;
+          end = rests;
           closed = tt;
           reads = λ bytes is. record { rest = []; all = lines.ends.all bytes is ∙ sym (append-nil lines.lines) };
           clocked = exact_readings status.WriteFault _ _ lines.lines all.readings all.ran.did.count all.ran.did.told;
@@ -227,17 +233,34 @@ module _ {D K C : Type 0} (g : Ghosts D) (k : sink.Ghosts K) (c : clock.Ghosts C
           hands_on = tt;
         },
       )
-  IsRun-whole (status.BadWords fault) closed i j a b out m n lines tells finishes = absurd finishes
-  IsRun-whole (status.BadLine line fault) closed i j a b out m n lines tells finishes = absurd finishes
-  IsRun-whole status.ReadFault closed i j a b out m n lines tells finishes = absurd finishes
-  IsRun-whole (status.NotAStore store) closed i j a b out m n lines tells finishes = absurd finishes
-  IsRun-whole (status.Damaged store at) closed i j a b out m n lines tells finishes = absurd finishes
-  IsRun-whole (status.JournalFull need room) closed i j a b out m n lines tells finishes = absurd finishes
-  IsRun-whole status.NoMemory closed i j a b out m n lines tells finishes = absurd finishes
-  IsRun-whole status.Exists closed i j a b out m n lines tells finishes = absurd finishes
-  IsRun-whole (status.Budget firings) closed i j a b out m n lines tells finishes = absurd finishes
-  IsRun-whole (status.TooMany count) closed i j a b out m n lines tells finishes = absurd finishes
-  IsRun-whole status.OldStore closed i j a b out m n lines tells finishes = absurd finishes
+  IsRun-whole status.NoMemory i j a b after out m n lines rests finishes =
+      let all = ran_to lines.lines a lines.state b lines.ends.state_is lines.handled in (
+        lines.lines,
+        all.readings,
+        all.ran.did.replies,
+        record {
+          called = tt;
+          good = all.ran.did.good;
+          last = view b.handler;
+          steps = all.ran.did.steps;
+          end = inl (nothing_so _ _ rests);
+          closed = tt;
+          reads = λ bytes is. record { rest = []; all = lines.ends.all bytes is ∙ sym (append-nil lines.lines) };
+          clocked = exact_readings status.NoMemory _ _ lines.lines all.readings all.ran.did.count all.ran.did.told;
+          writes = wrote_whole (k.held a.out) (k.held out) _ (wrote_nothing (k.held a.out) (k.held b.out) (k.held out) _ all.ran.written finishes);
+          hands_on = tt;
+        },
+      )
+  IsRun-whole (status.BadWords fault) i j a b after out m n lines rests finishes = absurd finishes
+  IsRun-whole (status.BadLine line fault) i j a b after out m n lines rests finishes = absurd finishes
+  IsRun-whole status.ReadFault i j a b after out m n lines rests finishes = absurd finishes
+  IsRun-whole (status.NotAStore store) i j a b after out m n lines rests finishes = absurd finishes
+  IsRun-whole (status.Damaged store at) i j a b after out m n lines rests finishes = absurd finishes
+  IsRun-whole (status.JournalFull need room) i j a b after out m n lines rests finishes = absurd finishes
+  IsRun-whole status.Exists i j a b after out m n lines rests finishes = absurd finishes
+  IsRun-whole (status.Budget firings) i j a b after out m n lines rests finishes = absurd finishes
+  IsRun-whole (status.TooMany count) i j a b after out m n lines rests finishes = absurd finishes
+  IsRun-whole status.OldStore i j a b after out m n lines rests finishes = absurd finishes
 
   -- the output's count of faults while lines are done
   pub faults_later : (i j : Option (List ℕ)) (a b : State) → HandlesLines (Does {g = g} k c) (Ok tt) i j a b → k.faults a.out ≤ k.faults b.out
@@ -258,8 +281,8 @@ module _ {D K C : Type 0} (g : Ghosts D) (k : sink.Ghosts K) (c : clock.Ghosts C
   shown_to lines a s b same handled =
       subst (λ (x : State). Shows ⊥ a.handler x.handler) (sym same) (Shows-less ⊤ ⊥ a.handler s.handler (all_shown lines a s handled) (λ is. tt))
 
-  pub whole_shown : (i j : Option (List ℕ)) (a b : State) → HandlesLines (Does {g = g} k c) (Ok tt) i j a b → Shows ⊥ a.handler b.handler
-  whole_shown i j a b lines = shown_to lines.lines a lines.state b lines.ends.state_is lines.handled
+  pub whole_shown : (i j : Option (List ℕ)) (a b : State) → HandlesLines (Does {g = g} k c) (Ok tt) i j a b → Shows ⊤ a.handler b.handler
+  whole_shown i j a b lines = subst (λ (x : State). Shows ⊤ a.handler x.handler) (sym lines.ends.state_is) (all_shown lines.lines a lines.state lines.handled)
 
 pub finish_called : (s : Status) (closed : Bool) (old new : Outside) (m n : ℕ) → Finishes s closed old new m n → IsOfScript s
 finish_called status.Ok closed old new m n finishes = tt
@@ -271,7 +294,7 @@ finish_called status.ReadFault closed old new m n finishes = absurd finishes
 finish_called (status.NotAStore store) closed old new m n finishes = absurd finishes
 finish_called (status.Damaged store at) closed old new m n finishes = absurd finishes
 finish_called (status.JournalFull need room) closed old new m n finishes = absurd finishes
-finish_called status.NoMemory closed old new m n finishes = absurd finishes
+finish_called status.NoMemory closed old new m n finishes = tt
 finish_called status.Exists closed old new m n finishes = absurd finishes
 finish_called (status.Budget firings) closed old new m n finishes = absurd finishes
 finish_called (status.TooMany count) closed old new m n finishes = absurd finishes

@@ -8,7 +8,7 @@ use Rattle.qz_disk.specs.declared.disk.Disk.{Ghosts}
 use Rattle.qz_disk.proofs.Moments.{then_leaves}
 use Rattle.qz_io.specs.Outside.{Outside}
 use Rattle.qz_types.specs.Entries.{EntryData}
-use Rattle.qz_types.specs.Tables.{SchedulerTables, empty}
+use Rattle.qz_types.specs.Tables.{SchedulerTables}
 use Rattle.qz_types.specs.declared.commands.Actor.TheVariants as actor
 use Rattle.qz_types.specs.declared.commands.Command.{Command}
 use Rattle.qz_types.specs.declared.errors.SubmitError.{SubmitError}
@@ -23,14 +23,15 @@ use Rattle.qz_generator.specs.declared.limits.TheConstants.{FIRST_MOMENT}
 use Rattle.qz_model.specs.History.{History, replay, replay_from, replies_from}
 use Rattle.qz_stores.specs.Stores.{Same, Submits}
 use Rattle.qz_node.specs.Jobs.{JobMeaning}
-use Rattle.qz_trigger_store.specs.Bytes.{Stands, MayBe}
+use Rattle.qz_trigger_store.specs.Bytes.{Whole, Stands, MayBe}
 use Rattle.qz_trigger_store.specs.Entries.{TriggerState, trigger_entry}
-use Rattle.qz_trigger_store.specs.View.{view, version_of, found_of, added_of, replies_of, disk_state}
+use Rattle.qz_trigger_store.specs.View.{view, base_count_of, base_of, found_of, added_of, replies_of, disk_state}
 use Rattle.qz_trigger_store.specs.declared.stores.TriggerStore.{TriggerStore}
 use Rattle.qz_checkin.specs.Entries.{StatesState}
 use Rattle.qz_cluster.specs.Script.{entry_of}
 use Rattle.qz_cluster.specs.Steps.{ClusterState, is_closed, is_closed_for, IsStep}
 use Rattle.qz_cluster.specs.Steps as cluster
+use Rattle.qz_cluster.specs.declared.errors.StepEnd.{StepEnd}
 use Rattle.qz_cluster.specs.declared.errors.StepEnd.TheVariants as ends
 use Rattle.qz_cluster.proofs.Closings.{fault_rose}
 use Rattle.qz_cluster.proofs.Counts.{NoneFalls}
@@ -40,12 +41,14 @@ use Rattle.qz_run_stores.specs.Ways.{first_entries, HasOnTheWay, KeepsTriggers}
 use Rattle.qz_top.specs.Clients.{IsOfClient}
 use Rattle.qz_top.specs.Generating.{first_step, Filled, StepEnded, FilledPart, FillEnded, after_answer, beside, summary_line_of, plan_of, Generated, Generates}
 use Rattle.qz_top.specs.NodeRuns.{IsOfNodes, WritesRun}
+use Rattle.qz_top.specs.Statuses.{cut_status}
 use Rattle.qz_top.specs.declared.ended.Ended.{Ended}
 use Rattle.qz_top.specs.declared.gen_on_disk.Workload.{Workload}
 use Rattle.qz_top.specs.declared.statuses.Status.{Status}
 use Rattle.qz_top.specs.declared.statuses.Status.TheVariants as status
 use Rattle.qz_top.proofs.AskedLaws.{not_of_opening}
 use Rattle.qz_top.proofs.LoadLaws.{cut_no_fault, cut_no_words}
+use Rattle.qz_top.proofs.NodeRestLaws.{rests_words}
 use Rattle.qz_top.proofs.NodeRunLaws.{told_no_words}
 use Rattle.qz_top.proofs.RunLaws.{OneRose, run_counts, then_rose}
 use Rattle.qz_top.proofs.TrailLaws.{last_of-append, StepsDone-append}
@@ -193,7 +196,7 @@ module _ {D : Type 0} {g : Ghosts D} where
   sums_up : (t : TriggerStore D g) → found_of t ≡ [] → summary_text (summary_of (added_of t) (replies_of t) (replay (view t).history)) ≡ summary_line_of (view t).history
   sums_up t none =
       let T : SchedulerTables = replay (view t).history in
-      let new : SchedulerTables = empty (version_of t) in
+      let new : SchedulerTables = base_of t in
       let replied : replies_of t ≡ replies_from new (added_of t) = ap (λ (es : List EntryData). replies_from (replay_from new es) (added_of t)) none in
       ap (λ (rs : List Reply). summary_text (summary_of (added_of t) rs T)) replied
       ∙ ap (λ (es : List EntryData). summary_text (summary_of (es ++ added_of t) (replies_from new (es ++ added_of t)) T)) (sym none)
@@ -213,38 +216,47 @@ entries_grow s t e (Err submit.NoMemory) done = let same = ap (λ (h : History).
 entries_grow s t e (Err submit.Fault) done = let same = ap (λ (h : History). length h.entries) done.history in omega (arith, same)
 
 module _ {D : Type 0} {g : Ghosts D} where
+  -- both begin with one base
+  abbrev pub HasSameBase : TriggerStore D g → TriggerStore D g → Type 0
+  HasSameBase b c = (base_count_of c ≡ base_count_of b) × (base_of c ≡ base_of b)
+
   -- the first entries of a history are those of the one that it went on from
-  first_of_both : (b c : TriggerStore D g) (added : List EntryData) (k : ℕ) → version_of c ≡ version_of b → (view c).history.entries ≡ (view b).history.entries ++ added → k ≤ length (view b).history.entries → first_entries k (view c).history ≡ first_entries k (view b).history
-  first_of_both b c added k version entries within i =
-      record (view b).history { base = empty (version i); entries = (ap (take k) entries ∙ take-append-le k (view b).history.entries added within) i }
+  first_of_both : (b c : TriggerStore D g) (added : List EntryData) (k : ℕ) → HasSameBase b c → (view c).history.entries ≡ (view b).history.entries ++ added → k ≤ length (view b).history.entries → first_entries k (view c).history ≡ first_entries k (view b).history
+  first_of_both b c added k same entries within i =
+      record { base_count = same.0 i; base = same.1 i; entries = (ap (take k) entries ∙ take-append-le k (view b).history.entries added within) i }
 
   whole_of : (b : TriggerStore D g) → first_entries (length (view b).history.entries) (view b).history ≡ (view b).history
   whole_of b i = record (view b).history { entries = take-length (view b).history.entries i }
 
   -- an open store has no undecided entry
-  stands_of : (b : TriggerStore D g) (bytes : List ℕ) → (view b).is_open ≡ true → MayBe (view b).history (view b).undecided bytes → Stands bytes (view b).history
-  stands_of b bytes opened may = subst (λ (u : Option EntryData). MayBe (view b).history u bytes) (b.store.settled opened) may
+  stands_of : (w : Whole) (b : TriggerStore D g) (bytes : List ℕ) → (view b).is_open ≡ true → MayBe w (view b).history (view b).undecided bytes → Stands w bytes (view b).history
+  stands_of w b bytes opened may = subst (λ (u : Option EntryData). MayBe w (view b).history u bytes) (b.store.settled opened) may
 
-  first_way : (a b c : TriggerStore D g) (added : List EntryData) (bytes : List ℕ) → version_of c ≡ version_of b → (view b).is_open ≡ true → length (view a).history.entries ≤ length (view b).history.entries
-      → (view c).history.entries ≡ (view b).history.entries ++ added → HasOnTheWay (view a) (view b) bytes → HasOnTheWay (view a) (view c) bytes
-  first_way a b c added bytes version opened within entries (inl on) =
+  first_way : (w : Whole) (a b c : TriggerStore D g) (added : List EntryData) (bytes : List ℕ) → HasSameBase b c → (view b).is_open ≡ true → length (view a).history.entries ≤ length (view b).history.entries
+      → (view c).history.entries ≡ (view b).history.entries ++ added → HasOnTheWay w (view a) (view b) bytes → HasOnTheWay w (view a) (view c) bytes
+  first_way w a b c added bytes same opened within entries (inl on) =
       let longer : length (view b).history.entries ≤ length (view c).history.entries = omega (arith, ap length entries, length-append (view b).history.entries added) in
-      inl (on.0, on.1, omega (arith, on.2, longer), subst (Stands bytes) (sym (first_of_both b c added on.0 version entries on.2)) on.3)
-  first_way a b c added bytes version opened within entries (inr may) =
+      inl (on.0, on.1, omega (arith, on.2, longer), subst (Stands w bytes) (sym (first_of_both b c added on.0 same entries on.2)) on.3)
+  first_way w a b c added bytes same opened within entries (inr may) =
       let longer : length (view b).history.entries ≤ length (view c).history.entries = omega (arith, ap length entries, length-append (view b).history.entries added) in
       let n : ℕ = length (view b).history.entries in
-      inl (n, within, longer, subst (Stands bytes) (sym (first_of_both b c added n version entries (omega arith) ∙ whole_of b)) (stands_of b bytes opened may))
+      inl (n, within, longer, subst (Stands w bytes) (sym (first_of_both b c added n same entries (omega arith) ∙ whole_of b)) (stands_of w b bytes opened may))
 
-  second_way : (a b c : TriggerStore D g) (bytes : List ℕ) → length (view a).history.entries ≤ length (view b).history.entries → HasOnTheWay (view b) (view c) bytes → HasOnTheWay (view a) (view c) bytes
-  second_way a b c bytes within (inl on) = inl (on.0, omega (arith, within, on.1), on.2, on.3)
-  second_way a b c bytes within (inr may) = inr may
+  second_way : (w : Whole) (a b c : TriggerStore D g) (bytes : List ℕ) → length (view a).history.entries ≤ length (view b).history.entries → HasOnTheWay w (view b) (view c) bytes → HasOnTheWay w (view a) (view c) bytes
+  second_way w a b c bytes within (inl on) = inl (on.0, omega (arith, within, on.1), on.2, on.3)
+  second_way w a b c bytes within (inr may) = inr may
 
   -- the nodes' work comes after the commands
-  pub kept_on : (a b c : TriggerStore D g) (added : List EntryData) → version_of c ≡ version_of b → (view b).is_open ≡ true → length (view a).history.entries ≤ length (view b).history.entries
+  pub kept_on : (a b c : TriggerStore D g) (added : List EntryData) → HasSameBase b c → (view b).is_open ≡ true → length (view a).history.entries ≤ length (view b).history.entries
       → (view c).history.entries ≡ (view b).history.entries ++ added → ∥ KeepsTriggers a b ∥₁ → ∥ KeepsTriggers b c ∥₁ → ∥ KeepsTriggers a c ∥₁
-  kept_on a b c added version opened within entries first second =
-      ∥∥₁_elim first squash₁ (λ p. ∥∥₁_map second (λ q honest. then_leaves (disk_state a) (disk_state b) (disk_state c) _ _ _ (p honest) (q honest)
-      (λ bytes was. first_way a b c added bytes version opened within entries was) (λ bytes is. second_way a b c bytes within is)))
+  kept_on a b c added same opened within entries first second =
+      ∥∥₁_elim first squash₁ (λ p. ∥∥₁_map second (λ q honest w on.
+      let front = p honest w on in
+      let back = q honest w front.0 in (
+        back.0,
+        then_leaves (disk_state a) (disk_state b) (disk_state c) _ _ _ front.1 back.1
+            (λ bytes was. first_way w a b c added bytes same opened within entries was) (λ bytes is. second_way w a b c bytes within is),
+      )))
 
 -- Statuses that `gen` doesn't end with.
 
@@ -253,6 +265,19 @@ of_nodes_reads s called is = subst IsOfNodes is called
 
 pub of_nodes_writes : (s : Status) → IsOfNodes s → s ≡ status.WriteFault → ⊥
 of_nodes_writes s called is = subst IsOfNodes is called
+
+cut_no_ok : (end : StepEnd) → status.Ok ≡ cut_status end → ⊥
+cut_no_ok (ends.JournalFull need room) is = cc
+cut_no_ok (ends.NotAStore store) is = cc
+cut_no_ok (ends.Damaged store at) is = cc
+cut_no_ok ends.NoMemory is = cc
+
+pub fill_no_ok : (honest : Type 0) (commands : List Command) (S T : ClusterState) → FillEnded honest status.Ok commands S T → ⊥
+fill_no_ok honest commands S T (inl none) = let is = none.starved in cc
+fill_no_ok honest commands S T (inr part) = ended part.ended where
+  ended : StepEnded honest status.Ok (first_step part.next) part.between T → ⊥
+  ended (inl cut) = cut_no_ok cut.end cut.status_is
+  ended (inr met) = let is = met.status_is in cc
 
 fill_no_words : (honest : Type 0) (fault : WordFault) (commands : List Command) (S T : ClusterState) → FillEnded honest (status.BadWords fault) commands S T → ⊥
 fill_no_words honest fault commands S T (inl none) = let is = none.starved in cc
@@ -269,5 +294,7 @@ gen_words {g = g} w jobs jobs' triggers states e old new fault (inl ran) is = di
   did (inr (inl was)) = let found : status.BadWords fault ≡ status.OldStore = sym is ∙ was.status_is in cc
   did (inr (inr (inl part))) =
       fill_no_words g.honest fault (generated w.seed w.jobs) ran.opened ran.end (subst (λ (s : Status). FillEnded g.honest s (generated w.seed w.jobs) ran.opened ran.end) is part.ended)
-  did (inr (inr (inr whole))) = told_no_words (plan_of w.days) whole.work e.status fault jobs jobs' whole.between ran.end whole.told is whole.worked
+  did (inr (inr (inr whole))) =
+      let done = whole.ran in
+      told_no_words (plan_of w.days) done.work done.told_as fault jobs jobs' whole.between done.worked_to done.told (rests_words fault done.told_as e.status _ _ done.rests is) done.worked
 gen_words w jobs jobs' triggers states e old new fault (inr none) is = not_of_opening none.0.store none.0.error fault (sym none.0.status_is ∙ is)

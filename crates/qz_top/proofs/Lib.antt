@@ -1,5 +1,6 @@
 pub mod AloneLaws
 pub mod AskedLaws
+pub mod CheckedStores
 pub mod ClientLaws
 pub mod Courses
 pub mod EndLaws
@@ -11,13 +12,17 @@ pub mod LossLaws
 pub mod MakingLaws
 pub mod MigratingLaws
 pub mod MomentLaws
+pub mod NodeRestLaws
 pub mod NodeRunLaws
 pub mod OpenedLaws
 pub mod OutcomeLaws
 pub mod Pieces
+pub mod RestLaws
 pub mod RunLaws
+pub mod SameStores
 pub mod ScheduleLaws
 pub mod ShownLaws
 pub mod StopLaws
 pub mod TellingLaws
 pub mod TrailLaws
+pub mod Under

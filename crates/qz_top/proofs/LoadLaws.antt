@@ -1,5 +1,5 @@
 -- How a load may end.
-use Rattle.std.proofs.Common.{◌≡◌, ◌⊎◌, inl, inr, ◌≤◌, ℕ, ℤ, List, false, sym, ap, ◌∙◌, subst}
+use Rattle.std.proofs.Common.{◌≡◌, ◌⊎◌, inl, inr, ◌≤◌, ℕ, ℤ, List, false, sym, ◌∙◌, subst}
 use Rattle.qz_civil.specs.Causes.{Rose}
 use Rattle.qz_io.specs.Outside.{Outside}
 use Rattle.qz_disk.specs.declared.disk.Disk.{Ghosts}
@@ -8,11 +8,12 @@ use Rattle.qz_words.specs.declared.wishes.WordFault.{WordFault}
 use Rattle.qz_steps.specs.declared.steps.StepReply.{StepReply}
 use Rattle.qz_trigger_store.specs.Opening.{IsOpened}
 use Rattle.qz_checkin.specs.Opening.{IsOpened as AreOpened}
-use Rattle.qz_cluster.specs.Steps.{ClusterState, is_closed}
+use Rattle.qz_cluster.specs.Steps.{ClusterState}
 use Rattle.qz_cluster.specs.declared.errors.StepEnd.{StepEnd}
 use Rattle.qz_cluster.specs.declared.errors.StepEnd.TheVariants as step
 use Rattle.qz_top.specs.Asked.{RanLoad, RanList}
 use Rattle.qz_top.specs.Calls.{begun}
+use Rattle.qz_top.specs.Found.{IsTold}
 use Rattle.qz_top.specs.Lists.{WritesText, lines_of}
 use Rattle.qz_top.specs.Loads.{DidDocument, Loads}
 use Rattle.qz_top.specs.Runs.{IsRun}
@@ -24,8 +25,7 @@ use Rattle.qz_top.specs.declared.line_handler.LineEnd.TheVariants as ends
 use Rattle.qz_top.specs.declared.statuses.Status.{Status}
 use Rattle.qz_top.specs.declared.statuses.Status.TheVariants as status
 use Rattle.qz_top.proofs.AskedLaws.{not_of_opening}
-use Rattle.qz_top.proofs.OpenedLaws.{opened_ready, rose_from_first}
-use Rattle.qz_top.proofs.RunLaws.{OneRose, run_closes}
+use Rattle.qz_top.proofs.OpenedLaws.{opened_ready, rose_from_first, ran_rose}
 
 -- the same run, where its status has another name
 pub run_with : {honest : Type 0} {before after : RunState} {old new : Outside} {lines : List (List ℕ)} {readings : List ℤ} {replies : List StepReply} (s t : Status) → t ≡ s
@@ -75,7 +75,7 @@ loads_no_words honest fault before after old new (inl none) = none.cause
 loads_no_words honest fault before after old new (inr loaded) = document_no_words honest fault loaded.document before after _ _ loaded.did
 
 pub load_words : {D : Type 0} {g : Ghosts D} (triggers states : D) (e : Ended D g) (old new : Outside) (fault : WordFault) → RanLoad triggers states e old new → e.status ≡ status.BadWords fault → ⊥
-load_words {g = g} triggers states e old new fault (inl ran) is = loads_no_words g.honest fault _ _ old new (subst (λ s. Loads g.honest s (begun false ran.opened) ran.end old new) is ran.loads)
+load_words {g = g} triggers states e old new fault (inl ran) is = loads_no_words (IsTold g triggers) fault _ _ old new (subst (λ s. Loads (IsTold g triggers) s (begun false ran.opened) ran.end old new) is ran.loads)
 load_words triggers states e old new fault (inr none) is = not_of_opening none.store none.error fault (sym none.status_is ∙ is)
 
 pub list_words : {D : Type 0} {g : Ghosts D} (triggers states : D) (e : Ended D g) (old new : Outside) (fault : WordFault) → RanList triggers states e old new → e.status ≡ status.BadWords fault → ⊥
@@ -86,9 +86,7 @@ list_words triggers states e old new fault (inr none) is = not_of_opening none.s
 module _ (honest : Type 0) (S : ClusterState) (after : RunState) (opened : IsOpened S.triggers) (states_opened : AreOpened S.states) (m n : ℕ) (earlier : m ≤ S.triggers.faults) (states_earlier : n ≤ S.states.faults) where
   document_rose : (document : Document) (old new : Outside) → DidDocument honest status.DiskFault document (begun false S) after old new → Rose m after.cluster.triggers.faults ⊎ Rose n after.cluster.states.faults
   document_rose document old new (inl all) =
-      let steps = all.did.steps in
-      rose_from_first m n S after.cluster earlier states_earlier
-      (subst (OneRose S) (sym steps.last) (run_closes honest S _ all.did.replies steps.states steps.done (opened_ready S opened states_opened) (ap is_closed (sym steps.last) ∙ all.finishes.0)))
+      rose_from_first m n S after.cluster earlier states_earlier (ran_rose honest S _ all.did.replies all.last after all.did.steps (opened_ready S opened states_opened) all.rests all.finishes.0)
   document_rose document old new (inr first) = absurd (end_no_fault first.end first.status_is)
 
   pub load_rose : (s : Status) (old new : Outside) → Loads honest s (begun false S) after old new → s ≡ status.DiskFault → Rose m after.cluster.triggers.faults ⊎ Rose n after.cluster.states.faults

@@ -1,5 +1,6 @@
 -- Each state of a run has a lawful history of the trigger store, so the law on lost executions holds of it.
 use Rattle.std.proofs.Common.{◌≡◌, ◌⊎◌, inl, inr, ℕ, ℤ, List, [], ◌∷◌, Bool, true, false, IsTrue, Some, None, refl, sym, ap, ◌∙◌, subst}
+use Rattle.std.proofs.Math.Logic.{∥∥₁_map}
 use Rattle.std.specs.Prelude.{⊤, Option, Ok}
 use Rattle.std.specs.List.{AllByRecursion}
 use Rattle.qz_io.specs.Outside.{Outside}
@@ -9,7 +10,6 @@ use Rattle.qz_steps.specs.declared.steps.StepReply.TheVariants as reply
 use Rattle.qz_types.specs.Rows.{MemberData}
 use Rattle.qz_types.specs.Entries.{EntryData, StateEntryData, is_entry}
 use Rattle.qz_types.specs.Outcomes.{Outcome, accepted, refused, IsAccepted}
-use Rattle.qz_types.specs.Tables.{empty}
 use Rattle.qz_types.specs.declared.replies.Reply.{Reply}
 use Rattle.qz_model.specs.History.{History, IsLegal, with_entry}
 use Rattle.qz_model.specs.Invariant.{TablesValid}
@@ -39,13 +39,13 @@ use Rattle.qz_top.specs.declared.statuses.Status.{Status}
 use Rattle.qz_top.specs.declared.statuses.Status.TheVariants as status
 use Rattle.qz_top.proofs.Courses.{CourseEnd, Course}
 use Rattle.qz_top.proofs.OpenedLaws.{end_trail}
+use Rattle.qz_top.proofs.RestLaws.{rests_may, rested_history}
 use Rattle.qz_top.proofs.RunLaws.{fault_is}
 use Rattle.qz_codec.proofs.ValidEntries.{entry_valid}
 
--- The history begins with a new store of some version, and each of its entries is valid and was accepted.
+-- The history begins with valid tables, and each of its entries is valid and was accepted.
 record IsLawful (h : History) : Type 0 where
-  pub version : ℕ
-  pub begins : h.base ≡ empty version
+  pub base : ∥ TablesValid h.base ∥₁
   pub valid : AllByRecursion (λ e. IsTrue (is_entry e)) h.entries
   pub legal : IsLegal h
 
@@ -53,7 +53,7 @@ abbrev HasLawful : ClusterState → Type 0
 HasLawful S = IsLawful S.triggers.history
 
 recovers : (S : ClusterState) → HasLawful S → RecoversLosses S
-recovers S lawful = exact S.triggers.history.base S.triggers.history.entries (subst TablesValid (sym lawful.begins) (valid-empty lawful.version)) lawful.valid lawful.legal
+recovers S lawful = ∥∥₁_map lawful.base (λ valid. exact S.triggers.history.base S.triggers.history.entries valid lawful.valid lawful.legal)
 
 -- an entry that has a record is proper
 each_proper : (es : List EntryData) → AllByRecursion (HasRecord trigger_kind) es → AllByRecursion (λ e. IsTrue (is_entry e)) es
@@ -62,7 +62,7 @@ each_proper (e ∷ es) all = (entry_valid all.0.1.version e all.0.1.has, each_pr
 
 -- of a store that was just opened
 opened_lawful : (s : TriggerState) → IsOpened s → IsLawful s.history
-opened_lawful s opened = record { version = opened.sound.version; begins = opened.sound.begins.base; valid = each_proper s.history.entries opened.valid; legal = opened.sound.legal }
+opened_lawful s opened = record { base = opened.sound.base; valid = each_proper s.history.entries opened.valid; legal = opened.sound.legal }
 
 -- Steps.
 
@@ -77,8 +77,7 @@ appended_lawful : (e : EntryData) (r : Reply) (s t : TriggerState) → IsTrue (i
 appended_lawful e r s t good appends lawful =
     let h = s.history in
     same_lawful (with_entry e h) t.history appends.history (record {
-      version = lawful.version;
-      begins = lawful.begins;
+      base = lawful.base;
       valid = All-pushed (λ f. IsTrue (is_entry f)) h.entries e lawful.valid good;
       legal = IsLegalFrom-entry h.base h.entries e lawful.legal (accepted_from _ r (accepted_anyway _ e r appends.accepted_as));
     })
@@ -142,12 +141,12 @@ end_keeps honest (status.Damaged store at) left lines more last after end = shor
 end_keeps honest (status.JournalFull need room) left lines more last after end = short_keeps honest _ left lines more last after end
 end_keeps honest status.NoMemory left lines more last after (inl nothing) = nothing.history
 end_keeps honest status.NoMemory left lines more last after (inr short) = short_keeps honest _ left lines more last after short
-end_keeps honest status.Ok left lines more last after end = same_history last after end
+end_keeps honest status.Ok left lines more last after end = rested_history last after (rests_may last after status.Ok end)
 end_keeps honest (status.BadWords fault) left lines more last after end = same_history last after end
 end_keeps honest (status.BadLine line kind) left lines more last after end = same_history last after end
 end_keeps honest status.ReadFault left lines more last after end = same_history last after end
-end_keeps honest status.WriteFault left lines more last after end = same_history last after end
-end_keeps honest status.DiskFault left lines more last after end = same_history last after end
+end_keeps honest status.WriteFault left lines more last after end = rested_history last after (rests_may last after status.WriteFault end)
+end_keeps honest status.DiskFault left lines more last after end = rested_history last after (rests_may last after status.DiskFault end)
 end_keeps honest status.Exists left lines more last after end = same_history last after end
 end_keeps honest (status.Budget firings) left lines more last after end = same_history last after end
 end_keeps honest (status.TooMany count) left lines more last after end = same_history last after end
@@ -183,10 +182,10 @@ module _ (honest : Type 0) (s : Status) (S : ClusterState) (after : RunState) (o
 module _ (m n : ℕ) (s : Status) (after : RunState) (old new : Outside) (lines : List (List ℕ)) (readings : List ℤ) (replies : List StepReply)
     (run : IsRun ⊤ s (begun true (new_cluster m n)) after old new lines readings replies) where
   pub recovered_new : AllByRecursion RecoversLosses after.trail
-  recovered_new = trail_recovers ⊤ s true (new_cluster m n) after old new lines readings replies (record { version = 2; begins = refl; valid = tt; legal = tt }) run
+  recovered_new = trail_recovers ⊤ s true (new_cluster m n) after old new lines readings replies (record { base = ∣ valid-empty 2 ∣₁; valid = tt; legal = tt }) run
 
   pub recovered_new_end : RecoversLosses after.cluster
-  recovered_new_end = last_recovers ⊤ s true (new_cluster m n) after old new lines readings replies (record { version = 2; begins = refl; valid = tt; legal = tt }) run
+  recovered_new_end = last_recovers ⊤ s true (new_cluster m n) after old new lines readings replies (record { base = ∣ valid-empty 2 ∣₁; valid = tt; legal = tt }) run
 
 -- A step in which a disk failed leaves the history of triggers.
 pub fault_keeps : (honest : Type 0) (t : TimedStep) (S S' : ClusterState) → StepCase honest t reply.Fault S S' → S'.triggers.history ≡ S.triggers.history
@@ -213,4 +212,5 @@ module _ (honest : Type 0) (S : ClusterState) (after : RunState) (opened : IsOpe
   recovered_in_end = recovers after.cluster (left_lawful course.end) where
     left_lawful : CourseEnd honest course.last after → HasLawful after.cluster
     left_lawful (inl same) = subst HasLawful (sym same) ends_with
-    left_lawful (inr cut) = same_lawful _ _ (cut_keeps honest cut.step cut.stop course.last.cluster after.cluster cut.is.case) ends_with
+    left_lawful (inr (inl may)) = same_lawful _ _ (rested_history course.last after may) ends_with
+    left_lawful (inr (inr cut)) = same_lawful _ _ (cut_keeps honest cut.step cut.stop course.last.cluster after.cluster cut.is.case) ends_with

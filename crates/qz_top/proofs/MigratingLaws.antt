@@ -23,10 +23,9 @@ use Rattle.qz_model.specs.Invariant.{IsHorizon, TablesValid}
 use Rattle.qz_model.specs.Tests.{refuse_if}
 use Rattle.qz_model.specs.Transaction.{transaction}
 use Rattle.qz_model.specs.Upgrading.{upgrade_refusal, version_refusal}
-use Rattle.qz_journal.specs.View.{disk_of as journal_disk, gate_of, count_of}
 use Rattle.qz_stores.specs.Kinds.{unless_refused}
 use Rattle.qz_stores.specs.Stores.{Submits}
-use Rattle.qz_trigger_store.specs.Entries.{TriggerState, answer_of, is_old, history_of, trigger_entry}
+use Rattle.qz_trigger_store.specs.Entries.{TriggerState, answer_of, is_old, trigger_entry}
 use Rattle.qz_trigger_store.specs.View.{view, disk_of, IsAsBefore}
 use Rattle.qz_trigger_store.specs.declared.stores.TriggerStore.{TriggerStore}
 use Rattle.qz_top.specs.Migrating.{upgrade_entry, SaysWhich, Upgrades, AnswersAs, RanMigrate}
@@ -34,6 +33,7 @@ use Rattle.qz_top.specs.declared.ended.Ended.{Ended}
 use Rattle.qz_top.specs.declared.statuses.Status.{Status}
 use Rattle.qz_top.specs.declared.statuses.Status.TheVariants as status
 use Rattle.qz_top.proofs.AskedLaws.{not_of_opening}
+use Rattle.qz_top.proofs.SameStores.{same_view, same_disk}
 
 -- What an upgrade is answered.
 
@@ -88,21 +88,6 @@ is_current T at x horizon is = by (answered T at horizon) where
 
 -- What a call that changed nothing leaves.
 module _ {D : Type 0} {g : Ghosts D} (s t : TriggerStore D g) where
-  same_view : IsAsBefore s t → view t ≡ view s
-  same_view before =
-      let store = before.0 in
-      λ i. record {
-        history = history_of (store.1 i) (store.4 i ++ store.5 i);
-        gate = gate_of (store.0 i);
-        payloads = count_of (store.0 i);
-        is_open = store.6 i;
-        undecided = store.7 i;
-        faults = g.faults (journal_disk (store.0 i));
-      }
-
-  same_disk : IsAsBefore s t → disk_of t ≡ disk_of s
-  same_disk before = ap journal_disk before.0.0
-
   longer : (es fs : List EntryData) (e : EntryData) → es ≡ fs ++ e ∷ [] → es ≡ fs → ⊥
   longer es fs e more same = let long = ap (λ (xs : List EntryData). length xs) more in let short = ap (λ (xs : List EntryData). length xs) same in absurd (omega (arith, long, short, length-append fs (e ∷ [])))
 
@@ -113,10 +98,10 @@ module _ {D : Type 0} {g : Ghosts D} (s t : TriggerStore D g) where
       absurd (longer _ _ e (ap (λ (h : History). h.entries) done.history) (ap (λ (x : TriggerState). x.history.entries) same))
   disk_stays e (Err submit.Fault) opened done unless_fault same =
       let bad : false ≡ true = sym done.is_open ∙ ap (λ (x : TriggerState). x.is_open) same ∙ opened in absurd cc
-  disk_stays e (Err (submit.Closed at)) opened done unless_fault same = same_disk (unless_fault (λ is. cc))
-  disk_stays e (Err (submit.Refused x)) opened done unless_fault same = same_disk (unless_fault (λ is. cc))
-  disk_stays e (Err (submit.JournalFull need room)) opened done unless_fault same = same_disk (unless_fault (λ is. cc))
-  disk_stays e (Err submit.NoMemory) opened done unless_fault same = same_disk (unless_fault (λ is. cc))
+  disk_stays e (Err (submit.Closed at)) opened done unless_fault same = same_disk s t (unless_fault (λ is. cc))
+  disk_stays e (Err (submit.Refused x)) opened done unless_fault same = same_disk s t (unless_fault (λ is. cc))
+  disk_stays e (Err (submit.JournalFull need room)) opened done unless_fault same = same_disk s t (unless_fault (λ is. cc))
+  disk_stays e (Err submit.NoMemory) opened done unless_fault same = same_disk s t (unless_fault (λ is. cc))
 
   said : (a : Status) (at : ℤ) (old new : Outside) → (a ≡ status.Ok) ⊎ (a ≡ status.WriteFault) → SaysWhich a at (view s) (view t) old new → Upgrades a at (view s) (view t) old new
   said a at old new (inl is) says = subst (λ (x : Status). Upgrades x at (view s) (view t) old new) (sym is) (subst (λ (x : Status). SaysWhich x at (view s) (view t) old new) is says)
@@ -129,11 +114,11 @@ module _ {D : Type 0} {g : Ghosts D} (s t : TriggerStore D g) where
       let was = was_old (replay (view s).history) at reply (horizon_of _ valid) done.accepted_as in
       said a at old new says.0 (inl (record { was_old = was.0; appended = subst (λ (x : Reply). Submits trigger_entry (upgrade_entry at) (Ok x) (view s) (view t)) was.1 done }, says.1))
   upgrades_by (Err (submit.Refused x)) a at old new valid opened done unless_fault says =
-      said a at old new says.0 (inr (record { current = is_current (replay (view s).history) at x (horizon_of _ valid) done.refused_as; stays = same_view (unless_fault (λ is. cc)) }, says.1))
+      said a at old new says.0 (inr (record { current = is_current (replay (view s).history) at x (horizon_of _ valid) done.refused_as; stays = same_view s t (unless_fault (λ is. cc)) }, says.1))
   upgrades_by (Err (submit.JournalFull need room)) a at old new valid opened done unless_fault says =
-      subst (λ (x : Status). Upgrades x at (view s) (view t) old new) (sym says.0) (done, same_view (unless_fault (λ is. cc)), says.1)
+      subst (λ (x : Status). Upgrades x at (view s) (view t) old new) (sym says.0) (done, same_view s t (unless_fault (λ is. cc)), says.1)
   upgrades_by (Err submit.NoMemory) a at old new valid opened done unless_fault says =
-      subst (λ (x : Status). Upgrades x at (view s) (view t) old new) (sym says.0) (done, same_view (unless_fault (λ is. cc)), says.1)
+      subst (λ (x : Status). Upgrades x at (view s) (view t) old new) (sym says.0) (done, same_view s t (unless_fault (λ is. cc)), says.1)
   upgrades_by (Err (submit.Closed at')) a at old new valid opened done unless_fault says = let bad : true ≡ false = sym opened ∙ done.0.was_closed in absurd cc
   upgrades_by (Err submit.Fault) a at old new valid opened done unless_fault says = subst (λ (x : Status). Upgrades x at (view s) (view t) old new) (sym says.0) (done, says.1)
 

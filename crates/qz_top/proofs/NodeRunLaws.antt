@@ -7,18 +7,25 @@ use Rattle.std.specs.Prelude.{Result, Ok, Err, IfOk, IfErr, OnOk, OnErr}
 use Rattle.qz_civil.specs.Causes.{Rose}
 use Rattle.qz_disk.specs.declared.disk.Disk.{Ghosts}
 use Rattle.qz_types.specs.Entries.{EntryData, StateEntryData}
-use Rattle.qz_types.specs.Tables.{empty}
 use Rattle.qz_io.specs.Outside.{Outside}
 use Rattle.qz_model.specs.History.{History, replay, replay_from}
 use Rattle.qz_node.specs.Jobs.{JobMeaning}
-use Rattle.qz_trigger_store.specs.Entries.{TriggerState, history_of}
+use Rattle.qz_trigger_store.specs.Bytes.{Whole, IsWhole}
+use Rattle.qz_trigger_store.specs.Entries.{TriggerState}
 use Rattle.qz_disk.specs.Disk.{LeavesOnly}
 use Rattle.qz_journal.specs.Through.{OnlyReads}
-use Rattle.qz_trigger_store.specs.View.{view as triggers_view, version_of, found_of, added_of, disk_of, disk_state}
+use Rattle.qz_stores.proofs.GoesOn.{goes_on_once}
+use Rattle.qz_stores.proofs.Moments.{now}
+use Rattle.qz_trigger_store.specs.Laws.{trigger_lawful}
+use Rattle.qz_checkin.specs.Laws.{state_lawful}
+use Rattle.qz_trigger_store.specs.View.{view as triggers_view, found_of, added_of, disk_of, disk_state, GoesOnFrom}
 use Rattle.qz_trigger_store.specs.declared.stores.TriggerStore.{TriggerStore}
+use Rattle.qz_checkin.specs.Bytes.{Whole as WholeRows, IsWhole as IsWholeRows}
 use Rattle.qz_checkin.specs.Entries.{StatesState}
-use Rattle.qz_checkin.specs.History.{replay_states}
-use Rattle.qz_checkin.specs.View.{view as states_view, disk_of as states_disk_of, disk_state as states_disk_state}
+use Rattle.qz_checkin.specs.History.{IsLegal as AreLegal, IsLegalFrom, replay_states}
+use Rattle.qz_checkin.specs.Rows.{StateTables}
+use Rattle.qz_checkin.proofs.Kept.{legal as states_legal}
+use Rattle.qz_checkin.specs.View.{view as states_view, entries_of, disk_of as states_disk_of, disk_state as states_disk_state, GoesOnFrom as RowsGoOnFrom}
 use Rattle.qz_checkin.specs.declared.stores.StateStore.{StateStore}
 use Rattle.qz_run.specs.declared.commands.Plan.{Plan}
 use Rattle.qz_run.specs.declared.commands.Declined.{Declined}
@@ -36,9 +43,15 @@ use Rattle.qz_run_stores.specs.Ways.{HasOnTheWay, HasRowsOnTheWay, KeepsTriggers
 use Rattle.qz_run_stores.specs.declared.stores.RunStores.{RunStores}
 use Rattle.qz_cluster.specs.Steps.{ClusterState}
 use Rattle.qz_words.specs.declared.wishes.WordFault.{WordFault}
+use Rattle.qz_top.specs.Found.{found_history, HoldWhole}
+use Rattle.qz_top.specs.Moments.{HasTriggers, HasStates}
 use Rattle.qz_top.specs.NodeRuns.{both, WentOn, seen_after, WasStopped, EndsWork, CalledJobs, Worked, IsToldAs, status_of, text_since, run_text, WritesRun, IsKeptOnTheWay}
 use Rattle.qz_top.specs.declared.statuses.Status.{Status}
 use Rattle.qz_top.specs.declared.statuses.Status.TheVariants as status
+
+-- the state store's history is legal
+pub rows_legal : {D : Type 0} {g : Ghosts D} (s : StateStore D g) → AreLegal (states_view s).history
+rows_legal s = subst (λ (T : StateTables). IsLegalFrom T (entries_of s)) (sym (s.store.new_base refl)) (states_legal s)
 
 -- The run's part of a history that went on from that of its beginning.
 
@@ -85,7 +98,7 @@ called_by p (Err declined.NoMemory) log jobs jobs' ran more = more
 
 module _ {D : Type 0} {g : Ghosts D} where
   went_from : (b t : TriggerStore D g) (c u : StateStore D g) (went : TriggersWent b t) (rows : StatesWent c u) → WentOn (both b c) (both t u) went.added rows.added
-  went_from b t c u went rows = record { base = ap empty went.version; entries = went.entries; rows_are = rows.entries }
+  went_from b t c u went rows = record { base_count = went.base.0; base = went.base.1; entries = went.entries; rows_are = rows.entries }
 
   -- The nodes worked on the stores, as the run tells them.
   pub worked_by : (p : Plan) (end : Result Bool Declined) (jobs jobs' : List JobMeaning) (x : RunStores D g)
@@ -134,8 +147,8 @@ module _ {D : Type 0} {g : Ghosts D} where
   found_is : (b t : TriggerStore D g) → added_of b ≡ [] → TriggersWent b t → found_of t ≡ found_of b ++ added_of b
   found_is b t none went = went.found ∙ sym (append-nil (found_of b)) ∙ ap (λ xs. found_of b ++ xs) (sym none)
 
-  pub history_is : (b t : TriggerStore D g) → added_of b ≡ [] → TriggersWent b t → history_of (version_of t) (found_of t) ≡ history_of (version_of b) (found_of b ++ added_of b)
-  history_is b t none went i = history_of (went.version i) (found_is b t none went i)
+  pub history_is : (b t : TriggerStore D g) → added_of b ≡ [] → TriggersWent b t → found_history t ≡ (triggers_view b).history
+  history_is b t none went i = record { base_count = went.base.0 i; base = went.base.1 i; entries = found_is b t none went i }
 
   pub added_is : (b t : TriggerStore D g) (added : List EntryData) → added_of b ≡ [] → TriggersWent b t → found_of t ++ added_of t ≡ (found_of b ++ added_of b) ++ added → added_of t ≡ added
   added_is b t added none went entries =
@@ -165,10 +178,6 @@ told_disk_rose p s s' jobs jobs' begun end m n (inl same) fault worked = node_di
 told_disk_rose p s s' jobs jobs' begun end m n (inr (inl same)) fault worked = let bad : status.WriteFault ≡ status.DiskFault = sym same ∙ fault in absurd cc
 told_disk_rose p s s' jobs jobs' begun end m n (inr (inr same)) fault worked = let bad : status.NoMemory ≡ status.DiskFault = sym same ∙ fault in absurd cc
 
--- under another name of the status
-pub told_again : (s s' r : Status) → r ≡ s' → IsToldAs s' s → IsToldAs r s
-told_again s s' r same is = subst (λ (x : Status). IsToldAs x s) (sym same) is
-
 -- no nodes' work ends with bad words
 pub told_no_words : (p : Plan) (s s' : Status) (fault : WordFault) (jobs jobs' : List JobMeaning) (begun end : ClusterState) → IsToldAs s' s → s' ≡ status.BadWords fault → Worked p s jobs jobs' begun end → ⊥
 told_no_words p s s' fault jobs jobs' begun end (inl same) is worked =
@@ -177,23 +186,47 @@ told_no_words p s s' fault jobs jobs' begun end (inr (inl same)) is worked = let
 told_no_words p s s' fault jobs jobs' begun end (inr (inr same)) is worked = let bad : status.NoMemory ≡ status.BadWords fault = sym same ∙ is in cc
 
 -- what was written of the nodes' work, by the status that tells of both
-pub told_text : (s' r : Status) (begun end : ClusterState) (k : History) (es added : List EntryData) (old new : Outside) → r ≡ s'
-    → k ≡ begun.triggers.history → es ≡ added → WritesRun s' (text_since k (replay end.triggers.history) es) old new → WritesRun r (run_text begun end added) old new
-told_text s' r begun end k es added old new same from all written =
-    subst (λ (x : Status). WritesRun x (run_text begun end added) old new) (sym same)
-    (subst (λ (xs : List EntryData). WritesRun s' (text_since begun.triggers.history (replay end.triggers.history) xs) old new) all
-    (subst (λ (h : History). WritesRun s' (text_since h (replay end.triggers.history) es) old new) from written))
+pub told_text : (s : Status) (begun end : ClusterState) (k : History) (es added : List EntryData) (old new : Outside) → k ≡ begun.triggers.history → es ≡ added
+    → WritesRun s (text_since k (replay end.triggers.history) es) old new → WritesRun s (run_text begun end added) old new
+told_text s begun end k es added old new from all written =
+    subst (λ (xs : List EntryData). WritesRun s (text_since begun.triggers.history (replay end.triggers.history) xs) old new) all
+    (subst (λ (h : History). WritesRun s (text_since h (replay end.triggers.history) es) old new) from written)
 
 -- What a crash on the way leaves.
 module _ {D : Type 0} {g : Ghosts D} where
   kept_so : (triggers states : D) (b t : TriggerStore D g) (c u : StateStore D g) (triggers' states' : D) → triggers' ≡ disk_of t → states' ≡ states_disk_of u
-      → (g.honest → OnlyReads (g.state triggers) (disk_state b) × OnlyReads (g.state states) (states_disk_state c)) → KeepsTriggers b t → KeepsStates c u → IsKeptOnTheWay g triggers states triggers' states' (both b c) (both t u)
-  kept_so triggers states b t c u triggers' states' same states_same reads kept states_kept honest = (
-    record { opened = disk_of b; reads = (reads honest).0; leaves = subst (λ (d : D). LeavesOnly (disk_state b) (g.state d) (HasOnTheWay (triggers_view b) (triggers_view t))) (sym same) (kept honest) },
-    record { opened = states_disk_of c; reads = (reads honest).1; leaves = subst (λ (d : D). LeavesOnly (states_disk_state c) (g.state d) (HasRowsOnTheWay (states_view c) (states_view u))) (sym states_same) (states_kept honest) },
+      → (g.honest → OnlyReads (g.state triggers) (disk_state b) × OnlyReads (g.state states) (states_disk_state c)) → (g.honest → (w : Whole) → IsWhole w (g.state triggers).content → GoesOnFrom b w) → (g.honest → (v : WholeRows) → IsWholeRows v (g.state states).content → RowsGoOnFrom c v)
+      → KeepsTriggers b t → KeepsStates c u → IsKeptOnTheWay g triggers states triggers' states' (both b c) (both t u)
+  kept_so triggers states b t c u triggers' states' same states_same reads on rows_on kept states_kept w v held = (
+    record {
+      opened = disk_of b;
+      reads = (reads held.honest).0;
+      leaves = subst (λ (d : D). LeavesOnly (disk_state b) (g.state d) (HasOnTheWay w (triggers_view b) (triggers_view t))) (sym same) (kept held.honest w (on held.honest w held.entries)).1;
+    },
+    record {
+      opened = states_disk_of c;
+      reads = (reads held.honest).1;
+      leaves = subst (λ (d : D). LeavesOnly (states_disk_state c) (g.state d) (HasRowsOnTheWay v (states_view c) (states_view u))) (sym states_same) (states_kept held.honest v (rows_on held.honest v held.rows)).1;
+    },
   )
 
   pub kept_on_the_way : (triggers states : D) (b t : TriggerStore D g) (c u : StateStore D g) (triggers' states' : D) → triggers' ≡ disk_of t → states' ≡ states_disk_of u
-      → (g.honest → OnlyReads (g.state triggers) (disk_state b) × OnlyReads (g.state states) (states_disk_state c)) → ∥ KeepsTriggers b t ∥₁ → ∥ KeepsStates c u ∥₁ → ∥ IsKeptOnTheWay g triggers states triggers' states' (both b c) (both t u) ∥₁
-  kept_on_the_way triggers states b t c u triggers' states' same states_same reads kept states_kept =
-      ∥∥₁_elim kept squash₁ (λ k. ∥∥₁_map states_kept (λ l. kept_so triggers states b t c u triggers' states' same states_same reads k l))
+      → (g.honest → OnlyReads (g.state triggers) (disk_state b) × OnlyReads (g.state states) (states_disk_state c)) → (g.honest → (w : Whole) → IsWhole w (g.state triggers).content → GoesOnFrom b w) → (g.honest → (v : WholeRows) → IsWholeRows v (g.state states).content → RowsGoOnFrom c v)
+      → ∥ KeepsTriggers b t ∥₁ → ∥ KeepsStates c u ∥₁ → ∥ IsKeptOnTheWay g triggers states triggers' states' (both b c) (both t u) ∥₁
+  kept_on_the_way triggers states b t c u triggers' states' same states_same reads on rows_on kept states_kept =
+      ∥∥₁_elim kept squash₁ (λ k. ∥∥₁_map states_kept (λ l. kept_so triggers states b t c u triggers' states' same states_same reads on rows_on k l))
+
+  goes_on_still : (b t : TriggerStore D g) (w : Whole) → GoesOnFrom b w → g.honest → ∥ KeepsTriggers b t ∥₁ → GoesOnFrom t w
+  goes_on_still b t w on honest kept = ∥∥₁_elim kept (goes_on_once trigger_lawful t.store w) (λ k. (k honest w on).0)
+
+  rows_go_on_still : (c u : StateStore D g) (v : WholeRows) → RowsGoOnFrom c v → g.honest → ∥ KeepsStates c u ∥₁ → RowsGoOnFrom u v
+  rows_go_on_still c u v on honest kept = ∥∥₁_elim kept (goes_on_once state_lawful u.store v) (λ k. (k honest v on).0)
+
+  -- what a crash leaves at the end
+  pub left_at_end : (triggers states : D) (b t : TriggerStore D g) (c u : StateStore D g) → (g.honest → (w : Whole) → IsWhole w (g.state triggers).content → GoesOnFrom b w)
+      → (g.honest → (v : WholeRows) → IsWholeRows v (g.state states).content → RowsGoOnFrom c v) → ∥ KeepsTriggers b t ∥₁ → ∥ KeepsStates c u ∥₁ → (w : Whole) (v : WholeRows) → HoldWhole g triggers states w v
+      → (b' : List ℕ) → ((disk_state t).IsImage b' → HasTriggers w b' (both t u)) × ((states_disk_state u).IsImage b' → HasStates v b' (both t u))
+  left_at_end triggers states b t c u on rows_on kept states_kept w v held b' = (
+    λ is. now trigger_lawful t.store held.honest w (goes_on_still b t w (on held.honest w held.entries) held.honest kept) b' is,
+    λ is. now state_lawful u.store held.honest v (rows_go_on_still c u v (rows_on held.honest v held.rows) held.honest states_kept) b' is,
+  )

@@ -10,9 +10,10 @@ use Rattle.qz_cluster.specs.Steps.{ClusterState, is_closed, StepCase, IsStep}
 use Rattle.qz_cluster.proofs.Closings.{IsReady, ready_open, step_ready, fault_rose}
 use Rattle.qz_cluster.proofs.Counts.{NoneFalls, step_counts}
 use Rattle.qz_cluster.proofs.Plain.{step_plain}
+use Rattle.qz_cluster.proofs.SameScripts.{IsSameScript, same_replies}
 use Rattle.qz_cluster.proofs.Sound.{step_sound}
 use Rattle.qz_open.specs.Runs.{StepsDone}
-use Rattle.qz_top.specs.Calls.{script_of, HasSoundStores, IsOnHonest}
+use Rattle.qz_top.specs.Calls.{script_of, HasSoundStores, IsOnTold}
 use Rattle.qz_top.specs.Trails.{last_of, is_fault, IsNoFault}
 
 -- which replies are faults
@@ -47,7 +48,7 @@ run_counts honest S (t ∷ ts) (r ∷ rs) [] p = absurd p
 abbrev pub OneRose : ClusterState → ClusterState → Type 0
 OneRose S S' = Rose S.triggers.faults S'.triggers.faults ⊎ Rose S.states.faults S'.states.faults
 
-rose_then : (S S' S'' : ClusterState) → OneRose S S' → NoneFalls S' S'' → OneRose S S''
+pub rose_then : (S S' S'' : ClusterState) → OneRose S S' → NoneFalls S' S'' → OneRose S S''
 rose_then S S' S'' (inl rose) later = inl (omega (arith, rose, later.0))
 rose_then S S' S'' (inr rose) later = inr (omega (arith, rose, later.1))
 
@@ -88,20 +89,20 @@ run_ready honest S (t ∷ ts) (r ∷ rs) [] p ready no_fault = absurd p
 
 -- A plain scheduler's replies.
 
-plain_here : (honest : Type 0) (S S' : ClusterState) (t : TimedStep) (r : StepReply) → IsStep honest t r S S' → IsReady S → IsNoFault r → IsOnHonest honest t
-    → (r ≡ (effect_in (script_of S) t).reply) × (script_of S' ≡ after_step (script_of S) t)
+plain_here : (honest : Type 0) (S S' : ClusterState) (t : TimedStep) (r : StepReply) → IsStep honest t r S S' → IsReady S → IsNoFault r → IsOnTold honest t
+    → (r ≡ (effect_in (script_of S) t).reply) × IsSameScript (script_of S') (after_step (script_of S) t)
 plain_here honest S S' t r step ready no_fault on_honest =
     let p = step_plain honest t.step t.at r S S' step.case ready (no_fault_is r no_fault) on_honest in
-    (p.reply, λ i. record { history = p.history i; states = p.states i; held = p.held i })
+    (p.reply, record { tables = p.tables; rows = p.rows; held = p.held })
 
 -- Without a fault the replies are those of a plain scheduler.
 pub run_plain : (honest : Type 0) (S : ClusterState) (ts : List TimedStep) (rs : List StepReply) (states : List ClusterState) → StepsDone honest S ts rs states
-    → IsReady S → AllByRecursion (IsOnHonest honest) ts → AllByRecursion IsNoFault rs → rs ≡ step_replies (script_of S) ts
+    → IsReady S → AllByRecursion (IsOnTold honest) ts → AllByRecursion IsNoFault rs → rs ≡ step_replies (script_of S) ts
 run_plain honest S [] [] [] p ready on_honest no_fault = refl
 run_plain honest S (t ∷ ts) (r ∷ rs) (S' ∷ states) p ready on_honest no_fault =
     let one = plain_here honest S S' t r p.0 ready no_fault.0 on_honest.0 in
     let more = run_plain honest S' ts rs states p.1 (step_ready honest t r S S' p.0.case ready (no_fault_is r no_fault.0)) on_honest.1 no_fault.1 in
-    ap (λ x. x ∷ rs) one.0 ∙ ap (λ xs. (effect_in (script_of S) t).reply ∷ xs) (more ∙ ap (λ s. step_replies s ts) one.1)
+    ap (λ x. x ∷ rs) one.0 ∙ ap (λ xs. (effect_in (script_of S) t).reply ∷ xs) (more ∙ same_replies (script_of S') (after_step (script_of S) t) ts one.1)
 run_plain honest S [] (r ∷ rs) states p ready on_honest no_fault = absurd p
 run_plain honest S [] [] (x ∷ states) p ready on_honest no_fault = absurd p
 run_plain honest S (t ∷ ts) [] states p ready on_honest no_fault = absurd p
@@ -109,12 +110,12 @@ run_plain honest S (t ∷ ts) (r ∷ rs) [] p ready on_honest no_fault = absurd 
 
 -- Before the first fault they are.
 pub run_plain_first : (honest : Type 0) (S : ClusterState) (ts : List TimedStep) (first rest : List StepReply) (states : List ClusterState) → StepsDone honest S ts (first ++ rest) states
-    → IsReady S → AllByRecursion (IsOnHonest honest) (take (length first) ts) → AllByRecursion IsNoFault first → first ≡ take (length first) (step_replies (script_of S) ts)
+    → IsReady S → AllByRecursion (IsOnTold honest) (take (length first) ts) → AllByRecursion IsNoFault first → first ≡ take (length first) (step_replies (script_of S) ts)
 run_plain_first honest S ts [] rest states p ready on_honest no_fault = refl
 run_plain_first honest S (t ∷ ts) (r ∷ first) rest (S' ∷ states) p ready on_honest no_fault =
     let one = plain_here honest S S' t r p.0 ready no_fault.0 on_honest.0 in
     let more = run_plain_first honest S' ts first rest states p.1 (step_ready honest t r S S' p.0.case ready (no_fault_is r no_fault.0)) on_honest.1 no_fault.1 in
-    ap (λ x. x ∷ first) one.0 ∙ ap (λ xs. (effect_in (script_of S) t).reply ∷ xs) (more ∙ ap (λ s. take (length first) (step_replies s ts)) one.1)
+    ap (λ x. x ∷ first) one.0 ∙ ap (λ xs. (effect_in (script_of S) t).reply ∷ xs) (more ∙ ap (take (length first)) (same_replies (script_of S') (after_step (script_of S) t) ts one.1))
 run_plain_first honest S [] (r ∷ first) rest states p ready on_honest no_fault = absurd p
 run_plain_first honest S (t ∷ ts) (r ∷ first) rest [] p ready on_honest no_fault = absurd p
 

@@ -14,6 +14,7 @@ use Rattle.qz_io.specs.Outside.{Outside}
 use Rattle.qz_io.proofs.Readings.{Tells-trans}
 use Rattle.qz_steps.specs.declared.steps.StepReply.{StepReply}
 use Rattle.qz_cluster.specs.Steps.{ClusterState}
+use Rattle.qz_cluster.specs.View.{IsTold}
 use Rattle.qz_cluster.specs.declared.errors.StepEnd.{StepEnd}
 use Rattle.qz_cluster.specs.declared.errors.StepEnd.TheVariants as step
 use Rattle.qz_job_json.specs.declared.faults.LineFault.TheVariants as line_fault
@@ -24,7 +25,7 @@ use Rattle.qz_top.specs.declared.line_handler.LineEnd.{LineEnd}
 use Rattle.qz_top.specs.declared.line_handler.LineEnd.TheVariants as ends
 use Rattle.qz_top.specs.Handling.{Does}
 use Rattle.qz_top.specs.Moments.{Shows}
-use Rattle.qz_top.specs.Seen.{view}
+use Rattle.qz_top.specs.Seen.{view, told_of}
 use Rattle.qz_top.specs.Runs.{Reads, ReadFirst, TellsClosed, WrotePart, Writes, HandsOn, IsShort, IsOfScript, EndsShort, EndsRun}
 use Rattle.qz_top.specs.Statuses.{cut_status, status_at, status_of}
 use Rattle.qz_top.specs.Trails.{texts, RunState}
@@ -46,6 +47,27 @@ at_write number (ends.Bad kind) is = absurd cc
 at_write number ends.Unanswered is = absurd cc
 at_write number ends.NoMemory is = absurd cc
 at_write number (ends.CutShort end) is = absurd (not_write end is)
+
+cut_not_ok : (end : StepEnd) → cut_status end ≡ status.Ok → ⊥
+cut_not_ok (step.JournalFull need room) is = cc
+cut_not_ok (step.NotAStore store) is = cc
+cut_not_ok (step.Damaged store at) is = cc
+cut_not_ok step.NoMemory is = cc
+
+pub at_not_ok : (number : ℕ) (e : LineEnd) → status_at number e ≡ status.Ok → ⊥
+at_not_ok number (ends.Bad kind) is = cc
+at_not_ok number ends.WriteFault is = cc
+at_not_ok number ends.Unanswered is = cc
+at_not_ok number ends.NoMemory is = cc
+at_not_ok number (ends.CutShort end) is = cut_not_ok end is
+
+-- a script that stopped early doesn't end with Ok
+pub stopped_not_ok : (e : LinesEnd LineEnd) → status_of e ≡ status.Ok → ⊥
+stopped_not_ok (lines_end.Refused number e) is = at_not_ok number e is
+stopped_not_ok (lines_end.TooLong number) is = cc
+stopped_not_ok lines_end.TooMany is = cc
+stopped_not_ok lines_end.ReadFault is = cc
+stopped_not_ok lines_end.NoMemory is = cc
 
 -- The status of a step that was cut short.
 
@@ -141,8 +163,8 @@ writes_kept status.OldStore x y z replies wrote kept = wrote_nothing x y z _ wro
 module _ {D K C : Type 0} (g : Ghosts D) (k : sink.Ghosts K) (c : clock.Ghosts C) where
   -- The handler refused the next line.
   refused_run : (e : LineEnd) (number : ℕ) (i j : Option (List ℕ)) (lines : List (List ℕ)) (line : List ℕ) (a m b : State g k c) → AllRan g k c lines a m
-      → IfKnown i (IsNextLine lines line) → IsNextNumber lines number → LineDone g.honest (Err e) line (view m.handler) (view b.handler) (beside g k c m) (beside g k c b)
-      → SomeRun g k c (status_at number e) (view a.handler) (view b.handler) (around g k c i a.out a.rest) (around g k c j b.out b.rest)
+      → IfKnown i (IsNextLine lines line) → IsNextNumber lines number → LineDone (told_of a.handler) (Err e) line (view m.handler) (view b.handler) (beside g k c m) (beside g k c b)
+      → SomeRun g k c (told_of a.handler) (status_at number e) (view a.handler) (view b.handler) (around g k c i a.out a.rest) (around g k c j b.out b.rest)
   unfolding Did-more
   refused_run (ends.Bad kind) number i j lines line a m b all next at done = (
     lines,
@@ -162,7 +184,7 @@ module _ {D K C : Type 0} (g : Ghosts D) (k : sink.Ghosts K) (c : clock.Ghosts C
     },
   )
   refused_run ends.WriteFault number i j lines line a m b all next at part =
-      let did = Did-more g.honest lines (line ∷ []) all.readings part.readings (view a.handler) (view m.handler) (view b.handler) (beside g k c a) (beside g k c m) (beside g k c b) all.ran.did part.did in (
+      let did = Did-more (told_of a.handler) lines (line ∷ []) all.readings part.readings (view a.handler) (view m.handler) (view b.handler) (beside g k c a) (beside g k c m) (beside g k c b) all.ran.did part.did in (
         lines ++ line ∷ [],
         all.readings ++ part.readings,
         did.replies,
@@ -171,7 +193,7 @@ module _ {D K C : Type 0} (g : Ghosts D) (k : sink.Ghosts K) (c : clock.Ghosts C
           good = did.good;
           last = view b.handler;
           steps = did.steps;
-          end = refl;
+          end = inl (inl refl);
           closed = tt;
           reads = next;
           clocked = exact_readings _ _ _ _ _ did.count did.told;
@@ -180,7 +202,7 @@ module _ {D K C : Type 0} (g : Ghosts D) (k : sink.Ghosts K) (c : clock.Ghosts C
         },
       )
   refused_run ends.Unanswered number i j lines line a m b all next at part =
-      let did = Did-more g.honest lines (line ∷ []) all.readings part.readings (view a.handler) (view m.handler) (view b.handler) (beside g k c a) (beside g k c m) (beside g k c b) all.ran.did part.did in (
+      let did = Did-more (told_of a.handler) lines (line ∷ []) all.readings part.readings (view a.handler) (view m.handler) (view b.handler) (beside g k c a) (beside g k c m) (beside g k c b) all.ran.did part.did in (
         lines ++ line ∷ [],
         all.readings ++ part.readings,
         did.replies,
@@ -236,7 +258,7 @@ module _ {D K C : Type 0} (g : Ghosts D) (k : sink.Ghosts K) (c : clock.Ghosts C
         none = λ other. absurd (other (cut_short end));
         one = at_most_one done.given.at done.step.at;
       };
-      end = cut_ends end g.honest i lines _ (view m.handler) (view b.handler)
+      end = cut_ends end (told_of a.handler) i lines _ (view m.handler) (view b.handler)
           (record { line = line; next = next; given = done.given; meaning = done.meaning; at = done.step.at; own = done.step.own; read = refl; cut = done.step.cut });
       closed = cut_closed end _;
       reads = cut_reads end i j lines (λ bytes is. begins_before bytes line lines (next bytes is));
@@ -247,9 +269,11 @@ module _ {D K C : Type 0} (g : Ghosts D) (k : sink.Ghosts K) (c : clock.Ghosts C
 
   -- The lines ended before the input's end.
   IsRun-stopped : (e : LinesEnd LineEnd) (i j : Option (List ℕ)) (a b : State g k c) → HandlesLines (Does {g = g} k c) (Err e) i j a b
-      → SomeRun g k c (status_of e) (view a.handler) (view b.handler) (around g k c i a.out a.rest) (around g k c j b.out b.rest)
+      → SomeRun g k c (told_of a.handler) (status_of e) (view a.handler) (view b.handler) (around g k c i a.out a.rest) (around g k c j b.out b.rest)
   IsRun-stopped (lines_end.Refused number e) i j a b lines =
-      refused_run e number i j lines.lines lines.ends.line a lines.state b (all_ran g k c lines.lines a lines.state lines.handled) lines.ends.next lines.ends.number_is lines.ends.refused.done
+      let all = all_ran g k c lines.lines a lines.state lines.handled in
+      refused_run e number i j lines.lines lines.ends.line a lines.state b all lines.ends.next lines.ends.number_is
+      (subst (λ (P : Type 0). LineDone P (Err e) lines.ends.line (view lines.state.handler) (view b.handler) (beside g k c lines.state) (beside g k c b)) (ap IsTold all.begun) lines.ends.refused.done)
   IsRun-stopped (lines_end.TooLong number) i j a b lines =
       let all = ran_to g k c lines.lines a lines.state b lines.ends.state_is lines.handled in (
         lines.lines,
@@ -355,8 +379,8 @@ module _ {D K C : Type 0} (g : Ghosts D) (k : sink.Ghosts K) (c : clock.Ghosts C
   stopped_later lines_end.NoMemory i j a b lines = (ran_to g k c lines.lines a lines.state b lines.ends.state_is lines.handled).later
 
   -- After the lines ended early the output was flushed, if it could be.
-  IsRun-flushed : (e : LinesEnd LineEnd) (i j : Option (List ℕ)) (a b : State g k c) (out : K) → SomeRun g k c (status_of e) (view a.handler) (view b.handler) (around g k c i a.out a.rest) (around g k c j b.out b.rest)
-      → Appends (k.held b.out) (k.held out) [] → SomeRun g k c (status_of e) (view a.handler) (view b.handler) (around g k c i a.out a.rest) (around g k c j out b.rest)
+  IsRun-flushed : (e : LinesEnd LineEnd) (i j : Option (List ℕ)) (a b : State g k c) (out : K) → SomeRun g k c (told_of a.handler) (status_of e) (view a.handler) (view b.handler) (around g k c i a.out a.rest) (around g k c j b.out b.rest)
+      → Appends (k.held b.out) (k.held out) [] → SomeRun g k c (told_of a.handler) (status_of e) (view a.handler) (view b.handler) (around g k c i a.out a.rest) (around g k c j out b.rest)
   IsRun-flushed e i j a b out (lines, readings, replies, run) kept = (
     lines,
     readings,
@@ -376,5 +400,5 @@ module _ {D K C : Type 0} (g : Ghosts D) (k : sink.Ghosts K) (c : clock.Ghosts C
   )
 
   pub IsRun-cut : (e : LinesEnd LineEnd) (i j : Option (List ℕ)) (a b : State g k c) (out : K) → HandlesLines (Does {g = g} k c) (Err e) i j a b → Appends (k.held b.out) (k.held out) []
-      → SomeRun g k c (status_of e) (view a.handler) (view b.handler) (around g k c i a.out a.rest) (around g k c j out b.rest)
+      → SomeRun g k c (told_of a.handler) (status_of e) (view a.handler) (view b.handler) (around g k c i a.out a.rest) (around g k c j out b.rest)
   IsRun-cut e i j a b out lines kept = IsRun-flushed e i j a b out (IsRun-stopped e i j a b lines) kept

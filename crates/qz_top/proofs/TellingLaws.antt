@@ -7,11 +7,11 @@ use Rattle.qz_disk.specs.declared.disk.Disk.{Ghosts}
 use Rattle.qz_io.specs.Outside.{Outside, IsHandedOn}
 use Rattle.qz_types.specs.Entries.{EntryData}
 use Rattle.qz_types.specs.Outcomes.{Outcome, accepted, refused, IsAccepted}
-use Rattle.qz_types.specs.Tables.{SchedulerTables, empty}
+use Rattle.qz_types.specs.Tables.{SchedulerTables}
 use Rattle.qz_types.specs.declared.replies.Reply.{Reply}
 use Rattle.qz_model.specs.History.{tables_left, onto_replies, IsLegalFrom, replay_from, replies_from, moments_from}
 use Rattle.qz_model.specs.Transaction.{transaction}
-use Rattle.qz_trigger_store.specs.View.{view, version_of, found_of, added_of, moments_of, replies_of}
+use Rattle.qz_trigger_store.specs.View.{view, base_of, found_of, added_of, moments_of, replies_of}
 use Rattle.qz_trigger_store.specs.declared.stores.TriggerStore.{TriggerStore}
 use Rattle.qz_trigger_store.proofs.Kept.{legal}
 use Rattle.qz_top.specs.NodeRuns.{IsOfNodes, WritesRun}
@@ -40,10 +40,10 @@ legal_after T (e ∷ es) fs legal = legal_after (tables_left T (transaction T e)
 
 module _ {D : Type 0} {g : Ghosts D} (t : TriggerStore D g) where
   pub as_many_moments : length (moments_of t) ≡ length (added_of t)
-  as_many_moments = moments_length (replay_from (empty (version_of t)) (found_of t)) (added_of t)
+  as_many_moments = moments_length (replay_from (base_of t) (found_of t)) (added_of t)
 
   pub as_many_replies : length (replies_of t) ≡ length (added_of t)
-  as_many_replies = replies_length (replay_from (empty (version_of t)) (found_of t)) (added_of t) (legal_after (empty (version_of t)) (found_of t) (added_of t) (legal t))
+  as_many_replies = replies_length (replay_from (base_of t) (found_of t)) (added_of t) (legal_after (base_of t) (found_of t) (added_of t) (legal t))
 
   pub counted_both : length (view t).history.entries ≡ length (found_of t) + length (added_of t)
   counted_both = length-append (found_of t) (added_of t)

@@ -10,16 +10,17 @@ use Rattle.qz_journal.specs.Through.{OnlyReads}
 use Rattle.qz_journal.specs.declared.errors.MountError.{MountError}
 use Rattle.qz_journal.specs.declared.errors.MountError.TheVariants as mount
 use Rattle.qz_model.specs.History.{replay}
-use Rattle.qz_trigger_store.specs.Bytes.{Stands}
+use Rattle.qz_trigger_store.specs.Bytes.{Whole}
 use Rattle.qz_trigger_store.specs.Entries.{is_old}
 use Rattle.qz_trigger_store.specs.Opening.{IsOpened, IsSound}
-use Rattle.qz_checkin.specs.Bytes.{Stands as StatesStand}
+use Rattle.qz_checkin.specs.Bytes.{Whole as WholeRows}
 use Rattle.qz_checkin.specs.Opening.{IsOpened as AreOpened, IsSound as AreSound}
 use Rattle.qz_cluster.specs.Mounting.{DisksAfter, RefusedBy, StandsBefore}
 use Rattle.qz_cluster.specs.Steps.{ClusterState, is_restart}
 use Rattle.qz_cluster.specs.Script.{ScriptState, TimedStep, new_script, step_replies}
 use Rattle.qz_open.specs.Opened.{AreAlwaysAlone}
 use Rattle.qz_open.specs.Runs.{AlwaysSparesOthers}
+use Rattle.qz_top.specs.Found.{IsFoundOn, IsTold, HoldWhole}
 use Rattle.qz_top.specs.Lines.{steps_of}
 use Rattle.qz_top.specs.Lists.{WritesText, lines_of}
 use Rattle.qz_top.specs.Loads.{AloneInLoad, Loads}
@@ -40,10 +41,10 @@ trail_of t = states_in t.on_disk.value ++ states_in t.in_memory.value
 abbrev pub begun : Bool → ClusterState → RunState
 begun is_own S = record { cluster = S; trail = S ∷ []; is_own = is_own }
 
--- Each execution that was lost with a failed node so far yielded one recovery trigger if its job asked for it and was
+-- Of the entries since the base, each execution that was lost with a failed node yielded one recovery trigger if its job asked for it and was
 -- still stored, else none.
 abbrev pub RecoversLosses : ClusterState → Type 0
-RecoversLosses S = AreExact S.triggers.history.base S.triggers.history.entries
+RecoversLosses S = ∥ AreExact S.triggers.history.base S.triggers.history.entries ∥₁
 
 -- A script on new stores in memory was run. Its replies are those of a plain scheduler that is new, empty and of version 2.
 -- Disks in memory are honest.
@@ -81,25 +82,25 @@ script_of S = record { history = S.triggers.history; states = S.states.history; 
 abbrev pub HasSoundStores : ClusterState → Type 0
 HasSoundStores S = IsSound S.triggers × AreSound S.states
 
--- the disks are honest where the step is a restart
-abbrev pub IsOnHonest : Type 0 → TimedStep → Type 0
-IsOnHonest honest t = is_restart t.step ≡ true → honest
+-- the disks tell what they hold where the step is a restart
+abbrev pub IsOnTold : Type 0 → TimedStep → Type 0
+IsOnTold told t = is_restart t.step ≡ true → told
 
 -- The stores that stand on the disks were opened, and a script was run on them.
 pub record RanOnDisk {D : Type 0} {g : Ghosts D} (triggers states : D) (e : Ended D g)
     (old new : Outside) : Type 0 where
-  -- the histories that the bytes represent were opened: they begin with new stores, and they are legal
+  -- what the bytes tell from the slot in use on was opened: the histories are legal, and the tables and rows that they leave are valid
   pub opened : ClusterState
   pub are_opened : IsOpened opened.triggers × AreOpened opened.states
   pub nothing_held : opened.held ≡ []
-  pub stand : g.honest → Stands (g.state triggers).content opened.triggers.history × StatesStand (g.state states).content opened.states.history
+  pub found : g.honest → IsFoundOn g triggers states opened
   pub no_earlier : (g.faults triggers ≤ opened.triggers.faults) × (g.faults states ≤ opened.states.faults)
   -- the script, and the states that it went through
   pub end : RunState
   pub lines : List (List ℕ)
   pub readings : List ℤ
   pub replies : List StepReply
-  pub run : IsRun g.honest e.status (begun false opened) end old new lines readings replies
+  pub run : IsRun (IsTold g triggers) e.status (begun false opened) end old new lines readings replies
   pub trail_is : trail_of e.trail ≡ end.trail
   pub on_disk : states_in e.trail.on_disk.value ≡ end.trail
   -- each of these states has legal histories, valid tables and valid rows, and so has the one at the end
@@ -114,31 +115,31 @@ pub record RanOnDisk {D : Type 0} {g : Ghosts D} (triggers states : D) (e : Ende
   -- and a node that is recovered has none, unless it still holds an epoch
   pub spared : AlwaysSparesOthers opened [] (steps_of lines readings) replies run.steps.states
   -- without a fault the replies are those of a plain scheduler that goes on from the opened histories, and so are those
-  -- before the first fault; restarts are so on honest disks
-  pub plain : AllByRecursion (IsOnHonest g.honest) (steps_of lines readings) → AllByRecursion IsNoFault replies
+  -- before the first fault; restarts are so on honest disks that hold whole lists
+  pub plain : AllByRecursion (IsOnTold (IsTold g triggers)) (steps_of lines readings) → AllByRecursion IsNoFault replies
       → replies ≡ step_replies (script_of opened) (steps_of lines readings)
   pub plain_first : (first rest : List StepReply) → replies ≡ first ++ rest
-      → AllByRecursion (IsOnHonest g.honest) (take (length first) (steps_of lines readings)) → AllByRecursion IsNoFault first
+      → AllByRecursion (IsOnTold (IsTold g triggers)) (take (length first) (steps_of lines readings)) → AllByRecursion IsNoFault first
       → first ≡ take (length first) (step_replies (script_of opened) (steps_of lines readings))
   pub faults : (g.faults e.triggers ≡ end.cluster.triggers.faults) × (g.faults e.states ≡ end.cluster.states.faults)
   -- at the end a crash leaves the bytes of the last history of each store, or of it with the undecided entry
-  pub images : g.honest → (b : List ℕ) → ((g.state e.triggers).IsImage b → HasTriggers b end.cluster) × ((g.state e.states).IsImage b → HasStates b end.cluster)
+  pub images : (w : Whole) (v : WholeRows) → HoldWhole g triggers states w v → (b : List ℕ) → ((g.state e.triggers).IsImage b → HasTriggers w b end.cluster) × ((g.state e.states).IsImage b → HasStates v b end.cluster)
   -- before, at any moment, it leaves what it could have left before the call, until both stores are open; and from the
   -- moment on when a state was reached, each store as in that state or in a later one
   pub opening : g.honest → BeginsWithReads (g.state triggers) (g.state states) e.trail.on_disk.value.items
-  pub any_moment : g.honest → EachIsKept e.trail.on_disk.value.items end.cluster (g.state e.triggers) (g.state e.states)
+  pub any_moment : (w : Whole) (v : WholeRows) → HoldWhole g triggers states w v → EachIsKept w v e.trail.on_disk.value.items end.cluster (g.state e.triggers) (g.state e.states)
 
 -- The stores that stand on the disks were opened, and a document's commands were done on them.
 pub record LoadedOnDisk {D : Type 0} {g : Ghosts D} (triggers states : D) (e : Ended D g)
     (old new : Outside) : Type 0 where
-  -- the histories that the bytes represent were opened: they begin with new stores, and they are legal
+  -- what the bytes tell from the slot in use on was opened: the histories are legal, and the tables and rows that they leave are valid
   pub opened : ClusterState
   pub are_opened : IsOpened opened.triggers × AreOpened opened.states
   pub nothing_held : opened.held ≡ []
-  pub stand : g.honest → Stands (g.state triggers).content opened.triggers.history × StatesStand (g.state states).content opened.states.history
+  pub found : g.honest → IsFoundOn g triggers states opened
   -- the commands as steps of a client, and the states that they went through
   pub end : RunState
-  pub loads : Loads g.honest e.status (begun false opened) end old new
+  pub loads : Loads (IsTold g triggers) e.status (begun false opened) end old new
   pub trail_is : trail_of e.trail ≡ end.trail
   pub on_disk : states_in e.trail.on_disk.value ≡ end.trail
   -- these states, the one at the end, and open executions are as in a script
@@ -149,16 +150,16 @@ pub record LoadedOnDisk {D : Type 0} {g : Ghosts D} (triggers states : D) (e : E
   pub alone : AloneInLoad loads
   pub faults : (g.faults e.triggers ≡ end.cluster.triggers.faults) × (g.faults e.states ≡ end.cluster.states.faults)
   -- a crash at the end and at each moment before it, as in a script
-  pub images : g.honest → (b : List ℕ) → ((g.state e.triggers).IsImage b → HasTriggers b end.cluster) × ((g.state e.states).IsImage b → HasStates b end.cluster)
+  pub images : (w : Whole) (v : WholeRows) → HoldWhole g triggers states w v → (b : List ℕ) → ((g.state e.triggers).IsImage b → HasTriggers w b end.cluster) × ((g.state e.states).IsImage b → HasStates v b end.cluster)
   pub opening : g.honest → BeginsWithReads (g.state triggers) (g.state states) e.trail.on_disk.value.items
-  pub any_moment : g.honest → EachIsKept e.trail.on_disk.value.items end.cluster (g.state e.triggers) (g.state e.states)
+  pub any_moment : (w : Whole) (v : WholeRows) → HoldWhole g triggers states w v → EachIsKept w v e.trail.on_disk.value.items end.cluster (g.state e.triggers) (g.state e.states)
 
 -- The stores that stand on the disks were opened, and what they hold was written.
 pub record ListedOnDisk {D : Type 0} {g : Ghosts D} (triggers states : D) (e : Ended D g)
     (old new : Outside) : Type 0 where
   pub opened : ClusterState
   pub are_opened : IsOpened opened.triggers × AreOpened opened.states
-  pub stand : g.honest → Stands (g.state triggers).content opened.triggers.history × StatesStand (g.state states).content opened.states.history
+  pub found : g.honest → IsFoundOn g triggers states opened
   pub written : WritesText e.status (lines_of opened) old new
   -- the one state that was shown is the opened one
   pub trail_is : trail_of e.trail ≡ opened ∷ []
@@ -171,8 +172,8 @@ pub record FoundOld {D : Type 0} {g : Ghosts D} (triggers states : D) (e : Ended
     (old new : Outside) : Type 0 where
   pub opened : ClusterState
   pub are_opened : IsOpened opened.triggers × AreOpened opened.states
-  pub stand : g.honest → Stands (g.state triggers).content opened.triggers.history × StatesStand (g.state states).content opened.states.history
-  pub found : is_old (replay opened.triggers.history) ≡ true
+  pub found : g.honest → IsFoundOn g triggers states opened
+  pub was_old : is_old (replay opened.triggers.history) ≡ true
   pub status_is : e.status ≡ status.OldStore
   pub none : trail_of e.trail ≡ []
   pub reads : g.honest → OnlyReads (g.state triggers) (g.state e.triggers) × OnlyReads (g.state states) (g.state e.states)

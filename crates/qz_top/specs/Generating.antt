@@ -1,5 +1,5 @@
 -- What `gen` did: jobs and triggers that a number gives were added to an empty store, and nodes worked on it.
-use Rattle.std.specs.Prelude.{◌≡◌, ◌⊎◌, ℕ, ◌*◌, true, false, pos, ◌+ℤ◌, ◌-ℤ◌, List, [], ◌∷◌, ◌++◌, map, Result, Ok, Err}
+use Rattle.std.specs.Prelude.{⊤, ◌≡◌, ◌⊎◌, ℕ, ◌*◌, true, false, pos, ◌+ℤ◌, ◌-ℤ◌, List, [], ◌∷◌, ◌++◌, map, Result, Ok, Err}
 use Rattle.qz_disk.specs.declared.disk.Disk.{Ghosts}
 use Rattle.qz_io.specs.Outside.{Outside}
 use Rattle.qz_types.specs.declared.commands.Command.{Command}
@@ -12,10 +12,10 @@ use Rattle.qz_steps.specs.declared.steps.StepReply.TheVariants as reply
 use Rattle.qz_generator.specs.Commands.{generated}
 use Rattle.qz_generator.specs.declared.limits.TheConstants.{FIRST_MOMENT}
 use Rattle.qz_model.specs.History.{History, IsLegal, replay, replies}
-use Rattle.qz_trigger_store.specs.Bytes.{Stands}
+use Rattle.qz_trigger_store.specs.Bytes.{Whole}
 use Rattle.qz_trigger_store.specs.Entries.{TriggerState, is_old}
 use Rattle.qz_trigger_store.specs.Opening.{IsOpened}
-use Rattle.qz_checkin.specs.Bytes.{Stands as StatesStand}
+use Rattle.qz_checkin.specs.Bytes.{Whole as WholeRows}
 use Rattle.qz_checkin.specs.Entries.{StatesState}
 use Rattle.qz_checkin.specs.History.{IsLegal as AreLegal}
 use Rattle.qz_checkin.specs.Opening.{IsOpened as AreOpened}
@@ -28,8 +28,10 @@ use Rattle.qz_run.specs.declared.commands.Plan.{Plan}
 use Rattle.qz_open.specs.Runs.{StepsDone}
 use Rattle.qz_schedule_law.specs.Following.{FollowsSchedules}
 use Rattle.qz_top.specs.Calls.{NotOpened, trail_of}
+use Rattle.qz_top.specs.Found.{count_of, IsFoundOn, HoldWhole}
 use Rattle.qz_top.specs.Moments.{HasTriggers, HasStates}
 use Rattle.qz_top.specs.NodeRuns.{IsToldAs, Worked, WritesRun, IsKeptOnTheWay}
+use Rattle.qz_top.specs.Resting.{RestsNodes}
 use Rattle.qz_top.specs.Statuses.{cut_status}
 use Rattle.qz_top.specs.Trails.{last_of}
 use Rattle.qz_top.specs.declared.ended.Ended.{Ended}
@@ -106,14 +108,14 @@ summary_line_of h = summary_text (summary_of h.entries (replies h) (replay h))
 -- The trigger store's history wasn't empty, and nothing was done, called or written.
 pub record HadEntries (s : Status) (jobs jobs' : List JobMeaning) (opened end : ClusterState) (old new : Outside) : Type 0 where
   pub exists : s ≡ status.Exists
-  pub some : opened.triggers.history.entries ≡ [] → ⊥
+  pub some : count_of opened.triggers.history ≡ 0 → ⊥
   pub same : end ≡ opened
   pub not_called : jobs' ≡ jobs
   pub untouched : new ≡ old
 
 -- It was empty, and the store is one of version 1 that wasn't upgraded. Nothing was done, called or written.
 pub record WasOld (s : Status) (jobs jobs' : List JobMeaning) (opened end : ClusterState) (old new : Outside) : Type 0 where
-  pub none : opened.triggers.history.entries ≡ []
+  pub none : count_of opened.triggers.history ≡ 0
   pub found : is_old (replay opened.triggers.history) ≡ true
   pub status_is : s ≡ status.OldStore
   pub same : end ≡ opened
@@ -122,24 +124,33 @@ pub record WasOld (s : Status) (jobs jobs' : List JobMeaning) (opened end : Clus
 
 -- It was empty, the store isn't old, and not all of the commands were done. No node worked, and nothing was written.
 pub record NotFilled (honest : Type 0) (w : Workload) (s : Status) (jobs jobs' : List JobMeaning) (opened end : ClusterState) (old new : Outside) : Type 0 where
-  pub none : opened.triggers.history.entries ≡ []
+  pub none : count_of opened.triggers.history ≡ 0
   pub current : is_old (replay opened.triggers.history) ≡ false
   pub ended : FillEnded honest s (generated w.seed w.jobs) opened end
   pub not_called : jobs' ≡ jobs
   pub untouched : new ≡ old
 
+-- The nodes of the plan worked from the one state of the stores to another. The line that sums up the history was written, where
+-- this holds of the store at first. Then a checkpoint was made where one was due.
+pub record WorkedAndSummed (p : Plan) (s : Status) (jobs jobs' : List JobMeaning) (begun end : ClusterState) (IsFirst : Type 0) (old new : Outside) : Type 0 where
+  pub work : Status
+  pub worked_to : ClusterState
+  pub worked : Worked p work jobs jobs' begun worked_to
+  pub told_as : Status
+  pub told : IsToldAs told_as work
+  pub written : IsFirst → WritesRun told_as (summary_line_of worked_to.triggers.history) old new
+  pub rests : RestsNodes told_as s worked_to.triggers end.triggers
+  pub states_stay : end.states ≡ worked_to.states
+
 -- It was empty, the store isn't old, all of the commands were done, and then the nodes of the plan worked, which ended so. The summary
--- line was written, which counts all that was added since the opening.
+-- line was written, which counts all that was added since the opening, and a checkpoint was made where one was due.
 pub record RanGenerated (honest : Type 0) (w : Workload) (s : Status) (jobs jobs' : List JobMeaning) (opened end : ClusterState) (old new : Outside) : Type 0 where
-  pub none : opened.triggers.history.entries ≡ []
+  pub none : count_of opened.triggers.history ≡ 0
   pub current : is_old (replay opened.triggers.history) ≡ false
   pub between : ClusterState
   pub filled : Filled honest (generated w.seed w.jobs) opened between
   pub is_open : is_closed between ≡ false
-  pub work : Status
-  pub told : IsToldAs s work
-  pub worked : Worked (plan_of w.days) work jobs jobs' between end
-  pub written : WritesRun s (summary_line_of end.triggers.history) old new
+  pub ran : WorkedAndSummed (plan_of w.days) s jobs jobs' between end ⊤ old new
 
 abbrev pub Generated : Type 0 → Workload → Status → List JobMeaning → List JobMeaning → ClusterState → ClusterState → Outside → Outside → Type 0
 Generated honest w s jobs jobs' opened end old new =
@@ -148,10 +159,10 @@ Generated honest w s jobs jobs' opened end old new =
 -- The stores that stand on the disks were opened, and what `gen` does was done on them. A script's states aren't told.
 pub record GeneratedOnDisk {D : Type 0} {g : Ghosts D} (w : Workload) (jobs jobs' : List JobMeaning) (triggers states : D) (e : Ended D g)
     (old new : Outside) : Type 0 where
-  -- the histories that the bytes represent were opened: they begin with new stores, and they are legal
+  -- what the bytes tell from the slot in use on was opened: the histories are legal, and the tables and rows that they leave are valid
   pub opened : ClusterState
   pub are_opened : IsOpened opened.triggers × AreOpened opened.states
-  pub stand : g.honest → Stands (g.state triggers).content opened.triggers.history × StatesStand (g.state states).content opened.states.history
+  pub found : g.honest → IsFoundOn g triggers states opened
   -- what was done, up to the end
   pub end : ClusterState
   pub did : Generated g.honest w e.status jobs jobs' opened end old new
@@ -161,7 +172,7 @@ pub record GeneratedOnDisk {D : Type 0} {g : Ghosts D} (w : Workload) (jobs jobs
   pub no_trail : trail_of e.trail ≡ []
   pub faults : (g.faults e.triggers ≡ end.triggers.faults) × (g.faults e.states ≡ end.states.faults)
   -- at the end a crash leaves the bytes of the last history of each store, or of it with the undecided entry
-  pub images : g.honest → (b : List ℕ) → ((g.state e.triggers).IsImage b → HasTriggers b end) × ((g.state e.states).IsImage b → HasStates b end)
+  pub images : (w : Whole) (v : WholeRows) → HoldWhole g triggers states w v → (b : List ℕ) → ((g.state e.triggers).IsImage b → HasTriggers w b end) × ((g.state e.states).IsImage b → HasStates v b end)
   -- and so it does at any moment before
   pub any_moment : ∥ IsKeptOnTheWay g triggers states e.triggers e.states opened end ∥₁
 

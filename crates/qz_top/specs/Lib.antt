@@ -2,6 +2,7 @@ pub mod Asked
 pub mod Calls
 pub mod Causes
 pub mod Clients
+pub mod Found
 pub mod Generating
 pub mod Handling
 pub mod HandingOn
@@ -13,6 +14,7 @@ pub mod Making
 pub mod Migrating
 pub mod Moments
 pub mod NodeRuns
+pub mod Resting
 pub mod Runs
 pub mod Schedules
 pub mod Seen

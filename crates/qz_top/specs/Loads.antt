@@ -13,6 +13,7 @@ use Rattle.qz_cluster.specs.Steps.{is_closed}
 use Rattle.qz_open.specs.Opened.{AreAlwaysAlone}
 use Rattle.qz_top.specs.Clients.{client_steps, DidCommands, DidSome}
 use Rattle.qz_top.specs.Lines.{kind_of}
+use Rattle.qz_top.specs.Resting.{RestsRun}
 use Rattle.qz_top.specs.Statuses.{status_at, Finishes}
 use Rattle.qz_top.specs.Trails.{RunState}
 use Rattle.qz_top.specs.declared.line_handler.LineEnd.{LineEnd}
@@ -45,11 +46,13 @@ pub record HadDocument (document : Document) (left left_now : Option (List ℕ))
   pub meaning : IfKnown left (λ bytes. document_meaning bytes ≡ Ok document)
   pub ended : IsAtEnd left_now
 
--- All commands of the document were done and answered, and then the output was flushed, or that failed. The clock was asked for
+-- All commands of the document were done and answered. Then a checkpoint was made where one was due, and the output was flushed, or that failed. The clock was asked for
 -- their readings and for no more.
 pub record DidAll (honest : Type 0) (s : Status) (document : Document) (before after : RunState) (old new : Outside) : Type 0 where
   pub then : Outside
-  pub did : DidCommands honest document.at document.commands before after old then
+  pub last : RunState
+  pub did : DidCommands honest document.at document.commands before last old then
+  pub rests : RestsRun s last after
   pub asked_no_more : new.readings ≡ then.readings
   pub faults : ℕ
   pub faults_now : ℕ

@@ -17,10 +17,11 @@ use Rattle.qz_journal.specs.Through.{OnlyReads, OnlyReadsUnless}
 use Rattle.qz_journal.specs.declared.errors.MountError.{MountError}
 use Rattle.qz_journal.specs.declared.errors.MountError.TheVariants as mount
 use Rattle.qz_stores.specs.Stores.{Appends, Overflows, Starves, Fails}
-use Rattle.qz_trigger_store.specs.Bytes.{Stands}
+use Rattle.qz_trigger_store.specs.Bytes.{Whole, IsWhole}
 use Rattle.qz_trigger_store.specs.Entries.{TriggerState, is_old, trigger_entry}
 use Rattle.qz_trigger_store.specs.Opening.{IsOpened, IsRefused}
 use Rattle.qz_trigger_store.specs.View.{IsOfEither}
+use Rattle.qz_cluster.specs.Found.{IsFoundIn}
 use Rattle.qz_cluster.specs.Script.{entry_of}
 use Rattle.qz_top.specs.Calls.{refusal_of, trail_of}
 use Rattle.qz_top.specs.Lists.{WritesText}
@@ -72,10 +73,10 @@ AnswersAs (Err submit.Fault) s old new = (s ≡ status.DiskFault) × (new ≡ ol
 -- The trigger store that stands on its disk was opened, and upgraded if it was old. The other disk wasn't touched.
 pub record MigratedOnDisk {D : Type 0} {g : Ghosts D} (triggers states : D) (e : Ended D g)
     (read read' : Option (List ℤ)) (old new : Outside) : Type 0 where
-  -- the history that the bytes represent was opened: it begins with a new store, and it is legal
+  -- what the bytes tell from the slot in use on was opened: the history is legal, and the tables that it leaves are valid
   pub opened : TriggerState
   pub is_opened : IsOpened opened
-  pub stand : g.honest → Stands (g.state triggers).content opened.history
+  pub found : g.honest → IsFoundIn (g.state triggers).content opened
   -- the one reading that was taken of the clock, and what came of the upgrade at it
   pub at : ℤ
   pub told : Tells read read' (at ∷ [])
@@ -88,8 +89,8 @@ pub record MigratedOnDisk {D : Type 0} {g : Ghosts D} (triggers states : D) (e :
   pub reads : g.honest → end ≡ opened → OnlyReads (g.state triggers) (g.state e.triggers)
   -- The disk was only read until the store was open. From then on a crash at any moment leaves the bytes of the store as it was
   -- opened, or those of the store as it is at the end: so it is as it was before, or upgraded.
-  pub any_moment : g.honest → (between : D) × OnlyReads (g.state triggers) (g.state between)
-      × LeavesOnly (g.state between) (g.state e.triggers) (IsOfEither opened end)
+  pub any_moment : g.honest → (w : Whole) → IsWhole w (g.state triggers).content → (between : D) × OnlyReads (g.state triggers) (g.state between)
+      × LeavesOnly (g.state between) (g.state e.triggers) (IsOfEither w opened end)
 
 -- The trigger store wasn't opened, and nothing was done: its disk was only read, so unless it failed it is as it was, and a crash
 -- leaves only what it could have left before.

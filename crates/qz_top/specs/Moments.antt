@@ -4,24 +4,27 @@ use Rattle.std.specs.declared.snapshot.Snapshot.{Snapshot}
 use Rattle.qz_disk.specs.declared.disk.Disk.{Ghosts}
 use Rattle.qz_disk.specs.Disk.{DiskState, LeavesOnly}
 use Rattle.qz_journal.specs.Through.{OnlyReads}
-use Rattle.qz_trigger_store.specs.Bytes.{Stands, MayBe}
+use Rattle.qz_trigger_store.specs.Bytes.{Whole, IsWhole, MayBe}
 use Rattle.qz_trigger_store.specs.Opening.{IsOpened}
-use Rattle.qz_trigger_store.specs.View.{added_of}
-use Rattle.qz_checkin.specs.Bytes.{Stands as StatesStand, MayBe as StatesMayBe}
+use Rattle.qz_trigger_store.specs.View.{added_of, GoesOnFrom}
+use Rattle.qz_checkin.specs.Bytes.{Whole as WholeRows, IsWhole as IsWholeRows, MayBe as RowsMayBe}
 use Rattle.qz_checkin.specs.Opening.{IsOpened as AreOpened}
+use Rattle.qz_checkin.specs.View.{GoesOnFrom as RowsGoOnFrom}
 use Rattle.qz_cluster.specs.declared.clusters.Cluster.{Cluster}
 use Rattle.qz_cluster.specs.Steps.{ClusterState}
-use Rattle.qz_cluster.specs.View.{view as cluster_view, triggers_of, triggers_disk, states_disk, EachLeavesEither}
+use Rattle.qz_cluster.specs.View.{view as cluster_view, triggers_of, states_of as rows_of, triggers_disk, states_disk, EachLeavesEither, IsTold as ClusterIsTold}
+use Rattle.qz_top.specs.Found.{IsFoundOn, IsTold}
 use Rattle.qz_top.specs.Seen.{Shown, states_of}
 use Rattle.qz_top.specs.declared.runs.Run.{Run}
 
--- these bytes are those of this state's trigger store: of its history, or of that with the undecided entry
-abbrev pub HasTriggers : List ℕ → ClusterState → Type 0
-HasTriggers bytes S = MayBe S.triggers.history S.triggers.undecided bytes
+-- These bytes hold a whole list that begins with this one. The history of this state's trigger store is an end of it, or with
+-- the undecided entry is.
+abbrev pub HasTriggers : Whole → List ℕ → ClusterState → Type 0
+HasTriggers w bytes S = MayBe w S.triggers.history S.triggers.undecided bytes
 
 -- the same of its state store
-abbrev pub HasStates : List ℕ → ClusterState → Type 0
-HasStates bytes S = StatesMayBe S.states.history S.states.undecided bytes
+abbrev pub HasStates : WholeRows → List ℕ → ClusterState → Type 0
+HasStates v bytes S = RowsMayBe v S.states.history S.states.undecided bytes
 
 -- it holds of one of these states, or of the one at the end
 abbrev pub HoldsOfOne : (ClusterState → Type 0) → List ClusterState → ClusterState → Type 0
@@ -35,12 +38,12 @@ BeginsWithReads triggers states (first ∷ later) = OnlyReads triggers (triggers
 
 -- From the moment on when a state was shown, a crash leaves each store as in that state, in a later one or in the one at
 -- the end: what was done until then isn't lost again.
-abbrev pub EachIsKept : {D : Type 0} {g : Ghosts D} → Shown D g → ClusterState → DiskState → DiskState → Type 0
-EachIsKept [] end triggers states = ⊤
-EachIsKept (s ∷ later) end triggers states =
-    LeavesOnly (triggers_disk s.value) triggers (λ b. HoldsOfOne (HasTriggers b) (states_of (s ∷ later)) end)
-    × LeavesOnly (states_disk s.value) states (λ b. HoldsOfOne (HasStates b) (states_of (s ∷ later)) end)
-    × EachIsKept later end triggers states
+abbrev pub EachIsKept : {D : Type 0} {g : Ghosts D} → Whole → WholeRows → Shown D g → ClusterState → DiskState → DiskState → Type 0
+EachIsKept w v [] end triggers states = ⊤
+EachIsKept w v (s ∷ later) end triggers states =
+    LeavesOnly (triggers_disk s.value) triggers (λ b. HoldsOfOne (HasTriggers w b) (states_of (s ∷ later)) end)
+    × LeavesOnly (states_disk s.value) states (λ b. HoldsOfOne (HasStates v b) (states_of (s ∷ later)) end)
+    × EachIsKept w v later end triggers states
 
 -- the last cluster that was shown after this one
 abbrev pub last_shown : {D : Type 0} {g : Ghosts D} → Cluster D g → Shown D g → Cluster D g
@@ -58,6 +61,7 @@ pub record Shows {D : Type 0} {g : Ghosts D} (all : Type 0) (old new : Run D g) 
   pub shown : Shown D g
   pub trail : new.trail.items ≡ old.trail.items ++ shown
   pub own : new.is_own ≡ old.is_own
+  pub begun : new.begun.value ≡ old.begun.value
   pub last : all → new.cluster ≡ last_shown old.cluster shown
   pub moments : g.honest → EachStepLeaves old.cluster shown
   pub end : g.honest → (new.cluster ≡ last_shown old.cluster shown) ⊎ EachLeavesEither (last_shown old.cluster shown) new.cluster
@@ -67,10 +71,14 @@ pub record BeginsOn {D : Type 0} {g : Ghosts D} (triggers states : D) (r : Run D
   pub are_opened : IsOpened (cluster_view r.cluster).triggers × AreOpened (cluster_view r.cluster).states
   pub nothing_held : (cluster_view r.cluster).held ≡ []
   pub nothing_added : added_of (triggers_of r.cluster) ≡ []
-  pub stand : g.honest → Stands (g.state triggers).content (cluster_view r.cluster).triggers.history × StatesStand (g.state states).content (cluster_view r.cluster).states.history
+  pub found : g.honest → IsFoundOn g triggers states (cluster_view r.cluster)
+  pub goes_on : g.honest → (w : Whole) → IsWhole w (g.state triggers).content → GoesOnFrom (triggers_of r.cluster) w
+  pub rows_go_on : g.honest → (v : WholeRows) → IsWholeRows v (g.state states).content → RowsGoOnFrom (rows_of r.cluster) v
+  pub told : IsTold g triggers → ClusterIsTold r.cluster
   pub no_earlier : (g.faults triggers ≤ (cluster_view r.cluster).triggers.faults) × (g.faults states ≤ (cluster_view r.cluster).states.faults)
   pub reads : g.honest → OnlyReads (g.state triggers) (triggers_disk r.cluster) × OnlyReads (g.state states) (states_disk r.cluster)
   pub not_own : r.is_own ≡ false
+  pub begun : r.begun.value ≡ r.cluster
   pub first : Snapshot (Cluster D g)
   pub trail : r.trail.items ≡ first ∷ []
   pub shown : first.value ≡ r.cluster

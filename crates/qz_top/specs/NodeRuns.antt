@@ -8,12 +8,12 @@ use Rattle.qz_types.specs.Entries.{EntryData, StateEntryData}
 use Rattle.qz_types.specs.Tables.{SchedulerTables}
 use Rattle.qz_model.specs.History.{History, IsLegal, replay, replies_from, moments_from}
 use Rattle.qz_journal.specs.Through.{OnlyReads}
-use Rattle.qz_trigger_store.specs.Bytes.{Stands}
+use Rattle.qz_trigger_store.specs.Bytes.{Whole}
 use Rattle.qz_trigger_store.specs.Entries.{is_old}
 use Rattle.qz_trigger_store.specs.Opening.{IsOpened}
 use Rattle.qz_trigger_store.specs.View.{view as triggers_view}
 use Rattle.qz_trigger_store.specs.declared.stores.TriggerStore.{TriggerStore}
-use Rattle.qz_checkin.specs.Bytes.{Stands as StatesStand}
+use Rattle.qz_checkin.specs.Bytes.{Whole as WholeRows}
 use Rattle.qz_checkin.specs.History.{IsLegal as AreLegal, replay_states}
 use Rattle.qz_checkin.specs.Opening.{IsOpened as AreOpened}
 use Rattle.qz_checkin.specs.View.{view as states_view}
@@ -38,7 +38,9 @@ use Rattle.qz_run_stores.specs.Ways.{HasOnTheWay, HasRowsOnTheWay}
 use Rattle.qz_cluster.specs.Steps.{ClusterState}
 use Rattle.qz_schedule_law.specs.Following.{FollowsSchedules}
 use Rattle.qz_top.specs.Calls.{FoundOld, NotOpened, trail_of}
+use Rattle.qz_top.specs.Found.{count_of, IsFoundOn, HoldWhole}
 use Rattle.qz_top.specs.Moments.{HasTriggers, HasStates}
+use Rattle.qz_top.specs.Resting.{RestsNodes}
 use Rattle.qz_top.specs.declared.ended.Ended.{Ended}
 use Rattle.qz_top.specs.declared.statuses.Status.{Status}
 use Rattle.qz_top.specs.declared.statuses.Status.TheVariants as status
@@ -49,6 +51,7 @@ both t s = record { triggers = triggers_view t; states = states_view s; held = [
 
 -- The histories went on with these entries and with these of the state store.
 pub record WentOn (begun end : ClusterState) (added : List EntryData) (rows : List StateEntryData) : Type 0 where
+  pub base_count : end.triggers.history.base_count ≡ begun.triggers.history.base_count
   pub base : end.triggers.history.base ≡ begun.triggers.history.base
   pub entries : end.triggers.history.entries ≡ begun.triggers.history.entries ++ added
   pub rows_are : end.states.history.entries ≡ begun.states.history.entries ++ rows
@@ -118,9 +121,9 @@ IsOfNodes status.DiskFault = ⊤
 IsOfNodes status.NoMemory = ⊤
 IsOfNodes other = ⊥
 
--- the lines of what was added to a history, numbered on from the entries before
+-- the lines of what was added to a history, numbered on from all entries before
 abbrev pub lines_since : History → List EntryData → List ℕ
-lines_since h added = history_text added (moments_from (replay h) added) (replies_from (replay h) added) (length h.entries + 1)
+lines_since h added = history_text added (moments_from (replay h) added) (replies_from (replay h) added) (count_of h + 1)
 
 -- the same, and the summary line, where the tables are these at the end
 abbrev pub text_since : History → SchedulerTables → List EntryData → List ℕ
@@ -142,34 +145,40 @@ pub record IsKept {D : Type 0} (g : Ghosts D) (before after : D) (Has : List ℕ
   pub reads : OnlyReads (g.state before) (g.state opened)
   pub leaves : LeavesOnly (g.state opened) (g.state after) Has
 
--- On honest disks a crash at any moment leaves, once the stores are open, on each disk the opened history with some of what was
+-- On honest disks that hold whole lists a crash at any moment leaves, once the stores are open, on each disk the opened history with some of what was
 -- added, or the last one with its undecided entry.
 abbrev pub IsKeptOnTheWay : {D : Type 0} (g : Ghosts D) → D → D → D → D → ClusterState → ClusterState → Type 0
 IsKeptOnTheWay g triggers states triggers' states' opened end =
-    g.honest → IsKept g triggers triggers' (HasOnTheWay opened.triggers end.triggers) × IsKept g states states' (HasRowsOnTheWay opened.states end.states)
+    (w : Whole) (v : WholeRows) → HoldWhole g triggers states w v
+    → IsKept g triggers triggers' (HasOnTheWay w opened.triggers end.triggers) × IsKept g states states' (HasRowsOnTheWay v opened.states end.states)
 
 -- The stores that stand on the disks were opened, of which the trigger store isn't old, and the nodes of the plan worked on
 -- them. A script's states aren't told.
 pub record RanNodesOnDisk {D : Type 0} {g : Ghosts D} (p : Plan) (jobs jobs' : List JobMeaning) (triggers states : D) (e : Ended D g)
     (old new : Outside) : Type 0 where
-  -- the histories that the bytes represent were opened: they begin with new stores, and they are legal
+  -- what the bytes tell from the slot in use on was opened: the histories are legal, and the tables and rows that they leave are valid
   pub opened : ClusterState
   pub are_opened : IsOpened opened.triggers × AreOpened opened.states
-  pub stand : g.honest → Stands (g.state triggers).content opened.triggers.history × StatesStand (g.state states).content opened.states.history
+  pub found : g.honest → IsFoundOn g triggers states opened
   pub current : is_old (replay opened.triggers.history) ≡ false
   -- the nodes' work, how that ended, and what was written of it
-  pub end : ClusterState
+  pub worked_to : ClusterState
   pub work : Status
-  pub told : IsToldAs e.status work
-  pub worked : Worked p work jobs jobs' opened end
-  pub written : WritesRun e.status (run_text opened end worked.added) old new
+  pub worked : Worked p work jobs jobs' opened worked_to
+  pub told_as : Status
+  pub told : IsToldAs told_as work
+  pub written : WritesRun told_as (run_text opened worked_to worked.added) old new
+  -- and then a checkpoint was made where one was due
+  pub end : ClusterState
+  pub rests : RestsNodes told_as e.status worked_to.triggers end.triggers
+  pub states_stay : end.states ≡ worked_to.states
   -- at the end both histories are legal, and triggers that weren't disturbed have fired for the first times of their schedules
   pub legal : IsLegal end.triggers.history × AreLegal end.states.history
   pub schedules : FollowsSchedules end.triggers.history
   pub no_trail : trail_of e.trail ≡ []
   pub faults : (g.faults e.triggers ≡ end.triggers.faults) × (g.faults e.states ≡ end.states.faults)
   -- at the end a crash leaves the bytes of the last history of each store, or of it with the undecided entry
-  pub images : g.honest → (b : List ℕ) → ((g.state e.triggers).IsImage b → HasTriggers b end) × ((g.state e.states).IsImage b → HasStates b end)
+  pub images : (w : Whole) (v : WholeRows) → HoldWhole g triggers states w v → (b : List ℕ) → ((g.state e.triggers).IsImage b → HasTriggers w b end) × ((g.state e.states).IsImage b → HasStates v b end)
   -- and so it does at any moment before
   pub any_moment : ∥ IsKeptOnTheWay g triggers states e.triggers e.states opened end ∥₁
 

@@ -13,6 +13,7 @@ use Rattle.qz_cluster.specs.declared.errors.StepEnd.{StepEnd}
 use Rattle.qz_cluster.specs.declared.errors.StepEnd.TheVariants as ends
 use Rattle.qz_job_json.specs.declared.lines.Given.{Given}
 use Rattle.qz_top.specs.Lines.{line_meaning, IsGood, readings_of, steps_of, first_bad}
+use Rattle.qz_top.specs.Resting.{RestsRun}
 use Rattle.qz_top.specs.Trails.{texts, RunState, RanSteps}
 use Rattle.qz_top.specs.LineOutcomes.{IsOwn, taken_reading, step_at, NothingDone, WasCut}
 use Rattle.qz_top.specs.declared.statuses.BadKind.{BadKind}
@@ -71,16 +72,19 @@ pub record EndsShort (honest : Type 0) (end : StepEnd) (left : Option (List ℕ)
   pub read : more ≡ taken_reading given.at at
   pub cut : WasCut honest (step_at given at) end last after
 
--- What the end of a run left of the state after its last reply, by the status: that state; or, where the next line's step
--- was cut short, what that left.
+-- What the end of a run left of the state after its last reply, by the status: that state, or what the checkpoint at the end made
+-- of it; or, where the next line's step was cut short, what that left.
 abbrev pub EndsRun : Type 0 → Status → Option (List ℕ) → List (List ℕ) → List ℤ → RunState → RunState → Type 0
 EndsRun honest (status.NotAStore store) left lines more last after = EndsShort honest (ends.NotAStore store) left lines more last after
 EndsRun honest (status.Damaged store at) left lines more last after = EndsShort honest (ends.Damaged store at) left lines more last after
 EndsRun honest (status.JournalFull need room) left lines more last after = EndsShort honest (ends.JournalFull need room) left lines more last after
 EndsRun honest status.NoMemory left lines more last after = NothingDone last after ⊎ EndsShort honest ends.NoMemory left lines more last after
+EndsRun honest status.Ok left lines more last after = RestsRun status.Ok last after
+EndsRun honest status.DiskFault left lines more last after = RestsRun status.DiskFault last after
+EndsRun honest status.WriteFault left lines more last after = RestsRun status.WriteFault last after
 EndsRun honest s left lines more last after = after ≡ last
 
--- After the last line the status says whether a store is closed.
+-- At the end the status says whether a store is closed.
 abbrev pub TellsClosed : Status → ClusterState → Type 0
 TellsClosed status.Ok S = is_closed S ≡ false
 TellsClosed status.DiskFault S = is_closed S ≡ true
@@ -145,7 +149,7 @@ pub record IsRun (honest : Type 0) (s : Status) (before after : RunState) (old n
   pub steps : RanSteps honest (steps_of lines readings) replies before last
   pub clocked : Clocked s old.readings new.readings lines readings
   pub end : EndsRun honest s old.left lines clocked.more last after
-  pub closed : TellsClosed s last.cluster
+  pub closed : TellsClosed s after.cluster
   pub reads : Reads s old.left new.left lines
   pub writes : Writes s old.held new.held replies
   pub hands_on : HandsOn s new

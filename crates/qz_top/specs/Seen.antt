@@ -5,7 +5,7 @@ use Rattle.std.specs.declared.alloc.Global.{Global}
 use Rattle.qz_disk.specs.declared.disk.Disk.{Ghosts}
 use Rattle.qz_cluster.specs.declared.clusters.Cluster.{Cluster}
 use Rattle.qz_cluster.specs.Steps.{ClusterState}
-use Rattle.qz_cluster.specs.View.{view as cluster_view}
+use Rattle.qz_cluster.specs.View.{view as cluster_view, IsTold}
 use Rattle.qz_top.specs.Trails.{RunState}
 use Rattle.qz_top.specs.declared.runs.Run.{Run}
 
@@ -22,3 +22,7 @@ states_in trail = states_of trail.items
 
 abbrev pub view : {D : Type 0} {g : Ghosts D} → Run D g → RunState
 view r = record { cluster = cluster_view r.cluster; trail = states_in r.trail; is_own = r.is_own }
+
+-- The disks are honest, and held whole lists when the script began.
+abbrev pub told_of : {D : Type 0} {g : Ghosts D} → Run D g → Type 0
+told_of r = IsTold r.begun.value

@@ -108,9 +108,11 @@ Reported e s old new = WritesLine e (error_text s) old new
 abbrev pub Flushed : Outside → Outside → Type 0
 Flushed old new = Appends old.held new.held [] × IsHandedOn new.held new.handed
 
--- After the last line the output was flushed, and the status says whether a store is closed; or the flush failed.
+-- After the last line, and a checkpoint where one is due, the output was flushed, and the status says whether a store is closed; or the flush failed.
 abbrev pub Finishes : Status → Bool → Outside → Outside → ℕ → ℕ → Type 0
 Finishes status.Ok closed old new faults faults_now = (closed ≡ false) × Flushed old new
 Finishes status.DiskFault closed old new faults faults_now = (closed ≡ true) × Flushed old new
 Finishes status.WriteFault closed old new faults faults_now = Appends old.held new.held [] × Rose faults faults_now
+-- there was no memory for a snapshot
+Finishes status.NoMemory closed old new faults faults_now = Appends old.held new.held []
 Finishes s closed old new faults faults_now = ⊥

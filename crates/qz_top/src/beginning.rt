@@ -20,6 +20,7 @@ impl<D: Disk> Run<D> {
         is_own: bool,
     ) -> Result<Run<D>, Cluster<D>>
         ensures ok { IfOk result (λ run. (view run ≡ begun is_own (cluster_view cluster)) × (run.cluster ≡ cluster)) }
+        ensures began { IfOk result (λ run. run.begun.value ≡ cluster) }
         ensures shown { IfOk result (λ run. (first : Snapshot (Cluster D D.Disk)) × (run.trail.items ≡ first ∷ []) × (first.value ≡ cluster)) }
         ensures err { IfErr result (λ c. c ≡ cluster) }
     {
@@ -28,10 +29,12 @@ impl<D: Disk> Run<D> {
             return Err(cluster);
         }
         trail.push_reserved(Snapshot::of(&cluster));
+        let begun = Snapshot::of(&cluster);
         Ok(Run {
             alloc,
             cluster,
             trail,
+            begun,
             is_own,
         })
     }

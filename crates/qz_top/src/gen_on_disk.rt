@@ -6,18 +6,18 @@ ghost use Rattle.qz_model.specs.History.{replay};
 ghost use Rattle.qz_cluster.specs.Steps.{is_closed};
 ghost use Rattle.qz_cluster.specs.View.{view as cluster_view, triggers_of};
 ghost use Rattle.qz_run.specs.Working.{IsPlan};
-ghost use Rattle.qz_run_stores.specs.Going.{TriggersWent, StatesWent};
 ghost use Rattle.qz_run_stores.specs.Ways.{KeepsTriggers, KeepsStates};
 ghost use Rattle.qz_trigger_store.specs.Entries.{is_old};
 ghost use Rattle.qz_trigger_store.specs.View.{view, found_of, keeps_of};
 ghost use Rattle.qz_checkin.specs.View.{view as states_view};
-ghost use Rattle.qz_top.specs.Generating.{GeneratedOnDisk, Generates, Generated, RanGenerated, plan_of, summary_line_of};
+ghost use Rattle.qz_top.specs.Generating.{GeneratedOnDisk, Generates, Generated, WorkedAndSummed, plan_of};
 ghost use Rattle.qz_top.specs.HandingOn.{HandsOnWritten};
 ghost use Rattle.qz_top.specs.Moments.{BeginsOn};
-ghost use Rattle.qz_top.specs.NodeRuns.{both, IsToldAs, Worked, WritesRun};
-ghost use Rattle.qz_top.specs.declared.statuses.Status.{Status as WorkStatus};
+ghost use Rattle.qz_top.specs.NodeRuns.{both};
+ghost use Rattle.qz_top.specs.Resting.{HasFewBehind};
 
 use crate::Status;
+use crate::checkpoints::rest_nodes;
 use crate::ended::{Ended, ran_no_script};
 use crate::filling::fill;
 use crate::opening::open_run;
@@ -89,6 +89,7 @@ fn gen_opened<K: Sink, D: Disk>(
         alloc,
         cluster,
         trail,
+        begun: _,
         is_own: _,
     } = run;
     drop(trail);
@@ -117,6 +118,7 @@ fn generate<K: Sink, D: Disk>(
     ensures did { Generated D.honest workload.now result.status (map means jobs.old.items) (map means jobs.new.items) (both triggers states) (both result.triggers result.states) (output_alone K.Sink out.old) (output_alone K.Sink out.new) }
     ensures disk { result.status ≡ Status.DiskFault → Rose (view triggers).faults (view result.triggers).faults ⊎ Rose (states_view states).faults (states_view result.states).faults }
     ensures any_moment { ∥ KeepsTriggers triggers result.triggers ∥₁ × ∥ KeepsStates states result.states ∥₁ }
+    ensures behind { result.status ≡ Status.Ok → (view result.triggers).is_open ≡ true → HasFewBehind result.triggers }
     ensures read { result.status ≢ Status.ReadFault }
     ensures write { result.status ≡ Status.WriteFault → Rose (K.faults out.old) (K.faults out.new) }
     ensures handed { HandsOnWritten K.Sink out.old out.new }
@@ -146,7 +148,7 @@ fn generate<K: Sink, D: Disk>(
     }
 }
 
-// The nodes' work on the stores that were filled, and the summary line.
+// The nodes' work on the stores that were filled, the summary line, and a checkpoint where one is due.
 fn work_and_sum<K: Sink, D: Disk>(
     alloc: Global,
     days: u32,
@@ -159,9 +161,9 @@ fn work_and_sum<K: Sink, D: Disk>(
     requires few { days ≤ 28 }
     requires current { is_old (replay (view triggers).history) ≡ false }
     requires keeps { keeps_of triggers ≡ true }
-    ensures worked { (work : WorkStatus) × IsToldAs result.status work × Worked (plan_of days) work (map means jobs.old.items) (map means jobs.new.items) (both triggers states) (both result.triggers result.states) }
-    ensures written { found_of triggers ≡ [] → WritesRun result.status (summary_line_of (view result.triggers).history) (output_alone K.Sink out.old) (output_alone K.Sink out.new) }
-    ensures went { TriggersWent triggers result.triggers × StatesWent states result.states }
+    ensures worked { WorkedAndSummed (plan_of days) result.status (map means jobs.old.items) (map means jobs.new.items) (both triggers states) (both result.triggers result.states) (found_of triggers ≡ []) (output_alone K.Sink out.old) (output_alone K.Sink out.new) }
+    ensures kept { ∥ KeepsTriggers triggers result.triggers ∥₁ × ∥ KeepsStates states result.states ∥₁ }
+    ensures behind { result.status ≡ Status.Ok → (view result.triggers).is_open ≡ true → HasFewBehind result.triggers }
     ensures disk { is_closed (both triggers states) ≡ false → result.status ≡ Status.DiskFault → Rose (view triggers).faults (view result.triggers).faults ⊎ Rose (states_view states).faults (states_view result.states).faults }
     ensures read { result.status ≢ Status.ReadFault }
     ensures write { result.status ≡ Status.WriteFault → Rose (K.faults out.old) (K.faults out.new) }
@@ -170,10 +172,11 @@ fn work_and_sum<K: Sink, D: Disk>(
     let plan = plan_of(days);
     let Left {
         status,
-        triggers,
+        mut triggers,
         states,
     } = work_on(alloc, &plan, triggers, states, jobs);
-    let status = tell_summary(alloc, &triggers, status, out);
+    let told = tell_summary(alloc, &triggers, status, out);
+    let status = rest_nodes(&mut triggers, told);
     Left {
         status,
         triggers,

@@ -1,12 +1,12 @@
 //! A script on stores in memory.
-ghost use Rattle.std.specs.Prelude.{◌≡◌, IfSome, true, []};
+ghost use Rattle.std.specs.Prelude.{◌≡◌, IfSome, take, true, []};
 ghost use Rattle.qz_civil.specs.Causes.{Rose};
 ghost use Rattle.qz_io.specs.Around.{outside};
-ghost use Rattle.qz_journal.specs.Layout.{Holds};
-ghost use Rattle.qz_cluster.specs.View.{view as cluster_view};
+ghost use Rattle.qz_journal.specs.Layout.{new_header, Holds};
+ghost use Rattle.qz_cluster.specs.View.{view as cluster_view, IsTold};
 ghost use Rattle.qz_top.specs.Calls.{begun, trail_of, OwnDone};
 ghost use Rattle.qz_top.specs.HandingOn.{HandsOnWritten};
-ghost use Rattle.qz_top.specs.Seen.{view, states_in};
+ghost use Rattle.qz_top.specs.Seen.{view, told_of, states_in};
 ghost use Rattle.qz_top.specs.Trails.{new_cluster};
 
 use crate::Status;
@@ -81,7 +81,8 @@ fn script_in_memory<S: Source, K: Sink, C: Clock>(
 
 // A script that begins on new stores. None, where there is no memory for them.
 fn new_run(alloc: Global) -> Option<Run<MemDisk>>
-    ensures { IfSome result (λ run. view run ≡ begun true (new_cluster (cluster_view run.cluster).triggers.faults (cluster_view run.cluster).states.faults)) }
+    ensures told { IfSome result (λ run. told_of run) }
+    ensures begun { IfSome result (λ run. view run ≡ begun true (new_cluster (cluster_view run.cluster).triggers.faults (cluster_view run.cluster).states.faults)) }
 {
     let cluster = new_stores(alloc)?;
     match Run::begin(alloc, cluster, true) {
@@ -95,7 +96,8 @@ fn new_run(alloc: Global) -> Option<Run<MemDisk>>
 
 // An open cluster on new stores.
 fn new_stores(alloc: Global) -> Option<Cluster<MemDisk>>
-    ensures { IfSome result (λ c. cluster_view c ≡ new_cluster (cluster_view c).triggers.faults (cluster_view c).states.faults) }
+    ensures told { IfSome result IsTold }
+    ensures new { IfSome result (λ c. cluster_view c ≡ new_cluster (cluster_view c).triggers.faults (cluster_view c).states.faults) }
 {
     let triggers = new_store(alloc, TRIGGERS)?;
     let states = new_store(alloc, STATES)?;
@@ -110,7 +112,8 @@ fn new_stores(alloc: Global) -> Option<Cluster<MemDisk>>
 
 // A disk in memory that has an empty store of this kind.
 fn new_store(alloc: Global, kind: u8) -> Option<MemDisk>
-    ensures { IfSome result (λ disk. Holds (⟦<MemDisk as Disk>⟧.state disk).content 2 kind []) }
+    ensures empty { IfSome result (λ disk. Holds (⟦<MemDisk as Disk>⟧.state disk).content 2 kind []) }
+    ensures header { IfSome result (λ disk. take 16 (⟦<MemDisk as Disk>⟧.state disk).content ≡ new_header 2 kind) }
 {
     let mut disk = MemDisk::new(alloc);
     match create(&mut disk, kind) {

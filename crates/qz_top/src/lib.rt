@@ -2,6 +2,7 @@
 #![tactic(auto)]
 
 mod beginning;
+mod checkpoints;
 mod commands;
 mod documents;
 mod ended;

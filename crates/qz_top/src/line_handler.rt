@@ -10,7 +10,7 @@ ghost use Rattle.qz_report.specs.Replies.{reply_text};
 ghost use Rattle.qz_cluster.specs.View.{view as cluster_view};
 ghost use Rattle.qz_top.specs.Lines.{line_meaning};
 ghost use Rattle.qz_top.specs.Moments.{Shows};
-ghost use Rattle.qz_top.specs.Seen.{view};
+ghost use Rattle.qz_top.specs.Seen.{view, told_of};
 ghost use Rattle.qz_top.specs.Trails.{RanSteps, is_fault};
 ghost use Rattle.qz_top.specs.LineOutcomes.{IsOwn, taken_reading, line_end, StepDone, LineDone, NotDone, NotAnswered};
 
@@ -62,7 +62,7 @@ fn do_line<K: Sink, D: Disk, C: Clock>(
     out: &mut K,
     clock: &mut C,
 ) -> Result<(), LineEnd>
-    ensures done { LineDone D.honest result line.now (view run.old) (view run.new) (without_input K.Sink C.Clock out.old clock.old) (without_input K.Sink C.Clock out.new clock.new) }
+    ensures done { LineDone (told_of run.old) result line.now (view run.old) (view run.new) (without_input K.Sink C.Clock out.old clock.old) (without_input K.Sink C.Clock out.new clock.new) }
     ensures shows { Shows (IsOk result) run.old run.new }
     ensures later { K.faults out.old ≤ K.faults out.new }
     ensures write { result ≡ Err LineEnd.WriteFault → Rose (K.faults out.old) (K.faults out.new) }
@@ -101,7 +101,7 @@ pub(crate) fn do_step<K: Sink, D: Disk, C: Clock>(
     clock: &mut C,
 ) -> Result<(), LineEnd>
     requires { IsTrue (is_step given.step) }
-    ensures done { StepDone D.honest result given (view run.old) (view run.new) (without_input K.Sink C.Clock out.old clock.old) (without_input K.Sink C.Clock out.new clock.new) }
+    ensures done { StepDone (told_of run.old) result given (view run.old) (view run.new) (without_input K.Sink C.Clock out.old clock.old) (without_input K.Sink C.Clock out.new clock.new) }
     ensures shows { Shows (IsOk result) run.old run.new }
     ensures later { K.faults out.old ≤ K.faults out.new }
     ensures write { result ≡ Err LineEnd.WriteFault → Rose (K.faults out.old) (K.faults out.new) }
@@ -126,8 +126,8 @@ fn answer_text<D: Disk>(
     run: &mut Run<D>,
 ) -> Result<Text, LineEnd>
     requires { IsTrue (is_step step) }
-    ensures ok { IfOk result (λ text. (reply : Reply) × RanSteps D.honest (record { step = step; at = at } ∷ []) (reply ∷ []) (view run.old) (view run.new) × (text ≡ reply_text reply)) }
-    ensures err { IfErr result (λ e. NotAnswered D.honest e (record { step = step; at = at }) (view run.old) (view run.new)) }
+    ensures ok { IfOk result (λ text. (reply : Reply) × RanSteps (told_of run.old) (record { step = step; at = at } ∷ []) (reply ∷ []) (view run.old) (view run.new) × (text ≡ reply_text reply)) }
+    ensures err { IfErr result (λ e. NotAnswered (told_of run.old) e (record { step = step; at = at }) (view run.old) (view run.new)) }
     ensures shows { Shows (IsOk result) run.old run.new }
 {
     match answer(step, at, run) {
@@ -151,8 +151,8 @@ fn line_of(alloc: Global, reply: StepReply) -> Result<Text, NoMemory>
 /// Does a step, and shows the state after it. That disks of the call's own fail is want of memory.
 fn answer<D: Disk>(step: Step, at: i64, run: &mut Run<D>) -> Result<StepReply, LineEnd>
     requires { IsTrue (is_step step) }
-    ensures ok { IfOk result (λ reply. RanSteps D.honest (record { step = step; at = at } ∷ []) (reply ∷ []) (view run.old) (view run.new)) }
-    ensures err { IfErr result (λ e. NotDone D.honest e (record { step = step; at = at }) (view run.old) (view run.new)) }
+    ensures ok { IfOk result (λ reply. RanSteps (told_of run.old) (record { step = step; at = at } ∷ []) (reply ∷ []) (view run.old) (view run.new)) }
+    ensures err { IfErr result (λ e. NotDone (told_of run.old) e (record { step = step; at = at }) (view run.old) (view run.new)) }
     ensures shows { Shows (IsOk result) run.old run.new }
 {
     if run.trail.reserve(1).is_err() {

@@ -1,6 +1,7 @@
 //! `load`: the commands of a document on the stores of two disks.
-ghost use Rattle.std.specs.Prelude.{◌≡◌, ◌≢◌, ◌⊎◌, true};
+ghost use Rattle.std.specs.Prelude.{◌≡◌, ◌≢◌, ◌⊎◌, true, false};
 ghost use Rattle.qz_civil.specs.Causes.{Rose};
+ghost use Rattle.qz_cluster.specs.View.{triggers_of};
 ghost use Rattle.qz_document.specs.Items.{are_valid};
 ghost use Rattle.qz_io.specs.Around.{outside, without_input};
 ghost use Rattle.qz_top.specs.Asked.{RanLoad};
@@ -8,15 +9,17 @@ ghost use Rattle.qz_top.specs.Calls.{LoadedOnDisk};
 ghost use Rattle.qz_top.specs.HandingOn.{HandsOnAll, HandsOnWritten};
 ghost use Rattle.qz_top.specs.Loads.{Loads, DidDocument};
 ghost use Rattle.qz_top.specs.Moments.{BeginsOn, Shows};
-ghost use Rattle.qz_top.specs.Seen.{view};
+ghost use Rattle.qz_top.specs.Resting.{HasFewBehind};
+ghost use Rattle.qz_top.specs.Seen.{view, told_of};
 
 use crate::Status;
+use crate::checkpoints::end_lines;
 use crate::documents::document_of;
 use crate::ended::Ended;
 use crate::loading::do_commands;
 use crate::opening::open_run;
 use crate::runs::Run;
-use crate::scripts::{finish, status_at};
+use crate::scripts::status_at;
 use crate::writing::hand_on;
 use qz_disk::Disk;
 use qz_document::Document;
@@ -71,7 +74,8 @@ fn load<S: Source, K: Sink, D: Disk, C: Clock>(
     run: &mut Run<D>,
     clock: &mut C,
 ) -> Status
-    ensures loads { Loads D.honest result (view run.old) (view run.new) (outside S.Source K.Sink C.Clock input.old out.old clock.old) (outside S.Source K.Sink C.Clock input.new out.new clock.new) }
+    ensures loads { Loads (told_of run.old) result (view run.old) (view run.new) (outside S.Source K.Sink C.Clock input.old out.old clock.old) (outside S.Source K.Sink C.Clock input.new out.new clock.new) }
+    ensures few { result ≡ Status.Ok → run.old.is_own ≡ false → HasFewBehind (triggers_of run.new.cluster) }
     ensures shows { Shows ⊥ run.old run.new }
     ensures read { result ≡ Status.ReadFault → Rose (S.faults input.old) (S.faults input.new) }
     ensures write { result ≡ Status.WriteFault → Rose (K.faults out.old) (K.faults out.new) }
@@ -83,7 +87,7 @@ fn load<S: Source, K: Sink, D: Disk, C: Clock>(
     }
 }
 
-// Does the commands of a document, and hands on what the output holds.
+// Does the commands of a document, makes a checkpoint where one is due, and hands on what the output holds.
 fn do_document<K: Sink, D: Disk, C: Clock>(
     document: Document,
     out: &mut K,
@@ -91,7 +95,8 @@ fn do_document<K: Sink, D: Disk, C: Clock>(
     clock: &mut C,
 ) -> Status
     requires { are_valid document.commands ≡ true }
-    ensures did { DidDocument D.honest result document (view run.old) (view run.new) (without_input K.Sink C.Clock out.old clock.old) (without_input K.Sink C.Clock out.new clock.new) }
+    ensures did { DidDocument (told_of run.old) result document (view run.old) (view run.new) (without_input K.Sink C.Clock out.old clock.old) (without_input K.Sink C.Clock out.new clock.new) }
+    ensures few { result ≡ Status.Ok → run.old.is_own ≡ false → HasFewBehind (triggers_of run.new.cluster) }
     ensures shows { Shows ⊥ run.old run.new }
     ensures other { result ≢ Status.ReadFault }
     ensures write { result ≡ Status.WriteFault → Rose (K.faults out.old) (K.faults out.new) }
@@ -99,7 +104,7 @@ fn do_document<K: Sink, D: Disk, C: Clock>(
 {
     let Document { at, commands } = document;
     match do_commands(run.alloc, at, commands, run, out, clock) {
-        Ok(()) => finish(out, run.cluster.closed()),
+        Ok(()) => end_lines(out, run),
         Err(end) => {
             hand_on(out);
             status_at(0, end)

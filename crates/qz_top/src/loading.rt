@@ -6,7 +6,7 @@ ghost use Rattle.qz_io.specs.Around.{without_input};
 ghost use Rattle.qz_top.specs.Clients.{IsOfClient, CommandsDone, given_command};
 ghost use Rattle.qz_top.specs.LineOutcomes.{StepDone};
 ghost use Rattle.qz_top.specs.Moments.{Shows};
-ghost use Rattle.qz_top.specs.Seen.{view};
+ghost use Rattle.qz_top.specs.Seen.{view, told_of};
 
 use crate::line_handler::{LineEnd, do_step};
 use crate::runs::Run;
@@ -28,7 +28,7 @@ pub(crate) fn do_commands<K: Sink, D: Disk, C: Clock>(
     clock: &mut C,
 ) -> Result<(), LineEnd>
     requires { AllByRecursion IsOfClient commands }
-    ensures done { CommandsDone D.honest result at commands (view run.old) (view run.new) (without_input K.Sink C.Clock out.old clock.old) (without_input K.Sink C.Clock out.new clock.new) }
+    ensures done { CommandsDone (told_of run.old) result at commands (view run.old) (view run.new) (without_input K.Sink C.Clock out.old clock.old) (without_input K.Sink C.Clock out.new clock.new) }
     ensures shows { Shows (IsOk result) run.old run.new }
     ensures later { K.faults out.old ≤ K.faults out.new }
     ensures write { result ≡ Err LineEnd.WriteFault → Rose (K.faults out.old) (K.faults out.new) }
@@ -52,7 +52,7 @@ fn do_command<K: Sink, D: Disk, C: Clock>(
     clock: &mut C,
 ) -> Result<(), LineEnd>
     requires { IsOfClient command }
-    ensures done { StepDone D.honest result (given_command at command) (view run.old) (view run.new) (without_input K.Sink C.Clock out.old clock.old) (without_input K.Sink C.Clock out.new clock.new) }
+    ensures done { StepDone (told_of run.old) result (given_command at command) (view run.old) (view run.new) (without_input K.Sink C.Clock out.old clock.old) (without_input K.Sink C.Clock out.new clock.new) }
     ensures shows { Shows (IsOk result) run.old run.new }
     ensures later { K.faults out.old ≤ K.faults out.new }
     ensures write { result ≡ Err LineEnd.WriteFault → Rose (K.faults out.old) (K.faults out.new) }

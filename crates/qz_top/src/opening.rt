@@ -60,6 +60,7 @@ impl<D: Disk> Run<D> {
             cluster,
             trail,
             alloc,
+            begun: _,
             is_own: _,
         } = self;
         let (triggers, states) = cluster.into_disks();

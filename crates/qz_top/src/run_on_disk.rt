@@ -13,6 +13,7 @@ ghost use Rattle.qz_top.specs.Moments.{BeginsOn};
 ghost use Rattle.qz_top.specs.NodeRuns.{both, status_of, IsOfNodes, Worked, RanOpened, RanNodes};
 
 use crate::Status;
+use crate::checkpoints::rest_nodes;
 use crate::ended::{Ended, ran_no_script};
 use crate::nodes::run_nodes;
 use crate::opening::open_run;
@@ -35,7 +36,8 @@ pub(crate) struct Left<D: Disk> {
     pub(crate) states: StateStore<D>,
 }
 
-/// Opens both stores, lets the nodes of the plan work on them with these jobs, and writes what they added.
+/// Opens both stores, lets the nodes of the plan work on them with these jobs, writes what they added, and makes a checkpoint
+/// where one is due.
 pub(crate) fn run_on_disk<K: Sink, D: Disk>(
     alloc: Global,
     plan: Plan,
@@ -73,6 +75,7 @@ fn run_opened<K: Sink, D: Disk>(plan: Plan, out: &mut K, run: Run<D>, jobs: &mut
         alloc,
         cluster,
         trail,
+        begun: _,
         is_own: _,
     } = run;
     drop(trail);
@@ -87,10 +90,11 @@ fn run_opened<K: Sink, D: Disk>(plan: Plan, out: &mut K, run: Run<D>, jobs: &mut
     }
     let Left {
         status,
-        triggers,
+        mut triggers,
         states,
     } = work_on(alloc, &plan, triggers, states, jobs);
-    let status = tell_run(alloc, &triggers, status, out);
+    let told = tell_run(alloc, &triggers, status, out);
+    let status = rest_nodes(&mut triggers, told);
     ran_no_script(alloc, status, triggers.into_disk(), states.into_disk())
 }
 

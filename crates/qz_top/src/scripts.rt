@@ -1,14 +1,17 @@
 //! A script's run over an input.
-ghost use Rattle.std.specs.Prelude.{◌≡◌, ℕ, ℤ, List};
+ghost use Rattle.std.specs.Prelude.{◌≡◌, ◌≢◌, ℕ, ℤ, List, false};
 ghost use Rattle.qz_civil.specs.Causes.{Rose};
 ghost use Rattle.qz_io.specs.Around.{outside, output_alone};
+ghost use Rattle.qz_cluster.specs.View.{triggers_of};
 ghost use Rattle.qz_steps.specs.declared.steps.StepReply.{StepReply};
 ghost use Rattle.qz_top.specs.HandingOn.{HandsOnAll};
 ghost use Rattle.qz_top.specs.Moments.{Shows};
+ghost use Rattle.qz_top.specs.Resting.{HasFewBehind};
 ghost use Rattle.qz_top.specs.Runs.{IsOfScript, IsRun};
-ghost use Rattle.qz_top.specs.Seen.{view};
+ghost use Rattle.qz_top.specs.Seen.{view, told_of};
 ghost use Rattle.qz_top.specs.Statuses.{cut_status, status_at, status_of, Finishes};
 
+use crate::checkpoints::end_lines;
 use crate::line_handler::LineEnd;
 use crate::runs::Run;
 use crate::writing::hand_on;
@@ -18,7 +21,7 @@ use qz_disk::Disk;
 use qz_io::{Clock, LINE_COUNT_LIMIT, LinesEnd, Sink, Source, handle_lines};
 
 /// Runs the lines of the input: each line's step is done and its reply written before the next line is looked at.
-/// At the end the output is flushed, also where that is an early one.
+/// After the last line a checkpoint is made where one is due. At the end the output is flushed, also where that is an early one.
 pub(crate) fn run_lines<S: Source, K: Sink, D: Disk, C: Clock>(
     input: &mut S,
     out: &mut K,
@@ -26,7 +29,8 @@ pub(crate) fn run_lines<S: Source, K: Sink, D: Disk, C: Clock>(
     clock: &mut C,
 ) -> Status
     ensures run { (lines : List (List ℕ)) × (readings : List ℤ) × (replies : List StepReply)
-        × IsRun D.honest result (view run.old) (view run.new) (outside S.Source K.Sink C.Clock input.old out.old clock.old) (outside S.Source K.Sink C.Clock input.new out.new clock.new) lines readings replies }
+        × IsRun (told_of run.old) result (view run.old) (view run.new) (outside S.Source K.Sink C.Clock input.old out.old clock.old) (outside S.Source K.Sink C.Clock input.new out.new clock.new) lines readings replies }
+    ensures few { result ≡ Status.Ok → run.old.is_own ≡ false → HasFewBehind (triggers_of run.new.cluster) }
     ensures called { IsOfScript result }
     ensures shows { Shows ⊥ run.old run.new }
     ensures read { result ≡ Status.ReadFault → Rose (S.faults input.old) (S.faults input.new) }
@@ -35,7 +39,7 @@ pub(crate) fn run_lines<S: Source, K: Sink, D: Disk, C: Clock>(
 {
     let alloc = run.alloc;
     match handle_lines(alloc, input, run, out, clock) {
-        Ok(()) => finish(out, run.cluster.closed()),
+        Ok(()) => end_lines(out, run),
         Err(end) => {
             hand_on(out);
             status_of(end)
@@ -46,6 +50,7 @@ pub(crate) fn run_lines<S: Source, K: Sink, D: Disk, C: Clock>(
 /// All lines were done: hands on what the output holds, and answers whether a store is closed.
 pub(crate) fn finish<K: Sink>(out: &mut K, closed: bool) -> Status
     ensures finishes { Finishes result closed (output_alone K.Sink out.old) (output_alone K.Sink out.new) (K.faults out.old) (K.faults out.new) }
+    ensures other { result ≢ Status.NoMemory }
     ensures handed { HandsOnAll K.Sink out.old out.new }
 {
     match out.flush() {

@@ -4,8 +4,8 @@ ghost use Rattle.qz_civil.specs.Causes.{Rose};
 ghost use Rattle.qz_io.specs.Around.{output_alone};
 ghost use Rattle.qz_model.specs.History.{replay};
 ghost use Rattle.qz_report.specs.Summaries as summaries;
-ghost use Rattle.qz_trigger_store.specs.Entries.{history_of};
-ghost use Rattle.qz_trigger_store.specs.View.{view, version_of, found_of, added_of, moments_of, replies_of, keeps_of};
+ghost use Rattle.qz_trigger_store.specs.View.{view, added_of, moments_of, replies_of, keeps_of};
+ghost use Rattle.qz_top.specs.Found.{found_history};
 ghost use Rattle.qz_top.specs.HandingOn.{HandsOnAll, HandsOnWritten};
 ghost use Rattle.qz_top.specs.NodeRuns.{IsOfNodes, WritesRun, lines_since, text_since};
 
@@ -29,7 +29,7 @@ pub(crate) fn tell_run<K: Sink, D: Disk>(
 ) -> Status
     requires status { IsOfNodes status }
     requires keeps { keeps_of triggers.now ≡ true }
-    ensures written { WritesRun result (text_since (history_of (version_of triggers.now) (found_of triggers.now)) (replay (view triggers.now).history) (added_of triggers.now)) (output_alone K.Sink out.old) (output_alone K.Sink out.new) }
+    ensures written { WritesRun result (text_since (found_history triggers.now) (replay (view triggers.now).history) (added_of triggers.now)) (output_alone K.Sink out.old) (output_alone K.Sink out.new) }
     ensures status { (result ≡ status) ⊎ (result ≡ Status.WriteFault) ⊎ (result ≡ Status.NoMemory) }
     ensures write { result ≡ Status.WriteFault → Rose (K.faults out.old) (K.faults out.new) }
     ensures handed { HandsOnWritten K.Sink out.old out.new }
@@ -79,7 +79,7 @@ fn tell<K: Sink>(out: &mut K, text: &str, status: Status) -> Status
 // The lines and the summary line.
 fn text_of<D: Disk>(alloc: Global, triggers: &TriggerStore<D>) -> Result<Text, NoMemory>
     requires { keeps_of triggers.now ≡ true }
-    ensures { IfOk result (λ text. text ≡ text_since (history_of (version_of triggers.now) (found_of triggers.now)) (replay (view triggers.now).history) (added_of triggers.now)) }
+    ensures { IfOk result (λ text. text ≡ text_since (found_history triggers.now) (replay (view triggers.now).history) (added_of triggers.now)) }
 {
     let lines = lines_of(alloc, triggers)?;
     let summary = summary_line(alloc, &summary_of(triggers))?;
@@ -89,7 +89,7 @@ fn text_of<D: Disk>(alloc: Global, triggers: &TriggerStore<D>) -> Result<Text, N
 // The lines of what the store accepted since it was opened. A number past 64 bits would want more memory than there is.
 fn lines_of<D: Disk>(alloc: Global, triggers: &TriggerStore<D>) -> Result<Text, NoMemory>
     requires { keeps_of triggers.now ≡ true }
-    ensures { IfOk result (λ text. text ≡ lines_since (history_of (version_of triggers.now) (found_of triggers.now)) (added_of triggers.now)) }
+    ensures { IfOk result (λ text. text ≡ lines_since (found_history triggers.now) (added_of triggers.now)) }
 {
     let added = kept_entries(triggers);
     let before = triggers.history_len() - added.len() as u64;

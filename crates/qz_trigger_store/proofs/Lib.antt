@@ -1,8 +1,11 @@
 pub mod Accepting
-pub mod Appending
+pub mod Ends
 pub mod Horizons
+pub mod Images
 pub mod Kept
 pub mod Moments
 pub mod Old
 pub mod Outcomes
+pub mod Snapshots
 pub mod Sound
+pub mod Validity

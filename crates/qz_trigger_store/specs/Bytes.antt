@@ -1,36 +1,43 @@
--- Which bytes are those of which history.
+-- Which bytes are those of which whole list of entries, and of which history.
 use Rattle.std.specs.Prelude.{ℕ, List, Option}
 use Rattle.qz_types.specs.Entries.{EntryData}
 use Rattle.qz_model.specs.History.{History}
+use Rattle.qz_stores.specs.Bases as bases
 use Rattle.qz_stores.specs.Bytes as store
-use Rattle.qz_trigger_store.specs.Entries.{TriggerState}
+use Rattle.qz_stores.specs.Opening as opening
 use Rattle.qz_trigger_store.specs.Kinds.{trigger_kind}
 
--- each payload is a record of an entry, in order
-abbrev pub Encode : List (List ℕ) → List EntryData → Type 0
-Encode payloads entries = store.Encode trigger_kind payloads entries
+-- a whole list of entries from a new store on, and the format version of that store
+abbrev pub Whole : Type 0
+Whole = bases.WholeList EntryData
 
--- the bytes are a store of triggers of this format version, and its payloads are records of these entries
-abbrev pub HoldEntries : ℕ → List ℕ → List EntryData → Type 0
-HoldEntries version bytes entries = store.HoldEntries trigger_kind version bytes entries
+-- The bytes are a store of triggers that holds this list: its payloads are records of these entries and parts of snapshots, a
+-- new store accepts the entries one by one, and each open slot leads to a snapshot of the tables that those before it leave.
+abbrev pub IsWhole : Whole → List ℕ → Type 0
+IsWhole w bytes = bases.IsWhole trigger_kind w bytes
 
 -- the history begins with a new store of this format version
 abbrev pub BeginsNew : ℕ → History → Type 0
 BeginsNew version h = store.BeginsNew trigger_kind version h
 
--- The bytes are those of this history: it begins with a new store of the version that the header has, and the payloads
--- are records of its entries.
-abbrev pub Stands : List ℕ → History → Type 0
-Stands bytes h = store.Stands trigger_kind bytes h
+-- The bytes hold a whole list that begins with this one, and the history is an end of it: its base is what the entries before
+-- it leave.
+abbrev pub Stands : Whole → List ℕ → History → Type 0
+Stands w bytes h = bases.Stands trigger_kind w bytes h
 
 -- for the history, or for it with the undecided entry
-abbrev pub MayBe : History → Option EntryData → List ℕ → Type 0
-MayBe h undecided bytes = store.MayBe trigger_kind h undecided bytes
+abbrev pub MayBe : Whole → History → Option EntryData → List ℕ → Type 0
+MayBe w h undecided bytes = store.MayBe trigger_kind w h undecided bytes
 
--- a history that a store can have: it begins with a new store, and each entry has a record and was accepted
-abbrev pub IsHistory : History → Type 0
-IsHistory h = store.IsHistory trigger_kind h
+-- The bytes from the slot in use on are those of this history: it begins with the tables of the snapshot that stands there, or
+-- of a new store where no slot is open, and its entries are recorded. Nothing is said of what comes before.
+abbrev pub StandsFrom : ℕ → List ℕ → History → Type 0
+StandsFrom version bytes h = opening.StandsFrom trigger_kind version bytes h
 
--- The closed gate comes after payloads that are the records of the history's entries.
-abbrev pub IsPlaced : TriggerState → Type 0
-IsPlaced s = store.IsPlaced trigger_kind s
+-- Both histories are ends of one whole list: they leave the same tables, after as many entries.
+abbrev pub AreEnds : History → History → Type 0
+AreEnds h g = bases.AreEnds trigger_kind h g
+
+-- What a restart may find: another end of the history's whole list, or of that with the undecided entry.
+abbrev pub IsDecided : History → Option EntryData → History → Type 0
+IsDecided h undecided found = bases.IsDecided trigger_kind h undecided found

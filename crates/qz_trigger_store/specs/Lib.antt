@@ -4,4 +4,5 @@ pub mod Entries
 pub mod Kinds
 pub mod Laws
 pub mod Opening
+pub mod Proper
 pub mod View

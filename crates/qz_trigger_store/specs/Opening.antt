@@ -5,9 +5,9 @@ use Rattle.qz_stores.specs.Opening as store
 use Rattle.qz_trigger_store.specs.Entries.{TriggerState}
 use Rattle.qz_trigger_store.specs.Kinds.{trigger_kind}
 
--- What holds of a store at each moment, whatever its disk tells: its history is legal and begins with a new store of
--- either format version, and its tables are valid. Its gate comes after the records of its entries while it is open: the journal of a closed one may
--- have been read anew.
+-- What holds of a store at each moment, whatever its disk tells: its history begins with valid tables, is legal and leaves valid
+-- tables. While it is open, its journal has a payload for each entry at least, those before its base counted: the journal of a
+-- closed one may have been read anew.
 abbrev pub IsSound : TriggerState → Type 0
 IsSound s = store.IsSound trigger_kind s
 

@@ -5,13 +5,14 @@ ghost use Rattle.qz_model.specs.Upgrading.{is_upgrade};
 use crate::triggers::Triggers;
 use qz_civil::List;
 use qz_codec::{ReadError, get_command, put_command};
-use qz_journal::TRIGGERS;
+use qz_disk::Disk;
+use qz_journal::{Journal, TRIGGERS};
 use qz_plain::{PlainStore, Prepared};
-use qz_stores::{Kind, TakeError};
-use qz_types::{Command, Entry, NoMemory, Refusal, Reply, StepRefused};
+use qz_stores::{CheckpointError, Kind, TakeError};
+use qz_types::{Command, Entry, NoMemory, Refusal, Reply, StepRefused, SubmitError};
 use std::alloc::Global;
 
-/// A history that was read from a disk, from a new store on, and the tables that it leaves.
+/// A history that was read from a disk, and the tables that it leaves.
 pub type Reread = qz_stores::Reread<Triggers>;
 
 #[tactic(auto, unfolding(qz_model::specs::Upgrading::version_refusal), using(crate::proofs::Outcomes::new_valid, crate::proofs::Outcomes::error_as, crate::proofs::Outcomes::refusal_as, crate::proofs::Outcomes::passes, crate::proofs::Outcomes::passes_as, crate::proofs::Outcomes::answered, crate::proofs::Outcomes::left_as))]
@@ -45,6 +46,23 @@ impl Kind for Triggers {
     fn new(alloc: Global, version: u8) -> Triggers {
         Triggers {
             tables: PlainStore::new(alloc, version),
+        }
+    }
+
+    fn is_part(payload: &[u8]) -> bool {
+        qz_snapshot::is_part(payload)
+    }
+
+    fn read_base(
+        alloc: Global,
+        payloads: &List<List<u8>>,
+    ) -> Result<Option<(Triggers, u32)>, NoMemory> {
+        match qz_snapshot::read_base(alloc, payloads)? {
+            Some((tables, entries)) => {
+                let tables = PlainStore::from_tables(tables);
+                Ok(Some((Triggers { tables }, entries)))
+            }
+            None => Ok(None),
         }
     }
 
@@ -92,6 +110,26 @@ impl Kind for Triggers {
 
     fn commit(&mut self, entry: &Entry, prepared: Prepared) -> Reply {
         self.tables.commit(entry, prepared)
+    }
+
+    fn checkpoint<D: Disk>(
+        &self,
+        alloc: Global,
+        journal: &mut Journal<D>,
+        entries: u64,
+    ) -> Result<bool, CheckpointError> {
+        self.tables.is_valid();
+        match qz_snapshot::checkpoint(alloc, journal, self.tables.tables(), entries) {
+            Ok(made) => Ok(made),
+            Err(SubmitError::NoMemory) => Err(CheckpointError::NoMemory),
+            Err(SubmitError::Fault) => Err(CheckpointError::Fault),
+            Err(SubmitError::Closed { at: _ }) => unreachable!(),
+            Err(SubmitError::Refused(refusal)) => {
+                drop(refusal);
+                unreachable!()
+            }
+            Err(SubmitError::JournalFull { need: _, room: _ }) => unreachable!(),
+        }
     }
 
     ghost lawful = { trigger_lawful };

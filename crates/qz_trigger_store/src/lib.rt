@@ -2,6 +2,7 @@
 #![tactic(auto)]
 
 mod accepted;
+mod checkpoints;
 mod kinds;
 mod laws;
 mod mounting;
@@ -14,7 +15,8 @@ mod triggers;
 pub use accepted::{Accepted, Keep};
 pub use kinds::Reread;
 pub use laws::{
-    old_stores_fire_until_2099, restarting_keeps_stores_sound, submitting_keeps_stores_sound,
+    checkpoints_keep_stores_sound, histories_of_one_list, old_stores_fire_until_2099,
+    restarting_keeps_stores_sound, submitting_keeps_stores_sound,
 };
 pub use qz_journal::MountError;
 pub use qz_types::SubmitError;

@@ -1,11 +1,12 @@
 //! Opening what is on a disk.
-ghost use Rattle.std.specs.Prelude.{◌≡◌, ◌⊎◌, ◌≤◌, [], IfOk, IfErr, IfSome, MatchResult, is_some};
+ghost use Rattle.std.specs.Prelude.{◌≡◌, ◌⊎◌, ◌+◌, ◌-◌, ◌≤◌, [], length, None, IfOk, IfErr, IfSome, MatchResult, is_some};
 ghost use Rattle.qz_civil.specs.Causes.{Rose};
+ghost use Rattle.qz_journal.specs.Slots.{slots_of as slots_in, slot_in_use};
+ghost use Rattle.qz_journal.specs.Tails.{start_of};
 ghost use Rattle.qz_journal.specs.Through.{OnlyReads, OnlyReadsUnless};
-ghost use Rattle.qz_model.specs.History.{History};
-ghost use Rattle.qz_trigger_store.specs.Bytes.{Stands, IsHistory};
+ghost use Rattle.qz_trigger_store.specs.Bytes.{Whole, IsWhole, BeginsNew, Stands, StandsFrom};
 ghost use Rattle.qz_trigger_store.specs.Opening.{IsOpened, IsRefused};
-ghost use Rattle.qz_trigger_store.specs.View.{view, added_of, keeps_of, keeps_entries, disk_state};
+ghost use Rattle.qz_trigger_store.specs.View.{view, version_of, found_of, added_of, behind_of, slots_of, opened_of, keeps_of, keeps_entries, disk_state, GoesOnFrom};
 
 use crate::{Accepted, Keep, TriggerStore};
 use qz_disk::Disk;
@@ -14,21 +15,34 @@ use qz_stores::Store;
 use std::alloc::Global;
 
 impl<D: Disk> TriggerStore<D> {
-    /// Opens the store that is on a disk, of the version that its header has, and replays its history. It syncs first, so that what it reads is what a
-    /// crash leaves, and writes nothing. An `Err` hands the disk back. `NotAStore` is returned where the header isn't a
-    /// trigger store's, `Damaged` also at the gate of the first payload that is no record or whose command is refused,
-    /// and `Fault` only where the disk's count of faults rose. What the store keeps in memory is said by `keep`.
+    /// Opens the store that is on a disk, of the version that its header has, from the slot in use on: its base is the tables of
+    /// the snapshot there, or of a new store where no slot is open, and it replays the entries since. It syncs first, so that
+    /// what it reads is what a crash leaves, and writes nothing. An `Err` hands the disk back. `NotAStore` is returned where the
+    /// header isn't a trigger store's. `Damaged` names the gate of the slot in use also where no snapshot of valid tables stands
+    /// there, and else also the gate of the first payload that is no part of a snapshot, and is no record or whose command is
+    /// refused. `Fault` is returned only where the disk's count of faults rose. What the store keeps in memory is said by
+    /// `keep`.
     pub fn mount(alloc: Global, disk: D, keep: Keep) -> Result<TriggerStore<D>, (MountError, D)>
         ensures opened { IfOk result (λ store. IsOpened (view store)) }
         ensures nothing_added { IfOk result (λ store. added_of store ≡ []) }
         ensures keeps { IfOk result (λ store. keeps_of store ≡ keeps_entries keep) }
-        ensures stands { D.honest → IfOk result (λ store. Stands (D.state disk).content (view store).history) }
+        ensures behind { IfOk result (λ store. behind_of store ≡ length (found_of store)) }
+        ensures begins { IfOk result (λ store. slot_in_use (slots_of store) ≡ None → BeginsNew (version_of store) (view store).history) }
+        ensures bytes { D.honest → IfOk result (λ store. (opened_of store ≡ (D.state disk).content) × (slots_of store ≡ slots_in (D.state disk).content)) }
+        ensures stands { D.honest → IfOk result (λ store. StandsFrom (version_of store) (D.state disk).content (view store).history) }
+        // Where no slot is open, what was found is the whole list.
+        ensures without_slots { D.honest → IfOk result (λ store. slot_in_use (slots_in (D.state disk).content) ≡ None
+            → IsWhole (record { version = version_of store; entries = found_of store }) (D.state disk).content) }
         ensures reads { D.honest → IfOk result (λ store. OnlyReads (D.state disk) (disk_state store)) }
+        // No more is read than the header and what stands from the slot's offset on.
+        ensures reads_tail { D.honest → MatchResult result
+            (λ store. (disk_state store).bytes_read ≤ (D.state disk).bytes_read + (16 + (length (D.state disk).content - start_of (slots_in (D.state disk).content))))
+            (λ e. (D.state e.1).bytes_read ≤ (D.state disk).bytes_read + (16 + (length (D.state disk).content - start_of (slots_in (D.state disk).content)))) }
         ensures reads_err { D.honest → IfErr result (λ e. OnlyReadsUnless (e.0 ≡ MountError.Fault) (D.state disk) (D.state e.1)) }
         ensures refused { D.honest → IfErr result (λ e. IsRefused (D.state disk).content e.0) }
-        // Where the bytes are those of a history, it comes to that history, or memory or the disk fails.
-        ensures whole { D.honest → (h : History) → IsHistory h → Stands (D.state disk).content h
-            → MatchResult result (λ store. (view store).history ≡ h) (λ e. (e.0 ≡ MountError.Fault) ⊎ (e.0 ≡ MountError.NoMemory)) }
+        // Where the bytes hold a whole list, the store has an end of it, or memory or the disk fails.
+        ensures whole { D.honest → (w : Whole) → IsWhole w (D.state disk).content
+            → MatchResult result (λ store. GoesOnFrom store w × Stands w (D.state disk).content (view store).history) (λ e. (e.0 ≡ MountError.Fault) ⊎ (e.0 ≡ MountError.NoMemory)) }
         ensures later { IfOk result (λ store. D.faults disk ≤ (view store).faults) }
         ensures fault { IfErr result (λ e. (D.faults disk ≤ D.faults e.1)
             × (e.0 ≡ MountError.Fault → Rose (D.faults disk) (D.faults e.1))) }

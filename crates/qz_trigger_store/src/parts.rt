@@ -1,11 +1,11 @@
 //! What a store shows of itself.
-ghost use Rattle.std.specs.Prelude.{◌≡◌, true, length, not, is_some, IfSome};
+ghost use Rattle.std.specs.Prelude.{◌≡◌, ◌+◌, ◌≤◌, true, length, not, is_some, IfSome};
 ghost use Rattle.qz_journal.specs.Layout.{is_version};
 ghost use Rattle.qz_types.specs.Words.{member_of};
 ghost use Rattle.qz_model.specs.History.{replay};
 ghost use Rattle.qz_model.specs.Invariant.{TablesValid};
 ghost use Rattle.qz_trigger_store.specs.Entries.{is_old};
-ghost use Rattle.qz_trigger_store.specs.View.{view, version_of, added_of, moments_of, replies_of, keeps_of, tables_of, disk_of};
+ghost use Rattle.qz_trigger_store.specs.View.{view, version_of, added_of, behind_of, moments_of, replies_of, keeps_of, tables_of, disk_of};
 
 use crate::{Accepted, TriggerStore};
 use qz_disk::Disk;
@@ -29,11 +29,26 @@ impl<D: Disk> TriggerStore<D> {
         self.store.state().is_old()
     }
 
-    /// How many entries the history has.
+    /// How many entries there are in all, those before the base counted.
     pub fn history_len(&self) -> u64
-        ensures { result ≡ length (view self.now).history.entries }
+        ensures { result ≡ (view self.now).history.base_count + length (view self.now).history.entries }
     {
         self.store.history_len()
+    }
+
+    /// How many entries the history lists, those before the base left out.
+    pub fn listed(&self) -> u64
+        ensures { result ≡ length (view self.now).history.entries }
+    {
+        self.store.listed()
+    }
+
+    /// How many entries came after the snapshot in use, or in all where no slot is open.
+    pub fn behind(&self) -> u64
+        ensures value { result ≡ behind_of self.now }
+        ensures few { result ≤ (view self.now).history.base_count + length (view self.now).history.entries }
+    {
+        self.store.behind()
     }
 
     /// Whether a call of this store was answered `Fault`, or a restart of it began and didn't end.

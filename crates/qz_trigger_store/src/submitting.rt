@@ -1,5 +1,5 @@
 //! One entry more.
-ghost use Rattle.std.specs.Prelude.{◌≡◌, ◌≢◌, ◌++◌, ◌∷◌, [], length, IsTrue, IsOk, IfOk, OnOk, OnErr, IfErr, IfSome, Err, None, true, is_some};
+ghost use Rattle.std.specs.Prelude.{◌≡◌, ◌≢◌, ◌+◌, ◌++◌, ◌∷◌, [], length, IsTrue, IsOk, IfOk, OnOk, OnErr, IfErr, IfSome, Err, None, true, is_some};
 ghost use Rattle.qz_codec.specs.Layout.{record_of};
 ghost use Rattle.qz_journal.specs.Layout.{IsPayload};
 ghost use Rattle.qz_types.specs.Entries.{is_entry};
@@ -13,7 +13,7 @@ ghost use Rattle.qz_stores.specs.Stores.{HasRoom, Submits};
 ghost use Rattle.qz_stores.specs.View.{kept_of};
 ghost use Rattle.qz_trigger_store.specs.Accepted.{HasRoomForOne, IsKept};
 ghost use Rattle.qz_trigger_store.specs.Entries.{IsRecordOf, trigger_entry};
-ghost use Rattle.qz_trigger_store.specs.View.{view, version_of, found_of, added_of, keeps_of, tables_of, IsAsBefore, LeavesEither};
+ghost use Rattle.qz_trigger_store.specs.View.{view, added_of, behind_of, keeps_of, tables_of, IsOpenedAsBefore, IsAsBefore, LeavesEither};
 
 use crate::{Accepted, TriggerStore};
 use qz_disk::Disk;
@@ -39,9 +39,9 @@ impl<D: Disk> TriggerStore<D> {
     pub fn submit(&mut self, entry: Entry) -> Result<Reply, SubmitError>
         ensures one { Submits trigger_entry entry result (view self.old) (view self.new) }
         ensures unchanged { result ≢ Err SubmitError.Fault → OnErr result (IsAsBefore self.old self.new) }
-        ensures version { version_of self.new ≡ version_of self.old }
-        ensures found { found_of self.new ≡ found_of self.old }
+        ensures opened { IsOpenedAsBefore self.old self.new }
         ensures entries { OnOk result (added_of self.new ≡ added_of self.old ++ entry ∷ []) }
+        ensures behind { OnOk result (behind_of self.new ≡ behind_of self.old + 1) }
         ensures keeps { keeps_of self.new ≡ keeps_of self.old }
         ensures recorded { OnOk result (IsRecordOf (record_of entry) entry) }
         ensures any_moment { D.honest → LeavesEither self.old self.new }
@@ -121,9 +121,9 @@ impl<D: Disk> TriggerStore<D> {
         requires room { IfSome self.old.accepted HasRoomForOne }
         ensures one { Submits trigger_entry entry result (view self.old) (view self.new) }
         ensures only_fault { IfErr result (λ e. e ≡ SubmitError.Fault) }
-        ensures version { version_of self.new ≡ version_of self.old }
-        ensures found { found_of self.new ≡ found_of self.old }
+        ensures opened { IsOpenedAsBefore self.old self.new }
         ensures entries { OnOk result (added_of self.new ≡ added_of self.old ++ entry ∷ []) }
+        ensures behind { OnOk result (behind_of self.new ≡ behind_of self.old + 1) }
         ensures keeps { keeps_of self.new ≡ keeps_of self.old }
         ensures any_moment { D.honest → LeavesEither self.old self.new }
     {

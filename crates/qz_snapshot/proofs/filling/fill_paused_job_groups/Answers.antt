@@ -1,4 +1,4 @@
-use Rattle.std.proofs.Common.{◌≡◌, ℕ, List, ◌∙◌, ◌∷◌, ◌++◌, [], None, sym, ap, arith, length-append}
+use Rattle.std.proofs.Common.{ℕ, List, ◌∙◌, ◌∷◌, [], ap, arith, length-append}
 use Rattle.std.specs.Vec.Iter.{into_iter_items}
 use Rattle.std.proofs.lemmas.Cmp.{nat_list_cmp_total}
 use Rattle.qz_types.specs.Words.{text_cmp, group_of, put_group}

@@ -1,4 +1,4 @@
-use Rattle.std.proofs.Common.{◌≡◌, ℕ, List, ◌∙◌, ◌∷◌, ◌++◌, [], None, sym, ap, arith, length-append}
+use Rattle.std.proofs.Common.{List, ◌∙◌, ◌∷◌, [], ap, arith, length-append}
 use Rattle.std.specs.Vec.Iter.{into_iter_items}
 use Rattle.qz_types.specs.Words.{key_cmp, trigger_of, put_trigger}
 use Rattle.qz_model.proofs.RowLaws.{key_total}

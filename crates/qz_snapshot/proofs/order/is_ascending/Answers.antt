@@ -1,4 +1,4 @@
-use Rattle.std.proofs.Common.{◌≡◌, ◌-◌, true, false, refl, sym, ◌∙◌, arith}
+use Rattle.std.proofs.Common.{◌-◌, refl, sym, ◌∙◌, arith}
 use Rattle.qz_snapshot.proofs.Orders.{not_rising, rises_more, ascending_from}
 use Rattle.qz_snapshot.proofs.order.is_ascending.Goals as goal
 

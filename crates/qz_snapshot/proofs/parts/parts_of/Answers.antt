@@ -1,4 +1,4 @@
-use Rattle.std.proofs.Common.{◌≡◌, List, [], Some, None, length, refl, sym, ap, arith}
+use Rattle.std.proofs.Common.{◌≡◌, List, length, refl, sym, ap, arith}
 use Rattle.std.proofs.lemmas.Grind.{common_steps}
 use Rattle.qz_pieces.proofs.FirstBad.{none_is, some_is}
 use Rattle.qz_pieces.specs.Pieces.{RowBytes}

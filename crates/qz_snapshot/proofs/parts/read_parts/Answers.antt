@@ -1,4 +1,4 @@
-use Rattle.std.proofs.Common.{◌≡◌, ◌∙◌, List, map, sym, subst}
+use Rattle.std.proofs.Common.{◌∙◌, List, map, sym, subst}
 use Rattle.qz_pieces.proofs.FirstBad.{none_is, some_is}
 use Rattle.qz_pieces.specs.Pieces.{RowBytes}
 use Rattle.qz_snapshot.specs.Snapshots.{AreRowsOf}

@@ -2,7 +2,8 @@ use Rattle.std.proofs.Common.{◌≡◌, ℕ, List, ◌∷◌, length, map, ap, 
 use Rattle.std.proofs.lemmas.List.{length-map}
 use Rattle.std.proofs.lemmas.List.Elements.{All-same}
 use Rattle.qz_journal.specs.Layout.{IsPayload}
-use Rattle.qz_snapshot.specs.Checkpoints.{rows_written, head_written, LackRoom, HaveRoom}
+use Rattle.qz_journal.specs.Commits.{LackRoom, HaveRoom}
+use Rattle.qz_snapshot.specs.Checkpoints.{rows_written, head_written}
 use Rattle.qz_snapshot.specs.Heads.{head_bytes, HasWidths}
 use Rattle.qz_snapshot.specs.Snapshots.{numbers_of}
 use Rattle.qz_pieces.specs.Pieces.{pieces as cut}

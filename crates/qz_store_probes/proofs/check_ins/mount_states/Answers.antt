@@ -7,6 +7,9 @@ returns-clause-opened g c = search rules
 pub returns-clause-stands : goal.returns-clause-stands
 returns-clause-stands g c = search rules
 
+pub returns-clause-told : goal.returns-clause-told
+returns-clause-told g c = search rules
+
 pub returns-clause-reads : goal.returns-clause-reads
 returns-clause-reads g c = search rules
 

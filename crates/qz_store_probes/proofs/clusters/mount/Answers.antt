@@ -13,8 +13,14 @@ returns-clause-nothing_added g c = search rules
 pub returns-clause-keeps : goal.returns-clause-keeps
 returns-clause-keeps g c = search rules
 
-pub returns-clause-stands : goal.returns-clause-stands
-returns-clause-stands g c = search rules
+pub returns-clause-behind : goal.returns-clause-behind
+returns-clause-behind g c = search rules
+
+pub returns-clause-found : goal.returns-clause-found
+returns-clause-found g c = search rules
+
+pub returns-clause-rows_told : goal.returns-clause-rows_told
+returns-clause-rows_told g c = search rules
 
 pub returns-clause-reads : goal.returns-clause-reads
 returns-clause-reads g c = search rules
@@ -24,6 +30,9 @@ returns-clause-reads_err g c = search rules
 
 pub returns-clause-refused : goal.returns-clause-refused
 returns-clause-refused g c = search rules
+
+pub returns-clause-first : goal.returns-clause-first
+returns-clause-first g c = search rules
 
 pub returns-clause-whole : goal.returns-clause-whole
 returns-clause-whole g c = search rules

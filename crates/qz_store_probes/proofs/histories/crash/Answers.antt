@@ -10,5 +10,8 @@ returns-clause-kept g c = search rules
 pub returns-clause-cause : goal.returns-clause-cause
 returns-clause-cause g c = search rules
 
+pub returns-clause-restarts : goal.returns-clause-restarts
+returns-clause-restarts g c = search rules
+
 pub returns-clause-any_moment : goal.returns-clause-any_moment
 returns-clause-any_moment g c = search rules

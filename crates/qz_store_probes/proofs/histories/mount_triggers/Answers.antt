@@ -10,8 +10,14 @@ returns-clause-nothing_added g c = search rules
 pub returns-clause-keeps : goal.returns-clause-keeps
 returns-clause-keeps g c = search rules
 
+pub returns-clause-behind : goal.returns-clause-behind
+returns-clause-behind g c = search rules
+
 pub returns-clause-stands : goal.returns-clause-stands
 returns-clause-stands g c = search rules
+
+pub returns-clause-reads_tail : goal.returns-clause-reads_tail
+returns-clause-reads_tail g c = search rules
 
 pub returns-clause-reads : goal.returns-clause-reads
 returns-clause-reads g c = search rules

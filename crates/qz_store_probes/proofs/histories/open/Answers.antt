@@ -7,6 +7,9 @@ returns-clause-opens g c = search rules
 pub returns-clause-opened : goal.returns-clause-opened
 returns-clause-opened g c = search rules
 
+pub returns-clause-history : goal.returns-clause-history
+returns-clause-history g c = search rules
+
 pub returns-clause-found : goal.returns-clause-found
 returns-clause-found g c = search rules
 

@@ -7,8 +7,11 @@ returns-clause-one g c = search rules
 pub returns-clause-unchanged : goal.returns-clause-unchanged
 returns-clause-unchanged g c = search rules
 
-pub returns-clause-found : goal.returns-clause-found
-returns-clause-found g c = search rules
+pub returns-clause-opened : goal.returns-clause-opened
+returns-clause-opened g c = search rules
+
+pub returns-clause-behind : goal.returns-clause-behind
+returns-clause-behind g c = search rules
 
 pub returns-clause-entries : goal.returns-clause-entries
 returns-clause-entries g c = search rules

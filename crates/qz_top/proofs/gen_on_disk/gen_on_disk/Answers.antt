@@ -9,3 +9,6 @@ gen_opened-requires-clause-open g c =
     let opened : ClusterState = cluster_view c.in-Ok.run'.cluster in
     let are_opened = c.in-Ok.ensures.ok.are_opened in
     ready_open opened (opened_ready opened are_opened.0 are_opened.1)
+
+pub returns-in-Ok-clause-disk : goal.returns-in-Ok-clause-disk
+returns-in-Ok-clause-disk g c = c.gen_opened.ensures.disk c.args.triggers c.args.states c.in-Ok.ensures.ok

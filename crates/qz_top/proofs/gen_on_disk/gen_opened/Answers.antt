@@ -1,11 +1,8 @@
 use Rattle.std.proofs.Common.{sym, ap, ◌∙◌}
-use Rattle.qz_trigger_store.proofs.Appending.{may_be}
-use Rattle.qz_checkin.proofs.Appending.{may_be as states_may_be}
 use Rattle.qz_top.specs.NodeRuns.{both}
-use Rattle.qz_top.proofs.NodeRunLaws.{kept_on_the_way}
+use Rattle.qz_top.proofs.NodeRunLaws.{rows_legal, kept_on_the_way, left_at_end}
 use Rattle.qz_top.proofs.OpenedLaws.{rose_from_first}
 use Rattle.qz_trigger_store.proofs.Kept.{legal, schedules_kept}
-use Rattle.qz_checkin.proofs.Kept.{legal as states_legal}
 use Rattle.qz_top.proofs.gen_on_disk.gen_opened.Goals as goal
 
 pub generate-status-requires-clause-keeps : goal.generate-status-requires-clause-keeps
@@ -23,18 +20,17 @@ returns-clause-done g c triggers states begins =
     record {
       opened = both cluster.triggers cluster.states;
       are_opened = begins.are_opened;
-      stand = begins.stand;
+      found = begins.found;
       end = both left.triggers left.states;
       did = rw end.status generated.did;
-      legal = (legal left.triggers, states_legal left.states);
+      legal = (legal left.triggers, rows_legal left.states);
       schedules = schedules_kept left.triggers;
       no_trail = end.trail;
       faults = (ap g.D.Disk.faults (end.disks.0 ∙ disk), ap g.D.Disk.faults (end.disks.1 ∙ states_disk));
-      images = λ honest b. (
-        λ is. may_be _ _ _ b (left.triggers.store.images honest b (rw (end.disks.0 ∙ disk) at is)),
-        λ is. states_may_be _ _ _ b (left.states.store.images honest b (rw (end.disks.1 ∙ states_disk) at is)),
-      );
-      any_moment = kept_on_the_way triggers states cluster.triggers left.triggers cluster.states left.states _ _ (end.disks.0 ∙ disk) (end.disks.1 ∙ states_disk) begins.reads generated.any_moment.0 generated.any_moment.1;
+      images = λ w v held b.
+          let images = left_at_end triggers states cluster.triggers left.triggers cluster.states left.states begins.goes_on begins.rows_go_on generated.any_moment.0 generated.any_moment.1 w v held b in
+          (λ is. images.0 (rw (end.disks.0 ∙ disk) at is), λ is. images.1 (rw (end.disks.1 ∙ states_disk) at is));
+      any_moment = kept_on_the_way triggers states cluster.triggers left.triggers cluster.states left.states _ _ (end.disks.0 ∙ disk) (end.disks.1 ∙ states_disk) begins.reads begins.goes_on begins.rows_go_on generated.any_moment.0 generated.any_moment.1;
     }
 
 pub returns-clause-disk : goal.returns-clause-disk

@@ -1,6 +1,10 @@
 use Rattle.std.proofs.Common.{◌≡◌, ◌∙◌, ◌++◌, ◌∷◌, [], true, false, refl, sym, ap, w64, to_z, of_z, arith}
 use Rattle.std.proofs.lemmas.Grind.{common_steps}
 use Rattle.std.proofs.lemmas.Int.{to_z-of_z}
+use Rattle.std.proofs.Math.Logic.{∥∥₁_map}
+use Rattle.qz_disk.proofs.Causes.{on_ok}
+use Rattle.qz_cluster.proofs.Told.{still_told}
+use Rattle.qz_cluster.proofs.Under.{step_under, cut_under}
 use Rattle.qz_top.specs.Seen.{states_of}
 use Rattle.qz_top.specs.Trails.{is_fault}
 use Rattle.qz_top.proofs.MomentLaws.{Shows-one, Shows-kept, Shows-cut}
@@ -18,14 +22,14 @@ returns-else-run-clause-ok g c =
       | else-run-via-else-run w ↦ (λ own. let bad : true ≡ false = sym own ∙ w.if-run.false in absurd cc)
     ] in
     let same : to_z w64 (of_z w64 c.args.at) ≡ c.args.at = grind (arith, common_steps, to_z-of_z) in
-    RanSteps-one _ _ _ _ (rw same at c.in-Ok.ensures.ok) (shown-push _ _ _ (rw c.of.ensures at (c.push_reserved.ensures.items ∙ ap (λ l. l ++ c.of.result ∷ []) c.reserve.ensures.items))) refl no_fault
+    RanSteps-one _ _ _ _ (step_under _ _ c.args.run.now.told _ _ _ _ (rw same at c.in-Ok.ensures.ok)) (shown-push _ _ _ (rw c.of.ensures at (c.push_reserved.ensures.items ∙ ap (λ l. l ++ c.of.result ∷ []) c.reserve.ensures.items))) refl no_fault
 
 pub returns-else-run-clause-shows : goal.returns-else-run-clause-shows
 returns-else-run-clause-shows g c =
-    Shows-one _ _ _ c.of.result (c.push_reserved.ensures.items ∙ ap (λ l. l ++ c.of.result ∷ []) c.reserve.ensures.items) c.of.ensures refl c.in-Ok.ensures.any_moment
+    Shows-one _ _ _ c.of.result (c.push_reserved.ensures.items ∙ ap (λ l. l ++ c.of.result ∷ []) c.reserve.ensures.items) c.of.ensures refl refl c.in-Ok.ensures.any_moment
 
 pub returns-then-is_err-clause-shows : goal.returns-then-is_err-clause-shows
-returns-then-is_err-clause-shows g c = Shows-kept _ _ c.reserve.ensures.items refl refl
+returns-then-is_err-clause-shows g c = Shows-kept _ _ c.reserve.ensures.items refl refl refl
 
 -- the disks are the call's own, and one failed
 pub returns-then-is_fault-clause-err : goal.returns-then-is_fault-clause-err
@@ -39,12 +43,25 @@ returns-then-is_fault-clause-err g c =
     }
 
 pub returns-then-is_fault-clause-shows : goal.returns-then-is_fault-clause-shows
-returns-then-is_fault-clause-shows g c = Shows-cut _ _ c.reserve.ensures.items refl c.in-Ok.ensures.any_moment
+returns-then-is_fault-clause-shows g c = Shows-cut _ _ c.reserve.ensures.items refl refl c.in-Ok.ensures.any_moment
 
 pub returns-in-Err-clause-err : goal.returns-in-Err-clause-err
 returns-in-Err-clause-err g c =
     let same : to_z w64 (of_z w64 c.args.at) ≡ c.args.at = grind (arith, common_steps, to_z-of_z) in
-    record { cut = rw same at c.in-Err.ensures.err; trail = ap states_of c.reserve.ensures.items; own = refl }
+    record { cut = cut_under _ _ c.args.run.now.told _ _ _ _ (rw same at c.in-Err.ensures.err); trail = ap states_of c.reserve.ensures.items; own = refl }
 
 pub returns-in-Err-clause-shows : goal.returns-in-Err-clause-shows
-returns-in-Err-clause-shows g c = Shows-cut _ _ c.reserve.ensures.items refl c.in-Err.ensures.any_moment
+returns-in-Err-clause-shows g c = Shows-cut _ _ c.reserve.ensures.items refl refl c.in-Err.ensures.any_moment
+
+pub push_reserved-requires : goal.push_reserved-requires
+push_reserved-requires g c = omega (arith, on_ok _ _ (sym c.if-is_err.ensures.value) c.reserve.ensures.ok)
+
+-- disks that told what they hold still do
+pub invariant_of-run-in-Ok : goal.invariant_of-run-in-Ok
+invariant_of-run-in-Ok g c = record { told = λ was. ∥∥₁_map (c.args.run.now.told was) (still_told _ _ c.in-Ok.ensures.any_moment) }
+
+pub invariant_of-run-then-is_fault : goal.invariant_of-run-then-is_fault
+invariant_of-run-then-is_fault g c = record { told = λ was. ∥∥₁_map (c.args.run.now.told was) (still_told _ _ c.in-Ok.ensures.any_moment) }
+
+pub invariant_of-run-in-Err-1 : goal.invariant_of-run-in-Err-1
+invariant_of-run-in-Err-1 g c = record { told = λ was. ∥∥₁_map (c.args.run.now.told was) (still_told _ _ c.in-Err.ensures.any_moment) }

@@ -10,7 +10,7 @@ returns-clause-done g c triggers states begins =
     record {
       opened = cluster_view c.args.run.cluster;
       are_opened = begins.are_opened;
-      stand = begins.stand;
+      found = begins.found;
       written = rw end.status c.list-status.ensures.written;
       trail_is = end.trail ∙ ap states_of begins.trail ∙ ap (λ (x : Cluster _ _). cluster_view x ∷ []) begins.shown;
       reads = λ honest. rw (end.disks.0, end.disks.1) (begins.reads honest);

@@ -1,5 +1,6 @@
-use Rattle.std.proofs.Common.{◌∙◌, refl, sym, subst, arith}
+use Rattle.std.proofs.Common.{◌∙◌, refl, sym, ap, subst, arith}
 use Rattle.std.specs.List.{AllByRecursion}
+use Rattle.qz_cluster.specs.View.{IsTold}
 use Rattle.qz_top.specs.Clients.{IsOfClient}
 use Rattle.qz_top.proofs.ClientLaws.{DidFront-none, DidFront-more, DidFront-end}
 use Rattle.qz_top.proofs.EndLaws.{rose_later}
@@ -8,7 +9,7 @@ use Rattle.qz_top.proofs.loading.do_commands.Goals as goal
 
 pub returns-in-Err-clause-done : goal.returns-in-Err-clause-done
 returns-in-Err-clause-done g c =
-    DidFront-end _ _ _ _ _ _ _ _ _ _ _ _ _ c.in-Some.ensures.steps.0 c.loop-command.invariant.3 c.in-Err.ensures.done
+    DidFront-end _ _ _ _ _ _ _ _ _ _ _ _ _ _ (ap IsTold c.loop-command.invariant.4.begun) c.in-Some.ensures.steps.0 c.loop-command.invariant.3 c.in-Err.ensures.done
 
 pub returns-in-Err-clause-shows : goal.returns-in-Err-clause-shows
 returns-in-Err-clause-shows g c = Shows-more _ _ _ _ c.loop-command.invariant.4 c.in-Err.ensures.shows
@@ -31,7 +32,7 @@ loop-command-preserved g c =
       tt,
       tt,
       (subst (AllByRecursion IsOfClient) next before.2).1,
-      DidFront-more _ _ _ _ _ _ _ _ _ _ _ _ next before.3 c.in-Ok.ensures.done,
+      DidFront-more _ _ _ _ _ _ _ _ _ _ _ _ next before.3 (rw before.4.begun at c.in-Ok.ensures.done),
       Shows-more _ _ _ _ before.4 (Shows-less _ _ _ _ c.in-Ok.ensures.shows (λ is. refl)),
       omega (arith, before.5, c.in-Ok.ensures.later),
     )

@@ -1,4 +1,5 @@
 use Rattle.std.proofs.Common.{inl, inr, refl, sym, ap, ◌∙◌, arith}
+use Rattle.qz_cluster.proofs.Founds.{found_in}
 use Rattle.qz_trigger_store.specs.View.{view, disk_of}
 use Rattle.qz_top.proofs.migrating.migrate.Goals as goal
 
@@ -16,7 +17,7 @@ returns-in-Ok-clause-done g c =
     inl (record {
       opened = view store;
       is_opened = mounted.opened;
-      stand = mounted.stands;
+      found = λ honest. found_in (g.D.Disk.state c.args.triggers).content store (mounted.bytes honest).1 mounted.nothing_added mounted.begins (mounted.stands honest) (mounted.without_slots honest) (mounted.whole honest);
       at = did.done.0;
       told = did.done.1;
       end = view new;
@@ -25,7 +26,7 @@ returns-in-Ok-clause-done g c =
       no_trail = end.trail;
       faults = ap g.D.Disk.faults disk;
       reads = λ honest same. rw (disk ∙ did.unless_changed same) (mounted.reads honest);
-      any_moment = λ honest. (disk_of store, mounted.reads honest, rw disk (did.any_moment honest));
+      any_moment = λ honest w held. (disk_of store, mounted.reads honest, rw disk (did.any_moment honest w (mounted.whole honest w held).0).1);
     })
 
 pub returns-in-Ok-clause-disk : goal.returns-in-Ok-clause-disk

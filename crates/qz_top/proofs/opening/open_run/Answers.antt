@@ -1,4 +1,5 @@
 use Rattle.std.proofs.Common.{◌≡◌, ◌∙◌, sym, ap, subst, refl}
+use Rattle.std.proofs.Math.Logic.{∥∥₁_map}
 use Rattle.qz_journal.specs.Through.{OnlyReads, OnlyReadsUnless}
 use Rattle.qz_journal.specs.declared.errors.MountError.TheVariants as mount
 use Rattle.qz_types.specs.declared.stores.Store.TheVariants as store
@@ -11,7 +12,8 @@ pub returns-in-Ok-begin-clause-ok : goal.returns-in-Ok-begin-clause-ok
 returns-in-Ok-begin-clause-ok g c =
     let mounted = c.in-Ok.ensures in
     let begun = c.in-Ok-begin.ensures in
-    begins_on c.args.triggers c.args.states _ _ begun.ok.1 mounted.opened mounted.nothing_held mounted.nothing_added mounted.stands mounted.later mounted.reads (ap (λ (r : RunState). r.is_own) begun.ok.0) begun.shown
+    begins_on c.args.triggers c.args.states _ _ begun.ok.1 mounted.opened mounted.nothing_held mounted.nothing_added mounted.found mounted.goes_on mounted.rows_go_on
+    (λ told. ((told.0, ∥∥₁_map told.1 (λ x. (x.0, mounted.goes_on told.0 x.0 x.1))), mounted.rows_told told.0)) mounted.later mounted.reads (ap (λ (r : RunState). r.is_own) begun.ok.0) begun.began begun.shown
 
 -- both stores were opened, and then there was no memory
 pub returns-in-Err-begin-clause-err : goal.returns-in-Err-begin-clause-err
@@ -28,7 +30,7 @@ returns-in-Err-begin-clause-err g c o =
       status_is = none.status;
       none = none.trail;
       refused = λ honest. tt;
-      first = λ honest. ((cluster_view c.in-Ok.cluster).triggers, c.in-Ok.ensures.opened.0, (c.in-Ok.ensures.stands honest).0);
+      first = λ honest. let found = (c.in-Ok.ensures.found honest).0 in (found.version, (cluster_view c.in-Ok.cluster).triggers, c.in-Ok.ensures.opened.0, found.stands);
       reads = λ honest.
           let reads = c.in-Ok.ensures.reads honest in (
             subst (λ d. OnlyReads (disk.state c.args.triggers) (disk.state d)) (sym triggers_is) reads.0,

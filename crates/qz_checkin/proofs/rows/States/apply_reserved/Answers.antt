@@ -4,7 +4,7 @@ use Rattle.std.proofs.lemmas.Int.{to_z-of_z}
 use Rattle.qz_checkin.specs.Rows.{state_moment}
 use Rattle.qz_checkin.specs.Valid.{node_of}
 use Rattle.qz_checkin.specs.InMemory.{tables_in}
-use Rattle.qz_checkin.proofs.RowEdits.{accepted_as, valid_after}
+use Rattle.qz_checkin.specs.Edits.{accepted_as, valid_after}
 use Rattle.qz_checkin.proofs.rows.States.apply_reserved.Goals as goal
 
 pub invariant_of-self : goal.invariant_of-self

@@ -2,7 +2,7 @@ use Rattle.std.proofs.Common.{refl, sym, ◌∙◌}
 use Rattle.std.specs.Prelude.{IfOk, IfErr}
 use Rattle.qz_steps.specs.declared.steps.Step.TheVariants.{Join}
 use Rattle.qz_cluster.specs.Steps.{StepCase, EndCase}
-use Rattle.qz_cluster.specs.View.{view}
+use Rattle.qz_cluster.specs.View.{view, IsTold}
 use Rattle.qz_cluster.proofs.AtRest.{rests}
 use Rattle.qz_cluster.proofs.StepCases.{join_declined, join_cut, the_same}
 use Rattle.qz_cluster.proofs.Unaccepted.{all_joined_too, same_here}
@@ -18,13 +18,13 @@ returns-then-closed-clause-any_moment g c honest =
 pub returns-in-Err-clause-ok : goal.returns-in-Err-clause-ok
 returns-in-Err-clause-ok g c =
     let S = view c.args.self.now in
-    join_declined g.D.Disk.honest c.args.node c.args.interval c.args.at c.decide_check_in.result S S (sym c.closed.ensures ∙ c.if-closed.false)
+    join_declined (IsTold c.args.self.now) c.args.node c.args.interval c.args.at c.decide_check_in.result S S (sym c.closed.ensures ∙ c.if-closed.false)
     (c.decide_check_in.ensures.ok c.args.at c.args.interval) (same_here S.triggers) refl
 
 pub returns-in-Err-clause-err : goal.returns-in-Err-clause-err
 returns-in-Err-clause-err g c =
     let S = view c.args.self.now in
-    join_cut g.D.Disk.honest c.args.node c.args.interval c.args.at c.decide_check_in.result S S (sym c.closed.ensures ∙ c.if-closed.false)
+    join_cut (IsTold c.args.self.now) c.args.node c.args.interval c.args.at c.decide_check_in.result S S (sym c.closed.ensures ∙ c.if-closed.false)
     (c.decide_check_in.ensures.err c.args.at c.args.interval) (same_here S.triggers) refl
 
 pub returns-in-Err-clause-keeps : goal.returns-in-Err-clause-keeps
@@ -33,10 +33,10 @@ returns-in-Err-clause-keeps g c = all_joined_too c.decide_check_in.result _ _ c.
 -- the node's epoch has room
 pub returns-in-Ok-clause-ok : goal.returns-in-Ok-clause-ok
 returns-in-Ok-clause-ok g c =
-    the_same (λ i at. IfOk c.join_in_room.result (λ r. StepCase g.D.Disk.honest (record { step = Join c.args.node i; at = at }) r (view c.args.self.now) (view c.join_in_room.new.self)))
+    the_same (λ i at. IfOk c.join_in_room.result (λ r. StepCase (IsTold c.args.self.now) (record { step = Join c.args.node i; at = at }) r (view c.args.self.now) (view c.join_in_room.new.self)))
     c.args.interval c.args.at c.ranges.interval c.ranges.at c.join_in_room.ensures.ok
 
 pub returns-in-Ok-clause-err : goal.returns-in-Ok-clause-err
 returns-in-Ok-clause-err g c =
-    the_same (λ i at. IfErr c.join_in_room.result (λ e. EndCase g.D.Disk.honest (record { step = Join c.args.node i; at = at }) e (view c.args.self.now) (view c.join_in_room.new.self)))
+    the_same (λ i at. IfErr c.join_in_room.result (λ e. EndCase (IsTold c.args.self.now) (record { step = Join c.args.node i; at = at }) e (view c.args.self.now) (view c.join_in_room.new.self)))
     c.args.interval c.args.at c.ranges.interval c.ranges.at c.join_in_room.ensures.err

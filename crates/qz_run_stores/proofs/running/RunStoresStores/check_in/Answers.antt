@@ -12,7 +12,7 @@ use Rattle.qz_run_stores.specs.Declining.{HasDeclined}
 use Rattle.qz_run_stores.specs.View.{run_state}
 use Rattle.qz_run_stores.proofs.Rows.{checked_in, check_in_declinable, check_in_declines}
 use Rattle.qz_run_stores.proofs.Ways.{states_kept}
-use Rattle.qz_run_stores.proofs.Going.{later_then, closes_then, stay_then}
+use Rattle.qz_run_stores.proofs.Going.{later_then, closes_then, stay_then, within_then}
 use Rattle.qz_run_stores.proofs.running.RunStoresStores.check_in.Goals as goal
 
 pub returns-in-Ok-check_in-clause-accepted : goal.returns-in-Ok-check_in-clause-accepted
@@ -53,6 +53,11 @@ pub invariant_of-self-clause-states_close : goal.invariant_of-self-clause-states
 invariant_of-self-clause-states_close g c =
     let self = c.args.self.now in
     closes_then of_states _ c.check_in.result (states_view self.states_begun.value) (states_view self.states) (states_view c.check_in.new.self) c.check_in.ensures.one self.states_later self.states_close
+
+pub invariant_of-self-clause-rows_within : goal.invariant_of-self-clause-rows_within
+invariant_of-self-clause-rows_within g c =
+    let self = c.args.self.now in
+    within_then self.rows_before _ c.check_in.result (states_view self.states) (states_view c.check_in.new.self) c.check_in.ensures.one self.rows_within
 
 pub invariant_of-self-clause-rows_stay : goal.invariant_of-self-clause-rows_stay
 invariant_of-self-clause-rows_stay g c =

@@ -9,13 +9,13 @@ use Rattle.qz_checkin.specs.Entries.{of_states}
 use Rattle.qz_checkin.specs.History.{replay_states}
 use Rattle.qz_checkin.specs.Rows.{state_of}
 use Rattle.qz_checkin.specs.View.{view as states_view}
-use Rattle.qz_run.specs.Stores.{forgets}
+use Rattle.qz_run.specs.Stores.{RowState, forgets}
 use Rattle.qz_seen.specs.Seen.{node_name}
 use Rattle.qz_run_stores.specs.Declining.{HasDeclined}
 use Rattle.qz_run_stores.specs.View.{run_state}
 use Rattle.qz_run_stores.proofs.Rows.{forget_entry, forgot, forget_declinable, forget_declines}
 use Rattle.qz_run_stores.proofs.Ways.{states_kept}
-use Rattle.qz_run_stores.proofs.Going.{later_then, closes_then, stay_then}
+use Rattle.qz_run_stores.proofs.Going.{later_then, closes_then, stay_then, within_then, same_rows}
 use Rattle.qz_run_stores.proofs.running.RunStoresStores.forget.Goals as goal
 
 pub returns-in_default-clause-declined : goal.returns-in_default-clause-declined
@@ -63,6 +63,12 @@ returns-clause-declined g c =
     (subst (λ (name : List ℕ). Submits of_states (record { at = to_z w64 (of_z w64 c.args.at); seat = 0; command = Forget name row.last }) (Err c.in-Err.error) (states_view self.states) (states_view c.forget.new.self)) c.in-Ok.ensures.name
     (subst (λ (x : ℤ). Submits of_states (record { at = to_z w64 (of_z w64 c.args.at); seat = 0; command = Forget c.in-Ok.name x }) (Err c.in-Err.error) (states_view self.states) (states_view c.forget.new.self)) last c.in-Err.ensures.one))))
 
+pub returns-clause-same : goal.returns-clause-same
+returns-clause-same g c =
+    let self = c.args.self.now in
+    ap (λ (rows : RowState). record { view = (run_state self).view; log = (run_state self).log; states = rows })
+    (same_rows self.rows_before _ c.in-Err.error (states_view self.states) (states_view c.forget.new.self) c.in-Err.ensures.one)
+
 pub invariant_of-self-clause-states_later : goal.invariant_of-self-clause-states_later
 invariant_of-self-clause-states_later g c =
     let self = c.args.self.now in
@@ -72,6 +78,11 @@ pub invariant_of-self-clause-states_close : goal.invariant_of-self-clause-states
 invariant_of-self-clause-states_close g c =
     let self = c.args.self.now in
     closes_then of_states _ c.forget.result (states_view self.states_begun.value) (states_view self.states) (states_view c.forget.new.self) c.forget.ensures.one self.states_later self.states_close
+
+pub invariant_of-self-clause-rows_within : goal.invariant_of-self-clause-rows_within
+invariant_of-self-clause-rows_within g c =
+    let self = c.args.self.now in
+    within_then self.rows_before _ c.forget.result (states_view self.states) (states_view c.forget.new.self) c.forget.ensures.one self.rows_within
 
 pub invariant_of-self-clause-rows_stay : goal.invariant_of-self-clause-rows_stay
 invariant_of-self-clause-rows_stay g c =

@@ -2,12 +2,11 @@ use Rattle.std.proofs.Common.{◌≡◌, ◌<◌, ◌^◌, ℤ, w64, to_z, of_z,
 use Rattle.std.proofs.lemmas.Int.{ints}
 use Rattle.std.specs.Prelude.{Err}
 use Rattle.qz_types.specs.Entries.{EntryData}
-use Rattle.qz_types.specs.Tables.{empty}
 use Rattle.qz_model.specs.History.{replay}
 use Rattle.qz_stores.specs.Stores.{Appends, Submits}
 use Rattle.qz_trigger_store.specs.Entries.{trigger_entry}
 use Rattle.qz_trigger_store.specs.View.{view}
-use Rattle.qz_trigger_store.proofs.Kept.{history_valid, payloads_are}
+use Rattle.qz_trigger_store.proofs.Kept.{history_valid, payloads_enough}
 use Rattle.qz_seen.specs.Asking.{entry_of}
 use Rattle.qz_run_stores.specs.Declining.{DeclinesEntry}
 use Rattle.qz_run_stores.specs.View.{run_state}
@@ -15,7 +14,7 @@ use Rattle.qz_run_stores.proofs.Accepting.{accepts}
 use Rattle.qz_run_stores.proofs.Asked.{asked_then}
 use Rattle.qz_run_stores.proofs.Declining.{entry_declinable, entry_declines}
 use Rattle.qz_run_stores.proofs.Ways.{triggers_kept}
-use Rattle.qz_run_stores.proofs.Going.{current_then, later_then, closes_then, entries_stay_then}
+use Rattle.qz_run_stores.proofs.Going.{current_then, later_then, closes_then, entries_stay_then, entries_within_then}
 use Rattle.qz_run_stores.proofs.running.RunStoresStores.submit.Goals as goal
 
 pub declined-requires : goal.declined-requires
@@ -35,7 +34,7 @@ returns-in-Ok-submit-clause-accepted g c =
     let entry_is : c.in-Ok.entry ≡ entry_of (replay (view s).history) c.args.at c.args.node c.args.command =
     c.in-Ok.ensures ∙ ap (λ (at : ℤ). entry_of (replay (view s).history) at c.args.node c.args.command) reading in
     let small : c.args.node < 2 ^ 32 = omega arith in
-    accepts self.entries_before (view s) (view c.submit.new.self) (run_state self).states c.args.at c.args.node c.args.command c.in-Ok-submit.reply self.entries_within small self.current (history_valid s) (payloads_are s)
+    accepts self.entries_before (view s) (view c.submit.new.self) (run_state self).states c.args.at c.args.node c.args.command c.in-Ok-submit.reply self.entries_within small self.current (history_valid s) (λ is_open. omega (arith, payloads_enough s is_open))
     c.requires.time c.requires.clock c.requires.can
     (subst (λ (e : EntryData). Appends trigger_entry e c.in-Ok-submit.reply (view s) (view c.submit.new.self)) entry_is c.in-Ok-submit.ensures.one)
 
@@ -59,6 +58,11 @@ invariant_of-self-clause-closes g c =
     let self = c.args.self.now in
     closes_then trigger_entry c.in-Ok.entry c.submit.result (view self.triggers_begun.value) (view self.triggers) (view c.submit.new.self) c.submit.ensures.one self.later self.closes
 
+pub invariant_of-self-clause-entries_within : goal.invariant_of-self-clause-entries_within
+invariant_of-self-clause-entries_within g c =
+    let self = c.args.self.now in
+    entries_within_then self.entries_before c.in-Ok.entry c.submit.result (view self.triggers) (view c.submit.new.self) c.submit.ensures.one self.entries_within
+
 pub invariant_of-self-clause-entries_stay : goal.invariant_of-self-clause-entries_stay
 invariant_of-self-clause-entries_stay g c =
     let self = c.args.self.now in
@@ -72,7 +76,7 @@ invariant_of-self-clause-asked g c =
     let entry_is : c.in-Ok.entry ≡ entry_of (replay (view s).history) c.args.at c.args.node c.args.command =
     c.in-Ok.ensures ∙ ap (λ (at : ℤ). entry_of (replay (view s).history) at c.args.node c.args.command) reading in
     let small : c.args.node < 2 ^ 32 = omega arith in
-    asked_then self.entries_before (view self.triggers_begun.value) (view s) (view c.submit.new.self) c.in-Ok.entry c.submit.result (ap empty self.version_stays) self.entries_stay self.entries_within c.submit.ensures.one
+    asked_then self.entries_before (view self.triggers_begun.value) (view s) (view c.submit.new.self) c.in-Ok.entry c.submit.result self.base_stays self.entries_stay self.entries_within c.submit.ensures.one
     (record { at = c.args.at; node = c.args.node; small = small; command = c.args.command; entry = entry_is }) self.asked
 
 pub invariant_of-self-clause-kept : goal.invariant_of-self-clause-kept

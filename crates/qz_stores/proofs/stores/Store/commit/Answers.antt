@@ -1,10 +1,11 @@
-use Rattle.std.proofs.Common.{◌∙◌, ◌+◌, ℕ, List, ◌++◌, length, refl, sym, ap, subst}
+use Rattle.std.proofs.Common.{◌∙◌, ℕ, List, ◌++◌, length, refl, sym, ap, subst, arith}
+use Rattle.qz_disk.proofs.Moments.{content_among}
 use Rattle.qz_stores.specs.Stores.{HasRoom}
-use Rattle.qz_stores.specs.Kinds.{HasRecord, history_of}
+use Rattle.qz_stores.specs.Kinds.{HasRecord, IsAccepted}
 use Rattle.qz_stores.specs.View.{view}
 use Rattle.qz_stores.proofs.Appending
 use Rattle.qz_stores.proofs.Committing
-use Rattle.qz_stores.proofs.Replays
+use Rattle.qz_stores.proofs.Histories
 use Rattle.qz_stores.proofs.stores.Store.commit.Goals as goal
 
 -- where the record went to the disk
@@ -12,18 +13,20 @@ use Rattle.qz_stores.proofs.stores.Store.commit.Goals as goal
 pub invariant_of-self-clause-counted : goal.invariant_of-self-clause-counted
 invariant_of-self-clause-counted g c =
     let s = c.args.self.now in
-    Appending.counted_with s.found.items s.added.items _ c.args.entry s.count _ c.and.ensures s.counted
-    (c.payloads-self.ensures ∙ c.in-Ok.ensures.ok.2 ∙ ap (λ n. n + 1) (s.placed c.requires.open))
+    Appending.counted_with s.found.items s.added.items _ c.args.entry s.base_count s.count _ c.and.ensures s.counted refl
+
+pub invariant_of-self-clause-placed : goal.invariant_of-self-clause-placed
+invariant_of-self-clause-placed g c now = omega (arith, c.args.self.now.placed c.requires.open, c.in-Ok.ensures.ok.2)
 
 pub invariant_of-self-clause-legal : goal.invariant_of-self-clause-legal
 invariant_of-self-clause-legal g c =
     let s = c.args.self.now in
-    Appending.legal_with g.K.Kind.kind g.met.K.Kind.lawful (g.K.Kind.kind.empty s.version) (g.K.Kind.state s.state) s.found.items s.added.items _ c.args.entry c.and.ensures s.replayed c.requires.accepted s.legal
+    Appending.legal_with g.K.Kind.kind g.met.K.Kind.lawful (g.K.Kind.state s.base.value) (g.K.Kind.state s.state) s.found.items s.added.items _ c.args.entry c.and.ensures s.replayed c.requires.accepted s.legal
 
 pub invariant_of-self-clause-replayed : goal.invariant_of-self-clause-replayed
 invariant_of-self-clause-replayed g c =
     let s = c.args.self.now in
-    Replays.grown g.K.Kind.kind s.version g.met.K.Kind.lawful (g.K.Kind.state s.state) _ (s.found.items ++ s.added.items) _ c.args.entry (Appending.more s.found.items s.added.items _ c.args.entry c.and.ensures) s.replayed
+    Appending.grown g.K.Kind.kind g.met.K.Kind.lawful (g.K.Kind.state s.base.value) (g.K.Kind.state s.state) _ (s.found.items ++ s.added.items) _ c.args.entry (Appending.more s.found.items s.added.items _ c.args.entry c.and.ensures) s.replayed
     c.commit-reply.ensures.state
 
 pub invariant_of-self-clause-recorded : goal.invariant_of-self-clause-recorded
@@ -35,30 +38,44 @@ pub invariant_of-self-clause-passed : goal.invariant_of-self-clause-passed
 invariant_of-self-clause-passed g c = Appending.none_follows g.K.Kind.kind _ _ (c.args.self.now.settled c.requires.open)
 
 pub invariant_of-self-clause-stands : goal.invariant_of-self-clause-stands
-invariant_of-self-clause-stands g c honest now =
+invariant_of-self-clause-stands g c honest now whole held =
     let s = c.args.self.now in
-    Appending.holds_with g.K.Kind.kind s.version s.journal.version s.journal.kind s.journal.gate s.found.items s.added.items _ c.args.entry c.as_slice.result.now _ _ (s.in_version c.requires.open) s.number c.and.ensures
-    (subst (λ (b : List ℕ). g.K.Kind.kind.IsRecordOf b c.args.entry) (sym (c.as_slice.ensures ∙ c.requires.record.0)) c.requires.recorded) (c.in-Ok.ensures.stands honest) (s.gated honest now) (s.stands honest now)
+    let k = g.K.Kind.kind in
+    let l = g.met.K.Kind.lawful in
+    let front = content_among _ _ _ (g.met.D.Disk.lawful honest c.append.new.self.disk) (c.append.ensures.front honest (s.ready c.requires.open)) in
+    Appending.whole_with k l s.version whole s.added.items _ c.args.entry _ c.and.ensures
+    (Appending.next_held k l s.version s.journal.version s.journal.kind s.journal.gate s.journal.count c.as_slice.result.now c.args.entry (whole ++ s.added.items) _ (s.in_version c.requires.open) s.number
+    (subst (λ (b : List ℕ). k.IsRecordOf b c.args.entry) (sym (c.as_slice.ensures ∙ c.requires.record.0)) c.requires.recorded) (s.stands honest c.requires.open whole held) (s.gated honest c.requires.open whole held)
+    (subst (λ T. IsAccepted k T c.args.entry) (Appending.whole_leaves k l s.version s.base_count (g.K.Kind.state s.base.value) (g.K.Kind.state s.state) s.found.items s.added.items whole s.replayed (s.ended honest whole held)) c.requires.accepted)
+    s.journal.after_header _ (c.in-Ok.ensures.stands honest) front)
 
 pub invariant_of-self-clause-gated : goal.invariant_of-self-clause-gated
-invariant_of-self-clause-gated g c honest now =
+invariant_of-self-clause-gated g c honest now whole held =
     let s = c.args.self.now in
-    Appending.gated_with g.K.Kind.kind s.version s.journal.version s.journal.kind s.journal.gate _ (s.found.items ++ s.added.items) c.as_slice.result.now _ _ (s.in_version c.requires.open) s.number
-    c.in-Ok.ensures.ok.1 (c.in-Ok.ensures.stands honest) (s.gated honest c.requires.open) (s.stands honest c.requires.open)
+    let k = g.K.Kind.kind in
+    let l = g.met.K.Kind.lawful in
+    Appending.next_gate k l s.version s.journal.version s.journal.kind s.journal.gate s.journal.count c.as_slice.result.now c.args.entry (whole ++ s.added.items) _ (s.in_version c.requires.open) s.number
+    (subst (λ (b : List ℕ). k.IsRecordOf b c.args.entry) (sym (c.as_slice.ensures ∙ c.requires.record.0)) c.requires.recorded) (s.stands honest c.requires.open whole held) (s.gated honest c.requires.open whole held)
+    (subst (λ T. IsAccepted k T c.args.entry) (Appending.whole_leaves k l s.version s.base_count (g.K.Kind.state s.base.value) (g.K.Kind.state s.state) s.found.items s.added.items whole s.replayed (s.ended honest whole held)) c.requires.accepted)
+    s.journal.after_header _ _ _ c.in-Ok.ensures.ok.1 c.in-Ok.ensures.ok.2 (c.in-Ok.ensures.stands honest)
 
 pub invariant_of-self-clause-images : goal.invariant_of-self-clause-images
-invariant_of-self-clause-images g c honest =
+invariant_of-self-clause-images g c honest whole held =
     let s = c.args.self.now in
-    Appending.images_of g.K.Kind.kind s.version _ s.undecided (g.D.Disk.state c.append.new.self.disk) (s.settled c.requires.open) (c.in-Ok.ensures.durable honest)
-    (Appending.holds_with g.K.Kind.kind s.version s.journal.version s.journal.kind s.journal.gate s.found.items s.added.items _ c.args.entry c.as_slice.result.now _ _ (s.in_version c.requires.open) s.number c.and.ensures
-    (subst (λ (b : List ℕ). g.K.Kind.kind.IsRecordOf b c.args.entry) (sym (c.as_slice.ensures ∙ c.requires.record.0)) c.requires.recorded) (c.in-Ok.ensures.stands honest) (s.gated honest c.requires.open) (s.stands honest c.requires.open))
+    Appending.images_of g.K.Kind.kind g.met.K.Kind.lawful s.version _ s.undecided (g.D.Disk.state c.append.new.self.disk) (s.settled c.requires.open) (c.in-Ok.ensures.durable honest)
+    (invariant_of-self-clause-stands g c honest c.requires.open whole held)
 
-pub returns-in-Ok-clause-any_moment : goal.returns-in-Ok-clause-any_moment
-returns-in-Ok-clause-any_moment g c honest =
+pub returns-in-Ok-clause-leaves : goal.returns-in-Ok-clause-leaves
+returns-in-Ok-clause-leaves g c honest =
     let s = c.args.self.now in
-    let leaves = Appending.leaves_one g.K.Kind.kind s.version s.journal.version s.journal.kind s.journal.gate (s.found.items ++ s.added.items) c.args.entry c.as_slice.result.now _ _ _ (s.in_version c.requires.open) s.number (subst (λ (b : List ℕ). g.K.Kind.kind.IsRecordOf b c.args.entry) (sym (c.as_slice.ensures ∙ c.requires.record.0)) c.requires.recorded)
-    (s.stands honest c.requires.open) (s.gated honest c.requires.open) (c.append.ensures.any_moment honest (s.ready c.requires.open)) in
-    Appending.leaves_with g.K.Kind.kind s.version g.met.K.Kind.lawful s.found.items s.added.items _ c.args.entry _ _ s.undecided s.undecided c.and.ensures (s.settled c.requires.open) (s.settled c.requires.open) leaves
+    let k = g.K.Kind.kind in
+    let l = g.met.K.Kind.lawful in
+    Histories.either_left k l s.version s.base_count (g.K.Kind.state s.base.value) (g.D.Disk.state s.opened.value.disk).content s.found.items (s.ended honest) s.added.items c.and.result.items s.undecided s.undecided (g.D.Disk.state s.journal.disk) (g.D.Disk.state c.append.new.self.disk) (λ whole held.
+    let leaves = Appending.next_leaves k l s.version s.journal.version s.journal.kind s.journal.gate s.journal.count c.as_slice.result.now c.args.entry (whole ++ s.added.items) _ (s.in_version c.requires.open) s.number
+    (subst (λ (b : List ℕ). k.IsRecordOf b c.args.entry) (sym (c.as_slice.ensures ∙ c.requires.record.0)) c.requires.recorded) (s.stands honest c.requires.open whole held) (s.gated honest c.requires.open whole held)
+    (subst (λ T. IsAccepted k T c.args.entry) (Appending.whole_leaves k l s.version s.base_count (g.K.Kind.state s.base.value) (g.K.Kind.state s.state) s.found.items s.added.items whole s.replayed (s.ended honest whole held)) c.requires.accepted)
+    s.journal.after_header _ _ (c.append.ensures.any_moment honest (s.ready c.requires.open)) (c.append.ensures.front honest (s.ready c.requires.open)) in
+    Appending.leaves_with k l s.version whole s.added.items _ c.args.entry _ _ s.undecided s.undecided c.and.ensures (s.settled c.requires.open) (s.settled c.requires.open) leaves)
 
 pub returns-in-Ok-clause-ok : goal.returns-in-Ok-clause-ok
 returns-in-Ok-clause-ok g c =
@@ -67,10 +84,10 @@ returns-in-Ok-clause-ok g c =
     let s = c.args.self.now in
     let ok = c.in-Ok.ensures.ok in
     let es = s.found.items ++ s.added.items in
-    let done = Committing.appends k (g.K.Kind.state s.state) (view s) _ c.args.entry c.commit-reply.result c.as_slice.result.now (Committing.state_is k lawful s.version (g.K.Kind.state s.state) es s.replayed) c.requires.current c.commit-reply.ensures.accepted c.requires.recorded
+    let done = Committing.appends k (g.K.Kind.state s.state) (view s) _ c.args.entry c.commit-reply.result c.as_slice.result.now (Committing.state_is k lawful s.base_count (g.K.Kind.state s.base.value) (g.K.Kind.state s.state) es s.replayed) c.requires.current c.commit-reply.ensures.accepted c.requires.recorded
     (c.as_slice.ensures ∙ c.requires.record.0) c.requires.open
     (subst (λ (b : List ℕ). HasRoom (length b) (view s)) (sym c.as_slice.ensures) c.requires.fits)
-    (ap (history_of k s.version) (Appending.more s.found.items s.added.items _ c.args.entry c.and.ensures) ∙ sym (Appending.entry_more k s.version lawful es c.args.entry))
+    (ap (k.history s.base_count (g.K.Kind.state s.base.value)) (Appending.more s.found.items s.added.items _ c.args.entry c.and.ensures) ∙ sym (Committing.entry_more k lawful s.base_count (g.K.Kind.state s.base.value) es c.args.entry))
     ok.1 ok.2 c.requires.open (s.settled c.requires.open) c.append.ensures.later in
     (refl, done)
 
@@ -83,7 +100,7 @@ returns-in-Err-clause-err g c =
     let es = s.found.items ++ s.added.items in
     let room : HasRoom (length c.as_slice.result.now) (view s) = subst (λ (b : List ℕ). HasRoom (length b) (view s)) (sym c.as_slice.ensures) c.requires.fits in
     let failed = Committing.fault_only c.in-Err.field-0 c.append.result s.journal.closed s.journal.gate s.journal.count (length c.as_slice.result.now) c.in-Err.is (s.ready c.requires.open) room c.append.ensures.closed c.append.ensures.full in
-    let fails = Committing.fails k (g.K.Kind.state s.state) (view s) _ c.args.entry c.as_slice.result.now c.close.result (Committing.state_is k g.met.K.Kind.lawful s.version (g.K.Kind.state s.state) es s.replayed) c.requires.current c.requires.accepted
+    let fails = Committing.fails k (g.K.Kind.state s.state) (view s) _ c.args.entry c.as_slice.result.now c.close.result (Committing.state_is k g.met.K.Kind.lawful s.base_count (g.K.Kind.state s.base.value) (g.K.Kind.state s.state) es s.replayed) c.requires.current c.requires.accepted
     (c.as_slice.ensures ∙ c.requires.record.0) c.requires.open room refl c.in-Err.ensures.same_place.0 c.in-Err.ensures.same_place.1 c.close.ensures.closed c.close.ensures.undecided
     (c.append.ensures.fault failed).0 c.append.ensures.later c.close.ensures.fault in
     (c.close.ensures.fault, fails)
@@ -93,15 +110,24 @@ invariant_of-self-in-Err-clause-passed g c =
     Appending.one_follows g.K.Kind.kind (g.K.Kind.state c.args.self.now.state) _ c.args.entry c.close.ensures.undecided (_, c.requires.recorded) c.requires.accepted
 
 pub invariant_of-self-in-Err-clause-images : goal.invariant_of-self-in-Err-clause-images
-invariant_of-self-in-Err-clause-images g c honest =
+invariant_of-self-in-Err-clause-images g c honest whole held =
     let s = c.args.self.now in
-    let leaves = Appending.leaves_one g.K.Kind.kind s.version s.journal.version s.journal.kind s.journal.gate (s.found.items ++ s.added.items) c.args.entry c.as_slice.result.now _ _ _ (s.in_version c.requires.open) s.number (subst (λ (b : List ℕ). g.K.Kind.kind.IsRecordOf b c.args.entry) (sym (c.as_slice.ensures ∙ c.requires.record.0)) c.requires.recorded)
-    (s.stands honest c.requires.open) (s.gated honest c.requires.open) (c.append.ensures.any_moment honest (s.ready c.requires.open)) in
-    Appending.images_undecided g.K.Kind.kind s.version (s.found.items ++ s.added.items) _ c.args.entry _ _ c.close.ensures.undecided (g.met.D.Disk.lawful honest c.append.new.self.disk) leaves
+    let k = g.K.Kind.kind in
+    let l = g.met.K.Kind.lawful in
+    let leaves = Appending.next_leaves k l s.version s.journal.version s.journal.kind s.journal.gate s.journal.count c.as_slice.result.now c.args.entry (whole ++ s.added.items) _ (s.in_version c.requires.open) s.number
+    (subst (λ (b : List ℕ). k.IsRecordOf b c.args.entry) (sym (c.as_slice.ensures ∙ c.requires.record.0)) c.requires.recorded) (s.stands honest c.requires.open whole held) (s.gated honest c.requires.open whole held)
+    (subst (λ T. IsAccepted k T c.args.entry) (Appending.whole_leaves k l s.version s.base_count (g.K.Kind.state s.base.value) (g.K.Kind.state s.state) s.found.items s.added.items whole s.replayed (s.ended honest whole held)) c.requires.accepted)
+    s.journal.after_header _ _ (c.append.ensures.any_moment honest (s.ready c.requires.open)) (c.append.ensures.front honest (s.ready c.requires.open)) in
+    Appending.images_undecided k l s.version (whole ++ s.added.items) _ c.args.entry _ _ c.close.ensures.undecided (g.met.D.Disk.lawful honest c.append.new.self.disk) leaves
 
-pub returns-in-Err-clause-any_moment : goal.returns-in-Err-clause-any_moment
-returns-in-Err-clause-any_moment g c honest =
+pub returns-in-Err-clause-leaves : goal.returns-in-Err-clause-leaves
+returns-in-Err-clause-leaves g c honest =
     let s = c.args.self.now in
-    let leaves = Appending.leaves_one g.K.Kind.kind s.version s.journal.version s.journal.kind s.journal.gate (s.found.items ++ s.added.items) c.args.entry c.as_slice.result.now _ _ _ (s.in_version c.requires.open) s.number (subst (λ (b : List ℕ). g.K.Kind.kind.IsRecordOf b c.args.entry) (sym (c.as_slice.ensures ∙ c.requires.record.0)) c.requires.recorded)
-    (s.stands honest c.requires.open) (s.gated honest c.requires.open) (c.append.ensures.any_moment honest (s.ready c.requires.open)) in
-    Appending.leaves_undecided g.K.Kind.kind s.version g.met.K.Kind.lawful (s.found.items ++ s.added.items) c.args.entry _ _ s.undecided _ c.close.ensures.undecided leaves
+    let k = g.K.Kind.kind in
+    let l = g.met.K.Kind.lawful in
+    Histories.either_left k l s.version s.base_count (g.K.Kind.state s.base.value) (g.D.Disk.state s.opened.value.disk).content s.found.items (s.ended honest) s.added.items s.added.items s.undecided c.close.new.undecided (g.D.Disk.state s.journal.disk) (g.D.Disk.state c.append.new.self.disk) (λ whole held.
+    let leaves = Appending.next_leaves k l s.version s.journal.version s.journal.kind s.journal.gate s.journal.count c.as_slice.result.now c.args.entry (whole ++ s.added.items) _ (s.in_version c.requires.open) s.number
+    (subst (λ (b : List ℕ). k.IsRecordOf b c.args.entry) (sym (c.as_slice.ensures ∙ c.requires.record.0)) c.requires.recorded) (s.stands honest c.requires.open whole held) (s.gated honest c.requires.open whole held)
+    (subst (λ T. IsAccepted k T c.args.entry) (Appending.whole_leaves k l s.version s.base_count (g.K.Kind.state s.base.value) (g.K.Kind.state s.state) s.found.items s.added.items whole s.replayed (s.ended honest whole held)) c.requires.accepted)
+    s.journal.after_header _ _ (c.append.ensures.any_moment honest (s.ready c.requires.open)) (c.append.ensures.front honest (s.ready c.requires.open)) in
+    Appending.leaves_undecided k l s.version (whole ++ s.added.items) c.args.entry _ _ s.undecided _ c.close.ensures.undecided leaves)

@@ -1,103 +1,203 @@
-use Rattle.std.proofs.Common.{◌≡◌, ◌∙◌, ◌++◌, ℕ, true, take, refl, sym, ap, subst}
-use Rattle.qz_journal.specs.Layout.{is_version, IsHeader, Holds, end_of}
-use Rattle.qz_journal.proofs.Once.{holds_once, version_once, not_damaged}
-use Rattle.qz_stores.specs.Bytes.{BeginsNew, HoldEntries}
-use Rattle.qz_stores.specs.Facts.{Encode-length}
-use Rattle.qz_stores.specs.Kinds.{history_of}
-use Rattle.qz_stores.specs.Opening.{AreReplayed}
-use Rattle.qz_stores.specs.View.{view}
-use Rattle.qz_stores.proofs.Appending.{holding, none_more, stands_found}
-use Rattle.qz_stores.proofs.Sound.{opened_on}
-use Rattle.qz_stores.proofs.Replays.{bad_in_whole, bad_in_damaged, damaged_after}
-use Rattle.qz_stores.proofs.Decided.{held_now}
-use Rattle.qz_stores.proofs.Once.{only_memory, opened_as}
+use Rattle.std.proofs.Common.{◌≡◌, ℕ, ◌≤◌, ◌∙◌, List, [], ◌++◌, sym, ap, subst, arith, append-nil}
+use Rattle.qz_journal.specs.declared.errors.MountError.TheVariants as mount
+use Rattle.qz_journal.specs.Slots.{slots_of as slots_in, slot_in_use}
+use Rattle.qz_journal.specs.Tails.{IsCounted}
+use Rattle.qz_stores.specs.Bases.{HoldAll, IsEndOf}
+use Rattle.qz_stores.specs.Opening.{StandsFrom}
+use Rattle.qz_stores.specs.View.{view, opened_of}
+use Rattle.qz_stores.proofs.Appending.{none_more}
+use Rattle.qz_stores.proofs.Openings.{Found, found_tail, found_read, found_refused, found_version, found_end, found_place, found_outside, found_in, never_damaged}
+use Rattle.qz_stores.proofs.Refusals.{early_refused, late_refused, none_in_use, counted_in, read_as, refused_as}
+use Rattle.qz_stores.proofs.WithoutSlots.{all_there}
 use Rattle.qz_stores.proofs.stores.Store.mount.Goals as goal
 
 pub begin-requires-clause-counted : goal.begin-requires-clause-counted
-begin-requires-clause-counted g c = c.in-Ok.ensures.ground.3 ∙ Encode-length g.K.Kind.kind c.version.result c.in-Ok.payloads _ c.in-Ok-replay.ensures.replayed.encode
-
-pub begin-requires-clause-version : goal.begin-requires-clause-version
-begin-requires-clause-version g c = sym (c.in-Ok-replay.ensures.version ∙ c.version.ensures.value)
-
-pub begin-requires-clause-stands : goal.begin-requires-clause-stands
-begin-requires-clause-stands g c honest =
+begin-requires-clause-counted g c =
+    let r = c.in-Ok-replay.reread in
     let k = g.K.Kind.kind in
-    let journal = c.in-Ok.journal in
-    let entries = c.in-Ok-replay.replayed.entries.items in
-    let holds = held_now c.number.result k.number _ _ c.in-Ok.payloads _ c.number.ensures refl (c.in-Ok.ensures.stands honest) in
-    let held = holding k journal.version _ c.in-Ok.payloads entries holds c.in-Ok-replay.ensures.replayed.encode in
-    subst (λ (v : ℕ). HoldEntries k v (g.D.Disk.state journal.disk).content entries) (sym (c.in-Ok-replay.ensures.version ∙ c.version.ensures.value)) held
+    omega (arith, r.counted, counted_in k g.met.K.Kind.lawful c.slot.result c.version.result c.in-Ok.journal.count r.base_count c.in-Ok.payloads (g.K.Kind.state r.base.value) r.entries.items (subst (λ o. IsCounted o c.in-Ok.journal.count c.in-Ok.payloads) (sym c.slot.ensures) c.in-Ok.ensures.ground.4) c.in-Ok-replay.ensures.read)
+
+pub begin-requires-clause-ended : goal.begin-requires-clause-ended
+begin-requires-clause-ended g c honest whole held =
+    let k = g.K.Kind.kind in
+    let j = c.in-Ok.journal in
+    let e = c.in-Ok.ensures in
+    let f : Found k g.met.K.Kind.lawful c.version.result j.version c.number.result c.in-Ok.start j.gate j.count c.slot.result j.slots (g.D.Disk.state j.disk).content c.in-Ok.payloads = record {
+      version_is = c.version.ensures.value;
+      number_is = c.number.ensures;
+      slot_is = c.slot.ensures;
+      slots_are = e.slots honest;
+      start_is = e.ground.2;
+      gate_is = e.ground.3;
+      is_tail = e.stands honest;
+      counted = e.ground.4;
+    } in
+    let r = c.in-Ok-replay.reread in
+    found_end k g.met.K.Kind.lawful c.version.result j.version c.number.result c.in-Ok.start j.gate j.count c.slot.result j.slots (g.D.Disk.state j.disk).content c.in-Ok.payloads f r.version r.base_count (g.K.Kind.state r.base.value) whole r.entries.items held c.in-Ok-replay.ensures.read
 
 pub begin-requires-clause-gated : goal.begin-requires-clause-gated
-begin-requires-clause-gated g c honest ps held =
+begin-requires-clause-gated g c honest whole held payloads holds =
     let k = g.K.Kind.kind in
-    let journal = c.in-Ok.journal in
-    let holds = held_now c.number.result k.number _ _ c.in-Ok.payloads _ c.number.ensures refl (c.in-Ok.ensures.stands honest) in
-    c.in-Ok.ensures.ground.2 ∙ ap end_of (holds_once (g.D.Disk.state journal.disk).content journal.version _ k.number c.in-Ok.payloads ps holds held)
-
-pub begin-requires-clause-legal : goal.begin-requires-clause-legal
-begin-requires-clause-legal g c =
-    let k = g.K.Kind.kind in
-    subst (λ (v : ℕ). ∥ k.IsLegalFrom (k.empty v) c.in-Ok-replay.replayed.entries.items ∥₁) (sym c.in-Ok-replay.ensures.version) ∣ c.in-Ok-replay.ensures.replayed.legal ∣₁
-
-pub returns-in-Ok-replay-clause-opened : goal.returns-in-Ok-replay-clause-opened
-returns-in-Ok-replay-clause-opened g c =
-    let k = g.K.Kind.kind in
-    let es = c.in-Ok-replay.replayed.entries.items in
-    let version = c.in-Ok-replay.replayed.version in
-    let same : c.begin.result.found.items ++ c.begin.result.added.items ≡ es = none_more c.begin.result.found.items _ c.begin.ensures.opened.2 ∙ c.begin.ensures.found in
-    let replayed = subst (λ (v : ℕ). AreReplayed k v c.in-Ok.payloads es) (sym c.in-Ok-replay.ensures.version) c.in-Ok-replay.ensures.replayed in
-    opened_on k g.met.K.Kind.lawful version (view c.begin.result) c.in-Ok.payloads es (g.K.Kind.state c.in-Ok-replay.replayed.state)
-    (subst (λ (v : ℕ). is_version v ≡ true) (sym c.in-Ok-replay.ensures.version) c.version.ensures.known) (λ i. history_of k (c.begin.ensures.version i) (same i))
-    (ap (λ j. j.gate) c.begin.ensures.journal ∙ c.in-Ok.ensures.ground.2) (ap (λ j. j.count) c.begin.ensures.journal ∙ c.in-Ok.ensures.ground.3)
-    c.begin.ensures.opened.0 c.begin.ensures.opened.1 replayed c.in-Ok-replay.replayed.replayed (g.met.K.Kind.valid c.in-Ok-replay.replayed.state)
+    let j = c.in-Ok.journal in
+    let e = c.in-Ok.ensures in
+    let f : Found k g.met.K.Kind.lawful c.version.result j.version c.number.result c.in-Ok.start j.gate j.count c.slot.result j.slots (g.D.Disk.state j.disk).content c.in-Ok.payloads = record {
+      version_is = c.version.ensures.value;
+      number_is = c.number.ensures;
+      slot_is = c.slot.ensures;
+      slots_are = e.slots honest;
+      start_is = e.ground.2;
+      gate_is = e.ground.3;
+      is_tail = e.stands honest;
+      counted = e.ground.4;
+    } in
+    found_place k g.met.K.Kind.lawful c.version.result j.version c.number.result c.in-Ok.start j.gate j.count c.slot.result j.slots (g.D.Disk.state j.disk).content c.in-Ok.payloads f c.in-Ok-replay.reread.version whole held payloads holds
 
 pub returns-in-Ok-replay-clause-stands : goal.returns-in-Ok-replay-clause-stands
 returns-in-Ok-replay-clause-stands g c honest =
-    let content = ap (λ j. (g.D.Disk.state j.disk).content) c.begin.ensures.journal ∙ (c.in-Ok.ensures.reads honest).content in
-    stands_found g.K.Kind.kind _ g.met.K.Kind.lawful (c.begin.result.found.items ++ c.begin.result.added.items) _ _ content (c.begin.result.stands honest c.begin.ensures.opened.0)
+    let k = g.K.Kind.kind in
+    let j = c.in-Ok.journal in
+    let e = c.in-Ok.ensures in
+    let f : Found k g.met.K.Kind.lawful c.version.result j.version c.number.result c.in-Ok.start j.gate j.count c.slot.result j.slots (g.D.Disk.state j.disk).content c.in-Ok.payloads = record {
+      version_is = c.version.ensures.value;
+      number_is = c.number.ensures;
+      slot_is = c.slot.ensures;
+      slots_are = e.slots honest;
+      start_is = e.ground.2;
+      gate_is = e.ground.3;
+      is_tail = e.stands honest;
+      counted = e.ground.4;
+    } in
+    let r = c.in-Ok-replay.reread in
+    let b = (g.D.Disk.state c.args.disk).content in
+    let t = c.begin.result in
+    let there = found_in k g.met.K.Kind.lawful c.version.result j.version c.number.result c.in-Ok.start j.gate j.count c.slot.result j.slots (g.D.Disk.state j.disk).content b c.in-Ok.payloads (e.reads honest).content f in
+    let same : t.found.items ++ t.added.items ≡ r.entries.items = none_more t.found.items t.added.items c.begin.ensures.opened.2 ∙ c.begin.ensures.found in
+    let history : (view t).history ≡ k.history r.base_count (g.K.Kind.state r.base.value) r.entries.items = λ i. k.history (c.begin.ensures.base.0 i) (c.begin.ensures.base.1 i) (same i) in
+    let read = found_read k g.met.K.Kind.lawful c.version.result j.version c.number.result c.in-Ok.start j.gate j.count c.slot.result j.slots b c.in-Ok.payloads there r.base_count (g.K.Kind.state r.base.value) r.entries.items c.in-Ok-replay.ensures.read in
+    let tail = found_tail k g.met.K.Kind.lawful c.version.result j.version c.number.result c.in-Ok.start j.gate j.count c.slot.result j.slots b c.in-Ok.payloads there in
+    let version : c.version.result ≡ t.version = sym (c.begin.ensures.version ∙ c.in-Ok-replay.ensures.version) in
+    subst (λ v. StandsFrom k v b (view t).history) version (record {
+      payloads = c.in-Ok.payloads;
+      tail = tail;
+      read = read_as k g.met.K.Kind.lawful (slot_in_use (slots_in b)) c.version.result r.base_count c.in-Ok.payloads (g.K.Kind.state r.base.value) r.entries.items (view t).history history read;
+    })
 
 pub returns-in-Ok-replay-clause-whole : goal.returns-in-Ok-replay-clause-whole
-returns-in-Ok-replay-clause-whole g c honest h is stands =
+returns-in-Ok-replay-clause-whole g c honest w held =
     let k = g.K.Kind.kind in
-    let journal = c.in-Ok.journal in
-    let holds = held_now c.number.result k.number _ _ c.in-Ok.payloads _ c.number.ensures (c.in-Ok.ensures.reads honest).content (c.in-Ok.ensures.stands honest) in
-    let one : journal.version ≡ stands.version = version_once _ journal.version stands.version k.number c.in-Ok.payloads stands.held.store.0 holds stands.held.store.1 in
-    let all : c.begin.result.version ≡ stands.version = c.begin.ensures.version ∙ c.in-Ok-replay.ensures.version ∙ c.version.ensures.value ∙ one in
-    let there = subst (λ (v : ℕ). Holds (g.D.Disk.state c.args.disk).content v k.number c.in-Ok.payloads) one holds in
-    let replayed = c.in-Ok-replay.ensures.replayed in
-    let same = none_more c.begin.result.found.items _ c.begin.ensures.opened.2 ∙ c.begin.ensures.found in
-    opened_as k g.met.K.Kind.lawful c.begin.result.version h c.in-Ok.payloads _ c.in-Ok-replay.replayed.entries.items (subst (λ (v : ℕ). BeginsNew k v h) (sym all) stands.begins)
-    (stands.held.encode c.in-Ok.payloads there) replayed.encode same
+    let j = c.in-Ok.journal in
+    let e = c.in-Ok.ensures in
+    let f : Found k g.met.K.Kind.lawful c.version.result j.version c.number.result c.in-Ok.start j.gate j.count c.slot.result j.slots (g.D.Disk.state j.disk).content c.in-Ok.payloads = record {
+      version_is = c.version.ensures.value;
+      number_is = c.number.ensures;
+      slot_is = c.slot.ensures;
+      slots_are = e.slots honest;
+      start_is = e.ground.2;
+      gate_is = e.ground.3;
+      is_tail = e.stands honest;
+      counted = e.ground.4;
+    } in
+    let r = c.in-Ok-replay.reread in
+    let b = (g.D.Disk.state c.args.disk).content in
+    let t = c.begin.result in
+    let there = found_in k g.met.K.Kind.lawful c.version.result j.version c.number.result c.in-Ok.start j.gate j.count c.slot.result j.slots (g.D.Disk.state j.disk).content b c.in-Ok.payloads (e.reads honest).content f in
+    let same : t.found.items ++ t.added.items ≡ r.entries.items = none_more t.found.items t.added.items c.begin.ensures.opened.2 ∙ c.begin.ensures.found in
+    let history : (view t).history ≡ k.history r.base_count (g.K.Kind.state r.base.value) r.entries.items = λ i. k.history (c.begin.ensures.base.0 i) (c.begin.ensures.base.1 i) (same i) in
+    let l = g.met.K.Kind.lawful in
+    let all : w.entries ++ [] ≡ w.entries = append-nil w.entries in
+    let version : t.version ≡ w.version = c.begin.ensures.version ∙ c.in-Ok-replay.ensures.version ∙ found_version k l c.version.result j.version c.number.result c.in-Ok.start j.gate j.count c.slot.result j.slots b c.in-Ok.payloads there w.version w.entries held in
+    let is = found_end k l c.version.result j.version c.number.result c.in-Ok.start j.gate j.count c.slot.result j.slots b c.in-Ok.payloads there w.version r.base_count (g.K.Kind.state r.base.value) w.entries r.entries.items held c.in-Ok-replay.ensures.read in
+    let opened : opened_of t ≡ b = c.begin.ensures.opened.3 ∙ (e.reads honest).content in (
+      (
+        [],
+        version,
+        subst (λ (x : List g.row.K-Entry.Denot). HoldAll k w.version (opened_of t) x) (sym all) (subst (λ (o : List ℕ). HoldAll k w.version o w.entries) (sym opened) held),
+      ),
+      record {
+        more = [];
+        held = subst (λ (x : List g.row.K-Entry.Denot). HoldAll k w.version b x) (sym all) held;
+        end_of_them = subst (λ (x : List g.row.K-Entry.Denot). IsEndOf k w.version (view t).history x) (sym all) (subst (λ h. IsEndOf k w.version h w.entries) (sym history) is);
+      },
+    )
+
+pub returns-in-Ok-replay-clause-without_slots : goal.returns-in-Ok-replay-clause-without_slots
+returns-in-Ok-replay-clause-without_slots g c honest none =
+    let k = g.K.Kind.kind in
+    let l = g.met.K.Kind.lawful in
+    let t = c.begin.result in
+    let b = (g.D.Disk.state c.args.disk).content in
+    let h = (view t).history in
+    let list : k.entries h ≡ t.found.items = l.entries_are t.base_count (g.K.Kind.state t.base.value) (t.found.items ++ t.added.items) ∙ none_more t.found.items t.added.items c.begin.ensures.opened.2 in
+    subst (λ (x : List g.row.K-Entry.Denot). HoldAll k t.version b x) list (all_there k l t.version b h none (returns-in-Ok-replay-clause-stands g c honest))
+
+pub returns-in-Ok-replay-clause-no_slots : goal.returns-in-Ok-replay-clause-no_slots
+returns-in-Ok-replay-clause-no_slots g c none =
+    let k = g.K.Kind.kind in
+    let r = c.in-Ok-replay.reread in
+    let base = none_in_use k g.met.K.Kind.lawful c.slot.result c.version.result r.base_count c.in-Ok.payloads (g.K.Kind.state r.base.value) c.in-Ok-replay.ensures.read.base none in
+    ap (λ j. slot_in_use j.slots) c.begin.ensures.journal ∙ sym c.slot.ensures ∙ base
 
 pub returns-in-Ok-clause-refused : goal.returns-in-Ok-clause-refused
 returns-in-Ok-clause-refused g c honest =
     let k = g.K.Kind.kind in
-    let holds = held_now c.number.result k.number _ _ c.in-Ok.payloads _ c.number.ensures (c.in-Ok.ensures.reads honest).content (c.in-Ok.ensures.stands honest) in
-    let there = subst (λ (v : ℕ). Holds (g.D.Disk.state c.args.disk).content v k.number c.in-Ok.payloads) (sym c.version.ensures.value) holds in
-    bad_in_whole k c.version.result _ c.in-Ok.payloads _ there c.in-Err-replay.ensures.stopped
+    let j = c.in-Ok.journal in
+    let e = c.in-Ok.ensures in
+    let f : Found k g.met.K.Kind.lawful c.version.result j.version c.number.result c.in-Ok.start j.gate j.count c.slot.result j.slots (g.D.Disk.state j.disk).content c.in-Ok.payloads = record {
+      version_is = c.version.ensures.value;
+      number_is = c.number.ensures;
+      slot_is = c.slot.ensures;
+      slots_are = e.slots honest;
+      start_is = e.ground.2;
+      gate_is = e.ground.3;
+      is_tail = e.stands honest;
+      counted = e.ground.4;
+    } in
+    let b = (g.D.Disk.state c.args.disk).content in
+    let there = found_in k g.met.K.Kind.lawful c.version.result j.version c.number.result c.in-Ok.start j.gate j.count c.slot.result j.slots (g.D.Disk.state j.disk).content b c.in-Ok.payloads (e.reads honest).content f in
+    found_refused k g.met.K.Kind.lawful c.version.result j.version c.number.result c.in-Ok.start j.gate j.count c.slot.result j.slots b c.in-Ok.payloads there c.in-Err-replay.error c.in-Err-replay.ensures.stopped
 
 pub returns-in-Ok-clause-whole : goal.returns-in-Ok-clause-whole
-returns-in-Ok-clause-whole g c honest h is stands =
+returns-in-Ok-clause-whole g c honest w held =
     let k = g.K.Kind.kind in
-    let journal = c.in-Ok.journal in
-    let holds = held_now c.number.result k.number _ _ c.in-Ok.payloads _ c.number.ensures (c.in-Ok.ensures.reads honest).content (c.in-Ok.ensures.stands honest) in
-    let one : journal.version ≡ stands.version = version_once _ journal.version stands.version k.number c.in-Ok.payloads stands.held.store.0 holds stands.held.store.1 in
-    let there = subst (λ (v : ℕ). Holds (g.D.Disk.state c.args.disk).content v k.number c.in-Ok.payloads) one holds in
-    only_memory k g.met.K.Kind.lawful c.version.result h c.in-Ok.payloads _ is (subst (λ (v : ℕ). BeginsNew k v h) (sym (c.version.ensures.value ∙ one)) stands.begins)
-    (stands.held.encode c.in-Ok.payloads there) c.in-Err-replay.ensures.stopped
+    let j = c.in-Ok.journal in
+    let e = c.in-Ok.ensures in
+    let f : Found k g.met.K.Kind.lawful c.version.result j.version c.number.result c.in-Ok.start j.gate j.count c.slot.result j.slots (g.D.Disk.state j.disk).content c.in-Ok.payloads = record {
+      version_is = c.version.ensures.value;
+      number_is = c.number.ensures;
+      slot_is = c.slot.ensures;
+      slots_are = e.slots honest;
+      start_is = e.ground.2;
+      gate_is = e.ground.3;
+      is_tail = e.stands honest;
+      counted = e.ground.4;
+    } in
+    let b = (g.D.Disk.state c.args.disk).content in
+    let there = found_in k g.met.K.Kind.lawful c.version.result j.version c.number.result c.in-Ok.start j.gate j.count c.slot.result j.slots (g.D.Disk.state j.disk).content b c.in-Ok.payloads (e.reads honest).content f in
+    found_outside k g.met.K.Kind.lawful c.version.result j.version c.number.result c.in-Ok.start j.gate j.count c.slot.result j.slots b c.in-Ok.payloads there w.version w.entries c.in-Err-replay.error held c.in-Err-replay.ensures.stopped
 
-pub returns-in-Err-Damaged-default-default-clause-refused : goal.returns-in-Err-Damaged-default-default-clause-refused
-returns-in-Err-Damaged-default-default-clause-refused g c honest =
-    let w = c.in-Err-Damaged-default-default in
-    let k = g.K.Kind.kind in
-    let damaged = damaged_after c.number.result k.number _ w.salvaged.payloads w.field-0-0 w.at c.number.ensures w.field-0-0-is (w.ensures.refused honest) in
-    let header = subst (λ (n : ℕ). IsHeader w.salvaged.version n (take 16 (g.D.Disk.state c.args.disk).content)) c.number.ensures (w.ensures.version honest w.at w.field-0-0-is) in
-    bad_in_damaged k w.salvaged.version _ w.at w.salvaged.payloads _ header damaged c.first_bad.ensures
+pub returns-then-at-first_gate-clause-refused : goal.returns-then-at-first_gate-clause-refused
+returns-then-at-first_gate-clause-refused g c honest =
+    let w = c.in-Err in
+    let refused = refused_as (g.D.Disk.state c.args.disk).content c.number.result w.salvaged.payloads w.error (mount.Damaged c.in-Damaged.at) c.in-Damaged.is (w.ensures.refused honest) in
+    early_refused g.K.Kind.kind (g.D.Disk.state c.args.disk).content c.in-Damaged.at c.number.result w.salvaged.payloads c.number.ensures (omega (arith, c.if-at-first_gate.true, c.first_gate.ensures)) refused
 
-pub returns-in-Err-Damaged-default-default-clause-whole : goal.returns-in-Err-Damaged-default-default-clause-whole
-returns-in-Err-Damaged-default-default-clause-whole g c honest h is stands =
-    let w = c.in-Err-Damaged-default-default in
-    let k = g.K.Kind.kind in
-    let damaged = damaged_after c.number.result k.number _ w.salvaged.payloads w.field-0-0 w.at c.number.ensures w.field-0-0-is (w.ensures.refused honest) in
-    absurd (not_damaged _ stands.version k.number w.at stands.held.store.0 stands.held.store.1 (record { payloads = w.salvaged.payloads; behind = damaged }))
+pub returns-then-at-first_gate-clause-whole : goal.returns-then-at-first_gate-clause-whole
+returns-then-at-first_gate-clause-whole g c honest w held =
+    let r = c.in-Err in
+    let refused = refused_as (g.D.Disk.state c.args.disk).content c.number.result r.salvaged.payloads r.error (mount.Damaged c.in-Damaged.at) c.in-Damaged.is (r.ensures.refused honest) in
+    absurd (never_damaged g.K.Kind.kind g.met.K.Kind.lawful w.version c.number.result c.in-Damaged.at (g.D.Disk.state c.args.disk).content w.entries r.salvaged.payloads c.number.ensures held refused)
+
+pub returns-in-Damaged-clause-refused : goal.returns-in-Damaged-clause-refused
+returns-in-Damaged-clause-refused g c honest =
+    let w = c.in-Err in
+    let at = c.in-Damaged.at in
+    let late : 16 ≤ at = omega (arith, c.if-at-first_gate.false, c.first_gate.ensures) in
+    let refused = refused_as (g.D.Disk.state c.args.disk).content c.number.result w.salvaged.payloads w.error (mount.Damaged at) c.in-Damaged.is (w.ensures.refused honest) in
+    let said = w.ensures.version honest at c.in-Damaged.is late in
+    late_refused g.K.Kind.kind (g.D.Disk.state c.args.disk).content at c.number.result w.salvaged.version w.salvaged.start w.salvaged.slots w.salvaged.payloads c.first_bad.result c.number.ensures late refused said.0 said.1 said.2 c.first_bad.ensures
+
+pub returns-in-Damaged-clause-whole : goal.returns-in-Damaged-clause-whole
+returns-in-Damaged-clause-whole g c honest w held =
+    let r = c.in-Err in
+    let refused = refused_as (g.D.Disk.state c.args.disk).content c.number.result r.salvaged.payloads r.error (mount.Damaged c.in-Damaged.at) c.in-Damaged.is (r.ensures.refused honest) in
+    absurd (never_damaged g.K.Kind.kind g.met.K.Kind.lawful w.version c.number.result c.in-Damaged.at (g.D.Disk.state c.args.disk).content w.entries r.salvaged.payloads c.number.ensures held refused)

@@ -1,0 +1,94 @@
+-- Snapshots of the tables, as those of a kind of store.
+use Rattle.std.proofs.Common.{◌≡◌, ◌≢◌, ◌⊎◌, inl, inr, ⊎_elim, ℕ, ◌+◌, List, [], ◌++◌, length, true, false, refl, sym, ap, subst, ◌∙◌}
+use Rattle.std.specs.Prelude.{Bool, Ok, Err, Option, Some, None, IfNone}
+use Rattle.std.specs.declared.result.Result.{Result}
+use Rattle.qz_disk.specs.Disk.{DiskState, Only, IsLawful, LeavesOnly}
+use Rattle.qz_disk.proofs.Moments.{weaker}
+use Rattle.qz_types.specs.Tables.{SchedulerTables}
+use Rattle.qz_types.specs.declared.errors.SubmitError.{SubmitError}
+use Rattle.qz_types.specs.declared.errors.SubmitError.TheVariants as submit
+use Rattle.qz_journal.proofs.Marks.{AreSlots}
+use Rattle.qz_journal.specs.Commits.{LackRoom, HaveRoom}
+use Rattle.qz_journal.specs.Layout.{Holds, blocks, end_of}
+use Rattle.qz_journal.specs.declared.slots.Slots.{Slots}
+use Rattle.qz_journal.specs.declared.layout.TheConstants.{TRIGGERS}
+use Rattle.qz_snapshot.specs.Checkpoints.{snapshot_written}
+use Rattle.qz_snapshot.specs.Checkpoints as checkpoints
+use Rattle.qz_snapshot.specs.Opening as snapshots
+use Rattle.qz_snapshot.specs.Snapshots.{IsSnapshot}
+use Rattle.qz_snapshot.proofs.Kind.{IsLeft, ends_after, leaves_left}
+use Rattle.qz_stores.specs.Checkpoints.{IsMidway}
+use Rattle.qz_stores.specs.Opening.{BeginWell}
+use Rattle.qz_stores.specs.declared.kinds.CheckpointError.{CheckpointError}
+use Rattle.qz_stores.specs.declared.kinds.CheckpointError.TheVariants as check
+use Rattle.qz_trigger_store.specs.Kinds.{BeginSnapshot, trigger_kind}
+
+-- what an opening doesn't take
+
+not_taken : (payloads : List (List ℕ)) → ((T : SchedulerTables) (entries : ℕ) → snapshots.BeginWell payloads T entries → ⊥) → (T : SchedulerTables) (entries : ℕ) → BeginWell trigger_kind payloads T entries → ⊥
+not_taken payloads none T entries well = none T entries (record { before = well.before; more = well.snapshot.0; begin = well.snapshot.1; counted = well.counted; valid = well.valid })
+
+pub none_taken : {A : Type 0} (payloads : List (List ℕ)) (o : Option A) → o ≡ None → IfNone o ((T : SchedulerTables) (entries : ℕ) → snapshots.BeginWell payloads T entries → ⊥)
+    → (T : SchedulerTables) (entries : ℕ) → BeginWell trigger_kind payloads T entries → ⊥
+none_taken payloads None is none = not_taken payloads none
+none_taken payloads (Some x) is none = absurd cc
+
+-- what a checkpoint answers
+
+pub made_or_failed : (made : Bool) (r : Result Bool SubmitError) → r ≡ Ok made → (◌≡◌ {A = Result Bool CheckpointError} (Ok made) (Ok true)) ⊎ (◌≡◌ {A = Result Bool CheckpointError} (Ok made) (Err check.Fault)) → (r ≡ Ok true) ⊎ (r ≡ Err submit.Fault)
+made_or_failed made r is (inl same) = let yes : made ≡ true = cc in inl (is ∙ ap Ok yes)
+made_or_failed made r is (inr same) = absurd cc
+
+pub lack_as : (T U : SchedulerTables) (before entries gate count : ℕ) → U ≡ T → LackRoom (snapshot_written U before entries) gate count → LackRoom (snapshot_written T before entries) gate count
+lack_as T U before entries gate count same = subst (λ (X : SchedulerTables). LackRoom (snapshot_written X before entries) gate count) same
+
+pub have_as : (T U : SchedulerTables) (before entries gate count : ℕ) → U ≡ T → HaveRoom (snapshot_written U before entries) gate count → HaveRoom (snapshot_written T before entries) gate count
+have_as T U before entries gate count same = subst (λ (X : SchedulerTables). HaveRoom (snapshot_written X before entries) gate count) same
+
+-- It is made, or the disk failed; else nothing was done.
+done_or_not : {Q : Type 0} (s t : DiskState) (r : Result Bool SubmitError) → (r ≢ Ok true → r ≢ Err submit.Fault → t ≡ s) → ((r ≡ Ok true) ⊎ (r ≡ Err submit.Fault) → Q) → (t ≡ s) ⊎ Q
+done_or_not s t (Ok true) same did = inr (did (inl refl))
+done_or_not s t (Ok false) same did = inl (same (λ is. absurd cc) (λ is. absurd cc))
+done_or_not s t (Err submit.Fault) same did = inr (did (inr refl))
+done_or_not s t (Err submit.NoMemory) same did = inl (same (λ is. absurd cc) (λ is. absurd cc))
+done_or_not s t (Err (submit.Closed at)) same did = inl (same (λ is. absurd cc) (λ is. absurd cc))
+done_or_not s t (Err (submit.Refused refusal)) same did = inl (same (λ is. absurd cc) (λ is. absurd cc))
+done_or_not s t (Err (submit.JournalFull need room)) same did = inl (same (λ is. absurd cc) (λ is. absurd cc))
+
+-- what a checkpoint leaves
+
+module _ (version : ℕ) (T : SchedulerTables) (count entries : ℕ) (old : List ℕ) (payloads : List (List ℕ)) (count_is : count ≡ length payloads) (held : Holds old version TRIGGERS payloads) where
+  -- at true the snapshot stands after the payloads
+  pub stands_after : (U : SchedulerTables) (kind : ℕ) → U ≡ T → kind ≡ TRIGGERS → (new : List ℕ) (gate last total : ℕ) → gate ≡ end_of payloads
+      → (Holds old version kind payloads → Holds new version kind (payloads ++ snapshot_written U count entries))
+      → last ≡ gate + length (blocks (snapshot_written U count entries)) → total ≡ count + length (snapshot_written U count entries)
+      → Holds new version TRIGGERS (payloads ++ snapshot_written T count entries) × (last ≡ end_of (payloads ++ snapshot_written T count entries)) × (total ≡ length (payloads ++ snapshot_written T count entries))
+  stands_after U kind same kind_is new gate last total gate_is stands last_is total_is =
+      subst (λ (X : SchedulerTables). Holds new version TRIGGERS (payloads ++ snapshot_written X count entries) × (last ≡ end_of (payloads ++ snapshot_written X count entries)) × (total ≡ length (payloads ++ snapshot_written X count entries))) same
+      (let ends = ends_after payloads (snapshot_written U count entries) gate count last total gate_is count_is last_is total_is in
+      (subst (λ n. Holds new version n (payloads ++ snapshot_written U count entries)) kind_is (stands (subst (λ n. Holds old version n payloads) (sym kind_is) held)), ends.0, ends.1))
+
+  midway : (bytes : List ℕ) → IsLeft version TRIGGERS T count entries old payloads bytes → IsMidway trigger_kind version T entries old payloads bytes
+  midway bytes left = record {
+    parts = left.parts;
+    holds = left.holds;
+    passed = left.passed;
+    slots = λ gate offset is opened.
+        ⊎_elim inl (λ there. inr (there.0, subst (λ n. BeginSnapshot left.parts T n entries) count_is ([], there.1))) (left.slots gate offset is opened);
+  }
+
+  moments : (slots : Slots) → AreSlots slots old → (s t : DiskState) → s.content ≡ old → IsLawful s → Only s.content s → (r : Result Bool SubmitError)
+      → (r ≢ Ok true → r ≢ Err submit.Fault → t ≡ s) → ((r ≡ Ok true) ⊎ (r ≡ Err submit.Fault) → IsSnapshot (snapshot_written T count entries) T count entries)
+      → LeavesOnly s t (checkpoints.IsMidway version TRIGGERS slots payloads (snapshot_written T count entries)) → LeavesOnly s t (IsMidway trigger_kind version T entries old payloads)
+  moments slots are s t content lawful durable r unchanged snapshot leaves =
+      weaker s t _ _ (leaves_left version TRIGGERS T count entries slots old payloads are s t content lawful durable held (done_or_not s t r unchanged snapshot) leaves) midway
+
+  -- what a crash in it leaves
+  pub any_moment : (U : SchedulerTables) (kind : ℕ) → U ≡ T → kind ≡ TRIGGERS → (slots : Slots) → AreSlots slots old → (s t : DiskState) → s.content ≡ old → IsLawful s → Only s.content s → (r : Result Bool SubmitError)
+      → (r ≢ Ok true → r ≢ Err submit.Fault → t ≡ s) → ((r ≡ Ok true) ⊎ (r ≡ Err submit.Fault) → IsSnapshot (snapshot_written U count entries) U count entries)
+      → (Holds old version kind payloads → LeavesOnly s t (checkpoints.IsMidway version kind slots payloads (snapshot_written U count entries))) → LeavesOnly s t (IsMidway trigger_kind version T entries old payloads)
+  any_moment U kind same kind_is slots are s t content lawful durable r unchanged snapshot leaves =
+      moments slots are s t content lawful durable r unchanged
+      (λ done. subst (λ (X : SchedulerTables). IsSnapshot (snapshot_written X count entries) X count entries) same (snapshot done))
+      (subst (λ (X : SchedulerTables). LeavesOnly s t (checkpoints.IsMidway version TRIGGERS slots payloads (snapshot_written X count entries))) same
+      (subst (λ n. LeavesOnly s t (checkpoints.IsMidway version n slots payloads (snapshot_written U count entries))) kind_is (leaves (subst (λ n. Holds old version n payloads) (sym kind_is) held))))
