@@ -1,1 +1,1 @@
-"""What tools/fill, ship, ship-test and starve know of store files: the layout of the journal."""
+"""What tools/fill, readings, ship, ship-test, starve, kill-test and fuzz know of store files: the layout of the journal, its slots and its records."""
