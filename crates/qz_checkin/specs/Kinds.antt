@@ -25,6 +25,7 @@ state_kind = record {
   IsRecordOf = IsStateRecord;
   is_part = λ payload. false;
   BeginSnapshot = λ payloads T before entries. ⊥;
+  AreCutShort = λ payloads. ⊥;
   has_snapshots = false;
   snapshot_of = λ T before entries. [];
   IsProper = λ e. ⊤;

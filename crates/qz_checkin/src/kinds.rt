@@ -63,6 +63,10 @@ impl Kind for States {
         Ok(None)
     }
 
+    fn are_cut_short(_payloads: &List<List<u8>>) -> bool {
+        false
+    }
+
     fn take(&mut self, alloc: Global, payload: &[u8]) -> Result<StateEntry, TakeError> {
         let entry = match get_state(alloc, payload) {
             Ok(entry) => entry,

@@ -1,4 +1,5 @@
 mod Begins
+mod CutShort
 mod Faults
 mod Filled
 mod HeadBytes

@@ -3,6 +3,7 @@
 
 mod bases;
 mod checkpoints;
+mod cut_short;
 mod filling;
 mod heads;
 mod laws;
@@ -15,6 +16,7 @@ mod snapshots;
 
 pub use bases::read_base;
 pub use checkpoints::checkpoint;
+pub use cut_short::are_cut_short;
 pub use heads::{Head, Numbers, heads_are_read_in_one_way, put_head, read_head};
 pub use laws::snapshots_are_read_in_one_way;
 pub use marks::is_part;

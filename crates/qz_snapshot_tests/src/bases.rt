@@ -2,7 +2,7 @@
 use crate::heads::HEAD;
 use crate::parts::{head_bytes, piece_bytes};
 use qz_civil::List;
-use qz_snapshot::{is_part, read_base};
+use qz_snapshot::{Head, are_cut_short, is_part, read_base};
 use qz_types::NoMemory;
 use std::alloc::Global;
 
@@ -40,6 +40,25 @@ fn a_base_that_is_not_valid_is_not_taken(rt: HostRuntime) -> Result<(), NoMemory
     // The member has the epoch 1 already.
     assert!(rt; entries_before(alloc, 6, 1)? == None);
     assert!(rt; read_base(alloc, &List::new(alloc))?.is_none());
+    Ok(())
+}
+
+// Whether a head that says that two pieces follow goes on after so many.
+fn goes_on_after(alloc: Global, pieces: usize) -> Result<bool, NoMemory> {
+    let head = Head { pieces: 2, ..HEAD };
+    let mut payloads = List::new(alloc);
+    payloads.push(List::from_vec(head_bytes(alloc, &head)?))?;
+    for _ in 0..pieces {
+        payloads.push(List::from_vec(piece_bytes(alloc)?))?;
+    }
+    Ok(are_cut_short(payloads.as_slice()))
+}
+
+#[test]
+fn a_snapshot_goes_on_until_its_pieces_are_there(rt: HostRuntime) -> Result<(), NoMemory> {
+    let alloc = rt.alloc();
+    assert!(rt; goes_on_after(alloc, 0)? && goes_on_after(alloc, 1)?);
+    assert!(rt; !goes_on_after(alloc, 2)? && !are_cut_short(&[]));
     Ok(())
 }
 

@@ -1,5 +1,5 @@
 -- Why an opening is refused, and what one that isn't leaves.
-use Rattle.std.proofs.Common.{◌≡◌, ◌≢◌, inl, inr, ⊎_elim, ℕ, ◌+◌, ◌<◌, ◌≤◌, true, false, List, [], ◌∷◌, length, take, refl, sym, ◌∙◌, ap, subst, arith}
+use Rattle.std.proofs.Common.{◌≡◌, ◌≢◌, inl, inr, ℕ, ◌+◌, ◌<◌, ◌≤◌, true, false, List, [], ◌∷◌, length, take, refl, sym, ◌∙◌, ap, subst, arith}
 use Rattle.std.proofs.Props.{props}
 use Rattle.std.proofs.Math.Logic.{∥∥₁_elim}
 use Rattle.std.specs.Prelude.{Option, Some, None}
@@ -14,7 +14,7 @@ use Rattle.qz_journal.proofs.TrueTails.{in_use_early, tail_not_refused}
 use Rattle.qz_stores.specs.Stores.{StoreState}
 use Rattle.qz_stores.specs.Kinds.{StoreKind, HasRecord, IsLawful, IsLegal, replay}
 use Rattle.qz_stores.specs.Bytes.{BeginsNew}
-use Rattle.qz_stores.specs.Opening.{IsOpened, IsBase, IsRead, IsStop, IsFirst, IsRefused}
+use Rattle.qz_stores.specs.Opening.{IsOpened, IsBase, IsRead, IsStop, IsFirst, IsFirstBad, IsRefused}
 use Rattle.qz_stores.proofs.Whole.{recorded_few}
 
 module _ {H S E R : Type 0} (k : StoreKind H S E R) where
@@ -41,7 +41,7 @@ module _ {H S E R : Type 0} (k : StoreKind H S E R) where
       sizes = damaged.sizes;
       ends = damaged.ends;
       led = damaged.led;
-      cause = ⊎_elim (λ stopped. inl stopped) (λ last. inr (refl, last.0 ∙ damaged.at_is, last.1)) first;
+      cause = subst (λ n. IsFirstBad k (slot_in_use (slots_of b)) version (start_of (slots_of b)) tail n place) damaged.at_is first;
     }),
   )
 
@@ -68,7 +68,7 @@ module _ {H S E R : Type 0} (k : StoreKind H S E R) where
           sizes = is.sizes;
           ends = is.ends;
           led = λ gate misled. tail_not_refused b version k.number count gate tail tail is counted (header, inl misled);
-          cause = inl stop;
+          cause = stop;
         }),
       )
 

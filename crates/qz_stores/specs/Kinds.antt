@@ -22,6 +22,8 @@ pub record StoreKind (H S E R : Type 0) : Type 1 where
   -- payloads and so many entries come. A kind may have none.
   pub is_part : List ℕ → Bool
   pub BeginSnapshot : List (List ℕ) → S → ℕ → ℕ → Type 0
+  -- which payloads begin a snapshot that may go on after them, since it says that it has more
+  pub AreCutShort : List (List ℕ) → Type 0
   pub has_snapshots : Bool
   -- the payloads of the snapshot that is written of this state, before which so many payloads and so many entries come
   pub snapshot_of : S → ℕ → ℕ → List (List ℕ)

@@ -43,7 +43,7 @@ IsBase k None version payloads T entries = (T ≡ k.empty version) × (entries �
 IsBase k (Some gate) version payloads T entries = BeginWell k payloads T entries
 
 -- A payload stands at the slot in use, and no snapshot that an opening takes begins there. (Where not even one stands, a bad
--- gate does.)
+-- gate does; and where one cuts the snapshot off, `IsCut` says so.)
 abbrev pub IsUnread : {H S E R : Type 0} → StoreKind H S E R → Option ℕ → List (List ℕ) → Type 0
 IsUnread k None payloads = ⊥
 IsUnread {S = S} k (Some gate) payloads = (payloads ≢ []) × ((T : S) (entries : ℕ) → BeginWell k payloads T entries → ⊥)
@@ -93,9 +93,22 @@ IsStopped {S = S} k slot version start payloads at =
 abbrev pub AreAllTaken : {H S E R : Type 0} → StoreKind H S E R → Option ℕ → ℕ → List (List ℕ) → Type 0
 AreAllTaken {S = S} {E = E} k slot version payloads = (payloads ≡ []) ⊎ ((n : ℕ) × (T : S) × (entries : List E) × IsRead k slot version payloads n T entries)
 
--- After these payloads comes a bad gate, at this offset: the least bad place is an earlier one, or it.
+-- These payloads stand at the slot in use, and the snapshot there goes on after them.
+abbrev pub IsCut : {H S E R : Type 0} → StoreKind H S E R → Option ℕ → List (List ℕ) → Type 0
+IsCut k None payloads = ⊥
+IsCut k (Some gate) payloads = k.AreCutShort payloads
+
+-- After these payloads comes a bad gate, at this offset. Where it cuts the snapshot off, this is the first bad place. Else that is
+-- an earlier one, or it.
 abbrev pub IsFirstBad : {H S E R : Type 0} → StoreKind H S E R → Option ℕ → ℕ → ℕ → List (List ℕ) → ℕ → ℕ → Type 0
-IsFirstBad k slot version start payloads at place = IsStopped k slot version start payloads place ⊎ ((place ≡ at) × AreAllTaken k slot version payloads)
+IsFirstBad k slot version start payloads at place = (IsCut k slot payloads × (place ≡ at))
+    ⊎ ((IsCut k slot payloads → ⊥) × (IsStopped k slot version start payloads place ⊎ ((place ≡ at) × AreAllTaken k slot version payloads)))
+
+-- Why a store is damaged at this place, where these payloads stand from this offset on: they are refused there, and the gate after
+-- them is closed; or that gate is bad.
+abbrev pub IsCauseOf : {H S E R : Type 0} → StoreKind H S E R → Option ℕ → ℕ → ℕ → List (List ℕ) → Bool → ℕ → Type 0
+IsCauseOf k slot version start payloads true place = IsStopped k slot version start payloads place
+IsCauseOf k slot version start payloads false place = IsFirstBad k slot version start payloads (end_from start payloads) place
 
 -- Of a store of this kind, these payloads stand from the slot in use on, and then a gate that is closed or bad; and this is
 -- the least bad place. The slot in use, if there is one, leads to a head.
@@ -107,8 +120,7 @@ pub record IsDamagedFrom {H S E R : Type 0} (k : StoreKind H S E R) (bytes : Lis
   pub sizes : All IsPayload payloads
   pub ends : EndsAt bytes (start_of (slots_of bytes)) payloads is_whole
   pub led : (gate : ℕ) → IsMisled bytes (slots_of bytes) gate → ⊥
-  pub cause : IsStopped k (slot_in_use (slots_of bytes)) version (start_of (slots_of bytes)) payloads at
-      ⊎ ((is_whole ≡ false) × (at ≡ end_from (start_of (slots_of bytes)) payloads) × AreAllTaken k (slot_in_use (slots_of bytes)) version payloads)
+  pub cause : IsCauseOf k (slot_in_use (slots_of bytes)) version (start_of (slots_of bytes)) payloads is_whole at
 
 -- why an opening of these bytes is refused; that the disk or memory failed isn't seen in them
 abbrev pub IsRefused : {H S E R : Type 0} → StoreKind H S E R → List ℕ → MountError → Type 0

@@ -1,5 +1,5 @@
 //! Kinds of stores.
-ghost use Rattle.std.specs.Prelude.{◌≡◌, ◌≢◌, ◌⊎◌, ◌≤◌, ◌++◌, ℕ, List as Items, length, true, false, None, IfOk, IfErr, OnOk, IfSome, IfNone, Ok, Err, Some};
+ghost use Rattle.std.specs.Prelude.{◌≡◌, ◌≢◌, ◌⊎◌, ◌↔◌, IsTrue, ◌≤◌, ◌++◌, ℕ, List as Items, length, true, false, None, IfOk, IfErr, OnOk, IfSome, IfNone, Ok, Err, Some};
 ghost use Rattle.qz_civil.specs.Causes.{Rose};
 ghost use Rattle.qz_disk.specs.Disk.{LeavesOnly};
 ghost use Rattle.qz_journal.specs.Commits.{LackRoom, HaveRoom};
@@ -76,6 +76,10 @@ pub trait Kind: Drop {
     fn read_base(alloc: Global, payloads: &List<List<u8>>) -> Result<Option<(Self, u32)>, NoMemory>
         ensures found { IfOk result (λ o. IfSome o (λ base. BeginWell kind payloads.now (state base.0) base.1)) }
         ensures none { IfOk result (λ o. IfNone o ((T : State) (entries : ℕ) → BeginWell kind payloads.now T entries → ⊥)) };
+
+    /// Whether these payloads begin a snapshot that says that it has more of them.
+    fn are_cut_short(payloads: &List<List<u8>>) -> bool
+        ensures { IsTrue result ↔ kind.AreCutShort payloads.now };
 
     /// Reads the entry of a payload, and does it.
     fn take(&mut self, alloc: Global, payload: &[u8]) -> Result<Self::Entry, TakeError>

@@ -26,9 +26,10 @@ impl<D: Disk, K: Kind> Store<D, K> {
     /// Opens the store that is on a disk, in the version of the format that its header has, from the slot in use on: its base is
     /// that of the snapshot there, or of a new store where no slot is open, and it replays the entries since. It syncs first, so
     /// that what it reads is what a crash leaves, and writes nothing. An `Err` hands the disk back. `NotAStore` is returned where
-    /// the header isn't that of a store of this kind. `Damaged` names the gate of the slot in use also where no snapshot of a
-    /// valid state stands there, and else also the gate of the first payload that is no part of a snapshot, and is no record or
-    /// whose command is refused. `Fault` is returned only where the disk's count of faults rose.
+    /// the header isn't that of a store of this kind. `Damaged` names the bad gate that cuts off the snapshot in use; else the gate of
+    /// the slot in use also where no snapshot of a valid state stands there, and else also the gate of the first payload that is
+    /// no part of a snapshot, and is no record or whose command is refused. `Fault` is returned only where the disk's count of
+    /// faults rose.
     pub fn mount(alloc: Global, disk: D) -> Result<Store<D, K>, (MountError, D)>
         ensures opened { IfOk result (λ store. IsOpened K.kind (view store)) }
         ensures nothing_added { IfOk result (λ store. added_of store ≡ []) }

@@ -1,8 +1,8 @@
 //! The payloads of a journal, read as a history.
-ghost use Rattle.std.specs.Prelude.{◌≡◌, ◌≢◌, ◌⊎◌, ◌+◌, ◌^◌, ◌<◌, ℕ, [], false, IfOk, IfErr, Err, Some};
+ghost use Rattle.std.specs.Prelude.{◌≡◌, ◌≢◌, ◌⊎◌, ◌↔◌, ◌+◌, ◌^◌, ◌<◌, ℕ, [], false, IfOk, IfErr, IsTrue, Err, Some};
 ghost use Rattle.qz_journal.specs.Layout.{end_from};
 ghost use Rattle.qz_journal.specs.Slots.{slot_in_use};
-ghost use Rattle.qz_stores.specs.Opening.{IsBase, IsUnfit, IsRead, IsStop, IsFirst};
+ghost use Rattle.qz_stores.specs.Opening.{IsBase, IsUnfit, IsRead, IsStop, IsFirst, IsCut};
 ghost use Rattle.qz_stores.specs.Replaying.{IsPassed, IsTaken, IsUnbegun};
 ghost use Rattle.qz_stores.specs.declared.kinds.TakeError.TheVariants as take_error;
 
@@ -106,11 +106,14 @@ fn add<K: Kind>(alloc: Global, reread: Reread<K>, payload: &[u8]) -> Result<Rere
     })
 }
 
-/// The first bad place of a journal that is damaged after what was salvaged, at this offset.
+/// The first bad place of a journal that is damaged after what was salvaged, at this offset: where that cuts a snapshot off, it is this one.
 pub(crate) fn first_bad<K: Kind>(alloc: Global, salvaged: &SalvagedTail, at: u64) -> MountError
     requires offsets { end_from salvaged.now.start salvaged.now.payloads < 2 ^ 64 }
     ensures { IsFirst K.kind (slot_in_use salvaged.now.slots) salvaged.now.version salvaged.now.start salvaged.now.payloads at result }
 {
+    if is_cut::<K>(salvaged) {
+        return MountError::Damaged { at };
+    }
     if salvaged.payloads.is_empty() {
         return MountError::Damaged { at };
     }
@@ -123,5 +126,15 @@ pub(crate) fn first_bad<K: Kind>(alloc: Global, salvaged: &SalvagedTail, at: u64
     ) {
         Ok(_) => MountError::Damaged { at },
         Err(error) => error,
+    }
+}
+
+// Whether a slot is in use, and the snapshot there goes on after what was salvaged.
+fn is_cut<K: Kind>(salvaged: &SalvagedTail) -> bool
+    ensures { IsTrue result ↔ IsCut K.kind (slot_in_use salvaged.now.slots) salvaged.now.payloads }
+{
+    match salvaged.slots.in_use() {
+        None => false,
+        Some(_) => K::are_cut_short(&salvaged.payloads),
     }
 }

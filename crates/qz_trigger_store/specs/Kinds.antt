@@ -11,7 +11,7 @@ use Rattle.qz_model.specs.History.{History, tables_left, IsLegalFrom, replay_fro
 use Rattle.qz_model.specs.Invariant.{TablesValid}
 use Rattle.qz_model.specs.Transaction.{transaction}
 use Rattle.qz_snapshot.specs.Checkpoints.{snapshot_written}
-use Rattle.qz_snapshot.specs.Opening.{is_part}
+use Rattle.qz_snapshot.specs.Opening.{is_part, AreCutShort}
 use Rattle.qz_snapshot.specs.Snapshots as snapshots
 use Rattle.qz_stores.specs.Kinds.{StoreKind}
 use Rattle.qz_trigger_store.specs.Entries.{IsRecordOf, answer_of}
@@ -35,6 +35,7 @@ trigger_kind = record {
   IsRecordOf = IsRecordOf;
   is_part = is_part;
   BeginSnapshot = BeginSnapshot;
+  AreCutShort = AreCutShort;
   has_snapshots = true;
   snapshot_of = snapshot_written;
   IsProper = λ e. IsTrue (is_entry e);

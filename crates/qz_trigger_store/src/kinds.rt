@@ -66,6 +66,10 @@ impl Kind for Triggers {
         }
     }
 
+    fn are_cut_short(payloads: &List<List<u8>>) -> bool {
+        qz_snapshot::are_cut_short(payloads.as_slice())
+    }
+
     fn take(&mut self, alloc: Global, payload: &[u8]) -> Result<Entry, TakeError> {
         let entry = match get_command(alloc, payload) {
             Ok(entry) => entry,

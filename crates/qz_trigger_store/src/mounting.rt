@@ -18,10 +18,10 @@ impl<D: Disk> TriggerStore<D> {
     /// Opens the store that is on a disk, of the version that its header has, from the slot in use on: its base is the tables of
     /// the snapshot there, or of a new store where no slot is open, and it replays the entries since. It syncs first, so that
     /// what it reads is what a crash leaves, and writes nothing. An `Err` hands the disk back. `NotAStore` is returned where the
-    /// header isn't a trigger store's. `Damaged` names the gate of the slot in use also where no snapshot of valid tables stands
-    /// there, and else also the gate of the first payload that is no part of a snapshot, and is no record or whose command is
-    /// refused. `Fault` is returned only where the disk's count of faults rose. What the store keeps in memory is said by
-    /// `keep`.
+    /// header isn't a trigger store's. `Damaged` names the bad gate that cuts off the snapshot in use; else the gate of the slot in use
+    /// also where no snapshot of valid tables stands there, and else also the gate of the first payload that is no part of a
+    /// snapshot, and is no record or whose command is refused. `Fault` is returned only where the disk's count of faults rose.
+    /// What the store keeps in memory is said by `keep`.
     pub fn mount(alloc: Global, disk: D, keep: Keep) -> Result<TriggerStore<D>, (MountError, D)>
         ensures opened { IfOk result (λ store. IsOpened (view store)) }
         ensures nothing_added { IfOk result (λ store. added_of store ≡ []) }
