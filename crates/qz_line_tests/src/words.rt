@@ -1,7 +1,7 @@
 //! Words with what they ask for.
 use crate::rows::{Row, check};
 use qz_civil::Text;
-use qz_words::{Wish, WordFault, read_words};
+use qz_words::{Serving, Wish, WordFault, read_serve, read_words};
 use std::alloc::{AllocError, Global};
 
 fn texts_of(alloc: Global, words: &[&str]) -> Result<Vec<Text>, AllocError> {
@@ -165,6 +165,59 @@ const RUNS: &[WordRow] = &[
         Err(WordFault::WrongCount { found: 2 }),
     ),
 ];
+
+/// Words of `serve`, and how many nodes they ask for up to which moment.
+#[derive(Clone, Copy)]
+struct ServeRow {
+    words: &'static [&'static str],
+    want: Result<Serving, WordFault>,
+}
+
+impl Row for ServeRow {
+    fn holds(&self, alloc: Global) -> Result<bool, AllocError> {
+        let texts = texts_of(alloc, self.words)?;
+        Ok(read_serve(&texts) == self.want)
+    }
+}
+
+const SERVES: &[ServeRow] = &[
+    ServeRow {
+        words: &["serve", "16", "7258118399999"],
+        want: Ok(Serving {
+            nodes: 16,
+            until: 7258118399999,
+        }),
+    },
+    ServeRow {
+        words: &[],
+        want: Err(WordFault::UnknownCommand),
+    },
+    ServeRow {
+        words: &["run", "1", "0", "1"],
+        want: Err(WordFault::UnknownCommand),
+    },
+    ServeRow {
+        words: &["serve", "1"],
+        want: Err(WordFault::WrongCount { found: 1 }),
+    },
+    ServeRow {
+        words: &["serve", "17", "x"],
+        want: Err(WordFault::BadNumber { place: 2 }),
+    },
+    ServeRow {
+        words: &["serve", "17", "7258118400000"],
+        want: Err(WordFault::OutOfRange { place: 1 }),
+    },
+    ServeRow {
+        words: &["serve", "1", "7258118400000"],
+        want: Err(WordFault::OutOfRange { place: 2 }),
+    },
+];
+
+#[test]
+fn words_of_serve_have_their_meaning(rt: HostRuntime) -> Result<(), AllocError> {
+    check(&rt, rt.alloc(), SERVES)
+}
 
 #[test]
 fn words_have_their_meaning(rt: HostRuntime) -> Result<(), AllocError> {

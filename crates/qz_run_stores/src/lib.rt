@@ -8,4 +8,5 @@ mod running;
 mod stores;
 
 pub use laws::logs_are_the_stores_account;
+pub use names::node_name;
 pub use stores::RunStores;

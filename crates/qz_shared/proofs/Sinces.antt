@@ -53,6 +53,9 @@ module _ {H E R : Type 0} (kind : EntryKind H E R) where
     pub stays_short : (f s : StoreState H E) → IsSince kind listed f s → length (listed f.history) < 2 ^ 62 → length (listed s.history) < 2 ^ 63
     stays_short f s i l = let same = long f s i in let few = i.few in omega arith
 
+    pub closed_short : (f s : StoreState H E) → IsSince kind listed f s → length (listed f.history) < 2 ^ 61 → length (listed s.history) < 2 ^ 62
+    closed_short f s i l = let same = long f s i in let few = i.few in omega arith
+
     -- the history is as it was, and so are the gate and the payloads
     stays_on : (f s t : StoreState H E) → t.history ≡ s.history → t.gate ≡ s.gate → t.payloads ≡ s.payloads → s.faults ≤ t.faults
         → (f.is_open ≡ true → t.is_open ≡ false → Rose f.faults t.faults) → IsSince kind listed f s → IsSince kind listed f t

@@ -12,6 +12,7 @@ pub struct Held<S: RowStore> {
     pub(crate) store: S,
     pub(crate) opened: Snapshot<S>,
     ghost since: { IsSince S.kind S.listed (S.state opened.value) (S.state store) } by { IsSince-prop S.kind S.listed S.histories_once (S.state opened.value) (S.state store) },
+    ghost went: { ∥ S.Went opened.value store ∥₁ },
     // so that the lock can count the entries
     ghost short: { length (S.listed (S.state opened.value).history) < 2 ^ 62 },
 }

@@ -6,7 +6,7 @@ ghost use Rattle.qz_types.specs.declared.replies.Refusal.{Refusal};
 ghost use Rattle.qz_journal.specs.Commits.{IsFull};
 ghost use Rattle.qz_stores.specs.Stores.{StoreState};
 ghost use Rattle.qz_stores.specs.Opening.{IsOpened};
-ghost use Rattle.qz_shared.specs.Since.{history_at, gate_at, payloads_at};
+ghost use Rattle.qz_shared.specs.Since.{IsSince, history_at, gate_at, payloads_at};
 ghost use Rattle.qz_shared.specs.Calls.{Known, Called};
 
 use crate::RowStore;
@@ -35,4 +35,10 @@ pub fn refused_as_seen<S: RowStore>()
 #[tactic(auto, using(crate::proofs::Short::opened_short))]
 pub fn opened_is_short<K: Kind>()
     ensures { (s : StoreState K.History K.Entry) → IsOpened K.kind s → s.payloads < 2 ^ 62 → length (K.kind.entries s.history) < 2 ^ 62 }
+{}
+
+/// A store that was under a row may go under another, if its history listed fewer than 2^61 entries at first: under a row it
+/// takes no more than a journal does.
+pub fn closed_is_short<S: RowStore>()
+    ensures { (first now : StoreState S.History S.Entry) → IsSince S.kind S.listed first now → length (S.listed first.history) < 2 ^ 61 → length (S.listed now.history) < 2 ^ 62 }
 {}

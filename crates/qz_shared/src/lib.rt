@@ -10,7 +10,9 @@ mod stores;
 mod telling;
 
 pub use held::Held;
-pub use laws::{full_only_without_room, opened_is_short, refused_as_seen};
-pub use rows::{StoreNote, StoreRow, StoreSeat, close_row, crosses_threads, open_row, submit};
+pub use laws::{closed_is_short, full_only_without_room, opened_is_short, refused_as_seen};
+pub use rows::{
+    StoreNote, StoreRow, StoreSeat, close_row, crosses_threads, is_short, open_row, submit,
+};
 pub use stores::RowStore;
 pub use telling::told_first;

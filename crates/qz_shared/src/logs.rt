@@ -30,6 +30,7 @@ impl<S: RowStore> Held<S> {
     pub(crate) fn into_store(self) -> S
         ensures store { result ≡ self.store }
         ensures since { IsSince S.kind S.listed (S.state self.opened.value) (S.state result) }
+        ensures went { ∥ S.Went self.opened.value result ∥₁ }
     {
         let Held { store, opened: _ } = self;
         store

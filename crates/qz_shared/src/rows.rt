@@ -1,5 +1,5 @@
 //! A lock row over a store.
-ghost use Rattle.std.specs.Prelude.{◌≡◌, ◌^◌, ◌<◌, ◌++◌, [], ◌∷◌, length, true, false, not, IfOk};
+ghost use Rattle.std.specs.Prelude.{◌≡◌, ◌^◌, ◌<◌, ◌++◌, [], ◌∷◌, length, true, false, not, IfOk, IsTrue, ◌↔◌};
 ghost use mathlib.Core.List.{IsPrefix};
 ghost use Rattle.qz_row_lock.specs.Seats.{IsOf, seen, mine, ids, shut, is_out, first_value};
 ghost use Rattle.qz_shared.specs.Since.{IsSince};
@@ -20,6 +20,14 @@ pub type StoreSeat<S> = Seat<Held<S>>;
 /// What a seat has seen, for another to learn.
 pub type StoreNote<S> = Note<Held<S>>;
 
+/// Whether the history lists fewer than 2^61 entries, so that the store may go under a row. Each history does whose records
+/// fit into a file. Takes no memory.
+pub fn is_short<S: RowStore>(store: &S) -> bool
+    ensures { IsTrue result ↔ (length (S.listed (S.state store.now).history) < 2 ^ 61) }
+{
+    store.history_len() < 1 << 61
+}
+
 /// Puts a store under a row, and gives the first seat. Without memory the store is given up.
 pub fn open_row<S: RowStore>(
     alloc: Global,
@@ -27,7 +35,7 @@ pub fn open_row<S: RowStore>(
 ) -> Result<(StoreRow<S>, StoreSeat<S>), NoMemory>
     requires { length (S.listed (S.state store).history) < 2 ^ 62 }
     ensures of { IfOk result (λ r. IsOf r.0 r.1 × (is_out r.1 ≡ false)) }
-    ensures opened { IfOk result (λ r. (S.state (first_value r.0).opened.value ≡ S.state store) × (S.state (first_value r.0).store ≡ S.state store)) }
+    ensures opened { IfOk result (λ r. ((first_value r.0).opened.value ≡ store) × ((first_value r.0).store ≡ store)) }
     ensures knows { IfOk result (λ r. (seen r.1 ≡ S.listed (S.state store).history) × (mine r.1 ≡ []) × (ids r.1 ≡ 0 ∷ []) × (shut r.1 ≡ not (S.state store).is_open)) }
     ensures counts { IfOk result (λ r. (r.1.number ≡ 0) × (r.1.more ≡ 4294967295) × (r.1.parts ≡ 4294967296)) }
 {
@@ -64,7 +72,7 @@ pub fn submit<S: RowStore, R: Wait>(
 }
 
 /// Ends the row, and gives its store. All other seats were joined into this one, which so has all entries that were
-/// added since the store was put there.
+/// added since the store was put there. What the store's own calls keep is as it was when it was put there.
 pub fn close_row<S: RowStore>(row: StoreRow<S>, seat: StoreSeat<S>) -> S
     requires of { IsOf row seat }
     requires home { is_out seat ≡ false }
@@ -73,6 +81,7 @@ pub fn close_row<S: RowStore>(row: StoreRow<S>, seat: StoreSeat<S>) -> S
     ensures mine { S.listed (S.state result).history ≡ S.listed (S.state (first_value row).store).history ++ mine seat }
     ensures since { IsSince S.kind S.listed (S.state (first_value row).opened.value) (S.state result) }
     ensures shut { shut seat ≡ true → (S.state result).is_open ≡ false }
+    ensures went { ∥ S.Went (first_value row).opened.value result ∥₁ }
 {
     let held = row.close(seat);
     held.into_store()

@@ -29,6 +29,10 @@ pub trait RowStore: Drop {
     /// The store at this moment.
     ghost state: { Self → StoreState History Self.Entry };
 
+    /// What the store's own calls keep, from one moment to a later one, where that is more than its history says: what it
+    /// was opened on, say, or which bytes a crash leaves.
+    ghost Went: { Self → Self → Type 0 };
+
     /// That two histories are the same is known in one way at most.
     ghost histories_once: { (h i : History) → IsProp (h ≡ i) };
 
@@ -43,7 +47,11 @@ pub trait RowStore: Drop {
     /// Does one transaction, and answers its reply once its entry is in the history.
     fn submit(&mut self, entry: Self::Entry) -> Result<Self::Reply, SubmitError>
         requires { IsProper entry }
-        ensures { Submits kind entry result (state self.old) (state self.new) };
+        ensures one { Submits kind entry result (state self.old) (state self.new) }
+        ensures went { (first : Self) → Went first self.old → Went first self.new };
 
     ghost lists: { (e : Self.Entry) (h : History) → listed (kind.with_entry e h) ≡ listed h ++ e ∷ [] };
+
+    /// A store that did nothing yet has kept all.
+    ghost begun: { (s : Self) → Went s s };
 }

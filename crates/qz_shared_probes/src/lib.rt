@@ -67,6 +67,7 @@ pub fn close_joined<S: RowStore>(row: StoreRow<S>, seat: StoreSeat<S>) -> S
     ensures begins { IsPrefix (seen seat) (S.listed (S.state result).history) }
     ensures since { IsSince S.kind S.listed (S.state (first_value row).opened.value) (S.state result) }
     ensures shut { shut seat ≡ true → (S.state result).is_open ≡ false }
+    ensures went { ∥ S.Went (first_value row).opened.value result ∥₁ }
 {
     let (one, two) = row.split(seat);
     let seat = row.join(one, two);

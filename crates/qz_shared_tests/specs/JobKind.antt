@@ -1,7 +1,9 @@
 -- What a store of jobs answers.
 use Rattle.std.specs.Prelude.{⊤, ◌≡◌, List, [], ◌∷◌, ◌++◌, length, nat_lt, cond, Ok, Err}
 use Rattle.std.specs.declared.result.Result.{Result}
+use Rattle.std.proofs.Common.{append-nil}
 use Rattle.std.proofs.Props.{props}
+use mathlib.Core.List.{IsPrefix}
 use Rattle.qz_types.specs.declared.replies.Refusal.{Refusal}
 use Rattle.qz_types.specs.declared.replies.Refusal.TheVariants as refusal
 use Rattle.qz_stores.specs.Stores.{EntryKind}
@@ -16,3 +18,6 @@ job_kind = record { answer = answer_of; with_entry = λ e h. h ++ e ∷ []; size
 
 pub lists_once : (h i : List Added) → IsProp (h ≡ i)
 lists_once h i = hlevel props
+
+pub goes_nowhere : (h : List Added) → IsPrefix h h
+goes_nowhere h = ([], append-nil h)

@@ -28,8 +28,9 @@ impl RowStore for Jobs {
 
     ghost use Rattle.std.specs.Prelude.{List as Lists, None, length, not, ⊤};
     ghost use Rattle.std.proofs.Common.{refl};
+    ghost use mathlib.Core.List.{IsPrefix};
     ghost use Rattle.qz_shared_tests.specs.declared.jobs.Added.{Added as AddedData};
-    ghost use Rattle.qz_shared_tests.specs.JobKind.{job_kind, lists_once};
+    ghost use Rattle.qz_shared_tests.specs.JobKind.{job_kind, lists_once, goes_nowhere};
 
     ghost History = { Lists AddedData };
 
@@ -42,6 +43,8 @@ impl RowStore for Jobs {
     ghost IsProper = { λ e. ⊤ };
 
     ghost state = { λ s. record { history = s.entries.items; gate = s.gate; payloads = length s.entries.items; is_open = not s.closed; undecided = None; faults = 0 } };
+
+    ghost Went = { λ first now. IsPrefix first.entries.items now.entries.items };
 
     ghost histories_once = { lists_once };
 
@@ -74,4 +77,6 @@ impl RowStore for Jobs {
     }
 
     ghost lists = { λ e h. refl };
+
+    ghost begun = { λ s. goes_nowhere s.entries.items };
 }

@@ -14,6 +14,7 @@ pub mod MigratingLaws
 pub mod MomentLaws
 pub mod NodeRestLaws
 pub mod NodeRunLaws
+pub mod OpenLaws
 pub mod OpenedLaws
 pub mod OutcomeLaws
 pub mod Pieces

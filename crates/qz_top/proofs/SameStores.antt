@@ -1,5 +1,5 @@
 -- A trigger store that a call left as it was.
-use Rattle.std.proofs.Common.{◌≡◌, inr, ℕ, ◌+◌, length, ◌++◌, sym, ap, subst}
+use Rattle.std.proofs.Common.{◌≡◌, inr, ◌+◌, length, ◌++◌, sym, ap, subst}
 use Rattle.qz_disk.specs.declared.disk.Disk.{Ghosts}
 use Rattle.qz_journal.specs.Commits.{LackRoom}
 use Rattle.qz_journal.specs.View.{disk_of as journal_disk, gate_of, count_of as payloads_of}

@@ -14,6 +14,7 @@ pub mod Making
 pub mod Migrating
 pub mod Moments
 pub mod NodeRuns
+pub mod OpenStores
 pub mod Resting
 pub mod Runs
 pub mod Schedules

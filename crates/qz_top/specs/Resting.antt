@@ -1,5 +1,5 @@
 -- The checkpoint at the end of a call.
-use Rattle.std.specs.Prelude.{◌≡◌, ◌⊎◌, ℕ, ◌<◌, false, Result, Ok, Err}
+use Rattle.std.specs.Prelude.{◌≡◌, ◌⊎◌, ◌<◌, false, Result, Ok, Err}
 use Rattle.qz_disk.specs.declared.disk.Disk.{Ghosts}
 use Rattle.qz_journal.specs.Commits.{LackRoom}
 use Rattle.qz_snapshot.specs.Checkpoints.{snapshot_written}

@@ -101,7 +101,7 @@ pub(crate) fn end_lines<K: Sink, D: Disk>(out: &mut K, run: &mut Run<D>) -> Stat
 
 /// Makes a checkpoint after the work of nodes, where that came to its end or spent its budget, and answers the status of the
 /// call: only one that would be `Ok` tells that the checkpoint failed.
-pub(crate) fn rest_nodes<D: Disk>(triggers: &mut TriggerStore<D>, status: Status) -> Status
+pub fn rest_nodes<D: Disk>(triggers: &mut TriggerStore<D>, status: Status) -> Status
     ensures rests { RestsNodes status result (store_view triggers.old) (store_view triggers.new) }
     ensures few { (result ≡ Status.Ok → (store_view triggers.new).is_open ≡ true → HasFewBehind triggers.new) }
     ensures kept { IsOpenedAsBefore triggers.old triggers.new × (added_of triggers.new ≡ added_of triggers.old) × (keeps_of triggers.new ≡ keeps_of triggers.old) }

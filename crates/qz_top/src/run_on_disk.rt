@@ -1,7 +1,6 @@
 //! `run`: nodes work on the stores of two disks, on a virtual clock.
 ghost use Rattle.std.specs.Prelude.{◌≡◌, ◌≢◌, ◌⊎◌, map, true, false};
 ghost use Rattle.qz_civil.specs.Causes.{Rose};
-ghost use Rattle.qz_cluster.specs.View.{triggers_of};
 ghost use Rattle.qz_io.specs.Around.{output_alone};
 ghost use Rattle.qz_model.specs.History.{replay};
 ghost use Rattle.qz_run.specs.Working.{IsPlan};
@@ -9,15 +8,14 @@ ghost use Rattle.qz_run_stores.specs.Going.{TriggersWent, StatesWent};
 ghost use Rattle.qz_trigger_store.specs.Entries.{is_old};
 ghost use Rattle.qz_trigger_store.specs.View.{view, keeps_of};
 ghost use Rattle.qz_top.specs.HandingOn.{HandsOnWritten};
-ghost use Rattle.qz_top.specs.Moments.{BeginsOn};
-ghost use Rattle.qz_top.specs.NodeRuns.{both, status_of, IsOfNodes, Worked, RanOpened, RanNodes};
+ghost use Rattle.qz_top.specs.NodeRuns.{both, status_of, IsOfNodes, Worked, RanNodesOnDisk, RanNodes};
+ghost use Rattle.qz_top.specs.OpenStores.{JustOpened};
 
 use crate::Status;
 use crate::checkpoints::rest_nodes;
 use crate::ended::{Ended, ran_no_script};
 use crate::nodes::run_nodes;
-use crate::opening::open_run;
-use crate::runs::Run;
+use crate::open_stores::open_node_stores;
 use crate::telling::tell_run;
 use qz_checkin::StateStore;
 use qz_disk::Disk;
@@ -25,7 +23,7 @@ use qz_io::Sink;
 use qz_node::{Job, Jobs};
 use qz_run::{Declined, Plan};
 use qz_run_stores::RunStores;
-use qz_trigger_store::{Keep, TriggerStore};
+use qz_trigger_store::TriggerStore;
 use std::alloc::Global;
 
 /// How the nodes' work ended, and the stores as it left them.
@@ -53,41 +51,32 @@ pub(crate) fn run_on_disk<K: Sink, D: Disk>(
     ensures write { result.status ≡ Status.WriteFault → Rose (K.faults out.old) (K.faults out.new) }
     ensures handed { HandsOnWritten K.Sink out.old out.new }
 {
-    match open_run(alloc, triggers, states, Keep::Entries) {
-        Ok(run) => run_opened(plan, out, run, jobs),
+    match open_node_stores(alloc, triggers, states) {
+        Ok((triggers, states)) => run_opened(alloc, plan, out, triggers, states, jobs),
         Err(ended) => ended,
     }
 }
 
-// The work on the stores that were opened. An old trigger store is left as it is.
-fn run_opened<K: Sink, D: Disk>(plan: Plan, out: &mut K, run: Run<D>, jobs: &mut Jobs) -> Ended<D>
+// The work on the stores that were opened.
+fn run_opened<K: Sink, D: Disk>(
+    alloc: Global,
+    plan: Plan,
+    out: &mut K,
+    triggers: TriggerStore<D>,
+    states: StateStore<D>,
+    jobs: &mut Jobs,
+) -> Ended<D>
     requires plan { IsPlan plan }
-    requires keeps { keeps_of (triggers_of run.cluster) ≡ true }
-    ensures done { (triggers : D) → (states : D) → BeginsOn triggers states run
-        → RanOpened plan (map means jobs.old.items) (map means jobs.new.items) triggers states result (output_alone K.Sink out.old) (output_alone K.Sink out.new) }
-    ensures disk { (triggers : D) → (states : D) → BeginsOn triggers states run
-        → result.status ≡ Status.DiskFault → Rose (D.faults triggers) (D.faults result.triggers) ⊎ Rose (D.faults states) (D.faults result.states) }
+    requires keeps { keeps_of triggers ≡ true }
+    requires current { is_old (replay (view triggers).history) ≡ false }
+    ensures done { (first : D) → (second : D) → JustOpened first second triggers states
+        → RanNodesOnDisk plan (map means jobs.old.items) (map means jobs.new.items) first second result (output_alone K.Sink out.old) (output_alone K.Sink out.new) }
+    ensures disk { (first : D) → (second : D) → JustOpened first second triggers states
+        → result.status ≡ Status.DiskFault → Rose (D.faults first) (D.faults result.triggers) ⊎ Rose (D.faults second) (D.faults result.states) }
     ensures read { result.status ≢ Status.ReadFault }
     ensures write { result.status ≡ Status.WriteFault → Rose (K.faults out.old) (K.faults out.new) }
     ensures handed { HandsOnWritten K.Sink out.old out.new }
 {
-    let Run {
-        alloc,
-        cluster,
-        trail,
-        begun: _,
-        is_own: _,
-    } = run;
-    drop(trail);
-    let (triggers, states) = cluster.into_stores();
-    if triggers.is_old() {
-        return ran_no_script(
-            alloc,
-            Status::OldStore,
-            triggers.into_disk(),
-            states.into_disk(),
-        );
-    }
     let Left {
         status,
         mut triggers,

@@ -21,7 +21,7 @@ use std::alloc::Global;
 /// Writes the lines of what the store accepted since it was opened, numbered on from what it had, and the summary line. It
 /// answers the status, or why not all was written.
 #[tactic(auto, using(crate::proofs::TellingLaws::wrote_none))]
-pub(crate) fn tell_run<K: Sink, D: Disk>(
+pub fn tell_run<K: Sink, D: Disk>(
     alloc: Global,
     triggers: &TriggerStore<D>,
     status: Status,

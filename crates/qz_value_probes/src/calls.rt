@@ -3,10 +3,11 @@ ghost use Rattle.std.specs.Prelude.{◌≡◌, ◌*◌, All, IfOk, IsTrue, lengt
 ghost use Rattle.qz_generator.specs.Commands.{generated};
 ghost use Rattle.qz_steps.specs.Steps.{is_step};
 ghost use Rattle.qz_steps.specs.declared.steps.Step.TheVariants.{Client};
+ghost use Rattle.qz_words.specs.Serves as serves;
 ghost use Rattle.qz_words.specs.Wishes as wishes;
 
 use qz_types::{Command, List, NoMemory, Text};
-use qz_words::{Wish, WordFault};
+use qz_words::{Serving, Wish, WordFault};
 use std::alloc::Global;
 
 /// Reads the words of a call, as `qz_words::read_words` does.
@@ -15,6 +16,14 @@ pub fn read_words(words: &[Text]) -> Result<Wish, WordFault>
     ensures valid { IfOk result wishes.IsWish }
 {
     qz_words::read_words(words)
+}
+
+/// Reads the words of `serve`, as `qz_words::read_serve` does.
+pub fn read_serve(words: &[Text]) -> Result<Serving, WordFault>
+    ensures value { result ≡ serves.serving_of words.now }
+    ensures valid { IfOk result serves.IsServing }
+{
+    qz_words::read_serve(words)
 }
 
 /// Makes the commands of `gen`, as `qz_generator::make_commands` does.

@@ -10,7 +10,7 @@ mod sorted;
 mod texts;
 mod zones;
 
-pub use calls::{make_commands, read_words};
+pub use calls::{make_commands, read_serve, read_words};
 pub use cron_texts::{parse, print};
 pub use fields::{is_set, nearest_weekday};
 pub use fire_times::{next_of_cron, next_of_interval, next_of_simple};

@@ -40,7 +40,7 @@ pub(crate) fn run(further: &[Text]) -> Result<Wish, WordFault>
             number_of(until.as_str()),
             number_of(budget.as_str()),
         ),
-        _ => wrong_count(further),
+        _ => Err(wrong_count(further)),
     }
 }
 
@@ -103,7 +103,7 @@ pub(crate) fn generate(further: &[Text]) -> Result<Wish, WordFault>
             number_of(jobs.as_str()),
             number_of(days.as_str()),
         ),
-        _ => wrong_count(further),
+        _ => Err(wrong_count(further)),
     }
 }
 

@@ -1,6 +1,6 @@
 //! What a call is asked for.
 ghost use Rattle.std.specs.Prelude.{◌≡◌, IfOk};
-ghost use Rattle.qz_words.specs.Counts.{wrong_count};
+ghost use Rattle.qz_words.specs.Counts.{count_fault};
 ghost use Rattle.qz_words.specs.Wishes as spec;
 
 use crate::numbers::number_of;
@@ -97,17 +97,17 @@ fn alone(wish: Wish, further: &[Text]) -> Result<Wish, WordFault>
     if further.is_empty() {
         Ok(wish)
     } else {
-        wrong_count(further)
+        Err(wrong_count(further))
     }
 }
 
-pub(crate) fn wrong_count(further: &[Text]) -> Result<Wish, WordFault>
-    ensures value { result ≡ wrong_count further.now }
-    ensures valid { IfOk result spec.IsWish }
+/// The fault of so many words after the first.
+pub(crate) fn wrong_count(further: &[Text]) -> WordFault
+    ensures { result ≡ count_fault further.now }
 {
-    Err(WordFault::WrongCount {
+    WordFault::WrongCount {
         found: u32::try_from(further.len()).unwrap_or(u32::MAX),
-    })
+    }
 }
 
 fn times(further: &[Text]) -> Result<Wish, WordFault>
@@ -116,7 +116,7 @@ fn times(further: &[Text]) -> Result<Wish, WordFault>
 {
     match further {
         [after, count] => of_numbers(number_of(after.as_str()), number_of(count.as_str())),
-        _ => wrong_count(further),
+        _ => Err(wrong_count(further)),
     }
 }
 

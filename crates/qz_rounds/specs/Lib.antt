@@ -1,0 +1,5 @@
+pub mod Adding
+pub mod Declining
+pub mod Looking
+pub mod Recovering
+pub mod Rounds
