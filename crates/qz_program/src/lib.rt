@@ -1,19 +1,25 @@
-//! What the program `qz_sched` does: the top call over standard input and output, two files and the system's clock.
+//! What the program `qz_sched` does: the top calls over standard input and output, two files and the system's clock.
 #![tactic(auto)]
 
+mod clocks;
 mod help;
 mod jobs;
 mod words;
 
+use clocks::SystemShared;
 use help::{HELP, VERSION};
 use jobs::{OwnJobs, own_jobs};
 use qz_disk::{FileDisk, SystemFile};
 use qz_io::{RealClock, Sink, StdSink, StdSource, write_all};
-use qz_node::Job;
+use qz_node::{Job, Jobs};
+use qz_serve::{OpenGate, serve};
 use qz_top::{Status, command};
 use qz_types::{NoMemory, Text};
+use qz_words::NODE_LIMIT;
 use std::process::ExitCode;
 use std::rt::HostRuntime;
+use std::sync::Wait;
+use std::thread::Threads;
 use words::read_words;
 
 /// The files of the two stores, in the current folder.
@@ -21,14 +27,15 @@ const TRIGGERS: &str = "qz-triggers.store";
 
 const STATES: &str = "qz-states.store";
 
-/// Does what the words of the command line ask for. A `main` calls it and returns its exit status.
-pub fn run(rt: HostRuntime) -> ExitCode {
+/// Does what the words of the command line ask for. A `main` calls it with its runtime, once by value and once as the handle that
+/// starts threads, and returns its exit status.
+pub fn run<R: Threads + Wait + Sync>(rt: HostRuntime, handle: &R) -> ExitCode {
     let mut out = StdSink::new(rt.stdout());
     let mut err = StdSink::new(rt.stderr());
     let status = match read_words(rt.alloc(), &rt) {
         Ok(words) => match text_of(&words) {
             Some(text) => print(text, &mut out, &mut err),
-            None => work(rt, &words, &mut out, &mut err),
+            None => work(rt, handle, &words, &mut out, &mut err),
         },
         Err(_) => starve(&mut err),
     };
@@ -61,11 +68,28 @@ fn starve<E: Sink>(err: &mut E) -> Status {
     Status::NoMemory
 }
 
-// The top call over real objects.
-fn work<K: Sink, E: Sink>(rt: HostRuntime, words: &[Text], out: &mut K, err: &mut E) -> Status {
+// One of the two top calls over real objects.
+fn work<R: Threads + Wait + Sync, K: Sink, E: Sink>(
+    rt: HostRuntime,
+    handle: &R,
+    words: &[Text],
+    out: &mut K,
+    err: &mut E,
+) -> Status {
+    if is_serve(words) {
+        return call_serve(rt, handle, words, out, err);
+    }
     match prepare(rt) {
         Ok(prepared) => call(rt, prepared, words, out, err),
         Err(_) => starve(err),
+    }
+}
+
+// Whether the first word asks for nodes in threads.
+fn is_serve(words: &[Text]) -> bool {
+    match words.first() {
+        Some(word) => word.as_str() == "serve",
+        None => false,
     }
 }
 
@@ -123,6 +147,51 @@ fn call<K: Sink, E: Sink>(
         &mut jobs,
     );
     ended.status
+}
+
+// `serve`, with a list of the jobs for each node that it may have.
+fn call_serve<R: Threads + Wait + Sync, K: Sink, E: Sink>(
+    rt: HostRuntime,
+    handle: &R,
+    words: &[Text],
+    out: &mut K,
+    err: &mut E,
+) -> Status {
+    let Ok((triggers, states)) = paths(rt) else {
+        return starve(err);
+    };
+    let mut jobs: Vec<Jobs> = Vec::new(rt.alloc());
+    for _ in 0..NODE_LIMIT {
+        let Ok(own) = own_jobs(rt.alloc()) else {
+            return starve(err);
+        };
+        let OwnJobs {
+            ok,
+            fail,
+            last,
+            again,
+        } = own;
+        let boxes: [Box<dyn Job + Send>; 4] = [ok, fail, last, again];
+        let Ok(list) = Vec::from_array(rt.alloc(), boxes) else {
+            return starve(err);
+        };
+        if jobs.push(list).is_err() {
+            return starve(err);
+        }
+    }
+    let served = serve(
+        handle,
+        rt.alloc(),
+        words,
+        out,
+        err,
+        FileDisk::new(SystemFile::new(rt, triggers)),
+        FileDisk::new(SystemFile::new(rt, states)),
+        &SystemShared::new(rt),
+        &mut jobs,
+        &OpenGate,
+    );
+    served.status
 }
 
 fn paths(rt: HostRuntime) -> Result<(Text, Text), NoMemory> {

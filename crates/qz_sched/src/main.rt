@@ -5,5 +5,5 @@
 use std::process::ExitCode;
 
 fn main(rt: HostRuntime) -> ExitCode {
-    qz_program::run(rt)
+    qz_program::run(rt, &rt)
 }

@@ -1,0 +1,158 @@
+-- The end of a call: what was added is what the stores tell, and which disk failed.
+use Rattle.std.proofs.Common.{◌≡◌, ◌⊎◌, inl, inr, ◌≤◌, ◌++◌, [], List, ℕ, ℤ, true, false, length, drop, refl, sym, ap, ◌∙◌, subst, arith}
+use Rattle.std.proofs.Math.Logic.{∥∥₁_elim}
+use Rattle.std.proofs.Math.Seq.{drop-append_seam}
+use Rattle.std.proofs.lemmas.List.{append-nil}
+use Rattle.std.proofs.Props.{props}
+use Rattle.std.specs.Prelude.{Option, Some, None, Bool}
+use Rattle.qz_civil.specs.Causes.{Rose}
+use Rattle.qz_disk.specs.declared.disk.Disk.{Ghosts}
+use Rattle.qz_io.specs.Outside.{Outside}
+use Rattle.qz_types.specs.Entries.{EntryData, StateEntryData}
+use Rattle.qz_model.specs.History.{History, replay}
+use Rattle.qz_node.specs.Jobs.{JobMeaning}
+use Rattle.qz_trigger_store.specs.Entries.{TriggerState}
+use Rattle.qz_trigger_store.specs.View.{view as triggers_view, found_of, added_of, keeps_of, disk_of}
+use Rattle.qz_trigger_store.specs.declared.stores.TriggerStore.{TriggerStore}
+use Rattle.qz_trigger_store.proofs.Kept.{legal, schedules_kept}
+use Rattle.qz_checkin.specs.View.{view as states_view, disk_of as states_disk_of}
+use Rattle.qz_checkin.specs.declared.stores.StateStore.{StateStore}
+use Rattle.qz_cluster.specs.Steps.{ClusterState}
+use Rattle.qz_run.specs.declared.commands.Declined.{Declined}
+use Rattle.qz_run.specs.declared.commands.Declined.TheVariants as why
+use Rattle.qz_run_stores.specs.Going.{Went, StatesWent}
+use Rattle.qz_shared_stores.specs.Going.{TriggersWentOn}
+use Rattle.qz_shared_stores.specs.Laws.{histories_once}
+use Rattle.qz_words.specs.declared.serves.Serving.{Serving}
+use Rattle.qz_top.specs.Found.{found_history}
+use Rattle.qz_top.specs.NodeRuns.{both, IsToldAs, WentOn}
+use Rattle.qz_top.specs.OpenStores.{JustOpened}
+use Rattle.qz_top.specs.Resting.{RestsNodes}
+use Rattle.qz_top.specs.declared.statuses.Status.{Status}
+use Rattle.qz_top.specs.declared.statuses.Status.TheVariants as status
+use Rattle.qz_top.proofs.NodeRunLaws.{rows_legal, told_text}
+use Rattle.qz_serve.specs.Courses.{EndsBy, OneIsClosed, TookCourse}
+use Rattle.qz_serve.specs.Ending.{EndedCall}
+use Rattle.qz_serve.specs.Going.{state_of_both, states_of, triggers_of}
+use Rattle.qz_serve.specs.Keeping.{Kept, Proceeds}
+use Rattle.qz_serve.specs.Ours.{main_name, node_names, our_names}
+use Rattle.qz_serve.specs.Serves.{DidServe, DiskFailed, GaveUp, ServedOnDisk, status_of}
+use Rattle.qz_serve.specs.declared.both_stores.BothStores.{BothStores}
+use Rattle.qz_serve.specs.declared.served.Served.{Served}
+use Rattle.qz_serve.proofs.Coursing.{Added, course_added}
+
+bools_once : (a b : Bool) → IsProp (a ≡ b)
+bools_once a b = hlevel props
+
+rose_once : (a b : ℕ) → IsProp (Rose a b)
+rose_once a b = hlevel props
+
+order_once : (a b : ℕ) → IsProp (a ≤ b)
+order_once a b = hlevel props
+
+module _ {D : Type 0} {g : Ghosts D} where
+  -- What was found at the opening is the opened history.
+  found_still : (b t : TriggerStore D g) → added_of b ≡ [] → TriggersWentOn b t → found_history t ≡ (triggers_view b).history
+  found_still b t none went i = record { base_count = went.base.0 i; base = went.base.1 i; entries = (went.found ∙ sym (append-nil (found_of b)) ∙ ap (λ xs. found_of b ++ xs) (sym none)) i }
+
+  pub history_is : (b t : TriggerStore D g) → added_of b ≡ [] → ∥ TriggersWentOn b t ∥₁ → found_history t ≡ (triggers_view b).history
+  history_is b t none went = ∥∥₁_elim went (histories_once _ _) (λ w. found_still b t none w)
+
+  -- What was accepted since is what was added.
+  pub added_is : (b t : TriggerStore D g) (added : List EntryData) → found_history t ≡ (triggers_view b).history → (triggers_view t).history.entries ≡ (triggers_view b).history.entries ++ added → added_of t ≡ added
+  added_is b t added same entries =
+      let found : List EntryData = (triggers_view b).history.entries in
+      let found_is : found_of t ≡ found = ap (λ (h : History). h.entries) same in
+      sym (drop-append_seam found (added_of t)) ∙ ap (λ xs. drop (length found) (xs ++ added_of t)) (sym found_is) ∙ ap (drop (length found)) entries ∙ drop-append_seam found added
+
+  pub keeps_still : (b t : TriggerStore D g) → keeps_of b ≡ true → ∥ TriggersWentOn b t ∥₁ → keeps_of t ≡ true
+  keeps_still b t keeps went = ∥∥₁_elim went (bools_once _ _) (λ w. w.keeps ∙ keeps)
+
+module _ {D : Type 0} {g : Ghosts D} (shows : ℤ → Type 0) (p : Serving) (jobs jobs' : List (List JobMeaning)) (first second : D) (b t : BothStores D g) (cause : Option Declined) (s : Served D) (old new : Outside) where
+  -- The nodes worked on the opened stores, and the call ended.
+  pub served_by : JustOpened first second (triggers_of b) (states_of b) → TookCourse shows p.until (node_names p.nodes) main_name (state_of_both b) (state_of_both t) jobs jobs'
+      → EndsBy shows p.until (our_names p.nodes) cause (state_of_both t) → Proceeds cause b t → EndedCall (status_of cause) t s old new → ServedOnDisk g shows p jobs jobs' first second s old new
+  served_by opened took ends proceeds ended =
+      let more : Added (state_of_both b) (state_of_both t) = course_added shows p.until (node_names p.nodes) main_name (state_of_both b) (state_of_both t) jobs jobs' took in
+      let same : found_history (triggers_of t) ≡ (triggers_view (triggers_of b)).history = history_is (triggers_of b) (triggers_of t) opened.nothing_added proceeds.kept.triggers in
+      let accepted : added_of (triggers_of t) ≡ more.0 = added_is (triggers_of b) (triggers_of t) more.0 same more.2.entries in
+      record {
+        opened = state_of_both b;
+        are_opened = opened.are_opened;
+        found = opened.found;
+        current = opened.current;
+        worked_to = state_of_both t;
+        cause = cause;
+        took = took;
+        ends = ends;
+        added = more.0;
+        rows = more.1;
+        went_on = more.2;
+        told_as = ended.told_as;
+        told = ended.told;
+        written = told_text ended.told_as (state_of_both b) (state_of_both t) (found_history (triggers_of t)) (added_of (triggers_of t)) more.0 old new same accepted ended.written;
+        end = both ended.rested (states_of t);
+        rests = ended.rests;
+        states_stay = refl;
+        legal = (legal ended.rested, rows_legal (states_of t));
+        schedules = schedules_kept ended.rested;
+        triggers_end = disk_of ended.rested;
+        states_end = states_disk_of (states_of t);
+        disks = ended.disks;
+        faults = (refl, refl);
+      }
+
+-- A disk failed where the call tells so: in the nodes' work, or in the checkpoint.
+
+fault_told : (told r : Status) (s t : TriggerState) → RestsNodes told r s t → r ≡ status.DiskFault → ((told ≡ status.DiskFault) × (t ≡ s)) ⊎ Rose s.faults t.faults
+fault_told status.Ok r s t (inl done) is = let bad : status.Ok ≡ status.DiskFault = sym done.0 ∙ is in absurd cc
+fault_told status.Ok r s t (inr (inl failed)) is = inr failed.1.rose
+fault_told status.Ok r s t (inr (inr starved)) is = let bad : status.NoMemory ≡ status.DiskFault = sym starved.0 ∙ is in absurd cc
+fault_told (status.Budget firings) r s t rests is = let bad : status.Budget firings ≡ status.DiskFault = sym rests.0 ∙ is in absurd cc
+fault_told told r s t rests is = inl (sym rests.0 ∙ is, rests.1)
+
+by_fault : (cause : Option Declined) → status_of cause ≡ status.DiskFault → cause ≡ Some why.Fault
+by_fault None is = absurd (cc)
+by_fault (Some (why.TooMany count)) is = absurd (cc)
+by_fault (Some (why.JournalFull need room)) is = absurd (cc)
+by_fault (Some why.Fault) is = refl
+by_fault (Some why.NoMemory) is = absurd (cc)
+
+told_fault : (told work : Status) → IsToldAs told work → told ≡ status.DiskFault → work ≡ status.DiskFault
+told_fault told work (inl same) is = sym same ∙ is
+told_fault told work (inr (inl same)) is = let bad : status.WriteFault ≡ status.DiskFault = sym same ∙ is in absurd cc
+told_fault told work (inr (inr same)) is = let bad : status.NoMemory ≡ status.DiskFault = sym same ∙ is in absurd cc
+
+rose_after : (a b c : ℕ) → a ≤ b → Rose b c → Rose a c
+rose_after a b c earlier rose = omega (arith, earlier, rose)
+
+module _ {D : Type 0} {g : Ghosts D} (first second : D) (b t : BothStores D g) (cause : Option Declined) (s : Served D) (old new : Outside) where
+  later : Kept b t → (triggers_view (triggers_of b)).faults ≤ (triggers_view (triggers_of t)).faults
+  later kept = ∥∥₁_elim kept.triggers (order_once _ _) (λ w. w.went.later)
+
+  closed_rose : JustOpened first second (triggers_of b) (states_of b) → Kept b t → OneIsClosed (state_of_both t)
+      → Rose (g.faults first) (triggers_view (triggers_of t)).faults ⊎ Rose (g.faults second) (states_view (states_of t)).faults
+  closed_rose opened kept (inl closed) = inl (rose_after _ _ _ opened.no_earlier.0 (∥∥₁_elim kept.triggers (rose_once _ _) (λ w. w.went.closes opened.are_opened.0.is_open closed)))
+  closed_rose opened kept (inr closed) = inr (rose_after _ _ _ opened.no_earlier.1 (∥∥₁_elim kept.states (rose_once _ _) (λ w. w.went.closes opened.are_opened.1.is_open closed)))
+
+  disk_rose : JustOpened first second (triggers_of b) (states_of b) → Proceeds cause b t → (ended : EndedCall (status_of cause) t s old new) → s.status ≡ status.DiskFault
+      → Rose (g.faults first) (triggers_view ended.rested).faults ⊎ Rose (g.faults second) (states_view (states_of t)).faults
+  disk_rose opened proceeds ended is = by (fault_told ended.told_as s.status _ _ ended.rests is) where
+    by : ((ended.told_as ≡ status.DiskFault) × (triggers_view ended.rested ≡ triggers_view (triggers_of t))) ⊎ Rose (triggers_view (triggers_of t)).faults (triggers_view ended.rested).faults
+        → Rose (g.faults first) (triggers_view ended.rested).faults ⊎ Rose (g.faults second) (states_view (states_of t)).faults
+    by (inl so) =
+        let fault : cause ≡ Some why.Fault = by_fault cause (told_fault ended.told_as (status_of cause) ended.told so.0) in
+        subst (λ (x : TriggerState). Rose (g.faults first) x.faults ⊎ Rose (g.faults second) (states_view (states_of t)).faults) (sym so.1) (closed_rose opened proceeds.kept (proceeds.fault fault))
+    by (inr rose) = inl (omega (arith, opened.no_earlier.0, later proceeds.kept, rose))
+
+  pub disk_failed : JustOpened first second (triggers_of b) (states_of b) → Proceeds cause b t → EndedCall (status_of cause) t s old new → s.status ≡ status.DiskFault → DiskFailed g first second s.disks
+  disk_failed opened proceeds ended is = subst (λ (x : Option (D × D)). DiskFailed g first second x) (sym ended.disks) (disk_rose opened proceeds ended is)
+
+-- Work on opened stores is one of the ways in which a call ends.
+pub did_serve : {D : Type 0} {g : Ghosts D} (shows : ℤ → Type 0) (p : Serving) (jobs jobs' : List (List JobMeaning)) (triggers states : D) (s : Served D) (old new : Outside)
+    → ServedOnDisk g shows p jobs jobs' triggers states s old new ⊎ GaveUp g s old new → DidServe g shows p jobs jobs' triggers states s old new
+did_serve shows p jobs jobs' triggers states s old new (inl served) = inl served
+did_serve shows p jobs jobs' triggers states s old new (inr gave) = inr (inr gave)
+
+pub ended_as : {D : Type 0} {g : Ghosts D} (work other : Status) (t : BothStores D g) (s : Served D) (old new : Outside) → work ≡ other → EndedCall work t s old new → EndedCall other t s old new
+ended_as work other t s old new same ended = subst (λ (x : Status). EndedCall x t s old new) same ended

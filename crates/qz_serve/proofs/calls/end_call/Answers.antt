@@ -1,0 +1,19 @@
+use Rattle.std.proofs.Common.{Some}
+use Rattle.qz_top.proofs.NodeRestLaws.{rests_read, rests_write}
+use Rattle.qz_serve.proofs.calls.end_call.Goals as goal
+
+pub returns-clause-ended : goal.returns-clause-ended
+returns-clause-ended g c = record {
+  told_as = c.tell-told.result;
+  told = c.tell-told.ensures.status;
+  written = c.tell-told.ensures.written;
+  rested = c.rest_nodes-status.new.triggers;
+  rests = c.rest_nodes-status.ensures.rests;
+  disks = λ i. Some (c.into_disk.ensures i, c.into_disk-2.ensures i);
+}
+
+pub returns-clause-read : goal.returns-clause-read
+returns-clause-read g c is = rests_read _ _ _ _ _ c.requires.status c.tell-told.ensures.status c.rest_nodes-status.ensures.rests is
+
+pub returns-clause-write : goal.returns-clause-write
+returns-clause-write g c is = c.tell-told.ensures.write (rests_write _ _ _ _ c.rest_nodes-status.ensures.rests is)

@@ -1,0 +1,47 @@
+use Rattle.std.proofs.Common.{◌≡◌, rules, to_z, of_z, w64, ap, ◌∙◌, map, refl}
+use Rattle.qz_types.specs.Rows.{MemberData}
+use Rattle.qz_serve.specs.Names.{ours_of}
+use Rattle.qz_serve.proofs.Holding.{ends_moved, ends_proceeds, moved_short, moved_well, proceeds_as, proceeds_then}
+use Rattle.qz_serve.proofs.Coursing.{came_named, course_of_joins, course_of_nodes, course_of_turns, ends_named, if_ok_map, nodes_named, turns_until}
+use Rattle.qz_serve.proofs.courses.take_course_of.Goals as goal
+
+pub returns-in-Err-clause-took : goal.returns-in-Err-clause-took
+returns-in-Err-clause-took g c = course_of_joins _ c.args.until _ _ _ _ _ (came_named _ _ _ _ _ c.deref.ensures.value c.in-Err.ensures.moves.moved)
+
+pub returns-in-Err-clause-ends : goal.returns-in-Err-clause-ends
+returns-in-Err-clause-ends g c = ends_moved (g.C.SharedClock.shows c.args.clock.now) c.args.until (ours_of c.args.ours.now) c.in-Err.why _ _ _ c.in-Err.ensures.moves
+
+pub returns-in-Err-clause-proceeds : goal.returns-in-Err-clause-proceeds
+returns-in-Err-clause-proceeds g c = moved_short _ _ c.in-Err.why _ _ c.keep_all.ensures c.in-Err.ensures.moves
+
+pub work_as_nodes-requires-clause-both_open : goal.work_as_nodes-requires-clause-both_open
+work_as_nodes-requires-clause-both_open g c κs within = c.in-Ok.ensures.moves.stays c.requires.both_open
+
+pub returns-in-Some-clause-took : goal.returns-in-Some-clause-took
+returns-in-Some-clause-took g c =
+    let until : to_z w64 (of_z w64 c.args.until) ≡ c.args.until = search rules in
+    course_of_nodes _ c.args.until _ _ _ _ _ _ _ _ (ap (map (λ (m : MemberData). m.node)) c.deref-2.ensures.value ∙ c.in-Ok.ensures.members ∙ c.deref.ensures.value) (came_named _ _ _ _ _ c.deref.ensures.value c.in-Ok.ensures.moves.moved) (nodes_named _ _ c.args.until _ _ _ _ _ _ until refl c.in_ok-stores.ensures.worked)
+
+pub returns-in-Some-clause-ends : goal.returns-in-Some-clause-ends
+returns-in-Some-clause-ends g c = ends_proceeds (g.C.SharedClock.shows c.args.clock.now) c.args.until (ours_of c.args.ours.now) c.in-Some.why _ _ (proceeds_as _ _ _ _ c.in-Some.is c.in_ok-stores.ensures.proceeds)
+
+pub returns-in-Some-clause-proceeds : goal.returns-in-Some-clause-proceeds
+returns-in-Some-clause-proceeds g c = proceeds_then _ _ _ _ (moved_well _ _ _ _ c.keep_all.ensures c.requires.both_open c.in-Ok.ensures.moves) (proceeds_as _ _ _ _ c.in-Some.is c.in_ok-stores.ensures.proceeds)
+
+pub take_turns-requires-clause-both_open : goal.take_turns-requires-clause-both_open
+take_turns-requires-clause-both_open g c = c.in_ok-stores.ensures.proceeds.stays c.in-None.is
+
+pub returns-clause-took : goal.returns-clause-took
+returns-clause-took g c =
+    let until : to_z w64 (of_z w64 c.args.until) ≡ c.args.until = search rules in
+    if_ok_map _ _ c.take_turns.result (λ r turns.
+    let so = turns_until (g.C.SharedClock.shows c.args.clock.now) _ c.args.until c.args.ours.now.nodes.items c.args.ours.now.main _ _ _ _ until turns in
+    course_of_turns (g.C.SharedClock.shows c.args.clock.now) c.args.until c.args.ours.now.nodes.items c.args.ours.now.main _ so.0 _ _ _ _ _ _ _ (ap (map (λ (m : MemberData). m.node)) c.deref-2.ensures.value ∙ c.in-Ok.ensures.members ∙ c.deref.ensures.value) (came_named _ _ _ _ _ c.deref.ensures.value c.in-Ok.ensures.moves.moved) (nodes_named _ _ c.args.until _ _ _ _ _ _ until refl c.in_ok-stores.ensures.worked) so.1) c.take_turns.ensures.took
+
+pub returns-clause-ends : goal.returns-clause-ends
+returns-clause-ends g c =
+    let until : to_z w64 (of_z w64 c.args.until) ≡ c.args.until = search rules in
+    if_ok_map _ _ c.take_turns.result (λ r ends. ends_named _ _ c.args.until _ _ _ _ until refl ends) c.take_turns.ensures.ends
+
+pub returns-clause-proceeds : goal.returns-clause-proceeds
+returns-clause-proceeds g c = if_ok_map _ _ c.take_turns.result (λ r proceeds. proceeds_then _ _ _ _ (moved_well _ _ _ _ c.keep_all.ensures c.requires.both_open c.in-Ok.ensures.moves) (proceeds_then _ _ _ _ (proceeds_as _ _ _ _ c.in-None.is c.in_ok-stores.ensures.proceeds) proceeds)) c.take_turns.ensures.proceeds

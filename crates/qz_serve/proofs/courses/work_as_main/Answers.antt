@@ -1,0 +1,29 @@
+use Rattle.std.proofs.Common.{◌≡◌, rules, to_z, of_z, w64, inl, sym}
+use Rattle.std.proofs.lemmas.List.{append-nil}
+use Rattle.qz_serve.proofs.Holding.{proceeds_starved}
+use Rattle.qz_serve.proofs.Leaving.{base_count_since, base_since, main_until}
+use Rattle.qz_serve.proofs.courses.work_as_main.Goals as goal
+
+pub returns-then-not-is_short-clause-proceeds : goal.returns-then-not-is_short-clause-proceeds
+returns-then-not-is_short-clause-proceeds g c = proceeds_starved _ c.keep_all.ensures
+
+pub invariant_of-states : goal.invariant_of-states
+invariant_of-states g c =
+    let s = c.args.stores.states.store.store in
+    record { number = s.number; known = s.known; in_version = s.in_version; ready = s.ready; settled = s.settled; counted = s.counted; placed = s.placed; taken = s.taken; new_count = s.new_count; new_base = s.new_base; legal = s.legal; replayed = s.replayed; recorded = s.recorded; passed = s.passed; ended = s.ended; stands = s.stands; gated = s.gated; images = s.images }
+
+pub returns-clause-worked : goal.returns-clause-worked
+returns-clause-worked g c =
+    let until : to_z w64 (of_z w64 c.args.until) ≡ c.args.until = search rules in
+    let served = main_until _ _ c.args.until _ _ _ _ _ _ until c.in_ok-triggers.ensures.served in
+    inl (record {
+      served = served;
+      went_on = record { base_count = base_count_since _ _ c.in_ok-triggers.ensures.since; base = base_since _ _ c.in_ok-triggers.ensures.since; entries = served.now_are; rows_are = sym (append-nil _) };
+    })
+
+pub returns-clause-proceeds : goal.returns-clause-proceeds
+returns-clause-proceeds g c = record {
+  kept = record { triggers = c.in_ok-triggers.ensures.went; states = c.keep_all.ensures.states };
+  stays = c.cause_now-cause.ensures.both_open;
+  fault = c.cause_now-cause.ensures.fault;
+}

@@ -1,0 +1,49 @@
+use Rattle.std.proofs.Common.{◌∷◌, ◌∙◌, map, ap, arith, refl, rules}
+use Rattle.qz_row_lock.specs.Seats.{ids, mine, seen}
+use Rattle.qz_serve.specs.Asking.{heard_in, first_entries}
+use Rattle.qz_serve.specs.Knowing.{Worker}
+use Rattle.qz_serve.proofs.Told.{before_same}
+use Rattle.qz_serve.proofs.Worked.{nodes_joined, at_moment, none_worked, first_and_others, alone}
+use Rattle.qz_serve.proofs.threads.chain.+fn-run_nodes-join+arg3+run_nodes.Goals as goal
+
+pub returns-in-empty-clause-worked : goal.returns-in-empty-clause-worked
+returns-in-empty-clause-worked g t c = none_worked _ _ _ _ _ _ _ _ _ _ _ c.in-empty.len_below c.requires.new.0 c.requires.new.1
+
+pub returns-in-len1-up-clause-worked : goal.returns-in-len1-up-clause-worked
+returns-in-len1-up-clause-worked g t c =
+    let row = c.args.row.now in
+    let i = c.args.counted in
+    let means = g.M.Meaning.meanings in
+    let first = c.join-first.ensures.first in
+    let rest = c.join-first.ensures.second in
+    let p = c.join-first.result.0 in
+    let r = c.join-first.result.1 in
+    let j = c.join.ensures in
+    let k = c.join-in-len1-up.ensures in
+    let n = c.join.result in
+    let m = c.join-in-len1-up.result in
+    let w : Worker = record { me = c.me-item.result; number = c.split_for-seat.result.1.number } in
+    at_moment _ _ c.args.until _ _ _ _ _ _ _ _ _ _ _ (record {
+      workers = w ∷ rest.6.workers;
+      who = ap (λ l. c.me-item.result ∷ l) rest.6.who ∙ first_and_others c.args.members.now c.me-item.result c.in-len1-up.len_at_least c.me-item.is;
+      worked = nodes_joined _ _ _ _ (heard_in row) g.S.RowStore.seat_of (first_entries row) w rest.6.workers (ids n) (ids r.0) (ids p.0) j.of.past (mine n) (mine r.0) (mine p.0) (seen n) (seen r.0) (seen p.0)
+          g.T.RowStore.seat_of (ids m) (ids r.1) (ids p.1) k.of.past (mine m) (mine r.1) (mine p.1) (seen m) (seen r.1) (seen p.1)
+          i _ (map means c.args.lists.items) (map means c.take_list-own.new.lists.items) (map means r.2.items) (map means c.put_list.new.lists.items) (means c.take_list-own.result) (means p.2)
+          j.of.mine_is j.ids j.mine j.seen k.of.mine_is k.ids k.mine k.seen (omega arith) c.take_list-own.ensures.list c.take_list-own.ensures.rest c.put_list.ensures rest.7 rest.6.worked first.6;
+    }) refl (search rules)
+
+pub returns-in-len1-up-clause-before : goal.returns-in-len1-up-clause-before
+returns-in-len1-up-clause-before g t c =
+    let means = g.M.Meaning.meanings in
+    let r = c.join-first.result.1 in
+    before_same (means c.join-first.result.0.2) c.args.counted _ (map means c.args.lists.items) (map means c.take_list-own.new.lists.items) (map means r.2.items) (map means c.put_list.new.lists.items)
+    (omega arith) c.take_list-own.ensures.rest c.put_list.ensures c.join-first.ensures.second.7
+
+pub returns-in-empty-clause-once : goal.returns-in-empty-clause-once
+returns-in-empty-clause-once g t c = alone c.args.seat.number (ids c.args.seat) c.requires.own.0
+
+pub join-first-requires-after_bounds : goal.join-first-requires-after_bounds
+join-first-requires-after_bounds g t c κs within =
+    let s = c.split_for-seat.ensures in
+    let u = c.split_for-state.ensures in
+    let p = c.requires.performs in (search rules, (search rules, (search rules, (search rules, (search rules, (search rules, (search rules, (search rules, (search rules, (search rules, ((search rules, search rules, search rules, search rules, search rules, search rules, search rules, search rules, search rules, s.of.0, u.of.0, s.home.0, u.home.0, search rules, s.new.0, u.new.0, s.own.0, u.own.0, search rules, s.more.0, u.more.0, p.0, p.1, c.requires.none), (search rules, search rules, search rules, search rules, search rules, search rules, search rules, search rules, search rules))))))))))))

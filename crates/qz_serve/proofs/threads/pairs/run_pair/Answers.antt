@@ -1,0 +1,16 @@
+use Rattle.std.proofs.Common.{◌∙◌, rules}
+use Rattle.qz_row_lock.specs.Seats.{ids, mine, seen}
+use Rattle.qz_serve.specs.Asking.{heard_in, first_entries}
+use Rattle.qz_serve.proofs.Worked.{pair_worked}
+use Rattle.qz_serve.proofs.threads.pairs.run_pair.Goals as goal
+
+pub returns-clause-worked : goal.returns-clause-worked
+returns-clause-worked g c =
+    let row = c.args.row.now in
+    let j = c.join.ensures in
+    let n = c.join.result in
+    let b = c.run_both-seat.ensures in
+    let r = c.run_both-seat.result in
+    let first = c.split-seat.ensures.first in
+    pair_worked _ c.args.until _ _ (heard_in row) g.S.RowStore.seat_of (first_entries row) _ c.args.me.now _ c.args.seat.number (ids n) (ids r.0.0) (ids r.1.0) j.of.past (mine n) (mine r.0.0) (mine r.1.0) (seen n) (seen r.0.0) (seen r.1.1) (mine r.1.1) _ _
+    j.of.mine_is j.ids first.0 (b.same.0.ids ∙ first.1 ∙ c.requires.own) j.mine.0 j.mine.1 j.seen.0 b.entries b.adds.recoveries b.adds.entries b.ran (search rules)

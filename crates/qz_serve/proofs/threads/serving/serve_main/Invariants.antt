@@ -1,0 +1,5 @@
+use Rattle.std.proofs.Common.{map}
+use Rattle.qz_serve.proofs.threads.serving.serve_main.Given as goal
+
+abbrev pub ghosts-run_main : goal.ghosts-run_main
+ghosts-run_main g a = record { meanings = λ jobs. map (λ b. (g.dyn-1.0.entry b.vtable).1.means b.value) jobs.items }

@@ -1,0 +1,28 @@
+use Rattle.std.proofs.Common.{◌≡◌, [], refl, rules, sym, ap, subst}
+use Rattle.std.specs.List.{AllByRecursion}
+use Rattle.qz_row_lock.specs.Seats.{ids, mine, seen, first_value}
+use Rattle.qz_serve.specs.Asking.{deeds}
+use Rattle.qz_serve.specs.Entries.{IsScheduled}
+use Rattle.qz_serve.specs.Ran.{Ran, context_in}
+use Rattle.qz_serve.proofs.Joining.{no_deeds}
+use Rattle.qz_serve.proofs.threads.working.work.Goals as goal
+
+pub works-init : goal.works-init
+works-init g c =
+    let k = g.S.RowStore in
+    let s = c.args.seat.now in
+    let o = c.requires.of in
+    let row = c.args.row.now in
+    let none : deeds row s ≡ [] = no_deeds k.kind k.listed k.seat_of (k.state (first_value row).opened.value) (k.listed (k.state (first_value row).store).history) (ids s) o.past (seen s) (mine s) o.seen_is o.mine_is c.requires.new in
+    record {
+      work = record {
+        of = o;
+        home = c.requires.home;
+        up_to = search rules;
+        told = ap context_in (sym none);
+        entries = subst (AllByRecursion (IsScheduled _ _ _ _)) (sym c.requires.new) tt;
+      };
+      same = record { number = refl; more = refl; parts = refl; ids = refl };
+      lawful = c.requires.lawful;
+      ran = subst (λ d. Ran d (g.J.NodeJobs.meanings c.args.jobs.now) (g.J.NodeJobs.meanings c.args.jobs.now)) (sym none) refl;
+    }

@@ -1,0 +1,16 @@
+pub mod Asking
+pub mod Causes
+pub mod Courses
+pub mod Ending
+pub mod Entries
+pub mod Going
+pub mod Heard
+pub mod Keeping
+pub mod Knowing
+pub mod Names
+pub mod Once
+pub mod Ours
+pub mod Performing
+pub mod Ran
+pub mod Served
+pub mod Serves

@@ -1,0 +1,146 @@
+//! Nodes that work on stores, from the stores' being put under their rows to their being taken back.
+ghost use Rattle.std.specs.Prelude.{◌≡◌, ◌≤ℤ◌, ◌≤◌, ◌<◌, ◌^◌, [], ◌∷◌, false, length, map, IfOk, OnErr};
+ghost use Rattle.std.specs.List.{AllByRecursion};
+ghost use Rattle.qz_row_lock.specs.Seats.{IsOf, ids, mine, is_out};
+ghost use Rattle.qz_shared.specs.Since.{IsSince};
+ghost use Rattle.qz_rounds.specs.Looking.{LeavesRows};
+ghost use Rattle.qz_serve.specs.Asking.{KeepsSeat};
+ghost use Rattle.qz_serve.specs.Entries.{IsScheduled};
+ghost use Rattle.qz_serve.specs.Heard.{heard_since};
+ghost use Rattle.qz_serve.specs.Knowing.{EachTold, ShowsRan};
+ghost use Rattle.qz_serve.specs.Performing.{AlwaysPerforms, Performs};
+ghost use Rattle.qz_serve.specs.Served.{NodesServed, MainServed};
+
+use crate::threads::Gate;
+use crate::threads::chain::run_nodes;
+use crate::threads::executing::execute;
+use crate::threads::lists::{put_list, take_list};
+use crate::threads::nodes::run_listed;
+use crate::threads::performing::{JobList, Meaning};
+use qz_node::{Job, JobContext, Jobs};
+use qz_rounds::{NodeStore, RoundStore, SharedClock};
+use qz_run::Declined;
+use qz_shared::{StoreRow, StoreSeat, close_row, open_row};
+use qz_types::{Code, LONGEST, MemberRow, NoMemory};
+use std::alloc::Global;
+use std::marker::Brand;
+use std::mem;
+use std::sync::Wait;
+use std::thread::Threads;
+
+/// Members work on two stores up to a moment, in ms since 1970-01-01T00:00:00Z. Each has a scheduler thread and a check-in thread.
+/// The first member is the node 1 and has the first list of jobs, and so on; an absent list is empty. Where threads ended early,
+/// the cause of least exit number is given. Without memory the stores are given up, and nobody works.
+pub(crate) fn serve_nodes<
+    S: NodeStore + Send,
+    T: RoundStore + Send,
+    R: Threads + Wait + Sync,
+    C: SharedClock + Sync,
+    G: Gate + Sync,
+>(
+    rt: &R,
+    alloc: Global,
+    triggers: S,
+    states: T,
+    clock: &C,
+    gate: &G,
+    until: i64,
+    members: &[MemberRow],
+    jobs: &mut Vec<Jobs>,
+) -> Result<(S, T, Option<Declined>), NoMemory>
+    requires few { (length (S.listed (S.state triggers).history) < 2 ^ 62) × (length (T.listed (T.state states).history) < 2 ^ 62) }
+    requires until { until ≤ℤ LONGEST }
+    requires members { length members.now ≤ 16 }
+    ensures served { IfOk result (λ r. NodesServed (C.shows clock.now) until (heard_since S.kind S.listed S.seat_of (S.state triggers)) (LeavesRows T.kind T.listed T.state T.tables (T.state states)) members.now
+        (S.listed (S.state triggers).history) (S.listed (S.state r.0).history) (T.listed (T.state states).history) (T.listed (T.state r.1).history)
+        (map (λ list. map means list.items) jobs.old.items) (map (λ list. map means list.items) jobs.new.items)) }
+    ensures since { IfOk result (λ r. IsSince S.kind S.listed (S.state triggers) (S.state r.0) × IsSince T.kind T.listed (T.state states) (T.state r.1)) }
+    ensures went { IfOk result (λ r. ∥ S.Went triggers r.0 ∥₁ × ∥ T.Went states r.1 ∥₁) }
+    ensures untouched { OnErr result (jobs.new.items ≡ jobs.old.items) }
+{
+    let (row, seat) = open_row(alloc, triggers)?;
+    let (rounds, state) = open_row(alloc, states)?;
+    let lists = mem::replace(jobs, Vec::new(alloc));
+    let run = |jobs: &mut Jobs, context: &JobContext| -> Code
+        ensures { Performs context.now result (map means jobs.old.items) (map means jobs.new.items) }
+    { execute(jobs, context) };
+    let (seat, state, lists, cause) = run_nodes::<S, T, R, C, G, Jobs, _, Brand>(
+        rt, alloc, &row, &rounds, clock, gate, &run, until, 0, members, seat, state, lists,
+    );
+    *jobs = lists;
+    Ok((close_row(row, seat), close_row(rounds, state), cause))
+}
+
+// The node `main`, with a row for itself and the first list of jobs.
+fn run_main<
+    S: NodeStore,
+    R: Wait,
+    C: SharedClock,
+    G: Gate,
+    L: JobList,
+    E: Fn(&mut L, &JobContext) -> Code,
+    M: Meaning<L>,
+>(
+    rt: &R,
+    alloc: Global,
+    row: &StoreRow<S>,
+    clock: &C,
+    gate: &G,
+    run: &E,
+    until: i64,
+    me: &MemberRow,
+    seat: StoreSeat<S>,
+    lists: &mut Vec<L>,
+) -> (StoreSeat<S>, Option<Declined>)
+    requires of { IsOf row.now seat }
+    requires home { is_out seat ≡ false }
+    requires until { until ≤ℤ LONGEST }
+    requires performs { E.IsAlwaysCallable run.now × AlwaysPerforms E.Fn run.now M.meanings }
+    requires none { (list : _) → L.has_none list → M.meanings list ≡ [] }
+    requires new { mine seat ≡ [] }
+    requires own { ids seat ≡ seat.number ∷ [] }
+    ensures of { IsOf row.now result.0 }
+    ensures home { is_out result.0 ≡ false }
+    ensures same { KeepsSeat seat result.0 }
+    ensures entries { AllByRecursion (IsScheduled (C.shows clock.now) until me.now seat.number) (mine result.0) }
+    ensures told { EachTold (λ n. ShowsRan row.now result.0 (n ∷ [])) (seat.number ∷ []) (map M.meanings lists.old.items) (map M.meanings lists.new.items) }
+{
+    let list = take_list::<L, M>(alloc, lists, 0);
+    let (seat, list, cause) = run_listed::<S, R, C, G, L, E, M>(
+        rt, row, clock, gate, run, 0, until, me, seat, list,
+    );
+    put_list::<L, M>(lists, 0, list);
+    (seat, cause)
+}
+
+/// The node `main` works alone on a trigger store up to a moment, in ms since 1970-01-01T00:00:00Z, in the calling thread. It has
+/// the first list of jobs; an absent list is empty. The cause is given where it ended early. Without memory the store is given
+/// up, and nothing is done.
+pub(crate) fn serve_main<S: NodeStore, R: Wait, C: SharedClock, G: Gate>(
+    rt: &R,
+    alloc: Global,
+    triggers: S,
+    clock: &C,
+    gate: &G,
+    until: i64,
+    me: &MemberRow,
+    jobs: &mut Vec<Jobs>,
+) -> Result<(S, Option<Declined>), NoMemory>
+    requires few { length (S.listed (S.state triggers).history) < 2 ^ 62 }
+    requires until { until ≤ℤ LONGEST }
+    ensures served { IfOk result (λ r. MainServed (C.shows clock.now) until (heard_since S.kind S.listed S.seat_of (S.state triggers)) me.now
+        (S.listed (S.state triggers).history) (S.listed (S.state r.0).history)
+        (map (λ list. map means list.items) jobs.old.items) (map (λ list. map means list.items) jobs.new.items)) }
+    ensures since { IfOk result (λ r. IsSince S.kind S.listed (S.state triggers) (S.state r.0)) }
+    ensures went { IfOk result (λ r. ∥ S.Went triggers r.0 ∥₁) }
+    ensures untouched { OnErr result (jobs.new.items ≡ jobs.old.items) }
+{
+    let (row, seat) = open_row(alloc, triggers)?;
+    let run = |jobs: &mut Jobs, context: &JobContext| -> Code
+        ensures { Performs context.now result (map means jobs.old.items) (map means jobs.new.items) }
+    { execute(jobs, context) };
+    let (seat, cause) = run_main::<S, R, C, G, Jobs, _, Brand>(
+        rt, alloc, &row, clock, gate, &run, until, me, seat, jobs,
+    );
+    Ok((close_row(row, seat), cause))
+}

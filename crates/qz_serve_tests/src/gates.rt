@@ -1,0 +1,45 @@
+//! A gate that holds an execution until another one has begun.
+use qz_serve::Gate;
+use std::sync::Wait;
+use std::sync::atomic::{AtomicBool, AtomicU64, Ordering};
+
+/// How often an execution that is held looks for another one.
+const TURNS: u64 = 1_000_000_000;
+
+/// Holds each execution until two have begun, for so many looks at most.
+#[derive(Drop)]
+pub struct TwoAtOnce {
+    begun: AtomicU64,
+    gave_up: AtomicBool,
+}
+
+impl TwoAtOnce {
+    pub fn new() -> TwoAtOnce {
+        TwoAtOnce {
+            begun: AtomicU64::new(0),
+            gave_up: AtomicBool::new(false),
+        }
+    }
+
+    /// Whether no execution waited in vain.
+    pub fn was_met(&self) -> bool {
+        self.begun.load(Ordering::SeqCst) >= 2 && !self.gave_up.load(Ordering::SeqCst)
+    }
+}
+
+impl Gate for TwoAtOnce {
+    fn before<R: Wait>(&self, rt: &R, node: u32, entry: u64) {
+        let _ = (rt, node, entry);
+        self.begun.fetch_add(1, Ordering::SeqCst);
+        for _ in 0..TURNS {
+            if self.begun.load(Ordering::SeqCst) >= 2 {
+                return;
+            }
+        }
+        self.gave_up.store(true, Ordering::SeqCst);
+    }
+
+    fn after<R: Wait>(&self, rt: &R, node: u32, entry: u64) {
+        let _ = (rt, node, entry);
+    }
+}
