@@ -167,7 +167,7 @@ const RUNS: &[WordRow] = &[
 ];
 
 /// Words of `serve`, and how many nodes they ask for up to which moment.
-#[derive(Clone, Copy)]
+#[derive(Clone, Copy, Debug)]
 struct ServeRow {
     words: &'static [&'static str],
     want: Result<Serving, WordFault>,
