@@ -117,10 +117,10 @@ impl Told {
 
     /// How many lines of what was written tell that something was fired.
     pub fn firings(&self) -> usize {
-        let mut count = 0;
+        let mut count = 0usize;
         for line in self.text().split('\n') {
             if line.contains(" fire fired ") {
-                count += 1;
+                count = count.saturating_add(1);
             }
         }
         count

@@ -1,7 +1,7 @@
 //! Two disks of which one waits in a sync for a write of the other.
 ghost use Rattle.std.specs.Prelude.{◌≡◌};
 
-use qz_disk::{Disk, MemDisk};
+use qz_disk::Disk;
 use qz_io::Failed;
 use std::sync::atomic::{AtomicBool, AtomicU64, Ordering};
 
@@ -58,26 +58,26 @@ pub enum Role {
 
 /// A disk that tells its writes, or whose sync of some number waits for one of the other.
 #[derive(Drop)]
-pub struct WatchedDisk<'a> {
-    inner: MemDisk,
+pub struct WatchedDisk<'a, D: Disk> {
+    inner: D,
     seen: &'a Seen,
     role: Role,
 }
 
-impl<'a> WatchedDisk<'a> {
-    pub fn new(inner: MemDisk, seen: &'a Seen, role: Role) -> WatchedDisk<'a> {
+impl<'a, D: Disk> WatchedDisk<'a, D> {
+    pub fn new(inner: D, seen: &'a Seen, role: Role) -> WatchedDisk<'a, D> {
         WatchedDisk { inner, seen, role }
     }
 }
 
-impl<'a> Disk for WatchedDisk<'a> {
+impl<'a, D: Disk> Disk for WatchedDisk<'a, D> {
     ghost use Rattle.qz_disk.specs.Disk.{untold};
 
     ghost honest = { ⊥ };
 
-    ghost len = { λ d. MemDisk.Disk.len d.inner };
+    ghost len = { λ d. D.len d.inner };
 
-    ghost faults = { λ d. MemDisk.Disk.faults d.inner };
+    ghost faults = { λ d. D.faults d.inner };
 
     ghost state = { λ _. untold };
 
