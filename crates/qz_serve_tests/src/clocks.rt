@@ -35,11 +35,10 @@ impl<'a> SharedClock for RestingClock<'a> {
         if self.seen.sync_began() {
             return at;
         }
-        at.min(self.until - 1)
+        at.min(self.until.saturating_sub(1))
     }
 
-    fn rest<R: Wait>(&self, rt: &R, millis: u32) {
-        let _ = (rt, millis);
+    fn rest<R: Wait>(&self, _rt: &R, _millis: u32) {
         self.at.fetch_add(STEP, Ordering::SeqCst);
     }
 }

@@ -28,8 +28,7 @@ impl TwoAtOnce {
 }
 
 impl Gate for TwoAtOnce {
-    fn before<R: Wait>(&self, rt: &R, node: u32, entry: u64) {
-        let _ = (rt, node, entry);
+    fn before<R: Wait>(&self, _rt: &R, _node: u32, _entry: u64) {
         self.begun.fetch_add(1, Ordering::SeqCst);
         for _ in 0..TURNS {
             if self.begun.load(Ordering::SeqCst) >= 2 {
@@ -39,7 +38,5 @@ impl Gate for TwoAtOnce {
         self.gave_up.store(true, Ordering::SeqCst);
     }
 
-    fn after<R: Wait>(&self, rt: &R, node: u32, entry: u64) {
-        let _ = (rt, node, entry);
-    }
+    fn after<R: Wait>(&self, _rt: &R, _node: u32, _entry: u64) {}
 }
