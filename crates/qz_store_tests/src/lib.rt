@@ -4,6 +4,8 @@
 #[cfg(test)]
 mod cluster;
 #[cfg(test)]
+mod cut_checkpoints;
+#[cfg(test)]
 mod disk;
 #[cfg(test)]
 mod entries;

@@ -8,14 +8,17 @@ use qz_types::Entry;
 use std::alloc::{AllocError, Global};
 
 // A disk with a new store of this kind.
-fn new_disk(alloc: Global, kind: u8) -> Option<MemDisk> {
+pub(super) fn new_disk(alloc: Global, kind: u8) -> Option<MemDisk> {
     let mut disk = MemDisk::new(alloc);
     let made = create(&mut disk, kind);
     if made.is_ok() { Some(disk) } else { None }
 }
 
 // Whether an entry is accepted.
-fn takes<D: Disk>(store: &mut TriggerStore<D>, entry: Result<Entry, AllocError>) -> bool {
+pub(super) fn takes<D: Disk>(
+    store: &mut TriggerStore<D>,
+    entry: Result<Entry, AllocError>,
+) -> bool {
     let Ok(entry) = entry else {
         return false;
     };
