@@ -4,6 +4,8 @@
 #[cfg(test)]
 mod calls;
 #[cfg(test)]
+mod cuts;
+#[cfg(test)]
 mod error_texts;
 #[cfg(test)]
 mod generated;
@@ -17,6 +19,8 @@ mod run_ends;
 mod runs;
 #[cfg(test)]
 mod scripts;
+#[cfg(test)]
+mod spoiled;
 #[cfg(test)]
 mod stores;
 #[cfg(test)]
