@@ -39,6 +39,7 @@ fn put(tail: &mut Vec<u8>, bytes: &[u8])
 }
 
 impl Stream {
+    ghost use Rattle.qz_journal.specs.Layout.{IsPayload};
     ghost use Rattle.qz_stream.specs.Standing.{fresh, payload_of, IsAfter, Feeds, IsReading, Tells, fed_of, header_length_of};
 
     /// A stream of which no byte was fed.
@@ -89,7 +90,8 @@ impl Stream {
     /// The payload that was handed out last.
     pub fn payload(&self) -> &[u8]
         requires { self.now.place ≡ Place.Whole }
-        ensures { result.now ≡ payload_of self.now.tail }
+        ensures bytes { result.now ≡ payload_of self.now.tail }
+        ensures size { IsPayload result.now }
     {
         &self.tail[5..]
     }

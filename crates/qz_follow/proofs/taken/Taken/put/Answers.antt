@@ -1,0 +1,25 @@
+use Rattle.std.proofs.Common.{List, ◌+◌, ◌∙◌, length, sym, ap, subst}
+use Rattle.qz_journal.specs.Commits.{need_of}
+use Rattle.qz_model.specs.History.{IsLegalFrom, replay_from}
+use Rattle.qz_types.specs.Entries.{EntryData}
+use Rattle.qz_types.specs.Tables.{empty}
+use Rattle.qz_follow.proofs.Records.{legal_more, replayed_more, keeps_more}
+use Rattle.qz_follow.specs.Kept.{KeepsRecords}
+use Rattle.qz_follow.proofs.taken.Taken.put.Goals as goal
+
+pub invariant_of-self-clause-legal : goal.invariant_of-self-clause-legal
+invariant_of-self-clause-legal c =
+    let s = c.args.self.now in
+    subst (λ (l : List EntryData). ∥ IsLegalFrom (empty s.version) l ∥₁) (sym c.and.ensures) (legal_more s.version s.tables.tables s.entries.items c.args.entry s.replayed s.legal c.requires.accepted)
+
+pub invariant_of-self-clause-replayed : goal.invariant_of-self-clause-replayed
+invariant_of-self-clause-replayed c =
+    let s = c.args.self.now in
+    replayed_more s.version s.tables.tables c.commit-reply.new.self.tables s.entries.items c.args.entry c.commit-reply.result s.replayed c.commit-reply.ensures.ok ∙ ap (replay_from (empty s.version)) (sym c.and.ensures)
+
+pub invariant_of-self-clause-recorded : goal.invariant_of-self-clause-recorded
+invariant_of-self-clause-recorded c =
+    let s = c.args.self.now in
+    let p = c.args.payload.now in
+    subst (λ (l : List EntryData). ∥ KeepsRecords (s.end + need_of (length p)) l c.keep.new.kept ∥₁) (sym c.and.ensures)
+    (keeps_more s.end s.entries.items c.args.entry p s.kept c.keep.new.kept (c.keep.ensures p c.requires.placed) c.requires.size c.requires.record s.recorded)

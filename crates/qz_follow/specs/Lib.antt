@@ -1,0 +1,5 @@
+pub mod Following
+pub mod Kept
+pub mod Payloads
+pub mod Taking
+pub mod View

@@ -1,0 +1,14 @@
+//! A follower of a trigger store: it takes the store's bytes as they come, and keeps the tables that they leave.
+#![tactic(auto)]
+
+mod deciding;
+mod faults;
+mod follower;
+mod keeping;
+mod laws;
+mod taken;
+
+pub use faults::FollowFault;
+pub use follower::Follower;
+pub use keeping::Keeping;
+pub use laws::{ends_are_told, entries_are_those_of_the_bytes, faults_are_told};
