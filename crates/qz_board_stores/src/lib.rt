@@ -12,4 +12,4 @@ mod subject;
 pub use boarded::Boarded;
 pub use crossing::boards_cross_threads;
 pub use rows::{BoardedRow, BoardedSeat, close_with_board, open_with_board};
-pub use subject::{Base, Recorded, TriggerHistories};
+pub use subject::{Base, TriggerHistories};

@@ -9,14 +9,13 @@ use qz_tables::Tables;
 use qz_trigger_store::TriggerStore;
 use qz_types::Entry;
 use std::marker::Model;
-use std::snapshot::Snapshot;
 
 /// What the history of a trigger store begins with. It exists in proofs alone: no value of it is made.
 pub struct Base {
     // how many entries came before those that the history lists
     count: u64,
     // the tables that they left
-    tables: Snapshot<Tables>,
+    tables: Tables,
 }
 
 impl Model for Base {
@@ -24,27 +23,14 @@ impl Model for Base {
 
     ghost Value = { BaseData };
 
-    ghost view = { λ b. record { count = b.count; tables = b.tables.value.tables } };
-}
-
-/// An entry of such a history. It exists in proofs alone: no value of it is made.
-pub struct Recorded {
-    entry: Snapshot<Entry>,
-}
-
-impl Model for Recorded {
-    ghost use Rattle.qz_types.specs.Entries.{EntryData};
-
-    ghost Value = { EntryData };
-
-    ghost view = { λ r. r.entry.value };
+    ghost view = { λ b. record { count = b.count; tables = b.tables.tables } };
 }
 
 /// The histories of trigger stores, as the subject of a board. No value of it is made.
 pub struct TriggerHistories;
 
 impl Subject for TriggerHistories {
-    type Entry = Recorded;
+    type Entry = Entry;
 
     type Ground = Base;
 
