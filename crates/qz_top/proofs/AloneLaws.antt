@@ -35,7 +35,7 @@ new_sound m n = record {
   counted = λ _. omega arith;
 }
 
-new_start : (m n : ℕ) → IsStart (new_cluster m n)
+pub new_start : (m n : ℕ) → IsStart (new_cluster m n)
 new_start m n = record {
   opened = record { is_open = refl; settled = refl; sound = new_sound m n; valid = tt };
   held = refl;

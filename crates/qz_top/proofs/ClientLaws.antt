@@ -37,7 +37,7 @@ taken_one None moments t = refl
 taken_one (Some at) moments t = refl
 
 -- one step more
-steps_one : (done : List Command) (c : Command) (moments : List ℤ) (t : ℤ) → length moments ≡ length done
+pub steps_one : (done : List Command) (c : Command) (moments : List ℤ) (t : ℤ) → length moments ≡ length done
     → client_steps (done ++ c ∷ []) (moments ++ t ∷ []) ≡ client_steps done moments ++ record { step = Client c; at = t } ∷ []
 steps_one [] c [] t same = refl
 steps_one [] c (m ∷ moments) t same = absurd (omega (arith, same))

@@ -2,10 +2,13 @@ pub mod AloneLaws
 pub mod AskedLaws
 pub mod CheckedStores
 pub mod ClientLaws
+pub mod CompletingLaws
 pub mod Courses
 pub mod EndLaws
 pub mod GeneratingLaws
+pub mod GrowingLaws
 pub mod HandingLaws
+pub mod HeadlineLaws
 pub mod LineLaws
 pub mod LoadLaws
 pub mod LossLaws
@@ -23,7 +26,10 @@ pub mod RunLaws
 pub mod SameStores
 pub mod ScheduleLaws
 pub mod ShownLaws
+pub mod StandingLaws
 pub mod StopLaws
 pub mod TellingLaws
 pub mod TrailLaws
+pub mod TurnLaws
 pub mod Under
+pub mod WordHeadlines

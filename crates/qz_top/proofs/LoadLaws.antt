@@ -46,7 +46,7 @@ cut_no_fault (step.NotAStore store) is = cc
 cut_no_fault (step.Damaged store at) is = cc
 cut_no_fault step.NoMemory is = cc
 
-end_no_fault : (end : LineEnd) → status.DiskFault ≡ status_at 0 end → ⊥
+pub end_no_fault : (end : LineEnd) → status.DiskFault ≡ status_at 0 end → ⊥
 end_no_fault (ends.Bad kind) is = cc
 end_no_fault ends.WriteFault is = cc
 end_no_fault ends.Unanswered is = cc

@@ -89,7 +89,7 @@ done_lawful (Some e) r s t valid is lawful = appended_lawful e r s t (valid e re
 -- a step that ends at one of its entries, where nothing is appended
 module _ (C : StateEntryData → StatesState → StatesState → Type 0) (E : EntryData → TriggerState → TriggerState → Type 0)
     (keeps : (e : EntryData) (s t : TriggerState) → E e s t → t.history ≡ s.history) where
-  entry_keeps : (held : List MemberData) (t : TimedStep) (S S' : ClusterState) → AtStates C t S S' ⊎ AtTriggers E held t S S' → S'.triggers.history ≡ S.triggers.history
+  pub entry_keeps : (held : List MemberData) (t : TimedStep) (S S' : ClusterState) → AtStates C t S S' ⊎ AtTriggers E held t S S' → S'.triggers.history ≡ S.triggers.history
   entry_keeps held t S S' (inl at) = at.triggers.history
   entry_keeps held t S S' (inr at) = keeps at.entry S.triggers S'.triggers at.triggers
 
@@ -117,9 +117,16 @@ last_lawful : (S : ClusterState) (states : List ClusterState) → HasLawful S �
 last_lawful S [] lawful all = lawful
 last_lawful S (S' ∷ states) lawful all = last_lawful S' states all.0 all.1
 
+-- so do all states that steps lead through from an opened store on
+pub steps_recover : (honest : Type 0) (S : ClusterState) (ts : List TimedStep) (rs : List StepReply) (states : List ClusterState) → IsOpened S.triggers → StepsDone honest S ts rs states
+    → AllByRecursion RecoversLosses (S ∷ states)
+steps_recover honest S ts rs states opened done =
+    let first = opened_lawful S.triggers opened in
+    All-weaker HasLawful RecoversLosses (S ∷ states) recovers (first, run_lawful honest S ts rs states done first)
+
 -- The end of a run.
 
-cut_keeps : (honest : Type 0) (t : TimedStep) (e : StepEnd) (S S' : ClusterState) → EndCase honest t e S S' → S'.triggers.history ≡ S.triggers.history
+pub cut_keeps : (honest : Type 0) (t : TimedStep) (e : StepEnd) (S S' : ClusterState) → EndCase honest t e S S' → S'.triggers.history ≡ S.triggers.history
 cut_keeps honest t (ends.JournalFull need room) S S' case = entry_keeps _ _ (λ e s u is. is.same.history) _ t S S' case.which
 cut_keeps honest t (ends.NotAStore store) S S' case = case.shut.triggers.history
 cut_keeps honest t (ends.Damaged store at) S S' case = case.shut.triggers.history
@@ -134,7 +141,7 @@ short_keeps honest e left lines more last after short = cut_keeps honest (step_a
 same_history : (last after : RunState) → after ≡ last → after.cluster.triggers.history ≡ last.cluster.triggers.history
 same_history last after same = ap (λ (r : RunState). r.cluster.triggers.history) same
 
-end_keeps : (honest : Type 0) (s : Status) (left : Option (List ℕ)) (lines : List (List ℕ)) (more : List ℤ) (last after : RunState) → EndsRun honest s left lines more last after
+pub end_keeps : (honest : Type 0) (s : Status) (left : Option (List ℕ)) (lines : List (List ℕ)) (more : List ℤ) (last after : RunState) → EndsRun honest s left lines more last after
     → after.cluster.triggers.history ≡ last.cluster.triggers.history
 end_keeps honest (status.NotAStore store) left lines more last after end = short_keeps honest _ left lines more last after end
 end_keeps honest (status.Damaged store at) left lines more last after end = short_keeps honest _ left lines more last after end

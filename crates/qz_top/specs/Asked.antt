@@ -9,7 +9,7 @@ use Rattle.qz_words.specs.declared.wishes.Wish.{Wish}
 use Rattle.qz_words.specs.declared.wishes.Wish.TheVariants as wish
 use Rattle.qz_top.specs.Calls.{OwnDone, RanOnDisk, LoadedOnDisk, ListedOnDisk, NotOpened, trail_of}
 use Rattle.qz_top.specs.Generating.{Generates}
-use Rattle.qz_top.specs.Making.{IsInit, SaysMade}
+use Rattle.qz_top.specs.Making.{IsInit, KeepsStores, SaysMade}
 use Rattle.qz_top.specs.Migrating.{RanMigrate}
 use Rattle.qz_top.specs.NodeRuns.{RanNodes}
 use Rattle.qz_top.specs.Times.{TimesDone}
@@ -38,6 +38,7 @@ pub record RanOwn {D : Type 0} {g : Ghosts D} (triggers states : D) (e : Ended D
 -- The stores were made, or it is told why not.
 pub record RanInit {D : Type 0} {g : Ghosts D} (triggers states : D) (e : Ended D g) (old new : Outside) : Type 0 where
   pub made : IsInit g e.status triggers e.triggers states e.states
+  pub keeps : KeepsStores g triggers e.triggers states e.states
   pub says : SaysMade e.status (only_output old) (only_output new)
   pub no_trail : trail_of e.trail ≡ []
   pub not_read : new.left ≡ old.left

@@ -137,6 +137,7 @@ pub record LoadedOnDisk {D : Type 0} {g : Ghosts D} (triggers states : D) (e : E
   pub are_opened : IsOpened opened.triggers × AreOpened opened.states
   pub nothing_held : opened.held ≡ []
   pub found : g.honest → IsFoundOn g triggers states opened
+  pub no_earlier : (g.faults triggers ≤ opened.triggers.faults) × (g.faults states ≤ opened.states.faults)
   -- the commands as steps of a client, and the states that they went through
   pub end : RunState
   pub loads : Loads (IsTold g triggers) e.status (begun false opened) end old new
@@ -196,6 +197,8 @@ pub record NotOpened {D : Type 0} {g : Ghosts D} (triggers states : D) (e : Ende
   pub status_is : e.status ≡ refusal_of store error
   pub none : trail_of e.trail ≡ []
   pub refused : g.honest → RefusedBy g store error triggers states
+  -- where both disks are honest and hold whole lists, one of them failed or memory ran out
+  pub why : (w : Whole) (v : WholeRows) → HoldWhole g triggers states w v → (error ≡ mount.Fault) ⊎ (error ≡ mount.NoMemory)
   -- where the state store is named, the trigger store could be opened
   pub first : g.honest → StandsBefore g store triggers
   pub reads : g.honest → DisksAfter g store error triggers states e.triggers e.states

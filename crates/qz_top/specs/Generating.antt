@@ -1,5 +1,5 @@
 -- What `gen` did: jobs and triggers that a number gives were added to an empty store, and nodes worked on it.
-use Rattle.std.specs.Prelude.{⊤, ◌≡◌, ◌⊎◌, ℕ, ◌*◌, true, false, pos, ◌+ℤ◌, ◌-ℤ◌, List, [], ◌∷◌, ◌++◌, map, Result, Ok, Err}
+use Rattle.std.specs.Prelude.{⊤, ◌≡◌, ◌⊎◌, ◌≤◌, ℕ, ◌*◌, true, false, pos, ◌+ℤ◌, ◌-ℤ◌, List, [], ◌∷◌, ◌++◌, map, Result, Ok, Err}
 use Rattle.qz_disk.specs.declared.disk.Disk.{Ghosts}
 use Rattle.qz_io.specs.Outside.{Outside}
 use Rattle.qz_types.specs.declared.commands.Command.{Command}
@@ -27,7 +27,7 @@ use Rattle.qz_node.specs.Jobs.{JobMeaning}
 use Rattle.qz_run.specs.declared.commands.Plan.{Plan}
 use Rattle.qz_open.specs.Runs.{StepsDone}
 use Rattle.qz_schedule_law.specs.Following.{FollowsSchedules}
-use Rattle.qz_top.specs.Calls.{NotOpened, trail_of}
+use Rattle.qz_top.specs.Calls.{HasSoundStores, NotOpened, RecoversLosses, trail_of}
 use Rattle.qz_top.specs.Found.{count_of, IsFoundOn, HoldWhole}
 use Rattle.qz_top.specs.Moments.{HasTriggers, HasStates}
 use Rattle.qz_top.specs.NodeRuns.{IsToldAs, Worked, WritesRun, IsKeptOnTheWay}
@@ -162,13 +162,18 @@ pub record GeneratedOnDisk {D : Type 0} {g : Ghosts D} (w : Workload) (jobs jobs
   -- what the bytes tell from the slot in use on was opened: the histories are legal, and the tables and rows that they leave are valid
   pub opened : ClusterState
   pub are_opened : IsOpened opened.triggers × AreOpened opened.states
+  pub nothing_held : opened.held ≡ []
   pub found : g.honest → IsFoundOn g triggers states opened
+  pub no_earlier : (g.faults triggers ≤ opened.triggers.faults) × (g.faults states ≤ opened.states.faults)
   -- what was done, up to the end
   pub end : ClusterState
   pub did : Generated g.honest w e.status jobs jobs' opened end old new
   -- at the end both histories are legal, and triggers that weren't disturbed have fired for the first times of their schedules
   pub legal : IsLegal end.triggers.history × AreLegal end.states.history
   pub schedules : FollowsSchedules end.triggers.history
+  -- tables and rows are valid there, and what was lost since the base was recovered once
+  pub sound : HasSoundStores end
+  pub recovered : RecoversLosses end
   pub no_trail : trail_of e.trail ≡ []
   pub faults : (g.faults e.triggers ≡ end.triggers.faults) × (g.faults e.states ≡ end.states.faults)
   -- at the end a crash leaves the bytes of the last history of each store, or of it with the undecided entry

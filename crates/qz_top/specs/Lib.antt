@@ -2,10 +2,14 @@ pub mod Asked
 pub mod Calls
 pub mod Causes
 pub mod Clients
+pub mod Completing
 pub mod Found
 pub mod Generating
-pub mod Handling
 pub mod HandingOn
+pub mod Handling
+pub mod Headline
+pub mod HeadlineByWords
+pub mod InTurn
 pub mod LineOutcomes
 pub mod Lines
 pub mod Lists
@@ -19,6 +23,7 @@ pub mod Resting
 pub mod Runs
 pub mod Schedules
 pub mod Seen
+pub mod Standing
 pub mod Statuses
 pub mod Times
 pub mod Trails

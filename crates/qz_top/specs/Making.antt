@@ -3,9 +3,9 @@ use Rattle.std.specs.Prelude.{◌≡◌, ◌⊎◌, ◌≤◌, ℕ, [], take, dr
 use Rattle.std.specs.Io.KnownBytes.{Appends}
 use Rattle.qz_civil.specs.Causes.{Rose}
 use Rattle.qz_disk.specs.declared.disk.Disk.{Ghosts}
-use Rattle.qz_disk.specs.Disk.{DiskState, Only, Stays}
+use Rattle.qz_disk.specs.Disk.{DiskState, Only, Stays, LeavesOnly}
 use Rattle.qz_io.specs.Outside.{Outside, IsHandedOn}
-use Rattle.qz_journal.specs.Layout.{IsStore, HasStore, Holds, other_kind}
+use Rattle.qz_journal.specs.Layout.{IsStore, HasStore, Holds, new_header, other_kind}
 use Rattle.qz_journal.specs.Through.{IsKept}
 use Rattle.qz_journal.specs.declared.layout.TheConstants.{TRIGGERS, STATES}
 use Rattle.qz_types.specs.declared.stores.Store.{Store}
@@ -20,6 +20,8 @@ use Rattle.qz_top.specs.declared.statuses.Status.TheVariants as status
 pub record IsNew (kind : ℕ) (old new : DiskState) : Type 0 where
   pub none : HasStore kind old.content → ⊥
   pub empty : Holds new.content 2 kind []
+  -- both slots are closed
+  pub header : take 16 new.content ≡ new_header 2 kind
   pub durable : Only new.content new
   pub rest : drop 17 new.content ≡ drop 17 old.content
 
@@ -86,6 +88,11 @@ IsInit g (status.NotAStore store.States) t t' s s' =
 IsInit g status.DiskFault t t' s s' = FirstFails g t t' s s' ⊎ SecondFails g t t' s s'
 -- no `init` ends so
 IsInit g end t t' s s' = ⊥
+
+-- A disk that begins as a store does, of either kind and any version, is left at any moment as it was, whatever fails.
+pub record KeepsStores {D : Type 0} (g : Ghosts D) (t t' s s' : D) : Type 0 where
+  pub triggers : g.honest → HasStore TRIGGERS (g.state t).content → LeavesOnly (g.state t) (g.state t') (g.state t).IsImage
+  pub states : g.honest → HasStore STATES (g.state s).content → LeavesOnly (g.state s) (g.state s') (g.state s).IsImage
 
 -- `created`, which was handed on, or a part of it where the output failed; else the output wasn't touched
 abbrev pub SaysMade : Status → Outside → Outside → Type 0

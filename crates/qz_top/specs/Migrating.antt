@@ -1,5 +1,5 @@
 -- What `migrate` did: a trigger store of version 1 was taken to version 2, or needed no upgrade.
-use Rattle.std.specs.Prelude.{◌≡◌, ◌⊎◌, ℤ, true, false, List, [], ◌∷◌, Option, codes, Result, Ok, Err}
+use Rattle.std.specs.Prelude.{◌≡◌, ◌⊎◌, ℕ, ℤ, true, false, List, [], ◌∷◌, Option, codes, Result, Ok, Err}
 use Rattle.qz_disk.specs.declared.disk.Disk.{Ghosts}
 use Rattle.qz_disk.specs.Disk.{LeavesOnly}
 use Rattle.qz_io.specs.Clocks.{Tells}
@@ -14,12 +14,13 @@ use Rattle.qz_types.specs.declared.replies.Reply.TheVariants.{Done}
 use Rattle.qz_types.specs.declared.stores.Store.TheVariants.{Triggers}
 use Rattle.qz_model.specs.History.{replay}
 use Rattle.qz_journal.specs.Through.{OnlyReads, OnlyReadsUnless}
+use Rattle.qz_laws.specs.Losses.{AreExact}
 use Rattle.qz_journal.specs.declared.errors.MountError.{MountError}
 use Rattle.qz_journal.specs.declared.errors.MountError.TheVariants as mount
 use Rattle.qz_stores.specs.Stores.{Appends, Overflows, Starves, Fails}
-use Rattle.qz_trigger_store.specs.Bytes.{Whole, IsWhole}
+use Rattle.qz_trigger_store.specs.Bytes.{Whole, IsWhole, MayBe}
 use Rattle.qz_trigger_store.specs.Entries.{TriggerState, is_old, trigger_entry}
-use Rattle.qz_trigger_store.specs.Opening.{IsOpened, IsRefused}
+use Rattle.qz_trigger_store.specs.Opening.{IsOpened, IsRefused, IsSound}
 use Rattle.qz_trigger_store.specs.View.{IsOfEither}
 use Rattle.qz_cluster.specs.Found.{IsFoundIn}
 use Rattle.qz_cluster.specs.Script.{entry_of}
@@ -85,6 +86,11 @@ pub record MigratedOnDisk {D : Type 0} {g : Ghosts D} (triggers states : D) (e :
   pub states_stay : e.states ≡ states
   pub no_trail : trail_of e.trail ≡ []
   pub faults : g.faults e.triggers ≡ end.faults
+  -- at the end the history is legal, it leaves valid tables, and what was lost since its base was recovered once
+  pub sound : IsSound end
+  pub recovered : ∥ AreExact end.history.base end.history.entries ∥₁
+  -- at the end a crash leaves the bytes of that history, or of it with the undecided entry
+  pub images : g.honest → (w : Whole) → IsWhole w (g.state triggers).content → (b : List ℕ) → (g.state e.triggers).IsImage b → MayBe w end.history end.undecided b
   -- where nothing was added and no disk failed, the disk was only read
   pub reads : g.honest → end ≡ opened → OnlyReads (g.state triggers) (g.state e.triggers)
   -- The disk was only read until the store was open. From then on a crash at any moment leaves the bytes of the store as it was
@@ -99,6 +105,8 @@ pub record NotMounted {D : Type 0} {g : Ghosts D} (triggers states : D) (e : End
   pub error : MountError
   pub status_is : e.status ≡ refusal_of Triggers error
   pub refused : g.honest → IsRefused (g.state triggers).content error
+  -- on an honest disk that holds a whole list, it failed or memory ran out
+  pub why : g.honest → (w : Whole) → IsWhole w (g.state triggers).content → (error ≡ mount.Fault) ⊎ (error ≡ mount.NoMemory)
   pub reads : g.honest → OnlyReadsUnless (error ≡ mount.Fault) (g.state triggers) (g.state e.triggers)
   pub states_stay : e.states ≡ states
   pub no_trail : trail_of e.trail ≡ []

@@ -37,7 +37,7 @@ use Rattle.qz_run_stores.specs.Logs.{has_row}
 use Rattle.qz_run_stores.specs.Ways.{HasOnTheWay, HasRowsOnTheWay}
 use Rattle.qz_cluster.specs.Steps.{ClusterState}
 use Rattle.qz_schedule_law.specs.Following.{FollowsSchedules}
-use Rattle.qz_top.specs.Calls.{FoundOld, NotOpened, trail_of}
+use Rattle.qz_top.specs.Calls.{FoundOld, HasSoundStores, NotOpened, RecoversLosses, trail_of}
 use Rattle.qz_top.specs.Found.{count_of, IsFoundOn, HoldWhole}
 use Rattle.qz_top.specs.Moments.{HasTriggers, HasStates}
 use Rattle.qz_top.specs.Resting.{RestsNodes}
@@ -159,7 +159,9 @@ pub record RanNodesOnDisk {D : Type 0} {g : Ghosts D} (p : Plan) (jobs jobs' : L
   -- what the bytes tell from the slot in use on was opened: the histories are legal, and the tables and rows that they leave are valid
   pub opened : ClusterState
   pub are_opened : IsOpened opened.triggers × AreOpened opened.states
+  pub nothing_held : opened.held ≡ []
   pub found : g.honest → IsFoundOn g triggers states opened
+  pub no_earlier : (g.faults triggers ≤ opened.triggers.faults) × (g.faults states ≤ opened.states.faults)
   pub current : is_old (replay opened.triggers.history) ≡ false
   -- the nodes' work, how that ended, and what was written of it
   pub worked_to : ClusterState
@@ -175,6 +177,9 @@ pub record RanNodesOnDisk {D : Type 0} {g : Ghosts D} (p : Plan) (jobs jobs' : L
   -- at the end both histories are legal, and triggers that weren't disturbed have fired for the first times of their schedules
   pub legal : IsLegal end.triggers.history × AreLegal end.states.history
   pub schedules : FollowsSchedules end.triggers.history
+  -- tables and rows are valid there, and what was lost since the base was recovered once
+  pub sound : HasSoundStores end
+  pub recovered : RecoversLosses end
   pub no_trail : trail_of e.trail ≡ []
   pub faults : (g.faults e.triggers ≡ end.triggers.faults) × (g.faults e.states ≡ end.states.faults)
   -- at the end a crash leaves the bytes of the last history of each store, or of it with the undecided entry

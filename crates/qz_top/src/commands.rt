@@ -4,7 +4,9 @@ ghost use Rattle.qz_io.specs.Around.{outside};
 ghost use Rattle.qz_top.specs.Asked.{DidAsAsked, UsesJobs};
 ghost use Rattle.qz_top.specs.Causes.{counts, HasCause};
 ghost use Rattle.qz_top.specs.Calls.{trail_of};
+ghost use Rattle.qz_top.specs.Completing.{IsComplete};
 ghost use Rattle.qz_top.specs.HandingOn.{HandsOnWritten};
+ghost use Rattle.qz_top.specs.HeadlineByWords.{HeadlineOf};
 ghost use Rattle.qz_top.specs.Schedules.{FollowSchedules};
 ghost use Rattle.qz_top.specs.Statuses.{Reported};
 ghost use Rattle.qz_words.specs.Wishes.{wish_of};
@@ -60,10 +62,14 @@ pub fn command<S: Source, K: Sink, E: Sink, D: Disk, C: Clock>(
 ) -> Ended<D>
     // What was done is what the words ask for: each of the cases is a definition of its own.
     ensures done { DidAsAsked (wish_of words.now) (map means jobs.old.items) (map means jobs.new.items) triggers states result (outside S.Source K.Sink C.Clock input.old out.old clock.old) (outside S.Source K.Sink C.Clock input.new out.new clock.new) }
+    // The headline: a plain scheduler's replies along one history of each store, which no crash breaks.
+    ensures headline { HeadlineOf (wish_of words.now) triggers states result (outside S.Source K.Sink C.Clock input.old out.old clock.old) (outside S.Source K.Sink C.Clock input.new out.new clock.new) }
     // Only `run` and `gen` call the jobs.
     ensures jobs { UsesJobs (wish_of words.now) (map means jobs.old.items) (map means jobs.new.items) }
     // Bad words are answered only where the words are refused, and a fault only where the object's count of faults rose.
     ensures cause { HasCause result.status (wish_of words.now) (counts S.Source K.Sink D.Disk input.old out.old triggers states) (counts S.Source K.Sink D.Disk input.new out.new result.triggers result.states) }
+    // Where nothing failed, the input is right and the stores hold whole lists, the call came to its end, or its memory, room or budget did.
+    ensures complete { IsComplete D.Disk (wish_of words.now) result.status (counts S.Source K.Sink D.Disk input.old out.old triggers states) (counts S.Source K.Sink D.Disk input.new out.new result.triggers result.states) (S.left input.old) triggers states }
     // In each state that it showed, triggers that weren't disturbed have fired for the first times of their schedules.
     ensures schedules { FollowSchedules (trail_of result.trail) }
     // However the call ended, all that it wrote on `out` was handed on, or `out` failed.

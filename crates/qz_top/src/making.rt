@@ -1,10 +1,12 @@
 //! `init`: new stores on the disks.
 ghost use Rattle.std.specs.Prelude.{◌≡◌, ◌⊎◌, ◌≤◌, [], Err};
 ghost use Rattle.qz_civil.specs.Causes.{Rose};
+ghost use Rattle.qz_disk.specs.Disk.{LeavesOnly};
 ghost use Rattle.qz_io.specs.Around.{output_alone};
+ghost use Rattle.qz_journal.specs.Layout.{HasStore};
 ghost use Rattle.qz_top.specs.Calls.{trail_of};
 ghost use Rattle.qz_top.specs.HandingOn.{HandsOnAll, HandsOnWritten};
-ghost use Rattle.qz_top.specs.Making.{Makes, IsInit, SaysMade, unmade_status};
+ghost use Rattle.qz_top.specs.Making.{Makes, IsInit, KeepsStores, SaysMade, unmade_status};
 
 use crate::Status;
 use crate::ended::{Ended, ran_no_script};
@@ -31,6 +33,7 @@ pub(crate) fn make_stores<K: Sink, D: Disk>(
     mut states: D,
 ) -> Ended<D>
     ensures made { IsInit D.Disk result.status triggers result.triggers states result.states }
+    ensures keeps { KeepsStores D.Disk triggers result.triggers states result.states }
     ensures written { SaysMade result.status (output_alone K.Sink out.old) (output_alone K.Sink out.new) }
     ensures trail { trail_of result.trail ≡ [] }
     ensures write { result.status ≡ Status.WriteFault → Rose (K.faults out.old) (K.faults out.new) }
@@ -43,6 +46,7 @@ pub(crate) fn make_stores<K: Sink, D: Disk>(
 // The same, on the disks where they are.
 fn init<K: Sink, D: Disk>(out: &mut K, triggers: &mut D, states: &mut D) -> Status
     ensures made { IsInit D.Disk result triggers.old triggers.new states.old states.new }
+    ensures keeps { KeepsStores D.Disk triggers.old triggers.new states.old states.new }
     ensures written { SaysMade result (output_alone K.Sink out.old) (output_alone K.Sink out.new) }
     ensures write { result ≡ Status.WriteFault → Rose (K.faults out.old) (K.faults out.new) }
     ensures handed { HandsOnWritten K.Sink out.old out.new }
@@ -74,6 +78,7 @@ fn unmade_status(unmade: Unmade, store: Store) -> Status
 // Makes a store where none stands. False where one stood there.
 fn make<D: Disk>(disk: &mut D, kind: u8) -> Result<bool, Unmade>
     ensures told { D.honest → Makes kind result (D.state disk.old) (D.state disk.new) }
+    ensures kept { D.honest → HasStore kind (D.state disk.old).content → LeavesOnly (D.state disk.old) (D.state disk.new) (D.state disk.old).IsImage }
     ensures fault { result ≡ Err Unmade.Fault → Rose (D.faults disk.old) (D.faults disk.new) }
 {
     match create(disk, kind) {

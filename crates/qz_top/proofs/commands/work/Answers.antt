@@ -23,7 +23,7 @@ pub returns-in-Ok-Init-clause-done : goal.returns-in-Ok-Init-clause-done
 returns-in-Ok-Init-clause-done g c =
     let made = c.make_stores.ensures in
     done_at _ _ _ _ _ _ _ _ _ (rw c.in-Ok-Init.field-0-is at c.in-Ok-Init.ensures.value)
-    (record { made = made.made; says = made.written; no_trail = made.trail; not_read = refl; not_asked = refl })
+    (record { made = made.made; keeps = made.keeps; says = made.written; no_trail = made.trail; not_read = refl; not_asked = refl })
 
 pub returns-in-Ok-Script-clause-done : goal.returns-in-Ok-Script-clause-done
 returns-in-Ok-Script-clause-done g c =

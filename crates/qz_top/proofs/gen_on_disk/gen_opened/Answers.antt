@@ -1,7 +1,8 @@
-use Rattle.std.proofs.Common.{sym, ap, ◌∙◌}
+use Rattle.std.proofs.Common.{refl, sym, ap, ◌∙◌}
 use Rattle.qz_top.specs.NodeRuns.{both}
 use Rattle.qz_top.proofs.NodeRunLaws.{rows_legal, kept_on_the_way, left_at_end}
 use Rattle.qz_top.proofs.OpenedLaws.{rose_from_first}
+use Rattle.qz_top.proofs.StandingLaws.{stores_in_order}
 use Rattle.qz_trigger_store.proofs.Kept.{legal, schedules_kept}
 use Rattle.qz_top.proofs.gen_on_disk.gen_opened.Goals as goal
 
@@ -20,11 +21,15 @@ returns-clause-done g c triggers states begins =
     record {
       opened = both cluster.triggers cluster.states;
       are_opened = begins.are_opened;
+      nothing_held = refl;
       found = begins.found;
+      no_earlier = begins.no_earlier;
       end = both left.triggers left.states;
       did = rw end.status generated.did;
       legal = (legal left.triggers, rows_legal left.states);
       schedules = schedules_kept left.triggers;
+      sound = (stores_in_order left.triggers left.states).sound;
+      recovered = (stores_in_order left.triggers left.states).recovered;
       no_trail = end.trail;
       faults = (ap g.D.Disk.faults (end.disks.0 ∙ disk), ap g.D.Disk.faults (end.disks.1 ∙ states_disk));
       images = λ w v held b.

@@ -20,6 +20,7 @@ returns-clause-done g c triggers states begins =
       are_opened = begins.are_opened;
       nothing_held = begins.nothing_held;
       found = begins.found;
+      no_earlier = begins.no_earlier;
       end = view c.load-status.new.run;
       loads = loads_now;
       trail_is = end.trail;

@@ -1,6 +1,9 @@
 use Rattle.std.proofs.Common.{inl, inr, refl, sym, ap, ◌∙◌, arith}
 use Rattle.qz_cluster.proofs.Founds.{found_in}
+use Rattle.qz_stores.proofs.Moments.{now}
+use Rattle.qz_trigger_store.specs.Laws.{trigger_lawful}
 use Rattle.qz_trigger_store.specs.View.{view, disk_of}
+use Rattle.qz_top.proofs.StandingLaws.{triggers_sound, store_recovers}
 use Rattle.qz_top.proofs.migrating.migrate.Goals as goal
 
 pub upgrade-status-requires : goal.upgrade-status-requires
@@ -25,6 +28,9 @@ returns-in-Ok-clause-done g c =
       states_stay = end.disks.1;
       no_trail = end.trail;
       faults = ap g.D.Disk.faults disk;
+      sound = triggers_sound new;
+      recovered = store_recovers new;
+      images = λ honest w held b is. now trigger_lawful new.store honest w (did.any_moment honest w (mounted.whole honest w held).0).0 b (rw disk at is);
       reads = λ honest same. rw (disk ∙ did.unless_changed same) (mounted.reads honest);
       any_moment = λ honest w held. (disk_of store, mounted.reads honest, rw disk (did.any_moment honest w (mounted.whole honest w held).0).1);
     })
@@ -43,6 +49,7 @@ returns-in-Err-clause-done g c =
       error = c.in-Err.error;
       status_is = end.status ∙ c.refusal_of.ensures;
       refused = refused.refused;
+      why = refused.whole;
       reads = λ honest. rw end.disks.0 (refused.reads_err honest);
       states_stay = end.disks.1;
       no_trail = end.trail;

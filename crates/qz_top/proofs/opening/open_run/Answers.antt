@@ -1,4 +1,4 @@
-use Rattle.std.proofs.Common.{◌≡◌, ◌∙◌, sym, ap, subst, refl}
+use Rattle.std.proofs.Common.{◌≡◌, inr, ◌∙◌, sym, ap, subst, refl}
 use Rattle.std.proofs.Math.Logic.{∥∥₁_map}
 use Rattle.qz_journal.specs.Through.{OnlyReads, OnlyReadsUnless}
 use Rattle.qz_journal.specs.declared.errors.MountError.TheVariants as mount
@@ -30,6 +30,7 @@ returns-in-Err-begin-clause-err g c o =
       status_is = none.status;
       none = none.trail;
       refused = λ honest. tt;
+      why = λ w v held. inr refl;
       first = λ honest. let found = (c.in-Ok.ensures.found honest).0 in (found.version, (cluster_view c.in-Ok.cluster).triggers, c.in-Ok.ensures.opened.0, found.stands);
       reads = λ honest.
           let reads = c.in-Ok.ensures.reads honest in (

@@ -3,6 +3,7 @@ use Rattle.qz_trigger_store.specs.View.{view, added_of}
 use Rattle.qz_top.specs.NodeRuns.{both}
 use Rattle.qz_top.proofs.NodeRunLaws.{rows_legal, told_text, kept_on_the_way, left_at_end, added_is, history_is}
 use Rattle.qz_top.proofs.NodeRestLaws.{rests_may, rests_write, rests_read, rested_kept, rested_disk_rose}
+use Rattle.qz_top.proofs.StandingLaws.{stores_in_order}
 use Rattle.qz_trigger_store.proofs.Kept.{legal, schedules_kept}
 use Rattle.qz_top.proofs.run_on_disk.run_opened.Goals as goal
 
@@ -30,7 +31,9 @@ returns-clause-done g c first second opened =
     record {
       opened = both begun rows_begun;
       are_opened = opened.are_opened;
+      nothing_held = refl;
       found = opened.found;
+      no_earlier = opened.no_earlier;
       current = opened.current;
       worked_to = both left.triggers left.states;
       work = left.status;
@@ -43,6 +46,8 @@ returns-clause-done g c first second opened =
       states_stay = refl;
       legal = (legal rested, rows_legal left.states);
       schedules = schedules_kept rested;
+      sound = (stores_in_order rested left.states).sound;
+      recovered = (stores_in_order rested left.states).recovered;
       no_trail = end.trail;
       faults = (ap g.D.Disk.faults (end.disks.0 ∙ disk), ap g.D.Disk.faults (end.disks.1 ∙ states_disk));
       images = λ w v held b.
