@@ -7,8 +7,8 @@ use qz_board::{BoardReader, BoardWriter, Glance, Shown, Subject};
 use qz_civil::NoMemory;
 use std::sync::Wait;
 
-/// Posts what this value shows, tells the reader, and looks until the look shows as many entries as there are: the first look
-/// does. `NoMemory` is answered where the post finds none.
+/// Posts what this value shows, tells the reader, and looks until a look shows as many entries as there are. `NoMemory` is
+/// answered where the post finds none.
 pub fn look_at_all<K: Subject, S: Shown<K>, R: Wait>(
     rt: &R,
     writer: &mut BoardWriter<K>,
