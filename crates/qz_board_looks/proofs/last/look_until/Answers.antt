@@ -1,9 +1,6 @@
-use Rattle.std.proofs.Common.{◌≡◌, ◌+◌, length, List, Some, refl, sym, ap, ◌∙◌, subst, arith}
+use Rattle.std.proofs.Common.{◌≡◌, Some, refl, ap, ◌∙◌, subst}
 use Rattle.std.specs.Prelude.{IfSome}
-use mathlib.Core.List.{IsPrefix}
-use Rattle.qz_board.specs.declared.glance.Glance.{Glance}
-use Rattle.qz_board.specs.Posts.{Shows}
-use Rattle.qz_board.specs.Boards.{seen, reader_basis, reader_board}
+use Rattle.qz_board.specs.Boards.{seen, reader_basis}
 use Rattle.qz_board_looks.proofs.Rising.{itself, prefix_trans, whole_by_count}
 use Rattle.qz_board_looks.proofs.last.look_until.Goals as goal
 

@@ -1,4 +1,4 @@
-use Rattle.std.proofs.Common.{◌≡◌, Some}
+use Rattle.std.proofs.Common.{◌≡◌}
 use mathlib.Core.List.{IsPrefix}
 use Rattle.qz_board.specs.Boards.{seen, reader_basis, reader_board}
 use Rattle.qz_board_looks.proofs.last.look_until.Given as goal

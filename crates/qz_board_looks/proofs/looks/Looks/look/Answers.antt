@@ -1,4 +1,4 @@
-use Rattle.std.proofs.Common.{◌≡◌, ◌++◌, ◌∷◌, [], sym, subst}
+use Rattle.std.proofs.Common.{sym, subst}
 use Rattle.std.specs.Prelude.{IfSome}
 use Rattle.qz_board.specs.Boards.{seen, reader_basis}
 use Rattle.qz_board_looks.specs.Looks.{AreLooks}
