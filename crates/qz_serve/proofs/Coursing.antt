@@ -1,14 +1,17 @@
 -- The parts of a call's course, and what all of them added.
 use Rattle.std.proofs.Common.{◌≡◌, ◌⊎◌, inl, inr, ℕ, zero, suc, ◌+◌, ℤ, List, [], ◌∷◌, ◌++◌, length, length-append, add-one, map, true, false, refl, sym, ap, ◌∙◌, subst}
 use Rattle.std.proofs.lemmas.List.{append-nil}
-use Rattle.std.specs.Prelude.{Option, Some, None, Result, Ok, Err, IfOk}
+use Rattle.std.specs.Prelude.{Option, Some, None, Result, Ok, Err, IfOk, IfSome}
 use Rattle.qz_types.specs.Entries.{EntryData, StateEntryData}
 use Rattle.qz_types.specs.Rows.{MemberData}
 use Rattle.qz_node.specs.Jobs.{JobMeaning}
 use Rattle.qz_cluster.specs.Steps.{ClusterState}
 use Rattle.qz_top.specs.NodeRuns.{WentOn}
 use Rattle.qz_run.specs.declared.commands.Declined.{Declined}
+use Rattle.qz_run.specs.declared.commands.Declined.TheVariants as why
 use Rattle.qz_serve.specs.Courses.{DidNothing, EndsBy, TookCourse, TookTurn, TookTurns, Turn, WorkedAsMain, WorkedAsNodes}
+use Rattle.qz_serve.specs.Declining.{AtLimit}
+use Rattle.qz_serve.specs.Limits.{WasDeclined}
 use Rattle.qz_seen.specs.Seen.{node_name}
 use Rattle.qz_serve.specs.Ours.{CameAndWent, node_names}
 use Rattle.qz_serve.proofs.Moving.{went_none, went_then, came_none}
@@ -149,3 +152,12 @@ nodes_named shows t u ms ns S T j k same names works =
 
 pub ends_named : (shows : ℤ → Type 0) (t u : ℤ) (ns ms : List (List ℕ)) (cause : Option Declined) (S : ClusterState) → t ≡ u → ns ≡ ms → EndsBy shows t ns cause S → EndsBy shows u ms cause S
 ends_named shows t u ns ms cause S same names ends = subst (λ (x : ℤ). EndsBy shows x ms cause S) same (subst (λ (x : List (List ℕ)). EndsBy shows t x cause S) names ends)
+
+pub declined_named : (shows : ℤ → Type 0) (t u : ℤ) (ns ms : List (List ℕ)) (S T : ClusterState) (cause : Option Declined) → t ≡ u → ns ≡ ms → IfSome cause (AtLimit (WasDeclined shows t ns S T)) → IfSome cause (AtLimit (WasDeclined shows u ms S T))
+declined_named shows t u ns ms S T cause same names d = subst (λ (x : ℤ). IfSome cause (AtLimit (WasDeclined shows x ms S T))) same (subst (λ (xs : List (List ℕ)). IfSome cause (AtLimit (WasDeclined shows t xs S T))) names d)
+
+-- what threads were declined, where whether a disk failed was seen of the stores
+pub cause_seen : (P : Declined → Type 0) (told cause : Option Declined) → (cause ≡ Some why.Fault) ⊎ (cause ≡ told) ⊎ (cause ≡ None) → IfSome told (AtLimit P) → IfSome cause (AtLimit P)
+cause_seen P told cause (inl is) d = subst (λ (o : Option Declined). IfSome o (AtLimit P)) (sym is) tt
+cause_seen P told cause (inr (inl is)) d = subst (λ (o : Option Declined). IfSome o (AtLimit P)) (sym is) d
+cause_seen P told cause (inr (inr is)) d = subst (λ (o : Option Declined). IfSome o (AtLimit P)) (sym is) tt

@@ -4,13 +4,14 @@ use Rattle.std.proofs.Math.Logic.{∥∥₁_elim}
 use Rattle.std.proofs.Math.Seq.{drop-append_seam}
 use Rattle.std.proofs.lemmas.List.{append-nil}
 use Rattle.std.proofs.Props.{props}
-use Rattle.std.specs.Prelude.{Option, Some, None, Bool}
+use Rattle.std.specs.Prelude.{Option, Some, None, Bool, IfSome}
 use Rattle.qz_civil.specs.Causes.{Rose}
 use Rattle.qz_disk.specs.declared.disk.Disk.{Ghosts}
 use Rattle.qz_io.specs.Outside.{Outside}
 use Rattle.qz_types.specs.Entries.{EntryData, StateEntryData}
 use Rattle.qz_model.specs.History.{History, replay}
 use Rattle.qz_node.specs.Jobs.{JobMeaning}
+use Rattle.qz_stores.specs.Stores.{StoreState}
 use Rattle.qz_trigger_store.specs.Entries.{TriggerState}
 use Rattle.qz_trigger_store.specs.View.{view as triggers_view, found_of, added_of, keeps_of, disk_of}
 use Rattle.qz_trigger_store.specs.declared.stores.TriggerStore.{TriggerStore}
@@ -21,6 +22,7 @@ use Rattle.qz_cluster.specs.Steps.{ClusterState}
 use Rattle.qz_run.specs.declared.commands.Declined.{Declined}
 use Rattle.qz_run.specs.declared.commands.Declined.TheVariants as why
 use Rattle.qz_run_stores.specs.Going.{Went, StatesWent}
+use Rattle.qz_run_stores.specs.Ways.{KeepsStates, KeepsTriggers}
 use Rattle.qz_shared_stores.specs.Going.{TriggersWentOn}
 use Rattle.qz_shared_stores.specs.Laws.{histories_once}
 use Rattle.qz_words.specs.declared.serves.Serving.{Serving}
@@ -30,13 +32,16 @@ use Rattle.qz_top.specs.OpenStores.{JustOpened}
 use Rattle.qz_top.specs.Resting.{RestsNodes}
 use Rattle.qz_top.specs.declared.statuses.Status.{Status}
 use Rattle.qz_top.specs.declared.statuses.Status.TheVariants as status
-use Rattle.qz_top.proofs.NodeRunLaws.{rows_legal, told_text}
+use Rattle.qz_top.proofs.NodeRunLaws.{kept_on_the_way, left_at_end, rows_legal, told_text}
+use Rattle.qz_top.proofs.NodeRestLaws.{MayRest, rested_kept, rests_may}
 use Rattle.qz_serve.specs.Courses.{EndsBy, OneIsClosed, TookCourse}
+use Rattle.qz_serve.specs.Declining.{AtLimit}
 use Rattle.qz_serve.specs.Ending.{EndedCall}
 use Rattle.qz_serve.specs.Going.{state_of_both, states_of, triggers_of}
 use Rattle.qz_serve.specs.Keeping.{Kept, Proceeds}
+use Rattle.qz_serve.specs.Limits.{WasDeclined}
 use Rattle.qz_serve.specs.Ours.{main_name, node_names, our_names}
-use Rattle.qz_serve.specs.Serves.{DidServe, DiskFailed, GaveUp, ServedOnDisk, status_of}
+use Rattle.qz_serve.specs.Serves.{DidServe, DiskFailed, GaveUp, IsDecided, ServedOnDisk, status_of}
 use Rattle.qz_serve.specs.declared.both_stores.BothStores.{BothStores}
 use Rattle.qz_serve.specs.declared.served.Served.{Served}
 use Rattle.qz_serve.proofs.Coursing.{Added, course_added}
@@ -65,17 +70,51 @@ module _ {D : Type 0} {g : Ghosts D} where
       let found_is : found_of t ≡ found = ap (λ (h : History). h.entries) same in
       sym (drop-append_seam found (added_of t)) ∙ ap (λ xs. drop (length found) (xs ++ added_of t)) (sym found_is) ∙ ap (drop (length found)) entries ∙ drop-append_seam found added
 
+  -- what a crash leaves of the stores, by what they have kept
+  triggers_kept : (b t : TriggerStore D g) → ∥ TriggersWentOn b t ∥₁ → ∥ KeepsTriggers b t ∥₁
+  triggers_kept b t went = ∥∥₁_elim went squash₁ (λ w. w.kept)
+
+  rows_kept : (b t : StateStore D g) → ∥ StatesWent b t ∥₁ → ∥ KeepsStates b t ∥₁
+  rows_kept b t went = ∥∥₁_elim went squash₁ (λ w. w.kept)
+
   pub keeps_still : (b t : TriggerStore D g) → keeps_of b ≡ true → ∥ TriggersWentOn b t ∥₁ → keeps_of t ≡ true
   keeps_still b t keeps went = ∥∥₁_elim went (bools_once _ _) (λ w. w.keeps ∙ keeps)
+
+rose_after : (a b c : ℕ) → a ≤ b → Rose b c → Rose a c
+rose_after a b c earlier rose = omega (arith, earlier, rose)
+
+-- Of which entries it isn't known whether the disk has them.
+
+is_decided : {H E : Type 0} (n : ℕ) (s : StoreState H E) → (s.is_open ≡ true → s.undecided ≡ None) → (s.is_open ≡ false → Rose n s.faults) → IsDecided n s
+is_decided n s settled rose = by s.is_open refl where
+  by : (b : Bool) → s.is_open ≡ b → IsDecided n s
+  by true is = inl (settled is)
+  by false is = inr (rose is)
+
+-- a checkpoint leaves none
+rested_decided : (n : ℕ) (s t : TriggerState) → (s.is_open ≡ true → s.undecided ≡ None) → (s.is_open ≡ false → Rose n s.faults) → MayRest s t → IsDecided n t
+rested_decided n s t settled rose (inl same) = subst (λ (x : TriggerState). IsDecided n x) (sym same) (is_decided n s settled rose)
+rested_decided n s t settled rose (inr (inl marks)) = inl (marks.undecided ∙ settled marks.was_open)
+rested_decided n s t settled rose (inr (inr breaks)) = inl breaks.undecided
+
+module _ {D : Type 0} {g : Ghosts D} (first second : D) (b t : BothStores D g) (opened : JustOpened first second (triggers_of b) (states_of b)) (kept : Kept b t) where
+  triggers_rose : (triggers_view (triggers_of t)).is_open ≡ false → Rose (g.faults first) (triggers_view (triggers_of t)).faults
+  triggers_rose closed = rose_after _ _ _ opened.no_earlier.0 (∥∥₁_elim kept.triggers (rose_once _ _) (λ w. w.went.closes opened.are_opened.0.is_open closed))
+
+  states_rose : (states_view (states_of t)).is_open ≡ false → Rose (g.faults second) (states_view (states_of t)).faults
+  states_rose closed = rose_after _ _ _ opened.no_earlier.1 (∥∥₁_elim kept.states (rose_once _ _) (λ w. w.went.closes opened.are_opened.1.is_open closed))
 
 module _ {D : Type 0} {g : Ghosts D} (shows : ℤ → Type 0) (p : Serving) (jobs jobs' : List (List JobMeaning)) (first second : D) (b t : BothStores D g) (cause : Option Declined) (s : Served D) (old new : Outside) where
   -- The nodes worked on the opened stores, and the call ended.
   pub served_by : JustOpened first second (triggers_of b) (states_of b) → TookCourse shows p.until (node_names p.nodes) main_name (state_of_both b) (state_of_both t) jobs jobs'
-      → EndsBy shows p.until (our_names p.nodes) cause (state_of_both t) → Proceeds cause b t → EndedCall (status_of cause) t s old new → ServedOnDisk g shows p jobs jobs' first second s old new
-  served_by opened took ends proceeds ended =
+      → EndsBy shows p.until (our_names p.nodes) cause (state_of_both t) → IfSome cause (AtLimit (WasDeclined shows p.until (our_names p.nodes) (state_of_both b) (state_of_both t))) → Proceeds cause b t → EndedCall (status_of cause) t s old new → ServedOnDisk g shows p jobs jobs' first second s old new
+  served_by opened took ends declined proceeds ended =
       let more : Added (state_of_both b) (state_of_both t) = course_added shows p.until (node_names p.nodes) main_name (state_of_both b) (state_of_both t) jobs jobs' took in
       let same : found_history (triggers_of t) ≡ (triggers_view (triggers_of b)).history = history_is (triggers_of b) (triggers_of t) opened.nothing_added proceeds.kept.triggers in
       let accepted : added_of (triggers_of t) ≡ more.0 = added_is (triggers_of b) (triggers_of t) more.0 same more.2.entries in
+      let may : MayRest (triggers_view (triggers_of t)) (triggers_view ended.rested) = rests_may ended.told_as s.status _ _ ended.rests in
+      let kept : ∥ KeepsTriggers (triggers_of b) ended.rested ∥₁ = rested_kept (triggers_of b) (triggers_of t) ended.rested may ended.any_moment (triggers_kept (triggers_of b) (triggers_of t) proceeds.kept.triggers) in
+      let rows : ∥ KeepsStates (states_of b) (states_of t) ∥₁ = rows_kept (states_of b) (states_of t) proceeds.kept.states in
       record {
         opened = state_of_both b;
         are_opened = opened.are_opened;
@@ -85,6 +124,7 @@ module _ {D : Type 0} {g : Ghosts D} (shows : ℤ → Type 0) (p : Serving) (job
         cause = cause;
         took = took;
         ends = ends;
+        declined = declined;
         added = more.0;
         rows = more.1;
         went_on = more.2;
@@ -100,6 +140,12 @@ module _ {D : Type 0} {g : Ghosts D} (shows : ℤ → Type 0) (p : Serving) (job
         states_end = states_disk_of (states_of t);
         disks = ended.disks;
         faults = (refl, refl);
+        images = left_at_end first second (triggers_of b) ended.rested (states_of b) (states_of t) opened.goes_on opened.rows_go_on kept rows;
+        decided = (
+          rested_decided (g.faults first) (triggers_view (triggers_of t)) (triggers_view ended.rested) (triggers_of t).store.settled (triggers_rose first second b t opened proceeds.kept) may,
+          is_decided (g.faults second) (states_view (states_of t)) (states_of t).store.settled (states_rose first second b t opened proceeds.kept),
+        );
+        any_moment = kept_on_the_way first second (triggers_of b) ended.rested (states_of b) (states_of t) _ _ refl refl opened.reads opened.goes_on opened.rows_go_on kept rows;
       }
 
 -- A disk failed where the call tells so: in the nodes' work, or in the checkpoint.
@@ -123,17 +169,14 @@ told_fault told work (inl same) is = sym same ∙ is
 told_fault told work (inr (inl same)) is = let bad : status.WriteFault ≡ status.DiskFault = sym same ∙ is in absurd cc
 told_fault told work (inr (inr same)) is = let bad : status.NoMemory ≡ status.DiskFault = sym same ∙ is in absurd cc
 
-rose_after : (a b c : ℕ) → a ≤ b → Rose b c → Rose a c
-rose_after a b c earlier rose = omega (arith, earlier, rose)
-
 module _ {D : Type 0} {g : Ghosts D} (first second : D) (b t : BothStores D g) (cause : Option Declined) (s : Served D) (old new : Outside) where
   later : Kept b t → (triggers_view (triggers_of b)).faults ≤ (triggers_view (triggers_of t)).faults
   later kept = ∥∥₁_elim kept.triggers (order_once _ _) (λ w. w.went.later)
 
   closed_rose : JustOpened first second (triggers_of b) (states_of b) → Kept b t → OneIsClosed (state_of_both t)
       → Rose (g.faults first) (triggers_view (triggers_of t)).faults ⊎ Rose (g.faults second) (states_view (states_of t)).faults
-  closed_rose opened kept (inl closed) = inl (rose_after _ _ _ opened.no_earlier.0 (∥∥₁_elim kept.triggers (rose_once _ _) (λ w. w.went.closes opened.are_opened.0.is_open closed)))
-  closed_rose opened kept (inr closed) = inr (rose_after _ _ _ opened.no_earlier.1 (∥∥₁_elim kept.states (rose_once _ _) (λ w. w.went.closes opened.are_opened.1.is_open closed)))
+  closed_rose opened kept (inl closed) = inl (triggers_rose first second b t opened kept closed)
+  closed_rose opened kept (inr closed) = inr (states_rose first second b t opened kept closed)
 
   disk_rose : JustOpened first second (triggers_of b) (states_of b) → Proceeds cause b t → (ended : EndedCall (status_of cause) t s old new) → s.status ≡ status.DiskFault
       → Rose (g.faults first) (triggers_view ended.rested).faults ⊎ Rose (g.faults second) (states_view (states_of t)).faults

@@ -30,7 +30,9 @@ use Rattle.qz_cluster.specs.Steps.{ClusterState}
 use Rattle.qz_serve.specs.Courses.{AreBothOpen, EndsBy, OneIsClosed}
 use Rattle.qz_serve.specs.Going.{KeepOn, Moves, state_of_both, states_of, triggers_of}
 use Rattle.qz_serve.specs.Keeping.{Kept, Proceeds}
+use Rattle.qz_serve.specs.Limits.{StoresGrew}
 use Rattle.qz_serve.specs.declared.both_stores.BothStores.{BothStores}
+use Rattle.qz_serve.proofs.Limiting.{grew_then}
 
 -- Between two moments, the second of which goes on from an open store.
 module _ {H E R : Type 0} (kind : EntryKind H E R) (Stand : List ℕ → H → Type 0) (first : ℕ → H → H) (size : H → ℕ) where
@@ -122,6 +124,7 @@ module _ {D : Type 0} {g : Ghosts D} where
   kept_then b s t was_open one two = record {
     triggers = ∥∥₁_elim one.triggers squash₁ (λ k. ∥∥₁_map two.triggers (λ l. triggers_then (triggers_of b) (triggers_of s) (triggers_of t) was_open.0 k l));
     states = ∥∥₁_elim one.states squash₁ (λ k. ∥∥₁_map two.states (λ l. states_then (states_of b) (states_of s) (states_of t) was_open.1 k l));
+    grew = grew_then (state_of_both b) (state_of_both s) (state_of_both t) one.grew two.grew;
   }
 
   -- One part of the work after another.
@@ -133,16 +136,16 @@ module _ {D : Type 0} {g : Ghosts D} where
 
 -- Nodes came and went: that is a part of the work, where both stores were open. A store to which nothing was done has kept all.
 module _ {D : Type 0} {g : Ghosts D} where
-  kept_on : (s t : BothStores D g) → Kept s s → KeepOn s t → Kept s t
-  kept_on s t kept keeps = record { triggers = ∥∥₁_map kept.triggers (keeps.triggers (triggers_of s)); states = ∥∥₁_map kept.states (keeps.states (states_of s)) }
+  kept_on : (s t : BothStores D g) → Kept s s → KeepOn s t → StoresGrew (state_of_both s) (state_of_both t) → Kept s t
+  kept_on s t kept keeps grew = record { grew = grew; triggers = ∥∥₁_map kept.triggers (keeps.triggers (triggers_of s)); states = ∥∥₁_map kept.states (keeps.states (states_of s)) }
 
   -- it went well
   pub moved_well : (shows : ℤ → Type 0) (names : List (List ℕ)) (s t : BothStores D g) → Kept s s → AreBothOpen (state_of_both s) → Moves shows names (Ok tt) s t → Proceeds None s t
-  moved_well shows names s t kept was_open moves = record { kept = kept_on s t kept moves.keeps; stays = λ is. moves.stays was_open; fault = λ is. absurd (cc) }
+  moved_well shows names s t kept was_open moves = record { kept = kept_on s t kept moves.keeps moves.grew; stays = λ is. moves.stays was_open; fault = λ is. absurd (cc) }
 
   -- or it ended early
   pub moved_short : (shows : ℤ → Type 0) (names : List (List ℕ)) (w : Declined) (s t : BothStores D g) → Kept s s → Moves shows names (Err w) s t → Proceeds (Some w) s t
-  moved_short shows names w s t kept moves = record { kept = kept_on s t kept moves.keeps; stays = λ is. absurd (cc); fault = λ is. let same : w ≡ why.Fault = cc in moves.fault (ap Err same) }
+  moved_short shows names w s t kept moves = record { kept = kept_on s t kept moves.keeps moves.grew; stays = λ is. absurd (cc); fault = λ is. let same : w ≡ why.Fault = cc in moves.fault (ap Err same) }
 
   -- there was no memory to begin with
   pub proceeds_starved : (s : BothStores D g) → Kept s s → Proceeds (Some why.NoMemory) s s

@@ -1,5 +1,5 @@
 -- What a call of a scheduler thread comes to.
-use Rattle.std.specs.Prelude.{◌≡◌, ◌++◌, ℕ, ℤ, false, List, [], ◌∷◌, Option, MatchResult}
+use Rattle.std.specs.Prelude.{⊤, ◌≡◌, ◌++◌, ℕ, ℤ, false, List, [], ◌∷◌, Option, Some, None, MatchOption, MatchResult}
 use Rattle.std.specs.List.{AllByRecursion}
 use Rattle.std.specs.declared.result.Result.{Result}
 use Rattle.qz_types.specs.Entries.{EntryData}
@@ -7,7 +7,9 @@ use Rattle.qz_types.specs.Rows.{MemberData}
 use Rattle.qz_types.specs.declared.errors.SubmitError.{SubmitError}
 use Rattle.qz_types.specs.declared.replies.Reply.{Reply}
 use Rattle.qz_node.specs.declared.contexts.JobContext.{JobContext}
-use Rattle.qz_node.specs.Turns.{TurnData}
+use Rattle.qz_node.specs.Turns.{TurnData, wanted_held}
+use Rattle.qz_node.specs.declared.turns.Want.{Want}
+use Rattle.qz_node.specs.declared.turns.Want.TheVariants as want
 use Rattle.qz_row_lock.specs.declared.logged.Logged.{Ghosts}
 use Rattle.qz_row_lock.specs.declared.row.RowLock.{RowLock}
 use Rattle.qz_row_lock.specs.declared.row.Seat.{Seat}
@@ -48,6 +50,16 @@ module _ {S G : Type 0} {h : StoreGhosts S EntryData Reply} {g : Ghosts (Held S 
     pub up_to : turn.until ≡ until
     pub told : context ≡ context_in (deeds row s)
     pub entries : AllByRecursion (IsScheduled shows until me s.number) (mine s)
+
+-- An execution is wanted only where the context of its job is at hand, and no Complete is wanted.
+abbrev pub CanStepAt : Want → Option JobContext → Type 0
+CanStepAt (want.Execute entry) None = ⊥
+CanStepAt (want.Complete entry code) context = ⊥
+CanStepAt other context = ⊤
+
+-- A thread can step on with what it holds, if it holds anything.
+abbrev pub IsReady : TurnData → Option JobContext → Type 0
+IsReady turn context = MatchOption turn.held ⊤ (λ held. CanStepAt (wanted_held held) context)
 
 -- One deed more where the entry was accepted, and else none.
 abbrev pub DeedsAfter : Result Reply SubmitError → EntryData → List Deed → List Deed → Type 0

@@ -3,7 +3,7 @@ use Rattle.std.specs.Prelude.{◌≡◌, Some}
 use Rattle.qz_disk.specs.declared.disk.Disk.{Ghosts}
 use Rattle.qz_io.specs.Outside.{Outside}
 use Rattle.qz_model.specs.History.{replay}
-use Rattle.qz_trigger_store.specs.View.{view as triggers_view, added_of, disk_of}
+use Rattle.qz_trigger_store.specs.View.{view as triggers_view, added_of, disk_of, LeavesEither}
 use Rattle.qz_trigger_store.specs.declared.stores.TriggerStore.{TriggerStore}
 use Rattle.qz_checkin.specs.View.{disk_of as states_disk_of}
 use Rattle.qz_top.specs.Found.{found_history}
@@ -21,4 +21,5 @@ pub record EndedCall {D : Type 0} {g : Ghosts D} (work : Status) (stores : BothS
   pub written : WritesRun told_as (text_since (found_history (triggers_of stores)) (replay (triggers_view (triggers_of stores)).history) (added_of (triggers_of stores))) old new
   pub rested : TriggerStore D g
   pub rests : RestsNodes told_as s.status (triggers_view (triggers_of stores)) (triggers_view rested)
+  pub any_moment : g.honest → LeavesEither (triggers_of stores) rested
   pub disks : s.disks ≡ Some (disk_of rested, states_disk_of (states_of stores))

@@ -1,12 +1,14 @@
 pub mod Asking
 pub mod Causes
 pub mod Courses
+pub mod Declining
 pub mod Ending
 pub mod Entries
 pub mod Going
 pub mod Heard
 pub mod Keeping
 pub mod Knowing
+pub mod Limits
 pub mod Names
 pub mod Once
 pub mod Ours
@@ -14,3 +16,4 @@ pub mod Performing
 pub mod Ran
 pub mod Served
 pub mod Serves
+pub mod Stopping

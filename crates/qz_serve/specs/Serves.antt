@@ -1,5 +1,5 @@
 -- What a call of `serve` does, by its words.
-use Rattle.std.specs.Prelude.{⊤, ◌≡◌, ◌⊎◌, ℕ, ℤ, List, false, Option, Some, None, Result, Ok, Err}
+use Rattle.std.specs.Prelude.{⊤, ◌≡◌, ◌⊎◌, ℕ, ℤ, List, false, Option, Some, None, Result, Ok, Err, IfSome}
 use Rattle.qz_civil.specs.Causes.{Rose}
 use Rattle.qz_disk.specs.declared.disk.Disk.{Ghosts}
 use Rattle.qz_io.specs.Outside.{Outside}
@@ -8,8 +8,10 @@ use Rattle.qz_model.specs.History.{IsLegal, replay}
 use Rattle.qz_node.specs.Jobs.{JobMeaning}
 use Rattle.qz_types.specs.Entries.{EntryData, StateEntryData}
 use Rattle.qz_schedule_law.specs.Following.{FollowsSchedules}
+use Rattle.qz_trigger_store.specs.Bytes.{Whole}
 use Rattle.qz_trigger_store.specs.Entries.{is_old}
 use Rattle.qz_trigger_store.specs.Opening.{IsOpened}
+use Rattle.qz_checkin.specs.Bytes.{Whole as WholeRows}
 use Rattle.qz_checkin.specs.History.{IsLegal as AreLegal}
 use Rattle.qz_checkin.specs.Opening.{IsOpened as AreOpened}
 use Rattle.qz_cluster.specs.Steps.{ClusterState}
@@ -17,14 +19,18 @@ use Rattle.qz_run.specs.declared.commands.Declined.{Declined}
 use Rattle.qz_run.specs.declared.commands.Declined.TheVariants as why
 use Rattle.qz_words.specs.declared.serves.Serving.{Serving}
 use Rattle.qz_words.specs.declared.wishes.WordFault.{WordFault}
-use Rattle.qz_top.specs.Found.{IsFoundOn}
-use Rattle.qz_top.specs.NodeRuns.{WentOn, IsToldAs, WritesRun, run_text}
+use Rattle.qz_stores.specs.Stores.{StoreState}
+use Rattle.qz_top.specs.Found.{HoldWhole, IsFoundOn}
+use Rattle.qz_top.specs.Moments.{HasStates, HasTriggers}
+use Rattle.qz_top.specs.NodeRuns.{WentOn, IsKeptOnTheWay, IsToldAs, WritesRun, run_text}
 use Rattle.qz_top.specs.OpenStores.{HasNoStores}
 use Rattle.qz_top.specs.Resting.{RestsNodes}
 use Rattle.qz_top.specs.declared.ended.Ended.{Ended}
 use Rattle.qz_top.specs.declared.statuses.Status.{Status}
 use Rattle.qz_top.specs.declared.statuses.Status.TheVariants as status
 use Rattle.qz_serve.specs.Courses.{TookCourse, EndsBy}
+use Rattle.qz_serve.specs.Declining.{AtLimit}
+use Rattle.qz_serve.specs.Limits.{WasDeclined}
 use Rattle.qz_serve.specs.Ours.{node_names, main_name, our_names}
 use Rattle.qz_serve.specs.declared.served.Served.{Served}
 
@@ -35,6 +41,10 @@ status_of (Some (why.TooMany count)) = status.TooMany count
 status_of (Some (why.JournalFull need room)) = status.JournalFull need room
 status_of (Some why.Fault) = status.DiskFault
 status_of (Some why.NoMemory) = status.NoMemory
+
+-- Of each entry it is known whether the store's disk has it, unless the disk's count of faults rose since it was so.
+abbrev pub IsDecided : {H E : Type 0} → ℕ → StoreState H E → Type 0
+IsDecided before s = (s.undecided ≡ None) ⊎ Rose before s.faults
 
 -- The nodes worked on both stores that were opened, and the call wrote what they added and made a checkpoint where one was due.
 pub record ServedOnDisk {D : Type 0} (g : Ghosts D) (shows : ℤ → Type 0) (p : Serving) (jobs jobs' : List (List JobMeaning)) (triggers states : D) (s : Served D)
@@ -49,6 +59,8 @@ pub record ServedOnDisk {D : Type 0} (g : Ghosts D) (shows : ℤ → Type 0) (p 
   pub cause : Option Declined
   pub took : TookCourse shows p.until (node_names p.nodes) main_name opened worked_to jobs jobs'
   pub ends : EndsBy shows p.until (our_names p.nodes) cause worked_to
+  -- where that was at a limit or a full journal, a store had declined for this reason what one of the call's nodes asked
+  pub declined : IfSome cause (AtLimit (WasDeclined shows p.until (our_names p.nodes) opened worked_to))
   -- what was added to both histories, and the text that was written of it
   pub added : List EntryData
   pub rows : List StateEntryData
@@ -68,6 +80,12 @@ pub record ServedOnDisk {D : Type 0} (g : Ghosts D) (shows : ℤ → Type 0) (p 
   pub states_end : D
   pub disks : s.disks ≡ Some (triggers_end, states_end)
   pub faults : (g.faults triggers_end ≡ end.triggers.faults) × (g.faults states_end ≡ end.states.faults)
+  -- on them a crash leaves the bytes of the last history of each store, or of it with the undecided entry; where the disk's count
+  -- of faults didn't rise in the call, there is none
+  pub images : (w : Whole) (v : WholeRows) → HoldWhole g triggers states w v → (b : List ℕ) → ((g.state triggers_end).IsImage b → HasTriggers w b end) × ((g.state states_end).IsImage b → HasStates v b end)
+  pub decided : IsDecided (g.faults triggers) end.triggers × IsDecided (g.faults states) end.states
+  -- and at any moment before, it leaves each store with what was opened and some of what was added
+  pub any_moment : ∥ IsKeptOnTheWay g triggers states triggers_end states_end opened end ∥₁
 
 -- The call gives this back, and has the disks of one that ended so.
 pub record EndsAs {D : Type 0} {g : Ghosts D} (e : Ended D g) (s : Served D) : Type 0 where

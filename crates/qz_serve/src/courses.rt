@@ -1,11 +1,13 @@
 //! The course of a call: its nodes join, work in threads, and leave; and the node `main` does what is left.
-ghost use Rattle.std.specs.Prelude.{◌≡◌, ◌⊎◌, ◌≤ℤ◌, ◌≤◌, [], ◌∷◌, ◌++◌, List, length, map, IfOk, IsTrue, Some, None};
+ghost use Rattle.std.specs.Prelude.{◌≡◌, ◌⊎◌, ◌≤ℤ◌, ℤ, ◌≤◌, [], ◌∷◌, ◌++◌, List, length, map, IfOk, IfSome, IsTrue, Some, None};
 ghost use Rattle.std.specs.List.{All};
 ghost use Rattle.qz_types.specs.Rows.{MemberData};
 ghost use Rattle.qz_words.specs.Serves.{IsServing};
 ghost use Rattle.qz_serve.specs.Courses.{AreBothOpen, DidNothing, EndsBy, TookCourse, TookTurn, TookTurns, Turn, WorkedAsMain, WorkedAsNodes};
+ghost use Rattle.qz_serve.specs.Declining.{AtLimit};
 ghost use Rattle.qz_serve.specs.Going.{state_of_both};
 ghost use Rattle.qz_serve.specs.Keeping.{Proceeds};
+ghost use Rattle.qz_serve.specs.Limits.{WasDeclined};
 ghost use Rattle.qz_serve.specs.Names.{ours_of};
 ghost use Rattle.qz_serve.specs.Ours.{CameAndWent, node_names, main_name, our_names};
 
@@ -43,6 +45,7 @@ pub(crate) fn take_course<
     ensures took { IfOk result (λ r. TookCourse (C.shows clock.now) serving.until (node_names serving.nodes) main_name (state_of_both stores) (state_of_both r.0)
         (map (λ list. map means list.items) jobs.old.items) (map (λ list. map means list.items) jobs.new.items)) }
     ensures ends { IfOk result (λ r. EndsBy (C.shows clock.now) serving.until (our_names serving.nodes) r.1 (state_of_both r.0)) }
+    ensures declined { IfOk result (λ r. IfSome r.1 (AtLimit (WasDeclined (C.shows clock.now) serving.until (our_names serving.nodes) (state_of_both stores) (state_of_both r.0)))) }
     ensures proceeds { IfOk result (λ r. Proceeds r.1 stores r.0) }
 {
     stores.keep_all();
@@ -68,6 +71,7 @@ fn take_course_of<R: Threads + Wait + Sync, D: Disk + Send, C: SharedClock + Syn
     ensures took { IfOk result (λ r. TookCourse (C.shows clock.now) until ours.now.nodes.items ours.now.main (state_of_both stores) (state_of_both r.0)
         (map (λ list. map means list.items) jobs.old.items) (map (λ list. map means list.items) jobs.new.items)) }
     ensures ends { IfOk result (λ r. EndsBy (C.shows clock.now) until (ours_of ours.now) r.1 (state_of_both r.0)) }
+    ensures declined { IfOk result (λ r. IfSome r.1 (AtLimit (WasDeclined (C.shows clock.now) until (ours_of ours.now) (state_of_both stores) (state_of_both r.0)))) }
     ensures proceeds { IfOk result (λ r. Proceeds r.1 stores r.0) }
 {
     stores.keep_all();
@@ -99,6 +103,7 @@ fn work_as_nodes<R: Threads + Wait + Sync, D: Disk + Send, C: SharedClock + Sync
     ensures worked { IfOk result (λ r. WorkedAsNodes (C.shows clock.now) until members.now (state_of_both stores) (state_of_both r.0)
         (map (λ list. map means list.items) jobs.old.items) (map (λ list. map means list.items) jobs.new.items)
         ⊎ DidNothing (state_of_both stores) (state_of_both r.0) (map (λ list. map means list.items) jobs.old.items) (map (λ list. map means list.items) jobs.new.items)) }
+    ensures declined { IfOk result (λ r. IfSome r.1 (AtLimit (WasDeclined (C.shows clock.now) until (map (λ (m : MemberData). m.node) members.now) (state_of_both stores) (state_of_both r.0)))) }
     ensures proceeds { IfOk result (λ r. Proceeds r.1 stores r.0) }
 {
     stores.keep_all();
@@ -137,6 +142,7 @@ fn work_as_main<R: Wait, D: Disk, C: SharedClock, G: Gate>(
     ensures worked { IfOk result (λ r. WorkedAsMain (C.shows clock.now) until me.now (state_of_both stores) (state_of_both r.0)
         (map (λ list. map means list.items) jobs.old.items) (map (λ list. map means list.items) jobs.new.items)
         ⊎ DidNothing (state_of_both stores) (state_of_both r.0) (map (λ list. map means list.items) jobs.old.items) (map (λ list. map means list.items) jobs.new.items)) }
+    ensures declined { IfOk result (λ r. IfSome r.1 (AtLimit (WasDeclined (C.shows clock.now) until (me.now.node ∷ []) (state_of_both stores) (state_of_both r.0)))) }
     ensures proceeds { IfOk result (λ r. Proceeds r.1 stores r.0) }
 {
     stores.keep_all();
@@ -172,6 +178,7 @@ fn take_turn<R: Wait, D: Disk, C: SharedClock, G: Gate>(
     requires both_open { AreBothOpen (state_of_both stores) }
     ensures took { IfOk result (λ r. (t : Turn) × (t.begun ≡ state_of_both stores) × (t.jobs ≡ map (λ list. map means list.items) jobs.old.items)
         × TookTurn (C.shows clock.now) until ours.now.nodes.items ours.now.main t (state_of_both r.0) (map (λ list. map means list.items) jobs.new.items)) }
+    ensures declined { IfOk result (λ r. IfSome r.1 (AtLimit (WasDeclined (C.shows clock.now) until (ours_of ours.now) (state_of_both stores) (state_of_both r.0)))) }
     ensures proceeds { IfOk result (λ r. Proceeds r.1 stores r.0) }
 {
     stores.keep_all();
@@ -195,6 +202,7 @@ fn end_turn<D: Disk, C: SharedClock>(
 ) -> (BothStores<D>, Option<Declined>)
     requires { AreBothOpen (state_of_both stores) }
     ensures came { CameAndWent (C.shows clock.now) (ours_of ours.now) (state_of_both stores) (state_of_both result.0) }
+    ensures declined { (until : ℤ) → IfSome result.1 (AtLimit (WasDeclined (C.shows clock.now) until (ours_of ours.now) (state_of_both stores) (state_of_both result.0))) }
     ensures proceeds { Proceeds result.1 stores result.0 }
 {
     stores.keep_all();
@@ -220,6 +228,7 @@ fn take_turns<R: Wait, D: Disk, C: SharedClock, G: Gate>(
     ensures took { IfOk result (λ r. (turns : List Turn) × TookTurns (C.shows clock.now) until ours.now.nodes.items ours.now.main turns (state_of_both stores) (state_of_both r.0)
         (map (λ list. map means list.items) jobs.old.items) (map (λ list. map means list.items) jobs.new.items)) }
     ensures ends { IfOk result (λ r. EndsBy (C.shows clock.now) until (ours_of ours.now) r.1 (state_of_both r.0)) }
+    ensures declined { IfOk result (λ r. IfSome r.1 (AtLimit (WasDeclined (C.shows clock.now) until (ours_of ours.now) (state_of_both stores) (state_of_both r.0)))) }
     ensures proceeds { IfOk result (λ r. Proceeds r.1 stores r.0) }
 {
     stores.keep_all();

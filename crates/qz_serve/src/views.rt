@@ -1,5 +1,5 @@
 //! What the stores show of a call's nodes.
-ghost use Rattle.std.specs.Prelude.{◌≡◌, true, option_map, Some, None};
+ghost use Rattle.std.specs.Prelude.{◌≡◌, ◌⊎◌, true, option_map, Some, None};
 ghost use Rattle.std.specs.List.{All};
 ghost use Rattle.qz_checkin.specs.History.{replay_states};
 ghost use Rattle.qz_checkin.specs.Rows.{state_of};
@@ -51,6 +51,7 @@ impl<D: Disk> BothStores<D> {
     pub(crate) fn cause_now(&self, told: Option<Declined>) -> Option<Declined>
         ensures both_open { result ≡ None → AreBothOpen (state_of_both self.now) }
         ensures fault { result ≡ Some Declined.Fault → OneIsClosed (state_of_both self.now) }
+        ensures same { (result ≡ Some Declined.Fault) ⊎ (result ≡ told) ⊎ (result ≡ None) }
     {
         if self.triggers.store.closed() || self.states.store.closed() {
             return Some(Declined::Fault);

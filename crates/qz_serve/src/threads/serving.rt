@@ -1,15 +1,20 @@
 //! Nodes that work on stores, from the stores' being put under their rows to their being taken back.
-ghost use Rattle.std.specs.Prelude.{◌≡◌, ◌≤ℤ◌, ◌≤◌, ◌<◌, ◌^◌, [], ◌∷◌, false, length, map, IfOk, OnErr};
+ghost use Rattle.std.specs.Prelude.{◌≡◌, ◌⊎◌, ◌≤ℤ◌, ◌≤◌, ◌<◌, ◌^◌, [], ◌∷◌, ◌++◌, false, length, map, IfOk, IfSome, OnErr};
 ghost use Rattle.std.specs.List.{AllByRecursion};
-ghost use Rattle.qz_row_lock.specs.Seats.{IsOf, ids, mine, is_out};
+ghost use Rattle.qz_types.specs.Rows.{MemberData};
+ghost use Rattle.qz_row_lock.specs.Seats.{IsOf, ids, mine, is_out, first_value};
+ghost use Rattle.qz_shared.specs.Calls.{known};
 ghost use Rattle.qz_shared.specs.Since.{IsSince};
+ghost use Rattle.qz_rounds.specs.Declining.{IsStopped};
 ghost use Rattle.qz_rounds.specs.Looking.{LeavesRows};
 ghost use Rattle.qz_serve.specs.Asking.{KeepsSeat};
+ghost use Rattle.qz_serve.specs.Declining.{AtLimit, DeclinedOnTheWay};
 ghost use Rattle.qz_serve.specs.Entries.{IsScheduled};
 ghost use Rattle.qz_serve.specs.Heard.{heard_since};
 ghost use Rattle.qz_serve.specs.Knowing.{EachTold, ShowsRan};
 ghost use Rattle.qz_serve.specs.Performing.{AlwaysPerforms, Performs};
 ghost use Rattle.qz_serve.specs.Served.{NodesServed, MainServed};
+ghost use Rattle.qz_serve.specs.Stopping.{IsOfThreads, IsRowOfThreads};
 
 use crate::threads::Gate;
 use crate::threads::chain::run_nodes;
@@ -20,13 +25,18 @@ use crate::threads::performing::{JobList, Meaning};
 use qz_node::{Job, JobContext, Jobs};
 use qz_rounds::{NodeStore, RoundStore, SharedClock};
 use qz_run::Declined;
-use qz_shared::{StoreRow, StoreSeat, close_row, open_row};
+use qz_shared::{RowStore, StoreRow, StoreSeat, close_row, open_row};
 use qz_types::{Code, LONGEST, MemberRow, NoMemory};
 use std::alloc::Global;
 use std::marker::Brand;
 use std::mem;
 use std::sync::Wait;
 use std::thread::Threads;
+
+// A law, and no work: a store lists an entry that was accepted as its last one.
+fn lists_last<S: RowStore>()
+    ensures { (e : S.Entry) (h : S.History) → S.listed (S.kind.with_entry e h) ≡ S.listed h ++ e ∷ [] }
+{}
 
 /// Members work on two stores up to a moment, in ms since 1970-01-01T00:00:00Z. Each has a scheduler thread and a check-in thread.
 /// The first member is the node 1 and has the first list of jobs, and so on; an absent list is empty. Where threads ended early,
@@ -54,10 +64,15 @@ pub(crate) fn serve_nodes<
     ensures served { IfOk result (λ r. NodesServed (C.shows clock.now) until (heard_since S.kind S.listed S.seat_of (S.state triggers)) (LeavesRows T.kind T.listed T.state T.tables (T.state states)) members.now
         (S.listed (S.state triggers).history) (S.listed (S.state r.0).history) (T.listed (T.state states).history) (T.listed (T.state r.1).history)
         (map (λ list. map means list.items) jobs.old.items) (map (λ list. map means list.items) jobs.new.items)) }
+    ensures declined { IfOk result (λ r. IfSome r.2 (AtLimit (λ why.
+        DeclinedOnTheWay S.kind S.listed (IsOfThreads (C.shows clock.now) until (LeavesRows T.kind T.listed T.state T.tables (T.state states)) (T.listed (T.state states).history) (map (λ (m : MemberData). m.node) members.now) (T.listed (T.state r.1).history)) (S.state triggers) (S.state r.0) why
+        ⊎ DeclinedOnTheWay T.kind T.listed (IsRowOfThreads (C.shows clock.now) until (LeavesRows T.kind T.listed T.state T.tables (T.state states)) (T.listed (T.state states).history) (map (λ (m : MemberData). m.node) members.now) (T.listed (T.state r.1).history)) (T.state states) (T.state r.1) why))) }
     ensures since { IfOk result (λ r. IsSince S.kind S.listed (S.state triggers) (S.state r.0) × IsSince T.kind T.listed (T.state states) (T.state r.1)) }
     ensures went { IfOk result (λ r. ∥ S.Went triggers r.0 ∥₁ × ∥ T.Went states r.1 ∥₁) }
     ensures untouched { OnErr result (jobs.new.items ≡ jobs.old.items) }
 {
+    lists_last::<S>();
+    lists_last::<T>();
     let (row, seat) = open_row(alloc, triggers)?;
     let (rounds, state) = open_row(alloc, states)?;
     let lists = mem::replace(jobs, Vec::new(alloc));
@@ -104,6 +119,7 @@ fn run_main<
     ensures same { KeepsSeat seat result.0 }
     ensures entries { AllByRecursion (IsScheduled (C.shows clock.now) until me.now seat.number) (mine result.0) }
     ensures told { EachTold (λ n. ShowsRan row.now result.0 (n ∷ [])) (seat.number ∷ []) (map M.meanings lists.old.items) (map M.meanings lists.new.items) }
+    ensures stopped { IfSome result.1 (IsStopped S.kind S.listed (S.state (first_value row.now).opened.value) (IsScheduled (C.shows clock.now) until me.now seat.number) (known result.0)) }
 {
     let list = take_list::<L, M>(alloc, lists, 0);
     let (seat, list, cause) = run_listed::<S, R, C, G, L, E, M>(
@@ -131,6 +147,7 @@ pub(crate) fn serve_main<S: NodeStore, R: Wait, C: SharedClock, G: Gate>(
     ensures served { IfOk result (λ r. MainServed (C.shows clock.now) until (heard_since S.kind S.listed S.seat_of (S.state triggers)) me.now
         (S.listed (S.state triggers).history) (S.listed (S.state r.0).history)
         (map (λ list. map means list.items) jobs.old.items) (map (λ list. map means list.items) jobs.new.items)) }
+    ensures declined { IfOk result (λ r. IfSome r.1 (AtLimit (DeclinedOnTheWay S.kind S.listed (IsScheduled (C.shows clock.now) until me.now 0) (S.state triggers) (S.state r.0)))) }
     ensures since { IfOk result (λ r. IsSince S.kind S.listed (S.state triggers) (S.state r.0)) }
     ensures went { IfOk result (λ r. ∥ S.Went triggers r.0 ∥₁) }
     ensures untouched { OnErr result (jobs.new.items ≡ jobs.old.items) }

@@ -1,12 +1,12 @@
 //! A node's scheduler thread.
-ghost use Rattle.std.specs.Prelude.{◌≡◌, ◌≤ℤ◌, [], map, false, IfErr, IfSome};
+ghost use Rattle.std.specs.Prelude.{◌≡◌, ◌≤ℤ◌, [], map, false, IfErr, IfSome, OnOk};
 ghost use Rattle.std.specs.List.{AllByRecursion};
 ghost use Rattle.qz_row_lock.specs.Seats.{IsOf, mine, is_out, first_value};
 ghost use Rattle.qz_shared.specs.Calls.{known};
 ghost use Rattle.qz_rounds.specs.Declining.{IsStopped};
 ghost use Rattle.qz_serve.specs.Entries.{IsScheduled};
 ghost use Rattle.qz_serve.specs.Ran.{TellsOn, RanOrMore};
-ghost use Rattle.qz_serve.specs.Asking.{KeepsSeat, IsAtWork, deeds};
+ghost use Rattle.qz_serve.specs.Asking.{KeepsSeat, IsAtWork, IsReady, deeds};
 
 use crate::threads::Gate;
 use crate::threads::looking::rest;
@@ -34,9 +34,11 @@ fn step<S: NodeStore, R: Wait, C: SharedClock, G: Gate, J: NodeJobs>(
     jobs: &mut J,
 ) -> Result<(), Option<Declined>>
     requires work { IsAtWork (C.shows clock.now) until me.now row.now seat.old turn.old context.old }
+    requires ready { IsReady turn.old context.old }
     requires until { until ≤ℤ LONGEST }
     requires lawful { J.lawful jobs.old }
     ensures work { IsAtWork (C.shows clock.now) until me.now row.now seat.new turn.new context.new }
+    ensures ready { OnOk result (IsReady turn.new context.new) }
     ensures same { KeepsSeat seat.old seat.new }
     ensures lawful { J.lawful jobs.new }
     ensures ran { TellsOn result (deeds row.now seat.old) (deeds row.now seat.new) (J.meanings jobs.old) (J.meanings jobs.new) }
@@ -83,7 +85,7 @@ fn step<S: NodeStore, R: Wait, C: SharedClock, G: Gate, J: NodeJobs>(
             at,
             Command::Fire { entry },
         ),
-        Want::Complete { entry: _, code: _ } => Err(None),
+        Want::Complete { entry: _, code: _ } => unreachable!(),
     }
 }
 

@@ -9,6 +9,7 @@ returns-clause-ended g c = record {
   written = c.tell-told.ensures.written;
   rested = c.rest_nodes-status.new.triggers;
   rests = c.rest_nodes-status.ensures.rests;
+  any_moment = c.rest_nodes-status.ensures.any_moment;
   disks = λ i. Some (c.into_disk.ensures i, c.into_disk-2.ensures i);
 }
 

@@ -12,3 +12,6 @@ returns-in-Err-clause-came g c = c.in-Err.ensures.moved
 
 pub returns-in-Err-clause-proceeds : goal.returns-in-Err-clause-proceeds
 returns-in-Err-clause-proceeds g c = moved_short _ _ c.in-Err.why _ _ c.keep_all.ensures c.in-Err.ensures
+
+pub returns-in-Err-clause-declined : goal.returns-in-Err-clause-declined
+returns-in-Err-clause-declined g c until = c.in-Err.ensures.declined until

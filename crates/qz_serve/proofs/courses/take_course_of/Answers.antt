@@ -1,8 +1,12 @@
-use Rattle.std.proofs.Common.{◌≡◌, rules, to_z, of_z, w64, ap, ◌∙◌, map, refl}
+use Rattle.std.proofs.Common.{◌≡◌, ℕ, List, rules, to_z, of_z, w64, ap, ◌∙◌, map, refl, subst}
+use Rattle.std.proofs.lemmas.List.Elements.{Contains-append_left}
+use Rattle.std.specs.Prelude.{Contains}
 use Rattle.qz_types.specs.Rows.{MemberData}
 use Rattle.qz_serve.specs.Names.{ours_of}
 use Rattle.qz_serve.proofs.Holding.{ends_moved, ends_proceeds, moved_short, moved_well, proceeds_as, proceeds_then}
-use Rattle.qz_serve.proofs.Coursing.{came_named, course_of_joins, course_of_nodes, course_of_turns, ends_named, if_ok_map, nodes_named, turns_until}
+use Rattle.qz_serve.proofs.Coursing.{came_named, course_of_joins, course_of_nodes, course_of_turns, declined_named, ends_named, if_ok_map, nodes_named, turns_until}
+use Rattle.qz_serve.proofs.Limiting.{grew_none, if_declined, was_declined}
+use Rattle.qz_serve.proofs.Stopping.{some_as}
 use Rattle.qz_serve.proofs.courses.take_course_of.Goals as goal
 
 pub returns-in-Err-clause-took : goal.returns-in-Err-clause-took
@@ -45,3 +49,21 @@ returns-clause-ends g c =
 
 pub returns-clause-proceeds : goal.returns-clause-proceeds
 returns-clause-proceeds g c = if_ok_map _ _ c.take_turns.result (λ r proceeds. proceeds_then _ _ _ _ (moved_well _ _ _ _ c.keep_all.ensures c.requires.both_open c.in-Ok.ensures.moves) (proceeds_then _ _ _ _ (proceeds_as _ _ _ _ c.in-None.is c.in_ok-stores.ensures.proceeds) proceeds)) c.take_turns.ensures.proceeds
+
+pub returns-in-Err-clause-declined : goal.returns-in-Err-clause-declined
+returns-in-Err-clause-declined g c =
+    was_declined _ c.args.until c.deref.result.now (ours_of c.args.ours.now) (λ name within. Contains-append_left c.args.ours.now.nodes.items _ name (subst (λ (xs : List (List ℕ)). Contains xs name) c.deref.ensures.value within))
+    _ _ _ (grew_none _) c.in-Err.why (c.in-Err.ensures.moves.declined c.args.until)
+
+pub returns-in-Some-clause-declined : goal.returns-in-Some-clause-declined
+returns-in-Some-clause-declined g c =
+    let until : to_z w64 (of_z w64 c.args.until) ≡ c.args.until = search rules in
+    let named = ap (map (λ (m : MemberData). m.node)) c.deref-2.ensures.value ∙ c.in-Ok.ensures.members ∙ c.deref.ensures.value in
+    some_as _ _ c.in-Some.why c.in-Some.is
+    (if_declined _ c.args.until c.args.ours.now.nodes.items (ours_of c.args.ours.now) (λ name within. Contains-append_left c.args.ours.now.nodes.items _ name within) _ _ _ c.in-Ok.ensures.moves.grew _ (declined_named _ _ c.args.until _ _ _ _ _ until named c.in_ok-stores.ensures.declined))
+
+pub returns-clause-declined : goal.returns-clause-declined
+returns-clause-declined g c =
+    let until : to_z w64 (of_z w64 c.args.until) ≡ c.args.until = search rules in
+    let before = proceeds_then _ _ _ _ (moved_well _ _ _ _ c.keep_all.ensures c.requires.both_open c.in-Ok.ensures.moves) (proceeds_as _ _ _ _ c.in-None.is c.in_ok-stores.ensures.proceeds) in
+    if_ok_map _ _ c.take_turns.result (λ r declined. if_declined _ c.args.until (ours_of c.args.ours.now) (ours_of c.args.ours.now) (λ name within. within) _ _ _ before.kept.grew _ (declined_named _ _ c.args.until _ _ _ _ _ until refl declined)) c.take_turns.ensures.declined

@@ -1,6 +1,10 @@
-use Rattle.std.proofs.Common.{◌≡◌, rules, to_z, of_z, w64}
+use Rattle.std.proofs.Common.{◌≡◌, ◌∷◌, [], refl, rules, to_z, of_z, w64}
+use Rattle.std.proofs.lemmas.List.Elements.{Contains-append_right}
+use Rattle.qz_serve.specs.Names.{ours_of}
 use Rattle.qz_serve.proofs.Holding.{moved_short, moved_well, proceeds_as, proceeds_then}
-use Rattle.qz_serve.proofs.Coursing.{turn_of_join, turn_of_main, turn_of_leaves}
+use Rattle.qz_serve.proofs.Coursing.{declined_named, turn_of_join, turn_of_main, turn_of_leaves}
+use Rattle.qz_serve.proofs.Limiting.{grew_none, if_declined, was_declined}
+use Rattle.qz_serve.proofs.Stopping.{some_as}
 use Rattle.qz_serve.proofs.courses.take_turn.Goals as goal
 
 pub returns-in-Err-clause-took : goal.returns-in-Err-clause-took
@@ -30,3 +34,19 @@ returns-clause-took g c =
 
 pub returns-clause-proceeds : goal.returns-clause-proceeds
 returns-clause-proceeds g c = proceeds_then _ _ _ _ (moved_well _ _ _ _ c.keep_all.ensures c.requires.both_open c.in-Ok.ensures.moves) (proceeds_then _ _ _ _ (proceeds_as _ _ _ _ c.in-None.is c.in_ok-stores.ensures.proceeds) c.end_turn.ensures.proceeds)
+
+pub returns-in-Err-clause-declined : goal.returns-in-Err-clause-declined
+returns-in-Err-clause-declined g c =
+    was_declined _ c.args.until (c.args.ours.now.main ∷ []) (ours_of c.args.ours.now) (λ name within. Contains-append_right c.args.ours.now.nodes.items _ name within) _ _ _ (grew_none _) c.in-Err.why (c.in-Err.ensures.moves.declined c.args.until)
+
+pub returns-in-Some-clause-declined : goal.returns-in-Some-clause-declined
+returns-in-Some-clause-declined g c =
+    let until : to_z w64 (of_z w64 c.args.until) ≡ c.args.until = search rules in
+    some_as _ _ c.in-Some.why c.in-Some.is
+    (if_declined _ c.args.until (c.args.ours.now.main ∷ []) (ours_of c.args.ours.now) (λ name within. Contains-append_right c.args.ours.now.nodes.items _ name within) _ _ _ c.in-Ok.ensures.moves.grew _
+    (declined_named _ _ c.args.until _ _ _ _ _ until (λ i. c.in-Ok.ensures.member i ∷ []) c.in_ok-stores.ensures.declined))
+
+pub returns-clause-declined : goal.returns-clause-declined
+returns-clause-declined g c =
+    let before = proceeds_then _ _ _ _ (moved_well _ _ _ _ c.keep_all.ensures c.requires.both_open c.in-Ok.ensures.moves) (proceeds_as _ _ _ _ c.in-None.is c.in_ok-stores.ensures.proceeds) in
+    if_declined _ c.args.until (ours_of c.args.ours.now) (ours_of c.args.ours.now) (λ name within. within) _ _ _ before.kept.grew _ (c.end_turn.ensures.declined c.args.until)

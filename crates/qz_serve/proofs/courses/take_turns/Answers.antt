@@ -2,7 +2,9 @@ use Rattle.std.proofs.Common.{◌≡◌, rules, to_z, of_z, w64, map, refl}
 use Rattle.qz_serve.specs.Going.{state_of_both}
 use Rattle.qz_serve.specs.Names.{ours_of}
 use Rattle.qz_serve.proofs.Holding.{ends_proceeds, proceeds_as, proceeds_none, proceeds_then}
-use Rattle.qz_serve.proofs.Coursing.{turns_none, turns_more, turns_until}
+use Rattle.qz_serve.proofs.Coursing.{declined_named, turns_none, turns_more, turns_until}
+use Rattle.qz_serve.proofs.Limiting.{if_declined}
+use Rattle.qz_serve.proofs.Stopping.{some_as}
 use Rattle.qz_serve.proofs.courses.take_turns.Goals as goal
 
 pub turns-init : goal.turns-init
@@ -41,3 +43,9 @@ returns-then-is_over-clause-ends g c =
 
 pub returns-then-is_over-clause-proceeds : goal.returns-then-is_over-clause-proceeds
 returns-then-is_over-clause-proceeds g c = proceeds_then _ _ _ _ c.turns.invariant.proceeds (proceeds_as _ _ _ _ c.in-None-cause.is c.in_ok-left.ensures.proceeds)
+
+pub returns-in-Some-cause-clause-declined : goal.returns-in-Some-cause-clause-declined
+returns-in-Some-cause-clause-declined g c =
+    let until : to_z w64 (of_z w64 c.args.until) ≡ c.args.until = search rules in
+    some_as _ _ c.in-Some-cause.why c.in-Some-cause.is
+    (if_declined _ c.args.until (ours_of c.args.ours.now) (ours_of c.args.ours.now) (λ name within. within) _ _ _ c.turns.invariant.proceeds.kept.grew _ (declined_named _ _ c.args.until _ _ _ _ _ until refl c.in_ok-left.ensures.declined))

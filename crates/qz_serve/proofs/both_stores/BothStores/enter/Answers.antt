@@ -1,4 +1,5 @@
-use Rattle.qz_serve.proofs.Moving.{moves_starved_then, contains_one}
+use Rattle.qz_serve.proofs.Lists.{contains_one}
+use Rattle.qz_serve.proofs.Moving.{moves_starved_then}
 use Rattle.qz_serve.proofs.both_stores.BothStores.enter.Goals as goal
 
 pub returns-in-Ok-member-clause-moves : goal.returns-in-Ok-member-clause-moves

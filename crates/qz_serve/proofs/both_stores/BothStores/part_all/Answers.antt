@@ -1,7 +1,8 @@
 use Rattle.std.proofs.Common.{List, ℕ, subst}
 use Rattle.std.proofs.lemmas.List.Elements.{Contains-append_left, Contains-append_right}
 use Rattle.std.specs.Prelude.{Contains}
-use Rattle.qz_serve.proofs.Moving.{moves_then, moves_wider, contains_one}
+use Rattle.qz_serve.proofs.Lists.{contains_one}
+use Rattle.qz_serve.proofs.Moving.{moves_then, moves_wider}
 use Rattle.qz_serve.proofs.both_stores.BothStores.part_all.Goals as goal
 
 pub returns-in-Ok : goal.returns-in-Ok

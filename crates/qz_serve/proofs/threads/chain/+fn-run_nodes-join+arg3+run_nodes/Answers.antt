@@ -1,7 +1,12 @@
-use Rattle.std.proofs.Common.{◌∷◌, ◌∙◌, map, ap, arith, refl, rules}
-use Rattle.qz_row_lock.specs.Seats.{ids, mine, seen}
+use Rattle.std.proofs.Common.{◌≡◌, ◌∷◌, [], ◌∙◌, ◌-◌, ℕ, ℤ, to_z, of_z, w64, List, length, take, drop, map, ap, arith, refl, rules, subst}
+use Rattle.std.proofs.lemmas.List.Elements.{Contains-append_left, Contains-append_right}
+use Rattle.std.specs.Prelude.{Contains}
+use Rattle.qz_types.specs.Rows.{MemberData}
+use Rattle.qz_row_lock.specs.Seats.{ids, mine, seen, first_value}
+use Rattle.qz_rounds.specs.Looking.{LeavesRows}
 use Rattle.qz_serve.specs.Asking.{heard_in, first_entries}
 use Rattle.qz_serve.specs.Knowing.{Worker}
+use Rattle.qz_serve.proofs.Stopping.{as_told, joined_stopped, stopped_until}
 use Rattle.qz_serve.proofs.Told.{before_same}
 use Rattle.qz_serve.proofs.Worked.{nodes_joined, at_moment, none_worked, first_and_others, alone}
 use Rattle.qz_serve.proofs.threads.chain.+fn-run_nodes-join+arg3+run_nodes.Goals as goal
@@ -47,3 +52,35 @@ join-first-requires-after_bounds g t c κs within =
     let s = c.split_for-seat.ensures in
     let u = c.split_for-state.ensures in
     let p = c.requires.performs in (search rules, (search rules, (search rules, (search rules, (search rules, (search rules, (search rules, (search rules, (search rules, (search rules, ((search rules, search rules, search rules, search rules, search rules, search rules, search rules, search rules, search rules, s.of.0, u.of.0, s.home.0, u.home.0, search rules, s.new.0, u.new.0, s.own.0, u.own.0, search rules, s.more.0, u.more.0, p.0, p.1, c.requires.none), (search rules, search rules, search rules, search rules, search rules, search rules, search rules, search rules, search rules))))))))))))
+
+pub returns-in-len1-up-clause-stopped : goal.returns-in-len1-up-clause-stopped
+returns-in-len1-up-clause-stopped g t c =
+    let s = g.S.RowStore in
+    let q = g.T.RowStore in
+    let row = c.args.row.now in
+    let rounds = c.args.states.now in
+    let opened = q.state (first_value rounds).opened.value in
+    let first = c.join-first.ensures.first in
+    let rest = c.join-first.ensures.second in
+    let p = c.join-first.result.0 in
+    let r = c.join-first.result.1 in
+    let j = c.join.ensures in
+    let k = c.join-in-len1-up.ensures in
+    let n = c.join.result in
+    let m = c.join-in-len1-up.result in
+    let me : List ℕ = c.me-item.result.node in
+    let others : List (List ℕ) = map (λ (x : MemberData). x.node) (take (length c.args.members.now - 1) (drop 1 c.args.members.now)) in
+    let all : List (List ℕ) = map (λ (x : MemberData). x.node) c.args.members.now in
+    let whole : me ∷ others ≡ all = ap (map (λ (x : MemberData). x.node)) (first_and_others c.args.members.now c.me-item.result c.in-len1-up.len_at_least c.me-item.is) in
+    let up_to : ℤ = to_z w64 (of_z w64 c.args.until) in
+    let until : up_to ≡ c.args.until = search rules in
+    let base = q.listed (q.state (first_value rounds).store).history in
+    let shows = g.C.SharedClock.shows c.args.clock.now in
+    let leaves = LeavesRows q.kind q.listed q.state g.T.RoundStore.tables opened in
+    let ground = s.state (first_value row).opened.value in
+    as_told _ _ _ c.least_cause.ensures
+    (stopped_until s.kind s.listed ground (first_entries row) q.kind q.listed opened base shows up_to c.args.until leaves (q.listed opened.history) all (seen n) (seen m) _ until
+    (joined_stopped s.kind s.listed ground (first_entries row) q.kind q.listed opened base shows up_to (LeavesRows q.kind q.listed q.state g.T.RoundStore.tables opened) (q.listed opened.history)
+    (me ∷ []) others all (seen p.0) (seen r.0) (seen n) (seen p.1) (seen r.1) (seen m)
+    (λ x within. subst (λ (xs : List (List ℕ)). Contains xs x) whole (Contains-append_left (me ∷ []) others x within)) (λ x within. subst (λ (xs : List (List ℕ)). Contains xs x) whole (Contains-append_right (me ∷ []) others x within))
+    j.seen.1 k.seen.1 j.seen.0 k.seen.0 _ _ first.7 rest.8))

@@ -1,9 +1,11 @@
-use Rattle.std.proofs.Common.{ap, ◌∙◌, rules}
+use Rattle.std.proofs.Common.{◌≡◌, ◌∙◌, ap, map, refl, rules, sym, to_z, of_z, w64}
+use Rattle.qz_types.specs.Rows.{MemberData}
 use Rattle.qz_row_lock.specs.Seats.{ids, mine, seen, first_value}
 use Rattle.qz_rounds.specs.Looking.{LeavesRows}
 use Rattle.qz_serve.specs.Asking.{heard_in, first_entries}
 use Rattle.qz_serve.specs.Heard.{heard, heard_since}
 use Rattle.qz_serve.proofs.Closing.{nodes_served}
+use Rattle.qz_serve.proofs.Stopping.{closed_stopped, thread_as}
 use Rattle.qz_serve.proofs.Worked.{at_moment}
 use Rattle.qz_serve.proofs.threads.serving.serve_nodes.Goals as goal
 
@@ -27,3 +29,28 @@ returns-clause-served g c =
     (ap (λ s. LeavesRows q.kind q.listed q.state g.T.RoundStore.tables (q.state s)) p.opened.0)
     (ap (λ s. λ numbers entries. heard k.kind k.listed k.seat_of (k.state s) numbers (first_entries row) entries) o.opened.0 ∙ ap (λ s. λ numbers entries. heard k.kind k.listed k.seat_of (k.state c.args.triggers) numbers (k.listed (k.state s).history) entries) o.opened.1)
     (ap (λ s. k.listed (k.state s).history) o.opened.1) (ap (λ s. q.listed (q.state s).history) p.opened.1) (ap (λ s. q.listed (q.state s).history) p.opened.0)
+
+pub returns-clause-declined : goal.returns-clause-declined
+returns-clause-declined g c =
+    let k = g.S.RowStore in
+    let q = g.T.RowStore in
+    let row = c.in_ok-row.row in
+    let rounds = c.in_ok-rounds.rounds in
+    let o = c.in_ok-row.ensures in
+    let p = c.in_ok-rounds.ensures in
+    let r = c.run_nodes-seat.ensures in
+    let n = c.run_nodes-seat.result.0 in
+    let m = c.run_nodes-seat.result.1 in
+    let f = c.close_row.ensures in
+    let h = c.close_row-2.ensures in
+    let opened = k.state (first_value row).opened.value in
+    let row_opened = q.state (first_value rounds).opened.value in
+    let until : to_z w64 (of_z w64 c.args.until) ≡ c.args.until = search rules in
+    let names = map (λ (x : MemberData). x.node) c.args.members.now in
+    let now = k.state c.close_row.result in
+    let now_rows = q.state c.close_row-2.result in
+    thread_as k.kind k.listed q.kind q.listed (g.C.SharedClock.shows c.args.clock.now) names now now_rows opened (k.state c.args.triggers) row_opened (q.state c.args.states) _ c.args.until
+    (LeavesRows q.kind q.listed q.state g.T.RoundStore.tables row_opened) (LeavesRows q.kind q.listed q.state g.T.RoundStore.tables (q.state c.args.states)) (q.listed row_opened.history) (q.listed (q.state c.args.states).history) _
+    (ap k.state o.opened.0) (ap q.state p.opened.0) until (ap (λ s. LeavesRows q.kind q.listed q.state g.T.RoundStore.tables (q.state s)) p.opened.0) (ap (λ s. q.listed (q.state s).history) p.opened.0)
+    (closed_stopped k.kind k.listed opened (first_entries row) q.kind q.listed row_opened (q.listed (q.state (first_value rounds).store).history) (g.C.SharedClock.shows c.args.clock.now) _ (LeavesRows q.kind q.listed q.state g.T.RoundStore.tables row_opened) (q.listed row_opened.history)
+    c.lists_last.ensures c.lists_last-2.ensures names (seen n) (seen m) now now_rows (ap (λ s. k.listed (k.state s).history) (o.opened.1 ∙ sym o.opened.0)) (ap (λ s. q.listed (q.state s).history) (p.opened.1 ∙ sym p.opened.0)) f.begins h.begins _ r.stopped)

@@ -1,7 +1,7 @@
-use Rattle.std.proofs.Common.{◌≡◌, [], refl, rules, sym, ap, subst}
+use Rattle.std.proofs.Common.{◌≡◌, [], None, refl, rules, sym, ap, subst}
 use Rattle.std.specs.List.{AllByRecursion}
 use Rattle.qz_row_lock.specs.Seats.{ids, mine, seen, first_value}
-use Rattle.qz_serve.specs.Asking.{deeds}
+use Rattle.qz_serve.specs.Asking.{IsReady, deeds}
 use Rattle.qz_serve.specs.Entries.{IsScheduled}
 use Rattle.qz_serve.specs.Ran.{Ran, context_in}
 use Rattle.qz_serve.proofs.Joining.{no_deeds}
@@ -22,6 +22,7 @@ works-init g c =
         told = ap context_in (sym none);
         entries = subst (AllByRecursion (IsScheduled _ _ _ _)) (sym c.requires.new) tt;
       };
+      ready = subst (λ t. IsReady t None) (sym c.new-turn.ensures) tt;
       same = record { number = refl; more = refl; parts = refl; ids = refl };
       lawful = c.requires.lawful;
       ran = subst (λ d. Ran d (g.J.NodeJobs.meanings c.args.jobs.now) (g.J.NodeJobs.meanings c.args.jobs.now)) (sym none) refl;
