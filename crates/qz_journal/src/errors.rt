@@ -18,6 +18,23 @@ pub enum CreateError {
     Fault,
 }
 
+/// Why no new store was made and opened, in the order in which the causes are looked for. `Fault` is returned only if the disk's
+/// count of faults rose in the call.
+#[derive(Clone, Copy, PartialEq, Eq, Debug, Error)]
+pub enum NewStoreError {
+    /// The disk begins as a store of this kind does, in any version.
+    #[error("the store exists")]
+    Exists,
+    /// The disk begins as a store of the other kind does, in any version.
+    #[error("the disk holds the other store")]
+    OtherKind,
+    /// There is no memory for what an open store needs. Nothing was written.
+    #[error("no memory")]
+    NoMemory,
+    #[error("the disk failed")]
+    Fault,
+}
+
 /// Why no journal was opened. `Fault` is returned only if the disk's count of faults rose in the call.
 #[derive(Clone, Copy, PartialEq, Eq, Debug, Error)]
 pub enum MountError {
