@@ -1,7 +1,8 @@
 //! Looks that are kept.
-ghost use Rattle.std.specs.Prelude.{◌≡◌, ◌+◌, ◌<◌, ◌≤◌, Some, IfOk, IfSome};
+ghost use Rattle.std.specs.Prelude.{◌≡◌, ◌+◌, ◌<◌, ◌≤◌, ◌++◌, ◌∷◌, [], Some, IfOk, IfSome};
 ghost use Rattle.std.proofs.Props.{props};
 ghost use mathlib.Core.List.{IsPrefix};
+ghost use Rattle.qz_board.specs.declared.glance.Glance.{Glance as Seen};
 ghost use Rattle.qz_board.specs.Boards.{offered, writer_basis, writer_board, seen, reader_basis, reader_board};
 ghost use Rattle.qz_board_looks.specs.Looks.{AreLooks, EndWithAll};
 
@@ -24,6 +25,7 @@ impl<K: Subject> Looks<K> {
     pub fn new(alloc: Global, reader: BoardReader<K>, count: usize) -> Result<Looks<K>, NoMemory>
         ensures reader { IfOk result (λ looks. looks.reader ≡ reader) }
         ensures room { IfOk result (λ looks. count ≤ looks.glances.room) }
+        ensures none { IfOk result (λ looks. looks.glances.items ≡ []) }
     {
         let mut glances = ListWithRoom::new(alloc);
         glances.reserve(count)?;
@@ -34,6 +36,7 @@ impl<K: Subject> Looks<K> {
     pub fn look(&mut self)
         requires { 0 < self.old.glances.room }
         ensures room { self.new.glances.room + 1 ≡ self.old.glances.room }
+        ensures one { (glance : Seen) × (self.new.glances.items ≡ self.old.glances.items ++ glance ∷ []) }
         ensures later { IsPrefix (seen self.old.reader) (seen self.new.reader) }
         ensures kept { (reader_basis self.new.reader ≡ reader_basis self.old.reader) × (reader_board self.new.reader ≡ reader_board self.old.reader) }
     {
@@ -53,6 +56,7 @@ impl<K: Subject> Looks<K> {
         requires goes_on { IsPrefix (offered writer.old) (S.history from.now) }
         requires basis { (writer_basis writer.old ≡ Some (S.basis from.now)) × (reader_basis self.reader ≡ Some (S.basis from.now)) }
         requires board { reader_board self.reader ≡ writer_board writer.old }
+        ensures each { IfOk result (λ glances. glances.items ≡ self.glances.items ++ K.glance_of (S.basis from.now) (S.history from.now) ∷ []) }
         ensures all { IfOk result (λ glances. ∥ EndWithAll (K.glance_of (S.basis from.now)) glances.items (S.history from.now) ∥₁) }
         ensures offered { offered writer.new ≡ S.history from.now }
         ensures kept { (writer_basis writer.new ≡ writer_basis writer.old) × (writer_board writer.new ≡ writer_board writer.old) }
