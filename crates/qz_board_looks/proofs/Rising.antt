@@ -32,19 +32,19 @@ module _ {E : Type 0} where
   rise_to [] last r = (itself last, tt)
   rise_to (h ∷ hs) last r = (first_snoc h hs last r.0, rise_to hs last r.1)
 
-  module _ (glance_of : List E → Glance) where
-    pub looks_on : (glances : List Glance) (old new : List E) → AreLooks glance_of glances old → IsPrefix old new → AreLooks glance_of glances new
-    looks_on glances old new looks q = record { histories = looks.histories; glances_are = looks.glances_are; rise = rise_on looks.histories old new looks.rise q }
+  module _ (glance_of : List E → Glance) (first : List E) where
+    pub looks_on : (glances : List Glance) (old new : List E) → AreLooks glance_of first glances old → IsPrefix old new → AreLooks glance_of first glances new
+    looks_on glances old new looks q = record { histories = looks.histories; glances_are = looks.glances_are; rise = rise_on (first ∷ looks.histories) old new looks.rise q }
 
     -- one look more
-    pub one_more : (glances : List Glance) (glance : Glance) (old new : List E) → AreLooks glance_of glances old → IsPrefix old new → glance ≡ glance_of new → AreLooks glance_of (glances ++ glance ∷ []) new
+    pub one_more : (glances : List Glance) (glance : Glance) (old new : List E) → AreLooks glance_of first glances old → IsPrefix old new → glance ≡ glance_of new → AreLooks glance_of first (glances ++ glance ∷ []) new
     one_more glances glance old new looks q is = record {
       histories = looks.histories ++ new ∷ [];
       glances_are = ap (λ g. glances ++ g ∷ []) is ∙ ap (λ gs. gs ++ glance_of new ∷ []) looks.glances_are ∙ sym (map-append glance_of looks.histories (new ∷ []));
-      rise = rise_to looks.histories new (rise_on looks.histories old new looks.rise q);
+      rise = rise_to (first ∷ looks.histories) new (rise_on (first ∷ looks.histories) old new looks.rise q);
     }
 
-    pub all_seen : (glances : List Glance) (glance : Glance) (old whole : List E) → AreLooks glance_of glances old → IsPrefix old whole → glance ≡ glance_of whole → EndWithAll glance_of (glances ++ glance ∷ []) whole
+    pub all_seen : (glances : List Glance) (glance : Glance) (old whole : List E) → AreLooks glance_of first glances old → IsPrefix old whole → glance ≡ glance_of whole → EndWithAll glance_of first (glances ++ glance ∷ []) whole
     all_seen glances glance old whole looks q is = record { before = glances; looks = looks_on glances old whole looks q; glances_are = ap (λ g. glances ++ g ∷ []) is }
 
 -- Entries that begin with a whole history, and are shown as as many as that has, are that history.
@@ -58,22 +58,22 @@ whole_by_count before glance_of counted b whole seen glance begins shows same =
     none_more whole seen begins.0 begins.1 (omega (arith, ap (λ (g : Glance). g.entries) shows, same, counted b seen, counted b whole))
 
 -- What is kept of looks, of whatever basis the reader is.
-module _ {E G : Type 0} (glance_of : G → List E → Glance) where
-  pub none_yet : (o : Option G) (seen : List E) → IfSome o (λ b. ∥ AreLooks (glance_of b) [] seen ∥₁)
-  none_yet None seen = tt
-  none_yet (Some b) seen = ∣ record { histories = []; glances_are = refl; rise = tt } ∣₁
+module _ {E G : Type 0} (glance_of : G → List E → Glance) (first : List E) where
+  pub none_yet : (o : Option G) (seen : List E) → IsPrefix first seen → IfSome o (λ b. ∥ AreLooks (glance_of b) first [] seen ∥₁)
+  none_yet None seen begins = tt
+  none_yet (Some b) seen begins = ∣ record { histories = []; glances_are = refl; rise = (begins, tt) } ∣₁
 
-  more : (o : Option G) (glances : List Glance) (glance : Glance) (old new : List E) → IfSome o (λ b. ∥ AreLooks (glance_of b) glances old ∥₁) → IsPrefix old new → IfSome o (λ b. glance ≡ glance_of b new)
-      → IfSome o (λ b. ∥ AreLooks (glance_of b) (glances ++ glance ∷ []) new ∥₁)
+  more : (o : Option G) (glances : List Glance) (glance : Glance) (old new : List E) → IfSome o (λ b. ∥ AreLooks (glance_of b) first glances old ∥₁) → IsPrefix old new → IfSome o (λ b. glance ≡ glance_of b new)
+      → IfSome o (λ b. ∥ AreLooks (glance_of b) first (glances ++ glance ∷ []) new ∥₁)
   more None glances glance old new looks q shows = tt
-  more (Some b) glances glance old new looks q shows = ∥∥₁_map looks (λ are. one_more (glance_of b) glances glance old new are q shows)
+  more (Some b) glances glance old new looks q shows = ∥∥₁_map looks (λ are. one_more (glance_of b) first glances glance old new are q shows)
 
-  pub kept_more : (o p : Option G) (glances : List Glance) (glance : Glance) (old new : List E) → p ≡ o → IfSome o (λ b. ∥ AreLooks (glance_of b) glances old ∥₁) → IsPrefix old new → IfSome p (λ b. glance ≡ glance_of b new)
-      → IfSome p (λ b. ∥ AreLooks (glance_of b) (glances ++ glance ∷ []) new ∥₁)
-  kept_more o p glances glance old new same looks q shows = more p glances glance old new (subst (λ r. IfSome r (λ b. ∥ AreLooks (glance_of b) glances old ∥₁)) (sym same) looks) q shows
+  pub kept_more : (o p : Option G) (glances : List Glance) (glance : Glance) (old new : List E) → p ≡ o → IfSome o (λ b. ∥ AreLooks (glance_of b) first glances old ∥₁) → IsPrefix old new → IfSome p (λ b. glance ≡ glance_of b new)
+      → IfSome p (λ b. ∥ AreLooks (glance_of b) first (glances ++ glance ∷ []) new ∥₁)
+  kept_more o p glances glance old new same looks q shows = more p glances glance old new (subst (λ r. IfSome r (λ b. ∥ AreLooks (glance_of b) first glances old ∥₁)) (sym same) looks) q shows
 
-  pub kept_all : (o : Option G) (b : G) (glances : List Glance) (glance : Glance) (old new whole : List E) → o ≡ Some b → IfSome o (λ b. ∥ AreLooks (glance_of b) glances old ∥₁) → IsPrefix old new → new ≡ whole → glance ≡ glance_of b whole
-      → ∥ EndWithAll (glance_of b) (glances ++ glance ∷ []) whole ∥₁
+  pub kept_all : (o : Option G) (b : G) (glances : List Glance) (glance : Glance) (old new whole : List E) → o ≡ Some b → IfSome o (λ b. ∥ AreLooks (glance_of b) first glances old ∥₁) → IsPrefix old new → new ≡ whole → glance ≡ glance_of b whole
+      → ∥ EndWithAll (glance_of b) first (glances ++ glance ∷ []) whole ∥₁
   kept_all o b glances glance old new whole based looks q all shows =
-      let these : ∥ AreLooks (glance_of b) glances old ∥₁ = subst (λ r. IfSome r (λ b. ∥ AreLooks (glance_of b) glances old ∥₁)) based looks in
-      ∥∥₁_map these (λ are. all_seen (glance_of b) glances glance old whole are (subst (IsPrefix old) all q) shows)
+      let these : ∥ AreLooks (glance_of b) first glances old ∥₁ = subst (λ r. IfSome r (λ b. ∥ AreLooks (glance_of b) first glances old ∥₁)) based looks in
+      ∥∥₁_map these (λ are. all_seen (glance_of b) first glances glance old whole are (subst (IsPrefix old) all q) shows)

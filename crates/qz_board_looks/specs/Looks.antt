@@ -14,12 +14,13 @@ module _ {E : Type 0} where
   Rise [] last = ⊤
   Rise (h ∷ hs) last = IsPrefix h (first_or hs last) × Rise hs last
 
-  module _ (glance_of : List E → Glance) where
-    -- The glances are those of histories, each of which begins the next one. The last of them begins what was seen.
+  module _ (glance_of : List E → Glance) (first : List E) where
+    -- The glances are those of histories that go on from the first one, each of which begins the next one. The last of them begins
+    -- what was seen.
     pub record AreLooks (glances : List Glance) (seen : List E) : Type 0 where
       pub histories : List (List E)
       pub glances_are : glances ≡ map glance_of histories
-      pub rise : Rise histories seen
+      pub rise : Rise (first ∷ histories) seen
 
     -- The glances are such, and the last of them is of the whole history.
     pub record EndWithAll (glances : List Glance) (whole : List E) : Type 0 where

@@ -3,6 +3,8 @@
 
 mod last;
 mod looks;
+mod watches;
 
 pub use last::look_at_all;
 pub use looks::Looks;
+pub use watches::Watch;

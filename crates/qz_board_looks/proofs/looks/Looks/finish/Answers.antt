@@ -12,5 +12,5 @@ returns-clause-all g c =
     let looks = c.args.self in
     let now = c.look_at_all.new.reader in
     let done = c.in_ok-glance.ensures in
-    subst (λ items. ∥ EndWithAll (s.glance_of base) items whole ∥₁) (sym c.push_reserved.ensures.items)
-    (kept_all s.glance_of (reader_basis looks.reader) base looks.glances.items c.in_ok-glance.glance (seen looks.reader) (seen now) whole c.requires.basis.1 looks.looks done.later done.seen done.glance)
+    subst (λ items. ∥ EndWithAll (s.glance_of base) (seen looks.first.value) items whole ∥₁) (sym c.push_reserved.ensures.items)
+    (kept_all s.glance_of (seen looks.first.value) (reader_basis looks.reader) base looks.glances.items c.in_ok-glance.glance (seen looks.reader) (seen now) whole c.requires.basis.1 looks.looks done.later done.seen done.glance)

@@ -12,6 +12,6 @@ invariant_of-self g c =
     let now = c.look-glance.new.self in
     let looked = c.look-glance.ensures in
     record {
-      looks = subst (λ items. IfSome (reader_basis now) (λ b. ∥ AreLooks (s.glance_of b) items (seen now) ∥₁)) (sym c.push_reserved.ensures.items)
-          (kept_more s.glance_of (reader_basis old.reader) (reader_basis now) old.glances.items c.look-glance.result (seen old.reader) (seen now) looked.kept.0 old.looks looked.later looked.glance);
+      looks = subst (λ items. IfSome (reader_basis now) (λ b. ∥ AreLooks (s.glance_of b) (seen old.first.value) items (seen now) ∥₁)) (sym c.push_reserved.ensures.items)
+          (kept_more s.glance_of (seen old.first.value) (reader_basis old.reader) (reader_basis now) old.glances.items c.look-glance.result (seen old.reader) (seen now) looked.kept.0 old.looks looked.later looked.glance);
     }
