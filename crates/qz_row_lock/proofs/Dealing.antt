@@ -1,5 +1,5 @@
 -- Seats are cut in two and joined, and the lock is opened and closed.
-use Rattle.std.proofs.Common.{◌≡◌, ◌≢◌, ◌⊎◌, ℕ, zero, suc, ◌+◌, ◌-◌, ◌*◌, ◌/◌, ◌<◌, ◌≤◌, List, [], ◌∷◌, ◌++◌, length, set, Bool, true, false, eqb, Some, refl, sym, ap, ◌∙◌, subst, ⊎_elim, inl, inr, arith, append-nil}
+use Rattle.std.proofs.Common.{◌≡◌, ◌≢◌, ◌⊎◌, ℕ, zero, suc, ◌+◌, ◌-◌, ◌*◌, ◌/◌, ◌<◌, ◌≤◌, List, [], ◌∷◌, ◌++◌, length, set, Bool, true, false, ◌||◌, eqb, Some, refl, sym, ap, ◌∙◌, subst, ⊎_elim, inl, inr, arith, append-nil}
 use Rattle.std.specs.Prelude.{Option}
 use Rattle.std.proofs.lemmas.Bool.Decides.{eqb_tells, nat_tests}
 use mathlib.Core.Option.{none, some, some-ne-none, some-injective}
@@ -152,6 +152,17 @@ module _ {S E G : Type 0} (num : E → ℕ) (history : S → List E) (is_shut : 
         turn_is = λ q. absurd (clash q no_turn);
       }))
 
+  -- what one of two bits says, when each of them says it
+  either : (P : Bool → Type 0) (a b : Bool) → P a → P b → P (a || b)
+  either P true b p q = p
+  either P false b p q = q
+
+  -- a bit that is the lock's stays so beside one that is the lock's where it is set
+  shut_with : (a b shut : Bool) → a ≡ shut → (b ≡ true → shut ≡ true) → (a || b) ≡ shut
+  shut_with true b shut is on = is
+  shut_with false true shut is on = sym (on refl)
+  shut_with false false shut is on = is
+
   -- a seat or a note is joined into a seat
   pub joins : (id other : ℕ) (v w : View E G) → v.live ≡ true → v.joined_ids ≡ [] → w.live ≡ true → w.queued ≡ false → w.turn ≡ false → w.joined_ids ≡ []
       → Joins (IsKept num history is_shut basis_of base basis) id v other w (after_join v w) spent
@@ -179,10 +190,10 @@ module _ {S E G : Type 0} (num : E → ℕ) (history : S → List E) (is_shut : 
               basis_is = fits.basis_is;
               own = fits.own;
               other = fits'.own;
-              shut_is = fits.shut_is;
+              shut_is = either (λ b. b ≡ true → k.shut ≡ true) v.shut w.shut fits.shut_is fits'.shut_is;
               idle = λ z. record { ids_are = (fits.idle (omega arith)).ids_are; joined_are = (fits'.idle (omega arith)).ids_are; not_queued = (fits.idle (omega arith)).not_queued };
               waits = fits.waits;
-              turn_is = fits.turn_is;
+              turn_is = λ q. (let t = fits.turn_is q in (t.0, t.1, t.2, shut_with v.shut w.shut k.shut t.3 fits'.shut_is));
             }))
             j u e)
             (inr refl);

@@ -92,7 +92,7 @@ module _ {E G : Type 0} where
 
   -- After another seat was joined into it, before it looks.
   abbrev pub after_join : View E G → View E G → View E G
-  after_join v w = record v { parts = v.parts + w.parts; joined_ids = w.ids; joined_seen = w.seen; joined_mine = w.mine }
+  after_join v w = record v { parts = v.parts + w.parts; shut = v.shut || w.shut; joined_ids = w.ids; joined_seen = w.seen; joined_mine = w.mine }
 
   -- How often a seat claims the number: as one of its ids, or of those that were just joined into it.
   abbrev pub claim_count : ℕ → View E G → ℕ

@@ -36,6 +36,7 @@ pub fn join<V: Logged>(lock: &RowLock<V>, seat: Seat<V>, other: Seat<V>) -> Seat
     ensures once { (x : ℕ) → times x (ids result) ≤ 1 }
     ensures mine { (entries_of V.number (ids seat) (mine result) ≡ mine seat) × (entries_of V.number (ids other) (mine result) ≡ mine other) }
     ensures shut { shut seat ≡ true → shut result ≡ true }
+    ensures shut_other { shut other ≡ true → shut result ≡ true }
     ensures counts { (result.number ≡ seat.number) × (result.more ≡ seat.more) × (result.parts ≡ seat.parts + other.parts) }
 {
     lock.join(seat, other)
