@@ -9,9 +9,10 @@ use Rattle.qz_journal.specs.declared.errors.AppendError.{AppendError}
 use Rattle.qz_journal.specs.declared.errors.AppendError.TheVariants as journal
 use Rattle.qz_types.specs.declared.errors.SubmitError.{SubmitError}
 use Rattle.qz_types.specs.declared.errors.SubmitError.TheVariants as submit
+use Rattle.qz_stores.specs.Adopting.{adopted}
 use Rattle.qz_stores.specs.Stores.{StoreState, HasRoom, Appends, Fails, Submits}
 use Rattle.qz_types.specs.declared.replies.Refusal.{Refusal}
-use Rattle.qz_stores.specs.Kinds.{StoreKind, IsLawful, IsAccepted, unless_refused, submitted, replay, with_entry, entry_kind}
+use Rattle.qz_stores.specs.Kinds.{StoreKind, IsLawful, IsAccepted, unless_refused, submitted, replay, with_entry}
 
 module _ {H S E R : Type 0} (k : StoreKind H S E R) where
   -- what a history leaves
@@ -44,16 +45,16 @@ module _ {H S E R : Type 0} (k : StoreKind H S E R) where
   accepted_anyway T e r is = let_through (k.version_refusal T e) (k.answer T e) r is
 
   -- the record is on the disk
-  pub appends : (T : S) (s t : StoreState H E) (e : E) (r : R) (b : List ℕ) → T ≡ replay k s.history → k.version_refusal T e ≡ None → k.answer T e ≡ Ok r → k.IsRecordOf (k.record_of e) e → b ≡ k.record_of e → s.is_open ≡ true
-      → HasRoom (length b) s → t.history ≡ with_entry k e s.history → t.gate ≡ s.gate + need_of (length b) → t.payloads ≡ s.payloads + 1 → t.is_open ≡ true → t.undecided ≡ None → s.faults ≤ t.faults
-      → Appends (entry_kind k) e r s t
-  appends T s t e r b state none is written record_is is_open room history gate payloads stays settled later = record {
+  pub appends : (T : S) (s t : StoreState H E) (e : E) (r : R) (b written : List ℕ) → T ≡ replay k s.history → k.answer T e ≡ Ok r → k.IsRecordOf b e → written ≡ b → s.is_open ≡ true
+      → HasRoom (length b) s → t.history ≡ with_entry k e s.history → t.gate ≡ s.gate + need_of (length written) → t.payloads ≡ s.payloads + 1 → t.is_open ≡ true → t.undecided ≡ None → s.faults ≤ t.faults
+      → Appends (adopted k b) e r s t
+  appends T s t e r b written state is recorded same is_open room history gate payloads stays settled later = record {
     was_open = is_open;
-    accepted_as = current_answer T (replay k s.history) e (Ok r) state none is;
-    written = written;
-    room = subst (λ (x : List ℕ). HasRoom (length x) s) record_is room;
+    accepted_as = subst (λ (U : S). k.answer U e ≡ Ok r) state is;
+    written = recorded;
+    room = room;
     history = history;
-    gate = subst (λ (x : List ℕ). t.gate ≡ s.gate + need_of (length x)) record_is gate;
+    gate = subst (λ (x : List ℕ). t.gate ≡ s.gate + need_of (length x)) same gate;
     payloads = payloads;
     is_open = stays;
     undecided = settled;
@@ -61,14 +62,14 @@ module _ {H S E R : Type 0} (k : StoreKind H S E R) where
   }
 
   -- the disk failed
-  pub fails : (T : S) (s t : StoreState H E) (e : E) (b : List ℕ) (y : SubmitError) → T ≡ replay k s.history → k.version_refusal T e ≡ None → IsAccepted k T e → b ≡ k.record_of e → s.is_open ≡ true
+  pub fails : (T : S) (s t : StoreState H E) (e : E) (b : List ℕ) (y : SubmitError) → T ≡ replay k s.history → IsAccepted k T e → s.is_open ≡ true
       → HasRoom (length b) s → t.history ≡ s.history → t.gate ≡ s.gate → t.payloads ≡ s.payloads → t.is_open ≡ false → t.undecided ≡ Some e → Rose s.faults t.faults → s.faults ≤ t.faults → y ≡ submit.Fault
-      → Submits (entry_kind k) e (Err y) s t
-  fails T s t e b y state none is record_is is_open room history gate payloads shut undecided rose later error =
-      let failed : Fails (entry_kind k) e s t = record {
+      → Submits (adopted k b) e (Err y) s t
+  fails T s t e b y state is is_open room history gate payloads shut undecided rose later error =
+      let failed : Fails (adopted k b) e s t = record {
         was_open = is_open;
-        passes = current_passes T (replay k s.history) e state none is;
-        room = subst (λ (x : List ℕ). HasRoom (length x) s) record_is room;
+        passes = subst (λ (U : S). IsAccepted k U e) state is;
+        room = room;
         history = history;
         gate = gate;
         payloads = payloads;
@@ -77,7 +78,7 @@ module _ {H S E R : Type 0} (k : StoreKind H S E R) where
         rose = rose;
         later = later;
       } in
-      subst (λ (z : SubmitError). Submits (entry_kind k) e (Err z) s t) (sym error) failed
+      subst (λ (z : SubmitError). Submits (adopted k b) e (Err z) s t) (sym error) failed
 
 -- An open journal that has room for the payload fails by the disk alone.
 pub fault_only : {T : Type 0} (x : AppendError) (result : Result T AppendError) (closed : Option ℕ) (gate count size : ℕ) → result ≡ Err x → closed ≡ None → need_of size ≤ room_of gate count

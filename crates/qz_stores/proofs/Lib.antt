@@ -1,3 +1,4 @@
+pub mod Adopted
 pub mod Appending
 pub mod Blocks
 pub mod Committing

@@ -4,7 +4,7 @@ use Rattle.std.proofs.Math.Logic.{∥∥₁_map}
 use Rattle.qz_disk.specs.declared.disk.Disk.{Ghosts}
 use Rattle.qz_disk.specs.Disk.{IsLawful as DiskIsLawful, LeavesOnly}
 use Rattle.qz_disk.proofs.Moments
-use Rattle.qz_journal.specs.View.{disk_of as journal_disk}
+use Rattle.qz_journal.specs.View.{disk_of as journal_disk, gate_of, count_of}
 use Rattle.qz_stores.specs.Stores.{StoreState, Shuts}
 use Rattle.qz_stores.specs.Kinds.{StoreKind, IsLawful}
 use Rattle.qz_stores.specs.Bases.{HoldAll, WholeList}
@@ -61,6 +61,11 @@ module _ {D K E R C : Type 0} {g : Ghosts D} {k : Kinds K E R C} (lawful : IsLaw
       let opened = same.1 in
       let more : found_of t ++ added_of t ≡ found_of s ++ added_of s = λ i. opened.3 i ++ same.5 i in
       (λ i. k.kind.history (opened.1 i) (opened.2 i) (more i), same.7)
+
+  pub view_as_before : (s t : Store D K E R C g k) → IsAsBefore s t → view t ≡ view s
+  view_as_before s t same =
+      let both = same_view s t same in
+      λ i. record { history = both.0 i; gate = gate_of (same.0 i); payloads = count_of (same.0 i); is_open = same.6 i; undecided = both.1 i; faults = g.faults (journal_disk (same.0 i)) }
 
   disk_as_before : (s t : Store D K E R C g k) → IsAsBefore s t → disk_state t ≡ disk_state s
   disk_as_before s t same = ap (λ j. g.state (journal_disk j)) same.0

@@ -1,13 +1,16 @@
 -- Bytes with a new header and a closed gate are a store whose whole list is empty.
-use Rattle.std.proofs.Common.{◌≡◌, inl, inr, ℕ, ◌+◌, ◌≤◌, true, List, [], ◌++◌, take, drop, refl, sym, ◌∙◌, ap, subst, arith}
+use Rattle.std.proofs.Common.{◌≡◌, inl, inr, ℕ, ◌+◌, ◌≤◌, true, List, [], ◌++◌, length, take, drop, refl, sym, ◌∙◌, ap, subst, arith}
 use Rattle.std.specs.Prelude.{Option, Some, None}
 use Rattle.qz_disk.specs.declared.disk.Disk.{Ghosts}
-use Rattle.qz_journal.specs.Layout.{new_header, Holds}
+use Rattle.qz_disk.specs.Disk.{DiskState}
+use Rattle.qz_journal.specs.Layout.{new_header, end_of, Holds}
+use Rattle.qz_journal.specs.Making.{IsNew}
 use Rattle.qz_journal.specs.Slots.{IsSlot, slot}
 use Rattle.qz_journal.proofs.Once.{holds_once}
 use Rattle.qz_journal.proofs.SlotBytes.{slot_before}
 use Rattle.qz_stores.specs.Kinds.{StoreKind, IsLawful}
 use Rattle.qz_stores.specs.Bases.{RecordEntries, HoldAll, IsEndOf, WholeList, Stands}
+use Rattle.qz_stores.specs.Opening.{IsRead}
 use Rattle.qz_stores.specs.View.{view, disk_state, opened_of, GoesOnFrom}
 use Rattle.qz_stores.specs.declared.kinds.Kind.{Ghosts as Kinds}
 use Rattle.qz_stores.specs.declared.stores.Store.{Store}
@@ -55,6 +58,36 @@ module _ {H S E R : Type 0} (k : StoreKind H S E R) (lawful : IsLawful k) where
       let base : k.base h ≡ k.empty v = end.base ∙ ap (λ n. k.replay_from (k.empty v) (take n [])) count ∙ lawful.replay_none (k.empty v) in
       let entries : k.entries h ≡ [] = end.rest ∙ ap (λ n. drop n []) count in
       sym (lawful.whole h) ∙ (λ i. k.history (count i) (base i) (entries i))
+
+  -- what is read of such bytes
+  pub none_read : (v : ℕ) (T : S) → T ≡ k.empty v → IsRead k None v [] 0 T []
+  none_read v T is = record { base = (is, refl); taken = record { recorded = ∣ tt ∣₁; valid = tt; legal = lawful.legal_none T } }
+
+  -- and a whole list that they hold is that of no entries
+  pub new_end : (v : ℕ) (b : List ℕ) (T : S) (whole : List E) → T ≡ k.empty v → HoldAll k v b [] → HoldAll k v b whole → IsEndOf k v (k.history 0 T []) whole
+  new_end v b T whole is none held =
+      let same : [] ≡ whole = whole_once k lawful v b [] whole none held in
+      let count : k.base_count (k.history 0 T []) ≡ 0 = lawful.base_count_is 0 T [] in
+      subst (IsEndOf k v (k.history 0 T [])) same (record {
+        there = omega (arith, count);
+        rest = lawful.entries_are 0 T [] ∙ sym (ap (λ n. drop n []) count);
+        base = lawful.base_is 0 T [] ∙ is ∙ sym (lawful.replay_none (k.empty v)) ∙ sym (ap (λ n. k.replay_from (k.empty v) (take n [])) count);
+      })
+
+  -- A journal was made, and nothing was read of it.
+  pub new_here : (v number : ℕ) (s t : DiskState) → number ≡ k.number → IsNew v number s t → HoldAll k v t.content []
+  new_here v number s t is new = new_whole v t.content (subst (λ n. Holds t.content v n []) is new.empty) (new.header ∙ ap (new_header v) is)
+
+  pub read_end : (v x n : ℕ) (b : List ℕ) (T : S) (es whole : List E) → x ≡ v → n ≡ 0 → T ≡ k.empty v → es ≡ [] → HoldAll k v b [] → HoldAll k x b whole → IsEndOf k x (k.history n T es) whole
+  read_end v x n b T es whole x_is n_is T_is es_is none held =
+      subst (λ y. IsEndOf k y (k.history n T es) whole) (sym x_is)
+      (subst (λ h. IsEndOf k v h whole) (λ i. k.history (sym n_is i) T (sym es_is i)) (new_end v b T whole T_is none (subst (λ y. HoldAll k y b whole) x_is held)))
+
+  pub read_gate : (v number x gate count : ℕ) (s t : DiskState) (ps : List (List ℕ)) → number ≡ k.number → IsNew v number s t → Holds t.content x k.number ps → gate ≡ end_of [] → count ≡ 0
+      → (gate ≡ end_of ps) × (count ≡ length ps)
+  read_gate v number x gate count s t ps is new holds gate_is count_is =
+      let same : [] ≡ ps = holds_once t.content v x k.number [] ps (subst (λ n. Holds t.content v n []) is new.empty) holds in
+      (gate_is ∙ ap end_of same, count_is ∙ ap length same)
 
 -- The gate of a store whose disk has no payload is the first one.
 pub placed_new : {D K E R C : Type 0} {g : Ghosts D} {k : Kinds K E R C} (s : Store D K E R C g k) → g.honest → s.is_open ≡ true → (w : WholeList E) → GoesOnFrom s w

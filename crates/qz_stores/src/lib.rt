@@ -1,7 +1,9 @@
 //! A store over a journal, whatever its entries are: its state, what one call makes of it, and the store itself.
 #![tactic(auto)]
 
+mod adopting;
 mod checkpoints;
+mod creating;
 mod gates;
 mod kinds;
 mod mounting;

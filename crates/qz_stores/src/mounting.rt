@@ -78,7 +78,11 @@ impl<D: Disk, K: Kind> Store<D, K> {
 }
 
 // An open store on a journal in which this was read.
-fn begin<D: Disk, K: Kind>(alloc: Global, journal: Journal<D>, reread: Reread<K>) -> Store<D, K>
+pub(crate) fn begin<D: Disk, K: Kind>(
+    alloc: Global,
+    journal: Journal<D>,
+    reread: Reread<K>,
+) -> Store<D, K>
     requires number { kind_of journal ≡ K.kind.number }
     requires version { journal_version journal ≡ reread.version }
     requires open { closed_at journal ≡ None }

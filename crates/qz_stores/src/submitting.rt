@@ -1,6 +1,7 @@
 //! One entry more.
 ghost use Rattle.std.specs.Prelude.{◌≡◌, ◌≢◌, ◌+◌, ◌++◌, ◌∷◌, [], length, IsOk, IfOk, OnOk, OnErr, IfErr, Ok, Err, Some, None, true, false, MatchOption};
 ghost use Rattle.qz_journal.specs.Layout.{IsPayload};
+ghost use Rattle.qz_stores.specs.Adopting.{adopted};
 ghost use Rattle.qz_stores.specs.Stores.{HasRoom, IsUnwritten, Appends, Submits};
 ghost use Rattle.qz_stores.specs.Kinds.{IsAccepted, submitted, entry_kind};
 ghost use Rattle.qz_stores.specs.View.{view, added_of, behind_of, kept_of, state_of, IsOpenedAsBefore, IsAsBefore, LeavesHistories};
@@ -121,7 +122,7 @@ impl<D: Disk, K: Kind> Store<D, K> {
     }
 
     // Whether a record of this length has room on the disk.
-    fn find_room(&self, length: u32) -> Result<(), SubmitError>
+    pub(crate) fn find_room(&self, length: u32) -> Result<(), SubmitError>
         ensures ok { OnOk result (HasRoom length (view self.now)) }
         ensures err { IfErr result (IsUnwritten length (view self.now)) }
     {
@@ -131,7 +132,7 @@ impl<D: Disk, K: Kind> Store<D, K> {
         }
     }
 
-    /// The second half of `submit`: puts the record on the disk, and then does the transaction. It hands the entry back.
+    /// The second half of `submit` and of `adopt`: puts the record on the disk, and then does the transaction. It hands the entry back.
     pub fn commit(
         &mut self,
         entry: K::Entry,
@@ -140,13 +141,11 @@ impl<D: Disk, K: Kind> Store<D, K> {
         requires proper { K.kind.IsProper entry }
         requires open { self.old.is_open ≡ true }
         requires ready { K.Prepares (kept_of self.old) entry ready.change }
-        requires current { K.kind.version_refusal (state_of self.old) entry ≡ None }
         requires accepted { IsAccepted K.kind (state_of self.old) entry }
-        requires record { (ready.record ≡ K.kind.record_of entry) × IsPayload ready.record }
-        requires recorded { K.kind.IsRecordOf (K.kind.record_of entry) entry }
+        requires record { K.kind.IsRecordOf ready.record entry × IsPayload ready.record }
         requires fits { HasRoom (length ready.record) (view self.old) }
-        ensures ok { IfOk result (λ r. (r.0 ≡ entry) × Appends (entry_kind K.kind) entry r.1 (view self.old) (view self.new)) }
-        ensures err { IfErr result (λ e. (e ≡ SubmitError.Fault) × Submits (entry_kind K.kind) entry (Err e) (view self.old) (view self.new)) }
+        ensures ok { IfOk result (λ r. (r.0 ≡ entry) × Appends (adopted K.kind ready.record) entry r.1 (view self.old) (view self.new)) }
+        ensures err { IfErr result (λ e. (e ≡ SubmitError.Fault) × Submits (adopted K.kind ready.record) entry (Err e) (view self.old) (view self.new)) }
         ensures answered { IfOk result (λ r. K.kind.answer (state_of self.old) entry ≡ Ok r.1) }
         ensures state { OnOk result (state_of self.new ≡ K.kind.after (state_of self.old) entry) }
         ensures opened { IsOpenedAsBefore self.old self.new }

@@ -32,7 +32,7 @@ invariant_of-self-clause-replayed g c =
 pub invariant_of-self-clause-recorded : goal.invariant_of-self-clause-recorded
 invariant_of-self-clause-recorded g c =
     let s = c.args.self.now in
-    Appending.recorded_with (HasRecord g.K.Kind.kind) s.found.items s.added.items _ c.args.entry c.and.ensures s.recorded (_, c.requires.recorded)
+    Appending.recorded_with (HasRecord g.K.Kind.kind) s.found.items s.added.items _ c.args.entry c.and.ensures s.recorded (c.args.ready.record, c.requires.record.0)
 
 pub invariant_of-self-clause-passed : goal.invariant_of-self-clause-passed
 invariant_of-self-clause-passed g c = Appending.none_follows g.K.Kind.kind _ _ (c.args.self.now.settled c.requires.open)
@@ -45,7 +45,7 @@ invariant_of-self-clause-stands g c honest now whole held =
     let front = content_among _ _ _ (g.met.D.Disk.lawful honest c.append.new.self.disk) (c.append.ensures.front honest (s.ready c.requires.open)) in
     Appending.whole_with k l s.version whole s.added.items _ c.args.entry _ c.and.ensures
     (Appending.next_held k l s.version s.journal.version s.journal.kind s.journal.gate s.journal.count c.as_slice.result.now c.args.entry (whole ++ s.added.items) _ (s.in_version c.requires.open) s.number
-    (subst (λ (b : List ℕ). k.IsRecordOf b c.args.entry) (sym (c.as_slice.ensures ∙ c.requires.record.0)) c.requires.recorded) (s.stands honest c.requires.open whole held) (s.gated honest c.requires.open whole held)
+    (subst (λ (b : List ℕ). k.IsRecordOf b c.args.entry) (sym c.as_slice.ensures) c.requires.record.0) (s.stands honest c.requires.open whole held) (s.gated honest c.requires.open whole held)
     (subst (λ T. IsAccepted k T c.args.entry) (Appending.whole_leaves k l s.version s.base_count (g.K.Kind.state s.base.value) (g.K.Kind.state s.state) s.found.items s.added.items whole s.replayed (s.ended honest whole held)) c.requires.accepted)
     s.journal.after_header _ (c.in-Ok.ensures.stands honest) front)
 
@@ -55,7 +55,7 @@ invariant_of-self-clause-gated g c honest now whole held =
     let k = g.K.Kind.kind in
     let l = g.met.K.Kind.lawful in
     Appending.next_gate k l s.version s.journal.version s.journal.kind s.journal.gate s.journal.count c.as_slice.result.now c.args.entry (whole ++ s.added.items) _ (s.in_version c.requires.open) s.number
-    (subst (λ (b : List ℕ). k.IsRecordOf b c.args.entry) (sym (c.as_slice.ensures ∙ c.requires.record.0)) c.requires.recorded) (s.stands honest c.requires.open whole held) (s.gated honest c.requires.open whole held)
+    (subst (λ (b : List ℕ). k.IsRecordOf b c.args.entry) (sym c.as_slice.ensures) c.requires.record.0) (s.stands honest c.requires.open whole held) (s.gated honest c.requires.open whole held)
     (subst (λ T. IsAccepted k T c.args.entry) (Appending.whole_leaves k l s.version s.base_count (g.K.Kind.state s.base.value) (g.K.Kind.state s.state) s.found.items s.added.items whole s.replayed (s.ended honest whole held)) c.requires.accepted)
     s.journal.after_header _ _ _ c.in-Ok.ensures.ok.1 c.in-Ok.ensures.ok.2 (c.in-Ok.ensures.stands honest)
 
@@ -72,7 +72,7 @@ returns-in-Ok-clause-leaves g c honest =
     let l = g.met.K.Kind.lawful in
     Histories.either_left k l s.version s.base_count (g.K.Kind.state s.base.value) (g.D.Disk.state s.opened.value.disk).content s.found.items (s.ended honest) s.added.items c.and.result.items s.undecided s.undecided (g.D.Disk.state s.journal.disk) (g.D.Disk.state c.append.new.self.disk) (λ whole held.
     let leaves = Appending.next_leaves k l s.version s.journal.version s.journal.kind s.journal.gate s.journal.count c.as_slice.result.now c.args.entry (whole ++ s.added.items) _ (s.in_version c.requires.open) s.number
-    (subst (λ (b : List ℕ). k.IsRecordOf b c.args.entry) (sym (c.as_slice.ensures ∙ c.requires.record.0)) c.requires.recorded) (s.stands honest c.requires.open whole held) (s.gated honest c.requires.open whole held)
+    (subst (λ (b : List ℕ). k.IsRecordOf b c.args.entry) (sym c.as_slice.ensures) c.requires.record.0) (s.stands honest c.requires.open whole held) (s.gated honest c.requires.open whole held)
     (subst (λ T. IsAccepted k T c.args.entry) (Appending.whole_leaves k l s.version s.base_count (g.K.Kind.state s.base.value) (g.K.Kind.state s.state) s.found.items s.added.items whole s.replayed (s.ended honest whole held)) c.requires.accepted)
     s.journal.after_header _ _ (c.append.ensures.any_moment honest (s.ready c.requires.open)) (c.append.ensures.front honest (s.ready c.requires.open)) in
     Appending.leaves_with k l s.version whole s.added.items _ c.args.entry _ _ s.undecided s.undecided c.and.ensures (s.settled c.requires.open) (s.settled c.requires.open) leaves)
@@ -84,9 +84,7 @@ returns-in-Ok-clause-ok g c =
     let s = c.args.self.now in
     let ok = c.in-Ok.ensures.ok in
     let es = s.found.items ++ s.added.items in
-    let done = Committing.appends k (g.K.Kind.state s.state) (view s) _ c.args.entry c.commit-reply.result c.as_slice.result.now (Committing.state_is k lawful s.base_count (g.K.Kind.state s.base.value) (g.K.Kind.state s.state) es s.replayed) c.requires.current c.commit-reply.ensures.accepted c.requires.recorded
-    (c.as_slice.ensures ∙ c.requires.record.0) c.requires.open
-    (subst (λ (b : List ℕ). HasRoom (length b) (view s)) (sym c.as_slice.ensures) c.requires.fits)
+    let done = Committing.appends k (g.K.Kind.state s.state) (view s) _ c.args.entry c.commit-reply.result c.args.ready.record c.as_slice.result.now (Committing.state_is k lawful s.base_count (g.K.Kind.state s.base.value) (g.K.Kind.state s.state) es s.replayed) c.commit-reply.ensures.accepted c.requires.record.0 c.as_slice.ensures c.requires.open c.requires.fits
     (ap (k.history s.base_count (g.K.Kind.state s.base.value)) (Appending.more s.found.items s.added.items _ c.args.entry c.and.ensures) ∙ sym (Committing.entry_more k lawful s.base_count (g.K.Kind.state s.base.value) es c.args.entry))
     ok.1 ok.2 c.requires.open (s.settled c.requires.open) c.append.ensures.later in
     (refl, done)
@@ -100,14 +98,13 @@ returns-in-Err-clause-err g c =
     let es = s.found.items ++ s.added.items in
     let room : HasRoom (length c.as_slice.result.now) (view s) = subst (λ (b : List ℕ). HasRoom (length b) (view s)) (sym c.as_slice.ensures) c.requires.fits in
     let failed = Committing.fault_only c.in-Err.field-0 c.append.result s.journal.closed s.journal.gate s.journal.count (length c.as_slice.result.now) c.in-Err.is (s.ready c.requires.open) room c.append.ensures.closed c.append.ensures.full in
-    let fails = Committing.fails k (g.K.Kind.state s.state) (view s) _ c.args.entry c.as_slice.result.now c.close.result (Committing.state_is k g.met.K.Kind.lawful s.base_count (g.K.Kind.state s.base.value) (g.K.Kind.state s.state) es s.replayed) c.requires.current c.requires.accepted
-    (c.as_slice.ensures ∙ c.requires.record.0) c.requires.open room refl c.in-Err.ensures.same_place.0 c.in-Err.ensures.same_place.1 c.close.ensures.closed c.close.ensures.undecided
+    let fails = Committing.fails k (g.K.Kind.state s.state) (view s) _ c.args.entry c.args.ready.record c.close.result (Committing.state_is k g.met.K.Kind.lawful s.base_count (g.K.Kind.state s.base.value) (g.K.Kind.state s.state) es s.replayed) c.requires.accepted c.requires.open c.requires.fits refl c.in-Err.ensures.same_place.0 c.in-Err.ensures.same_place.1 c.close.ensures.closed c.close.ensures.undecided
     (c.append.ensures.fault failed).0 c.append.ensures.later c.close.ensures.fault in
     (c.close.ensures.fault, fails)
 
 pub invariant_of-self-in-Err-clause-passed : goal.invariant_of-self-in-Err-clause-passed
 invariant_of-self-in-Err-clause-passed g c =
-    Appending.one_follows g.K.Kind.kind (g.K.Kind.state c.args.self.now.state) _ c.args.entry c.close.ensures.undecided (_, c.requires.recorded) c.requires.accepted
+    Appending.one_follows g.K.Kind.kind (g.K.Kind.state c.args.self.now.state) _ c.args.entry c.close.ensures.undecided (c.args.ready.record, c.requires.record.0) c.requires.accepted
 
 pub invariant_of-self-in-Err-clause-images : goal.invariant_of-self-in-Err-clause-images
 invariant_of-self-in-Err-clause-images g c honest whole held =
@@ -115,7 +112,7 @@ invariant_of-self-in-Err-clause-images g c honest whole held =
     let k = g.K.Kind.kind in
     let l = g.met.K.Kind.lawful in
     let leaves = Appending.next_leaves k l s.version s.journal.version s.journal.kind s.journal.gate s.journal.count c.as_slice.result.now c.args.entry (whole ++ s.added.items) _ (s.in_version c.requires.open) s.number
-    (subst (λ (b : List ℕ). k.IsRecordOf b c.args.entry) (sym (c.as_slice.ensures ∙ c.requires.record.0)) c.requires.recorded) (s.stands honest c.requires.open whole held) (s.gated honest c.requires.open whole held)
+    (subst (λ (b : List ℕ). k.IsRecordOf b c.args.entry) (sym c.as_slice.ensures) c.requires.record.0) (s.stands honest c.requires.open whole held) (s.gated honest c.requires.open whole held)
     (subst (λ T. IsAccepted k T c.args.entry) (Appending.whole_leaves k l s.version s.base_count (g.K.Kind.state s.base.value) (g.K.Kind.state s.state) s.found.items s.added.items whole s.replayed (s.ended honest whole held)) c.requires.accepted)
     s.journal.after_header _ _ (c.append.ensures.any_moment honest (s.ready c.requires.open)) (c.append.ensures.front honest (s.ready c.requires.open)) in
     Appending.images_undecided k l s.version (whole ++ s.added.items) _ c.args.entry _ _ c.close.ensures.undecided (g.met.D.Disk.lawful honest c.append.new.self.disk) leaves
@@ -127,7 +124,7 @@ returns-in-Err-clause-leaves g c honest =
     let l = g.met.K.Kind.lawful in
     Histories.either_left k l s.version s.base_count (g.K.Kind.state s.base.value) (g.D.Disk.state s.opened.value.disk).content s.found.items (s.ended honest) s.added.items s.added.items s.undecided c.close.new.undecided (g.D.Disk.state s.journal.disk) (g.D.Disk.state c.append.new.self.disk) (λ whole held.
     let leaves = Appending.next_leaves k l s.version s.journal.version s.journal.kind s.journal.gate s.journal.count c.as_slice.result.now c.args.entry (whole ++ s.added.items) _ (s.in_version c.requires.open) s.number
-    (subst (λ (b : List ℕ). k.IsRecordOf b c.args.entry) (sym (c.as_slice.ensures ∙ c.requires.record.0)) c.requires.recorded) (s.stands honest c.requires.open whole held) (s.gated honest c.requires.open whole held)
+    (subst (λ (b : List ℕ). k.IsRecordOf b c.args.entry) (sym c.as_slice.ensures) c.requires.record.0) (s.stands honest c.requires.open whole held) (s.gated honest c.requires.open whole held)
     (subst (λ T. IsAccepted k T c.args.entry) (Appending.whole_leaves k l s.version s.base_count (g.K.Kind.state s.base.value) (g.K.Kind.state s.state) s.found.items s.added.items whole s.replayed (s.ended honest whole held)) c.requires.accepted)
     s.journal.after_header _ _ (c.append.ensures.any_moment honest (s.ready c.requires.open)) (c.append.ensures.front honest (s.ready c.requires.open)) in
     Appending.leaves_undecided k l s.version (whole ++ s.added.items) c.args.entry _ _ s.undecided _ c.close.ensures.undecided leaves)
