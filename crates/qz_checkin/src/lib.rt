@@ -1,6 +1,7 @@
 //! The state store: when each node last checked in, and which nodes are taken for failed.
 #![tactic(auto)]
 
+mod creating;
 mod kinds;
 mod lateness;
 mod laws;
@@ -16,6 +17,6 @@ pub use kinds::Reread;
 pub use laws::{
     histories_of_one_list, restarting_keeps_stores_sound, submitting_keeps_stores_sound,
 };
-pub use qz_journal::MountError;
+pub use qz_journal::{MountError, NewStoreError};
 pub use qz_types::SubmitError;
 pub use stores::StateStore;
