@@ -1,5 +1,5 @@
 -- What one round of a check-in thread comes to.
-use Rattle.std.specs.Prelude.{⊤, ◌≡◌, ◌⊎◌, ℕ, ℤ, pos, ◌+ℤ◌, List, Bool, true, int_le, ◌||◌, Option, Some, None, Ok, Err, MatchResult}
+use Rattle.std.specs.Prelude.{⊤, ◌≡◌, ◌⊎◌, ◌≤ℤ◌, ℕ, ℤ, pos, ◌+ℤ◌, List, Bool, true, int_le, ◌||◌, Option, Some, None, Ok, Err, MatchResult}
 use Rattle.std.specs.declared.result.Result.{Result}
 use Rattle.qz_types.specs.Rows.{MemberData}
 use Rattle.qz_types.specs.Entries.{EntryData, StateEntryData}
@@ -9,6 +9,7 @@ use Rattle.qz_types.specs.declared.replies.Reply.{Reply}
 use Rattle.qz_stores.specs.Stores.{EntryKind, StoreState}
 use Rattle.qz_checkin.specs.Rows.{StateTables}
 use Rattle.qz_shared.specs.Calls.{Known, Called}
+use Rattle.qz_rounds.specs.Declining.{goes_on_after}
 use Rattle.qz_rounds.specs.Looking.{check_in_by}
 use Rattle.qz_rounds.specs.Recovering.{LooksAndRecovers}
 
@@ -42,3 +43,15 @@ module _ {H : Type 0} (kind : EntryKind H StateEntryData ⊤) (listed : H → Li
       pub goes_on : MatchResult answer
           (λ _. LooksOnce leaves at me trigger_seat state_seat result s t checked_in v)
           (λ error. (result ≡ Err error) × (t ≡ s) × (v ≡ checked_in))
+
+    -- The last round of a thread, by what its two seats know after it: it was made at a reading that the clock shows and that isn't
+    -- before the thread's end, and its answer lets the thread go on.
+    pub record MadeLastRound (shows : ℤ → Type 0) (until : ℤ) (leaves : List StateEntryData → StateTables → Type 0) (me : MemberData) (trigger_seat state_seat : ℕ) (t : Known EntryData) (v : Known StateEntryData) : Type 0 where
+      pub at : ℤ
+      pub shown : shows at
+      pub late : until ≤ℤ at
+      pub trigger : Known EntryData
+      pub state : Known StateEntryData
+      pub answer : Result ⊤ SubmitError
+      pub makes : MakesRound leaves at me trigger_seat state_seat answer trigger t state v
+      pub goes_on : goes_on_after answer ≡ Ok tt

@@ -59,3 +59,18 @@ returns-in-Ok-clause-ended g c over =
           (to_z w64 (of_z w64 c.now-at.result)) shown c.args.me.now c.args.seat.now.number c.args.state.now.number
           g.met.T.RoundStore.check_in_refused r.result (known c.args.seat.now) (known r.new.seat) (known c.args.state.now) (known r.new.state) r.ensures.makes c.requires.adds (sym c.go_on.ensures ∙ c.in-Ok.is)),
     )
+
+pub returns-in-Ok-clause-last : goal.returns-in-Ok-clause-last
+returns-in-Ok-clause-last g c over =
+    let r = c.round-answer in
+    let same : to_z w64 (of_z w64 c.now-at.result) ≡ c.now-at.result = grind (arith, common_steps, to_z-of_z) in
+    record {
+      at = to_z w64 (of_z w64 c.now-at.result);
+      shown = subst (g.C.SharedClock.shows c.args.clock.now) (sym same) c.now-at.ensures;
+      late = grind (arith, common_steps, to_z-of_z);
+      trigger = known c.args.seat.now;
+      state = known c.args.state.now;
+      answer = r.result;
+      makes = r.ensures.makes;
+      goes_on = sym c.go_on.ensures ∙ c.in-Ok.is;
+    }
