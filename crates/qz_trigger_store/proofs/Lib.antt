@@ -1,4 +1,5 @@
 pub mod Accepting
+pub mod Adopted
 pub mod Ends
 pub mod Horizons
 pub mod Images

@@ -40,6 +40,16 @@ trigger_entry = record {
   IsWritten = λ e. IsRecordOf (record_of e) e;
 }
 
+-- An entry of which these bytes are the record, and which a store adopts, is answered as the transaction alone: the version of
+-- the store isn't asked. These bytes are what is written.
+abbrev pub adopted_entry : List ℕ → EntryKind History EntryData Reply
+adopted_entry bytes = record {
+  answer = λ h e. answer_of (transaction (replay h) e);
+  with_entry = with_entry;
+  size = λ e. length bytes;
+  IsWritten = λ e. IsRecordOf bytes e;
+}
+
 -- the history of these entries from a new store of this format version on
 abbrev pub history_of : ℕ → List EntryData → History
 history_of version entries = record (history_of_version version) { entries = entries }

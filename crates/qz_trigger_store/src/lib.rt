@@ -2,7 +2,9 @@
 #![tactic(auto)]
 
 mod accepted;
+mod adopting;
 mod checkpoints;
+mod creating;
 mod kinds;
 mod laws;
 mod mounting;
@@ -18,6 +20,6 @@ pub use laws::{
     checkpoints_keep_stores_sound, histories_of_one_list, old_stores_fire_until_2099,
     restarting_keeps_stores_sound, submitting_keeps_stores_sound,
 };
-pub use qz_journal::MountError;
+pub use qz_journal::{MountError, NewStoreError};
 pub use qz_types::SubmitError;
 pub use stores::TriggerStore;

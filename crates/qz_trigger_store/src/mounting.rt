@@ -59,7 +59,7 @@ impl<D: Disk> TriggerStore<D> {
 }
 
 // What a store that keeps this has of its entries before the first.
-fn nothing_accepted(alloc: Global, keep: Keep) -> Option<Accepted>
+pub(crate) fn nothing_accepted(alloc: Global, keep: Keep) -> Option<Accepted>
     ensures keeps { is_some result ≡ keeps_entries keep }
     ensures none { IfSome result (λ a. (a.entries.items ≡ []) × (a.moments.items ≡ []) × (a.replies.items ≡ [])) }
 {

@@ -12,7 +12,7 @@ ghost use Rattle.qz_plain.specs.Replies.{CopiesReply, IsCopyOf};
 ghost use Rattle.qz_stores.specs.Stores.{HasRoom, Submits};
 ghost use Rattle.qz_stores.specs.View.{kept_of};
 ghost use Rattle.qz_trigger_store.specs.Accepted.{HasRoomForOne, IsKept};
-ghost use Rattle.qz_trigger_store.specs.Entries.{IsRecordOf, trigger_entry};
+ghost use Rattle.qz_trigger_store.specs.Entries.{IsRecordOf, trigger_entry, adopted_entry};
 ghost use Rattle.qz_trigger_store.specs.View.{view, added_of, behind_of, keeps_of, tables_of, IsOpenedAsBefore, IsAsBefore, LeavesEither};
 
 use crate::{Accepted, TriggerStore};
@@ -23,10 +23,10 @@ use qz_types::{Entry, NoMemory, Reply, SubmitError};
 
 // All that an accepted entry needs, so that nothing but the disk can fail.
 #[derive(Drop)]
-struct Whole {
-    ready: Ready<Prepared>,
+pub(crate) struct Whole {
+    pub(crate) ready: Ready<Prepared>,
     // the reply once more, if it is kept and takes memory
-    copy: Option<Reply>,
+    pub(crate) copy: Option<Reply>,
 }
 
 #[tactic(auto, using(crate::proofs::Outcomes::accepted_by, crate::proofs::Outcomes::passes, crate::proofs::Accepting::copied))]
@@ -94,7 +94,11 @@ impl<D: Disk> TriggerStore<D> {
 
     // Where the store keeps what it accepts: the reply of an entry that would be accepted once more, and room for all that
     // is kept of it.
-    fn copy(&mut self, entry: &Entry, ready: &Ready<Prepared>) -> Result<Option<Reply>, NoMemory>
+    pub(crate) fn copy(
+        &mut self,
+        entry: &Entry,
+        ready: &Ready<Prepared>,
+    ) -> Result<Option<Reply>, NoMemory>
         requires { Prepares (kept_of self.old.store).tables entry.now ready.now.change }
         ensures copy { IfOk result (λ copy. keeps_of self.old ≡ true → CopiesReply copy (transaction (tables_of self.old) entry.now)) }
         ensures room { OnOk result (IfSome self.new.accepted HasRoomForOne) }
@@ -109,17 +113,15 @@ impl<D: Disk> TriggerStore<D> {
     }
 
     // Puts a record on the disk, and then does the transaction.
-    fn commit(&mut self, entry: Entry, whole: Whole) -> Result<Reply, SubmitError>
+    pub(crate) fn commit(&mut self, entry: Entry, whole: Whole) -> Result<Reply, SubmitError>
         requires open { (view self.old).is_open ≡ true }
         requires prepared { Prepares (kept_of self.old.store).tables entry whole.ready.change }
-        requires current { version_refusal (tables_of self.old) entry.command ≡ None }
         requires accepted { IsAccepted (transaction (tables_of self.old) entry) }
         requires copy { keeps_of self.old ≡ true → CopiesReply whole.copy (transaction (tables_of self.old) entry) }
-        requires record { (whole.ready.record ≡ record_of entry) × IsPayload whole.ready.record }
-        requires recorded { IsRecordOf (record_of entry) entry }
+        requires record { IsRecordOf whole.ready.record entry × IsPayload whole.ready.record }
         requires fits { HasRoom (length whole.ready.record) (view self.old) }
         requires room { IfSome self.old.accepted HasRoomForOne }
-        ensures one { Submits trigger_entry entry result (view self.old) (view self.new) }
+        ensures one { Submits (adopted_entry whole.ready.record) entry result (view self.old) (view self.new) }
         ensures only_fault { IfErr result (λ e. e ≡ SubmitError.Fault) }
         ensures opened { IsOpenedAsBefore self.old self.new }
         ensures entries { OnOk result (added_of self.new ≡ added_of self.old ++ entry ∷ []) }
