@@ -3,6 +3,7 @@ pub mod Closing
 pub mod Coursing
 pub mod Deeds
 pub mod Entering
+pub mod Finished
 pub mod Finishing
 pub mod Gone
 pub mod Growing

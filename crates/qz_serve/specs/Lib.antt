@@ -4,6 +4,7 @@ pub mod Courses
 pub mod Declining
 pub mod Ending
 pub mod Entries
+pub mod Finished
 pub mod Going
 pub mod Heard
 pub mod Keeping

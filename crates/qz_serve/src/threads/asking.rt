@@ -1,13 +1,15 @@
 //! One call of the trigger store by a node's scheduler thread.
 ghost use Rattle.std.specs.Prelude.{◌≡◌, ◌≤ℤ◌, Some, false, IsTrue, IfOk, IfErr};
+ghost use mathlib.Core.List.{IsPrefix};
 ghost use Rattle.qz_types.specs.Entries.{is_command, is_of_node};
-ghost use Rattle.qz_row_lock.specs.Seats.{IsOf, mine, is_out, first_value};
+ghost use Rattle.qz_row_lock.specs.Seats.{IsOf, mine, seen, is_out, first_value};
 ghost use Rattle.qz_shared.specs.Calls.{known};
 ghost use Rattle.qz_rounds.specs.Declining.{IsCause};
 ghost use Rattle.qz_node.specs.Turns.{wanted};
 ghost use Rattle.qz_node.specs.Hubs.{command_of, learnt_answer, IsReplyTo};
 ghost use Rattle.qz_serve.specs.Entries.{entry_by};
 ghost use Rattle.qz_serve.specs.Asking.{KeepsSeat, DeedsAfter, AddsOwn, deeds};
+ghost use Rattle.qz_serve.specs.Finished.{WasAccepted};
 
 use qz_node::{Heard, Turn};
 use qz_rounds::NodeStore;
@@ -49,6 +51,8 @@ fn submit_as<S: NodeStore, R: Wait>(
     ensures fits { IfOk result (IsReplyTo command) }
     ensures deeds { DeedsAfter result (entry_by at me.now seat.old.number command) (deeds row.now seat.old) (deeds row.now seat.new) }
     ensures mine { AddsOwn result (entry_by at me.now seat.old.number command) (mine seat.old) (mine seat.new) }
+    ensures begins { IsPrefix (seen seat.old) (seen seat.new) }
+    ensures accepted { IfOk result (λ reply. WasAccepted S.kind S.listed (S.state (first_value row.now).opened.value) (entry_by at me.now seat.old.number command) reply (seen seat.new)) }
     ensures cause { IfErr result (IsCause S.kind S.listed (S.state (first_value row.now).opened.value) (entry_by at me.now seat.old.number command) (known seat.new)) }
 {
     let Ok(me) = me.copy() else {
@@ -83,6 +87,8 @@ pub(super) fn ask<S: NodeStore, R: Wait>(
     ensures fits { IfOk result (IsReplyTo command) }
     ensures deeds { DeedsAfter result (entry_by at me.now seat.old.number command) (deeds row.now seat.old) (deeds row.now seat.new) }
     ensures mine { AddsOwn result (entry_by at me.now seat.old.number command) (mine seat.old) (mine seat.new) }
+    ensures begins { IsPrefix (seen seat.old) (seen seat.new) }
+    ensures accepted { IfOk result (λ reply. WasAccepted S.kind S.listed (S.state (first_value row.now).opened.value) (entry_by at me.now seat.old.number command) reply (seen seat.new)) }
     ensures cause { IfErr result (IsCause S.kind S.listed (S.state (first_value row.now).opened.value) (entry_by at me.now seat.old.number command) (known seat.new)) }
 {
     match submit_as(rt, row, me, seat, at, command) {

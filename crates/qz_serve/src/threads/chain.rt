@@ -1,10 +1,11 @@
 //! All nodes at once.
-ghost use Rattle.std.specs.Prelude.{◌≡◌, ◌≤ℤ◌, ℕ, ◌≤◌, ◌+◌, ◌^◌, [], ◌∷◌, length, take, drop, map, false, IfSome};
+ghost use Rattle.std.specs.Prelude.{◌≡◌, ◌≤ℤ◌, ℕ, ◌≤◌, ◌+◌, ◌^◌, [], ◌∷◌, length, take, drop, map, false, None, IfSome};
 ghost use Rattle.std.specs.Thread.{IsSend, IsSync};
 ghost use Rattle.qz_types.specs.Rows.{MemberData};
 ghost use Rattle.qz_row_lock.specs.Seats.{IsOf, ids, seen, mine, is_out, first_value};
 ghost use Rattle.qz_row_lock.specs.Views.{times};
 ghost use Rattle.qz_rounds.specs.Looking.{LeavesRows};
+ghost use Rattle.qz_serve.specs.Finished.{HaveEnded, ShowsFault};
 ghost use Rattle.qz_serve.specs.Performing.{AlwaysPerforms};
 ghost use Rattle.qz_serve.specs.Knowing.{ShowsRan, HaveWorked, MembersWorked};
 ghost use Rattle.qz_serve.specs.Stopping.{ShowsStopped};
@@ -84,6 +85,8 @@ pub(super) fn run_nodes<
     ensures parts { (result.0.parts ≡ seat.parts) × (result.1.parts ≡ state.parts) }
     ensures worked { MembersWorked (C.shows clock.now) until (LeavesRows T.kind T.listed T.state T.tables (T.state (first_value states.now).opened.value)) (T.listed (T.state (first_value states.now).opened.value).history) members.now
         (ShowsRan row.now result.0) (ids result.0) (mine result.0) (seen result.1) (mine result.1) (drop counted (map M.meanings lists.items)) (drop counted (map M.meanings result.2.items)) }
+    ensures ended { result.3 ≡ None → HaveEnded (C.shows clock.now) until (T.listed (T.state (first_value states.now).opened.value).history) members.now row.now result.0 result.1 }
+    ensures fault { ShowsFault result.3 result.0 result.1 }
     ensures stopped { IfSome result.3 (ShowsStopped (C.shows clock.now) until (LeavesRows T.kind T.listed T.state T.tables (T.state (first_value states.now).opened.value)) (T.listed (T.state (first_value states.now).opened.value).history) (map (λ (m : MemberData). m.node) members.now) row.now states.now result.0 result.1) }
     ensures once { (x : ℕ) → times x (ids result.0) ≤ 1 }
     ensures before { take counted (map M.meanings result.2.items) ≡ take counted (map M.meanings lists.items) }
@@ -103,7 +106,8 @@ pub(super) fn run_nodes<
                     ensures { IsOf row.entry.now result.0 × IsOf states.entry.now result.1 × (is_out result.0 ≡ false) × (is_out result.1 ≡ false) × (result.0.parts ≡ first.parts) × (result.1.parts ≡ first_state.parts)
                         × HaveWorked (C.shows clock.entry.now) until (LeavesRows T.kind T.listed T.state T.tables (T.state (first_value states.entry.now).opened.value)) (T.listed (T.state (first_value states.entry.now).opened.value).history) (record { me = me.entry.now; number = first.number } ∷ [])
                         (ShowsRan row.entry.now result.0) (ids result.0) (mine result.0) (seen result.1) (mine result.1) (M.meanings own ∷ []) (M.meanings result.2 ∷ [])
-                        × IfSome result.3 (ShowsStopped (C.shows clock.entry.now) until (LeavesRows T.kind T.listed T.state T.tables (T.state (first_value states.entry.now).opened.value)) (T.listed (T.state (first_value states.entry.now).opened.value).history) (me.entry.now.node ∷ []) row.entry.now states.entry.now result.0 result.1) }
+                        × IfSome result.3 (ShowsStopped (C.shows clock.entry.now) until (LeavesRows T.kind T.listed T.state T.tables (T.state (first_value states.entry.now).opened.value)) (T.listed (T.state (first_value states.entry.now).opened.value).history) (me.entry.now.node ∷ []) row.entry.now states.entry.now result.0 result.1)
+                        × (result.3 ≡ None → HaveEnded (C.shows clock.entry.now) until (T.listed (T.state (first_value states.entry.now).opened.value).history) (me.entry.now ∷ []) row.entry.now result.0 result.1) × ShowsFault result.3 result.0 result.1 }
                 {
                     run_pair::<S, T, R, C, G, L, E, M>(
                         rt,
@@ -126,7 +130,8 @@ pub(super) fn run_nodes<
                         × MembersWorked (C.shows clock.entry.now) until (LeavesRows T.kind T.listed T.state T.tables (T.state (first_value states.entry.now).opened.value)) (T.listed (T.state (first_value states.entry.now).opened.value).history) others.entry.now
                         (ShowsRan row.entry.now result.0) (ids result.0) (mine result.0) (seen result.1) (mine result.1) (drop node (map M.meanings lists.items)) (drop node (map M.meanings result.2.items))
                         × (take node (map M.meanings result.2.items) ≡ take node (map M.meanings lists.items))
-                        × IfSome result.3 (ShowsStopped (C.shows clock.entry.now) until (LeavesRows T.kind T.listed T.state T.tables (T.state (first_value states.entry.now).opened.value)) (T.listed (T.state (first_value states.entry.now).opened.value).history) (map (λ (m : MemberData). m.node) others.entry.now) row.entry.now states.entry.now result.0 result.1) }
+                        × IfSome result.3 (ShowsStopped (C.shows clock.entry.now) until (LeavesRows T.kind T.listed T.state T.tables (T.state (first_value states.entry.now).opened.value)) (T.listed (T.state (first_value states.entry.now).opened.value).history) (map (λ (m : MemberData). m.node) others.entry.now) row.entry.now states.entry.now result.0 result.1)
+                        × (result.3 ≡ None → HaveEnded (C.shows clock.entry.now) until (T.listed (T.state (first_value states.entry.now).opened.value).history) others.entry.now row.entry.now result.0 result.1) × ShowsFault result.3 result.0 result.1 }
                 {
                     run_nodes::<S, T, R, C, G, L, E, M>(
                         rt, alloc, row, states, clock, gate, run, until, node, others, seat, state,

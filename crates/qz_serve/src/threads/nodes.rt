@@ -1,10 +1,11 @@
 //! A node's scheduler thread, which owns its seat and its jobs.
-ghost use Rattle.std.specs.Prelude.{◌≡◌, ◌≤ℤ◌, [], ◌∷◌, map, false, IfSome};
+ghost use Rattle.std.specs.Prelude.{◌≡◌, ◌≤ℤ◌, [], ◌∷◌, map, false, None, IfSome};
 ghost use Rattle.std.specs.List.{AllByRecursion};
 ghost use Rattle.qz_row_lock.specs.Seats.{IsOf, ids, mine, is_out, first_value};
 ghost use Rattle.qz_shared.specs.Calls.{known};
 ghost use Rattle.qz_rounds.specs.Declining.{IsStopped};
 ghost use Rattle.qz_serve.specs.Entries.{IsScheduled};
+ghost use Rattle.qz_serve.specs.Finished.{HasEnded};
 ghost use Rattle.qz_serve.specs.Asking.{KeepsSeat};
 ghost use Rattle.qz_serve.specs.Knowing.{ShowsRan};
 ghost use Rattle.qz_serve.specs.Performing.{AlwaysPerforms};
@@ -43,6 +44,7 @@ pub(super) fn run_node<S: NodeStore, R: Wait, C: SharedClock, G: Gate, J: NodeJo
     ensures same { KeepsSeat seat result.0 }
     ensures entries { AllByRecursion (IsScheduled (C.shows clock.now) until me.now seat.number) (mine result.0) }
     ensures ran { ShowsRan row.now result.0 (seat.number ∷ []) (J.meanings jobs) (J.meanings result.1) }
+    ensures ended { result.2 ≡ None → HasEnded (C.shows clock.now) until me.now seat.number row.now result.0 }
     ensures stopped { IfSome result.2 (IsStopped S.kind S.listed (S.state (first_value row.now).opened.value) (IsScheduled (C.shows clock.now) until me.now seat.number) (known result.0)) }
 {
     let mut seat = seat;
@@ -83,6 +85,7 @@ pub(super) fn run_listed<
     ensures same { KeepsSeat seat result.0 }
     ensures entries { AllByRecursion (IsScheduled (C.shows clock.now) until me.now seat.number) (mine result.0) }
     ensures ran { ShowsRan row.now result.0 (seat.number ∷ []) (M.meanings list) (M.meanings result.1) }
+    ensures ended { result.2 ≡ None → HasEnded (C.shows clock.now) until me.now seat.number row.now result.0 }
     ensures stopped { IfSome result.2 (IsStopped S.kind S.listed (S.state (first_value row.now).opened.value) (IsScheduled (C.shows clock.now) until me.now seat.number) (known result.0)) }
 {
     let performer: Performer<'_, L, E, M> = Performer {

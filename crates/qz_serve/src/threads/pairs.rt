@@ -1,12 +1,13 @@
 //! A node's two threads at once.
-ghost use Rattle.std.specs.Prelude.{◌≡◌, ◌⊎◌, ◌≤ℤ◌, ◌≤◌, [], ◌∷◌, map, false, IfSome};
+ghost use Rattle.std.specs.Prelude.{◌≡◌, ◌⊎◌, ◌≤ℤ◌, ◌≤◌, ℤ, [], ◌∷◌, map, false, None, IfSome};
 ghost use Rattle.qz_row_lock.specs.Seats.{IsOf, ids, seen, mine, is_out, first_value};
 ghost use Rattle.qz_shared.specs.Calls.{known};
-ghost use Rattle.qz_rounds.specs.Looking.{LeavesRows};
+ghost use Rattle.qz_rounds.specs.Looking.{HasCheckedIn, LeavesRows};
 ghost use Rattle.qz_rounds.specs.Adding.{AddsRounds, IsRecovery, IsRoundEntry};
-ghost use Rattle.qz_rounds.specs.Declining.{IsStopped};
+ghost use Rattle.qz_rounds.specs.Declining.{IsStopped, stopped_by};
 ghost use Rattle.qz_serve.specs.Entries.{IsScheduled};
 ghost use Rattle.qz_serve.specs.Asking.{KeepsSeat};
+ghost use Rattle.qz_serve.specs.Finished.{HasEnded, HaveEnded, ShowsFault};
 ghost use Rattle.qz_serve.specs.Performing.{AlwaysPerforms};
 ghost use Rattle.qz_serve.specs.Knowing.{ShowsRan, HaveWorked};
 ghost use Rattle.qz_serve.specs.Stopping.{ShowsStopped};
@@ -23,6 +24,16 @@ use qz_shared::{StoreRow, StoreSeat};
 use qz_types::{Code, LONGEST, MemberRow};
 use std::sync::Wait;
 use std::thread::{Threads, join};
+
+// Why a thread ended early, if it did.
+fn cause_of(ended: Result<(), Declined>) -> Option<Declined>
+    ensures { ended ≡ stopped_by result }
+{
+    match ended {
+        Ok(()) => None,
+        Err(why) => Some(why),
+    }
+}
 
 // The check-in thread, which gives its seats back.
 #[tactic(auto, using(qz_rounds::proofs::Lasting::adds_none))]
@@ -43,15 +54,13 @@ fn run_rounds<S: NodeStore, T: RoundStore, R: Wait, C: SharedClock>(
     ensures home { (is_out result.0 ≡ false) × (is_out result.1 ≡ false) }
     ensures same { KeepsSeat seat result.0 × KeepsSeat state result.1 }
     ensures adds { AddsRounds (C.shows clock.now) (LeavesRows T.kind T.listed T.state T.tables (T.state (first_value states.now).opened.value)) (T.listed (T.state (first_value states.now).opened.value).history) me.now (known result.0) (known result.1) }
+    ensures ended { result.2 ≡ None → (at : ℤ) × C.shows clock.now at × (until ≤ℤ at) × HasCheckedIn (T.listed (T.state (first_value states.now).opened.value).history) me.now.node at (seen result.1) }
     ensures stopped { IfSome result.2 (λ why. IsStopped S.kind S.listed (S.state (first_value row.now).opened.value) (IsRecovery (C.shows clock.now) (LeavesRows T.kind T.listed T.state T.tables (T.state (first_value states.now).opened.value)) (T.listed (T.state (first_value states.now).opened.value).history) me.now (seen result.1)) (known result.0) why ⊎ IsStopped T.kind T.listed (T.state (first_value states.now).opened.value) (IsRoundEntry (C.shows clock.now) (LeavesRows T.kind T.listed T.state T.tables (T.state (first_value states.now).opened.value)) (T.listed (T.state (first_value states.now).opened.value).history) me.now.node (seen result.1)) (known result.1) why) }
 {
     let mut seat = seat;
     let mut state = state;
-    let cause = match check_rounds(rt, row, states, clock, until, me, &mut seat, &mut state) {
-        Ok(()) => None,
-        Err(cause) => Some(cause),
-    };
-    (seat, state, cause)
+    let ended = check_rounds(rt, row, states, clock, until, me, &mut seat, &mut state);
+    (seat, state, cause_of(ended))
 }
 
 // Both threads, each with a seat of the triggers. The check-in thread has the seat of the states.
@@ -94,6 +103,8 @@ fn run_both<
     ensures entries { AllByRecursion (IsScheduled (C.shows clock.now) until me.now seat.number) (mine result.0.0) }
     ensures ran { ShowsRan row.now result.0.0 (seat.number ∷ []) (M.meanings jobs) (M.meanings result.0.1) }
     ensures adds { AddsRounds (C.shows clock.now) (LeavesRows T.kind T.listed T.state T.tables (T.state (first_value states.now).opened.value)) (T.listed (T.state (first_value states.now).opened.value).history) me.now (known result.1.0) (known result.1.1) }
+    ensures ended { result.0.2 ≡ None → HasEnded (C.shows clock.now) until me.now seat.number row.now result.0.0 }
+    ensures ended_rounds { result.1.2 ≡ None → (at : ℤ) × C.shows clock.now at × (until ≤ℤ at) × HasCheckedIn (T.listed (T.state (first_value states.now).opened.value).history) me.now.node at (seen result.1.1) }
     ensures stopped { IfSome result.0.2 (IsStopped S.kind S.listed (S.state (first_value row.now).opened.value) (IsScheduled (C.shows clock.now) until me.now seat.number) (known result.0.0)) }
     ensures stopped_rounds { IfSome result.1.2 (λ why. IsStopped S.kind S.listed (S.state (first_value row.now).opened.value) (IsRecovery (C.shows clock.now) (LeavesRows T.kind T.listed T.state T.tables (T.state (first_value states.now).opened.value)) (T.listed (T.state (first_value states.now).opened.value).history) me.now (seen result.1.1)) (known result.1.0) why ⊎ IsStopped T.kind T.listed (T.state (first_value states.now).opened.value) (IsRoundEntry (C.shows clock.now) (LeavesRows T.kind T.listed T.state T.tables (T.state (first_value states.now).opened.value)) (T.listed (T.state (first_value states.now).opened.value).history) me.now.node (seen result.1.1)) (known result.1.1) why) }
 {
@@ -101,7 +112,7 @@ fn run_both<
         rt,
         move || -> (StoreSeat<S>, L, Option<Declined>)
             requires { IsOf row.now seat × (is_out seat ≡ false) × (until ≤ℤ LONGEST) × (mine seat ≡ []) × (ids seat ≡ seat.number ∷ []) × E.IsAlwaysCallable run.now × AlwaysPerforms E.Fn run.now M.meanings }
-            ensures { IsOf row.entry.now result.0 × (is_out result.0 ≡ false) × KeepsSeat seat result.0 × AllByRecursion (IsScheduled (C.shows clock.entry.now) until me.entry.now seat.number) (mine result.0) × ShowsRan row.entry.now result.0 (seat.number ∷ []) (M.meanings jobs) (M.meanings result.1) × IfSome result.2 (IsStopped S.kind S.listed (S.state (first_value row.entry.now).opened.value) (IsScheduled (C.shows clock.entry.now) until me.entry.now seat.number) (known result.0)) }
+            ensures { IsOf row.entry.now result.0 × (is_out result.0 ≡ false) × KeepsSeat seat result.0 × AllByRecursion (IsScheduled (C.shows clock.entry.now) until me.entry.now seat.number) (mine result.0) × ShowsRan row.entry.now result.0 (seat.number ∷ []) (M.meanings jobs) (M.meanings result.1) × IfSome result.2 (IsStopped S.kind S.listed (S.state (first_value row.entry.now).opened.value) (IsScheduled (C.shows clock.entry.now) until me.entry.now seat.number) (known result.0)) × (result.2 ≡ None → HasEnded (C.shows clock.entry.now) until me.entry.now seat.number row.entry.now result.0) }
         {
             run_listed::<S, R, C, G, L, E, M>(
                 rt, row, clock, gate, run, node, until, me, seat, jobs,
@@ -109,7 +120,7 @@ fn run_both<
         },
         move || -> (StoreSeat<S>, StoreSeat<T>, Option<Declined>)
             requires { IsOf row.now other × IsOf states.now state × (is_out other ≡ false) × (is_out state ≡ false) × (mine other ≡ []) × (mine state ≡ []) }
-            ensures { IsOf row.entry.now result.0 × IsOf states.entry.now result.1 × (is_out result.0 ≡ false) × (is_out result.1 ≡ false) × KeepsSeat other result.0 × KeepsSeat state result.1 × AddsRounds (C.shows clock.entry.now) (LeavesRows T.kind T.listed T.state T.tables (T.state (first_value states.entry.now).opened.value)) (T.listed (T.state (first_value states.entry.now).opened.value).history) me.entry.now (known result.0) (known result.1) × IfSome result.2 (λ why. IsStopped S.kind S.listed (S.state (first_value row.entry.now).opened.value) (IsRecovery (C.shows clock.entry.now) (LeavesRows T.kind T.listed T.state T.tables (T.state (first_value states.entry.now).opened.value)) (T.listed (T.state (first_value states.entry.now).opened.value).history) me.entry.now (seen result.1)) (known result.0) why ⊎ IsStopped T.kind T.listed (T.state (first_value states.entry.now).opened.value) (IsRoundEntry (C.shows clock.entry.now) (LeavesRows T.kind T.listed T.state T.tables (T.state (first_value states.entry.now).opened.value)) (T.listed (T.state (first_value states.entry.now).opened.value).history) me.entry.now.node (seen result.1)) (known result.1) why) }
+            ensures { IsOf row.entry.now result.0 × IsOf states.entry.now result.1 × (is_out result.0 ≡ false) × (is_out result.1 ≡ false) × KeepsSeat other result.0 × KeepsSeat state result.1 × AddsRounds (C.shows clock.entry.now) (LeavesRows T.kind T.listed T.state T.tables (T.state (first_value states.entry.now).opened.value)) (T.listed (T.state (first_value states.entry.now).opened.value).history) me.entry.now (known result.0) (known result.1) × IfSome result.2 (λ why. IsStopped S.kind S.listed (S.state (first_value row.entry.now).opened.value) (IsRecovery (C.shows clock.entry.now) (LeavesRows T.kind T.listed T.state T.tables (T.state (first_value states.entry.now).opened.value)) (T.listed (T.state (first_value states.entry.now).opened.value).history) me.entry.now (seen result.1)) (known result.0) why ⊎ IsStopped T.kind T.listed (T.state (first_value states.entry.now).opened.value) (IsRoundEntry (C.shows clock.entry.now) (LeavesRows T.kind T.listed T.state T.tables (T.state (first_value states.entry.now).opened.value)) (T.listed (T.state (first_value states.entry.now).opened.value).history) me.entry.now.node (seen result.1)) (known result.1) why) × (result.2 ≡ None → (at : ℤ) × C.shows clock.entry.now at × (until ≤ℤ at) × HasCheckedIn (T.listed (T.state (first_value states.entry.now).opened.value).history) me.entry.now.node at (seen result.1)) }
         { run_rounds(rt, row, states, clock, until, me, other, state) },
     )
 }
@@ -150,6 +161,8 @@ pub(super) fn run_pair<
     ensures parts { (result.0.parts ≡ seat.parts) × (result.1.parts ≡ state.parts) }
     ensures worked { HaveWorked (C.shows clock.now) until (LeavesRows T.kind T.listed T.state T.tables (T.state (first_value states.now).opened.value)) (T.listed (T.state (first_value states.now).opened.value).history) (record { me = me.now; number = seat.number } ∷ [])
         (ShowsRan row.now result.0) (ids result.0) (mine result.0) (seen result.1) (mine result.1) (M.meanings jobs ∷ []) (M.meanings result.2 ∷ []) }
+    ensures ended { result.3 ≡ None → HaveEnded (C.shows clock.now) until (T.listed (T.state (first_value states.now).opened.value).history) (me.now ∷ []) row.now result.0 result.1 }
+    ensures fault { ShowsFault result.3 result.0 result.1 }
     ensures stopped { IfSome result.3 (ShowsStopped (C.shows clock.now) until (LeavesRows T.kind T.listed T.state T.tables (T.state (first_value states.now).opened.value)) (T.listed (T.state (first_value states.now).opened.value).history) (me.now.node ∷ []) row.now states.now result.0 result.1) }
 {
     let (seat, other) = row.split(seat);

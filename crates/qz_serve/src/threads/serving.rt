@@ -1,5 +1,5 @@
 //! Nodes that work on stores, from the stores' being put under their rows to their being taken back.
-ghost use Rattle.std.specs.Prelude.{◌≡◌, ◌⊎◌, ◌≤ℤ◌, ◌≤◌, ◌<◌, ◌^◌, [], ◌∷◌, ◌++◌, false, length, map, IfOk, IfSome, OnErr};
+ghost use Rattle.std.specs.Prelude.{◌≡◌, ◌⊎◌, ◌≤ℤ◌, ◌≤◌, ◌<◌, ◌^◌, [], ◌∷◌, ◌++◌, false, length, map, Some, None, IfOk, IfSome, OnErr};
 ghost use Rattle.std.specs.List.{AllByRecursion};
 ghost use Rattle.qz_types.specs.Rows.{MemberData};
 ghost use Rattle.qz_row_lock.specs.Seats.{IsOf, ids, mine, is_out, first_value};
@@ -10,6 +10,7 @@ ghost use Rattle.qz_rounds.specs.Looking.{LeavesRows};
 ghost use Rattle.qz_serve.specs.Asking.{KeepsSeat};
 ghost use Rattle.qz_serve.specs.Declining.{AtLimit, DeclinedOnTheWay};
 ghost use Rattle.qz_serve.specs.Entries.{IsScheduled};
+ghost use Rattle.qz_serve.specs.Finished.{CameToEnd, HasEnded, NodeCameToEnd};
 ghost use Rattle.qz_serve.specs.Heard.{heard_since};
 ghost use Rattle.qz_serve.specs.Knowing.{EachTold, ShowsRan};
 ghost use Rattle.qz_serve.specs.Performing.{AlwaysPerforms, Performs};
@@ -67,6 +68,8 @@ pub(crate) fn serve_nodes<
     ensures declined { IfOk result (λ r. IfSome r.2 (AtLimit (λ why.
         DeclinedOnTheWay S.kind S.listed (IsOfThreads (C.shows clock.now) until (LeavesRows T.kind T.listed T.state T.tables (T.state states)) (T.listed (T.state states).history) (map (λ (m : MemberData). m.node) members.now) (T.listed (T.state r.1).history)) (S.state triggers) (S.state r.0) why
         ⊎ DeclinedOnTheWay T.kind T.listed (IsRowOfThreads (C.shows clock.now) until (LeavesRows T.kind T.listed T.state T.tables (T.state states)) (T.listed (T.state states).history) (map (λ (m : MemberData). m.node) members.now) (T.listed (T.state r.1).history)) (T.state states) (T.state r.1) why))) }
+    ensures ended { IfOk result (λ r. r.2 ≡ None → AllByRecursion (NodeCameToEnd S.kind S.listed (S.state triggers) (C.shows clock.now) until (T.listed (T.state states).history) (S.listed (S.state r.0).history) (T.listed (T.state r.1).history)) members.now) }
+    ensures fault { IfOk result (λ r. r.2 ≡ Some Declined.Fault → ((S.state r.0).is_open ≡ false) ⊎ ((T.state r.1).is_open ≡ false)) }
     ensures since { IfOk result (λ r. IsSince S.kind S.listed (S.state triggers) (S.state r.0) × IsSince T.kind T.listed (T.state states) (T.state r.1)) }
     ensures went { IfOk result (λ r. ∥ S.Went triggers r.0 ∥₁ × ∥ T.Went states r.1 ∥₁) }
     ensures untouched { OnErr result (jobs.new.items ≡ jobs.old.items) }
@@ -119,6 +122,7 @@ fn run_main<
     ensures same { KeepsSeat seat result.0 }
     ensures entries { AllByRecursion (IsScheduled (C.shows clock.now) until me.now seat.number) (mine result.0) }
     ensures told { EachTold (λ n. ShowsRan row.now result.0 (n ∷ [])) (seat.number ∷ []) (map M.meanings lists.old.items) (map M.meanings lists.new.items) }
+    ensures ended { result.1 ≡ None → HasEnded (C.shows clock.now) until me.now seat.number row.now result.0 }
     ensures stopped { IfSome result.1 (IsStopped S.kind S.listed (S.state (first_value row.now).opened.value) (IsScheduled (C.shows clock.now) until me.now seat.number) (known result.0)) }
 {
     let list = take_list::<L, M>(alloc, lists, 0);
@@ -148,6 +152,8 @@ pub(crate) fn serve_main<S: NodeStore, R: Wait, C: SharedClock, G: Gate>(
         (S.listed (S.state triggers).history) (S.listed (S.state r.0).history)
         (map (λ list. map means list.items) jobs.old.items) (map (λ list. map means list.items) jobs.new.items)) }
     ensures declined { IfOk result (λ r. IfSome r.1 (AtLimit (DeclinedOnTheWay S.kind S.listed (IsScheduled (C.shows clock.now) until me.now 0) (S.state triggers) (S.state r.0)))) }
+    ensures ended { IfOk result (λ r. r.1 ≡ None → CameToEnd S.kind S.listed (S.state triggers) (C.shows clock.now) until me.now 0 (S.listed (S.state r.0).history)) }
+    ensures fault { IfOk result (λ r. r.1 ≡ Some Declined.Fault → (S.state r.0).is_open ≡ false) }
     ensures since { IfOk result (λ r. IsSince S.kind S.listed (S.state triggers) (S.state r.0)) }
     ensures went { IfOk result (λ r. ∥ S.Went triggers r.0 ∥₁) }
     ensures untouched { OnErr result (jobs.new.items ≡ jobs.old.items) }

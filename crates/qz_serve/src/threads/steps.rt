@@ -1,5 +1,5 @@
 //! What a scheduler thread asks for, and what it executes.
-ghost use Rattle.std.specs.Prelude.{◌≡◌, ◌≤ℤ◌, List, Some, map, IfErr, IfSome, OnOk};
+ghost use Rattle.std.specs.Prelude.{◌≡◌, ◌≤ℤ◌, List, Some, None, map, IfErr, IfSome, OnOk};
 ghost use Rattle.qz_row_lock.specs.Seats.{first_value};
 ghost use Rattle.qz_shared.specs.Calls.{known};
 ghost use Rattle.qz_node.specs.Turns.{wanted};
@@ -9,6 +9,7 @@ ghost use Rattle.qz_serve.specs.Entries.{IsPlain, IsScheduled};
 ghost use Rattle.qz_rounds.specs.Declining.{IsStopped};
 ghost use Rattle.qz_serve.specs.Ran.{Ran, TellsOn, MayFollow, context_after};
 ghost use Rattle.qz_serve.specs.Asking.{KeepsSeat, IsAtWork, IsReady, deeds};
+ghost use Rattle.qz_serve.specs.Finished.{Knows, HasEnded};
 
 use crate::threads::Gate;
 use crate::threads::asking::ask;
@@ -51,12 +52,15 @@ pub(super) fn ask_plain<S: NodeStore, R: Wait, C: SharedClock>(
 ) -> Result<(), Option<Declined>>
     requires work { IsAtWork (C.shows clock.now) turn.old.until me.now row.now seat.old turn.old context.old }
     requires ready { IsReady turn.old context.old }
+    requires knows { Knows (C.shows clock.now) turn.old.until me.now row.now seat.old turn.old }
     requires wanted { command_of (wanted turn.old at) ≡ Some command }
     requires plain { IsPlain command }
     requires shown { C.shows clock.now at }
     requires until { turn.old.until ≤ℤ LONGEST }
     ensures work { IsAtWork (C.shows clock.now) turn.old.until me.now row.now seat.new turn.new context.new }
     ensures ready { OnOk result (IsReady turn.new context.new) }
+    ensures knows { OnOk result (Knows (C.shows clock.now) turn.old.until me.now row.now seat.new turn.new) }
+    ensures ended { IfErr result (λ cause. cause ≡ None → HasEnded (C.shows clock.now) turn.old.until me.now seat.old.number row.now seat.new) }
     ensures same { KeepsSeat seat.old seat.new }
     ensures ran { (before now : List JobMeaning) → Ran (deeds row.now seat.old) before now → Ran (deeds row.now seat.new) before now }
     ensures stopped { IfErr result (λ cause. IfSome cause (IsStopped S.kind S.listed (S.state (first_value row.now).opened.value) (IsScheduled (C.shows clock.now) turn.old.until me.now seat.old.number) (known seat.new))) }
@@ -90,12 +94,15 @@ pub(super) fn execute_and_complete<S: NodeStore, R: Wait, C: SharedClock, G: Gat
 ) -> Result<(), Option<Declined>>
     requires work { IsAtWork (C.shows clock.now) turn.old.until me.now row.now seat.old turn.old context.old }
     requires ready { IsReady turn.old context.old }
+    requires knows { Knows (C.shows clock.now) turn.old.until me.now row.now seat.old turn.old }
     requires wanted { wanted turn.old at ≡ Want.Execute entry }
     requires lawful { J.lawful jobs.old }
     requires shown { C.shows clock.now at }
     requires until { turn.old.until ≤ℤ LONGEST }
     ensures work { IsAtWork (C.shows clock.now) turn.old.until me.now row.now seat.new turn.new context.new }
     ensures ready { OnOk result (IsReady turn.new context.new) }
+    ensures knows { OnOk result (Knows (C.shows clock.now) turn.old.until me.now row.now seat.new turn.new) }
+    ensures ended { IfErr result (λ cause. cause ≡ None → HasEnded (C.shows clock.now) turn.old.until me.now seat.old.number row.now seat.new) }
     ensures same { KeepsSeat seat.old seat.new }
     ensures lawful { J.lawful jobs.new }
     ensures ran { TellsOn result (deeds row.now seat.old) (deeds row.now seat.new) (J.meanings jobs.old) (J.meanings jobs.new) }

@@ -1,5 +1,5 @@
 //! A node's scheduler thread.
-ghost use Rattle.std.specs.Prelude.{◌≡◌, ◌≤ℤ◌, [], map, false, IfErr, IfSome, OnOk};
+ghost use Rattle.std.specs.Prelude.{◌≡◌, ◌≤ℤ◌, [], map, false, None, IfErr, IfSome, OnOk};
 ghost use Rattle.std.specs.List.{AllByRecursion};
 ghost use Rattle.qz_row_lock.specs.Seats.{IsOf, mine, is_out, first_value};
 ghost use Rattle.qz_shared.specs.Calls.{known};
@@ -7,6 +7,7 @@ ghost use Rattle.qz_rounds.specs.Declining.{IsStopped};
 ghost use Rattle.qz_serve.specs.Entries.{IsScheduled};
 ghost use Rattle.qz_serve.specs.Ran.{TellsOn, RanOrMore};
 ghost use Rattle.qz_serve.specs.Asking.{KeepsSeat, IsAtWork, IsReady, deeds};
+ghost use Rattle.qz_serve.specs.Finished.{Knows, HasEnded};
 
 use crate::threads::Gate;
 use crate::threads::looking::rest;
@@ -35,10 +36,13 @@ fn step<S: NodeStore, R: Wait, C: SharedClock, G: Gate, J: NodeJobs>(
 ) -> Result<(), Option<Declined>>
     requires work { IsAtWork (C.shows clock.now) until me.now row.now seat.old turn.old context.old }
     requires ready { IsReady turn.old context.old }
+    requires knows { Knows (C.shows clock.now) until me.now row.now seat.old turn.old }
     requires until { until ≤ℤ LONGEST }
     requires lawful { J.lawful jobs.old }
     ensures work { IsAtWork (C.shows clock.now) until me.now row.now seat.new turn.new context.new }
     ensures ready { OnOk result (IsReady turn.new context.new) }
+    ensures knows { OnOk result (Knows (C.shows clock.now) until me.now row.now seat.new turn.new) }
+    ensures ended { IfErr result (λ cause. cause ≡ None → HasEnded (C.shows clock.now) until me.now seat.old.number row.now seat.new) }
     ensures same { KeepsSeat seat.old seat.new }
     ensures lawful { J.lawful jobs.new }
     ensures ran { TellsOn result (deeds row.now seat.old) (deeds row.now seat.new) (J.meanings jobs.old) (J.meanings jobs.new) }
@@ -112,6 +116,7 @@ pub(super) fn work<S: NodeStore, R: Wait, C: SharedClock, G: Gate, J: NodeJobs>(
     ensures same { KeepsSeat seat.old seat.new }
     ensures entries { AllByRecursion (IsScheduled (C.shows clock.now) until me.now seat.new.number) (mine seat.new) }
     ensures ran { RanOrMore (deeds row.now seat.new) (J.meanings jobs.old) (J.meanings jobs.new) }
+    ensures ended { result ≡ None → HasEnded (C.shows clock.now) until me.now seat.new.number row.now seat.new }
     ensures stopped { IfSome result (IsStopped S.kind S.listed (S.state (first_value row.now).opened.value) (IsScheduled (C.shows clock.now) until me.now seat.new.number) (known seat.new)) }
 {
     let mut turn = Turn::new(until);

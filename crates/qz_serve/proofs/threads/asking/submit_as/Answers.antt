@@ -6,7 +6,9 @@ use Rattle.qz_shared.specs.Calls.{known}
 use Rattle.qz_serve.specs.Asking.{DeedsAfter}
 use Rattle.qz_serve.specs.Entries.{entry_by}
 use Rattle.qz_serve.specs.Heard.{heard}
+use Rattle.qz_rounds.proofs.Seen.{sees_on}
 use Rattle.qz_serve.proofs.Deeds.{deeds_after}
+use Rattle.qz_serve.proofs.Finished.{accepted_if}
 use Rattle.qz_serve.proofs.threads.asking.submit_as.Goals as goal
 
 pub returns-clause-deeds : goal.returns-clause-deeds
@@ -28,3 +30,16 @@ returns-clause-deeds g c =
     let done = deeds_after k.kind k.listed k.seat_of opened (ids s) base g.met.S.RowStore.lists c.requires.of.past f.of.past e c.submit.result (known s) (known t) own c.requires.of.seen_is c.requires.of.mine_is f.of.seen_is mine_now f.called in
     subst (λ x. DeedsAfter c.submit.result x (heard k.kind k.listed k.seat_of opened (ids s) base (seen s)) (heard k.kind k.listed k.seat_of opened (ids t) base (seen t))) is
     (subst (λ i. DeedsAfter c.submit.result e (heard k.kind k.listed k.seat_of opened (ids s) base (seen s)) (heard k.kind k.listed k.seat_of opened i base (seen t))) (sym same) done)
+
+pub returns-clause-begins : goal.returns-clause-begins
+returns-clause-begins g c =
+    let k = g.S.RowStore in
+    sees_on k.kind k.listed g.met.S.RowStore.lists (k.state (first_value c.args.row.now).opened.value) c.entry_of-entry.result c.submit.result (known c.args.seat.now) (known c.submit.new.seat) c.submit.ensures.called
+
+pub returns-clause-accepted : goal.returns-clause-accepted
+returns-clause-accepted g c =
+    let k = g.S.RowStore in
+    let s = c.args.seat.now in
+    let e = c.entry_of-entry.result in
+    let is : e ≡ entry_by c.args.at c.args.me.now s.number c.args.command = search rules in
+    accepted_if k.kind k.listed (k.state (first_value c.args.row.now).opened.value) g.met.S.RowStore.lists e (entry_by c.args.at c.args.me.now s.number c.args.command) c.submit.result (known s) (known c.submit.new.seat) is c.submit.ensures.called

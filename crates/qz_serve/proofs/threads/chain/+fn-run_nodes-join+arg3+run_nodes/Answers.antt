@@ -2,10 +2,11 @@ use Rattle.std.proofs.Common.{◌≡◌, ◌∷◌, [], ◌∙◌, ◌-◌, ℕ,
 use Rattle.std.proofs.lemmas.List.Elements.{Contains-append_left, Contains-append_right}
 use Rattle.std.specs.Prelude.{Contains}
 use Rattle.qz_types.specs.Rows.{MemberData}
-use Rattle.qz_row_lock.specs.Seats.{ids, mine, seen, first_value}
+use Rattle.qz_row_lock.specs.Seats.{ids, mine, seen, shut, first_value}
 use Rattle.qz_rounds.specs.Looking.{LeavesRows}
 use Rattle.qz_serve.specs.Asking.{heard_in, first_entries}
 use Rattle.qz_serve.specs.Knowing.{Worker}
+use Rattle.qz_serve.proofs.Finished.{joined_ended, joined_fault, none_ended}
 use Rattle.qz_serve.proofs.Stopping.{as_told, joined_stopped, stopped_until}
 use Rattle.qz_serve.proofs.Told.{before_same}
 use Rattle.qz_serve.proofs.Worked.{nodes_joined, at_moment, none_worked, first_and_others, alone}
@@ -84,3 +85,33 @@ returns-in-len1-up-clause-stopped g t c =
     (me ∷ []) others all (seen p.0) (seen r.0) (seen n) (seen p.1) (seen r.1) (seen m)
     (λ x within. subst (λ (xs : List (List ℕ)). Contains xs x) whole (Contains-append_left (me ∷ []) others x within)) (λ x within. subst (λ (xs : List (List ℕ)). Contains xs x) whole (Contains-append_right (me ∷ []) others x within))
     j.seen.1 k.seen.1 j.seen.0 k.seen.0 _ _ first.7 rest.8))
+
+pub returns-in-empty-clause-ended : goal.returns-in-empty-clause-ended
+returns-in-empty-clause-ended g t c none = none_ended _ _ _ _ _ _ c.args.members.now _ _ c.in-empty.len_below
+
+pub returns-in-len1-up-clause-ended : goal.returns-in-len1-up-clause-ended
+returns-in-len1-up-clause-ended g t c none =
+    let s = g.S.RowStore in
+    let q = g.T.RowStore in
+    let opened = q.state (first_value c.args.states.now).opened.value in
+    let first = c.join-first.ensures.first in
+    let rest = c.join-first.ensures.second in
+    let p = c.join-first.result.0 in
+    let r = c.join-first.result.1 in
+    let j = c.join.ensures in
+    let k = c.join-in-len1-up.ensures in
+    let up_to : ℤ = to_z w64 (of_z w64 c.args.until) in
+    let until : up_to ≡ c.args.until = search rules in
+    joined_ended s.kind s.listed (s.state (first_value c.args.row.now).opened.value) (g.C.SharedClock.shows c.args.clock.now) c.args.until (q.listed opened.history) up_to c.me-item.result (take (length c.args.members.now - 1) (drop 1 c.args.members.now)) c.args.members.now
+    (seen p.0) (seen r.0) (seen c.join.result) (seen p.1) (seen r.1) (seen c.join-in-len1-up.result) p.3 r.3 _ c.least_cause.ensures
+    j.seen.1 j.seen.0 k.seen.1 k.seen.0 (first_and_others c.args.members.now c.me-item.result c.in-len1-up.len_at_least c.me-item.is) first.8 rest.9 until none
+
+pub returns-in-len1-up-clause-fault : goal.returns-in-len1-up-clause-fault
+returns-in-len1-up-clause-fault g t c fault =
+    let first = c.join-first.ensures.first in
+    let rest = c.join-first.ensures.second in
+    let p = c.join-first.result.0 in
+    let r = c.join-first.result.1 in
+    let j = c.join.ensures in
+    let k = c.join-in-len1-up.ensures in
+    joined_fault (shut p.0) (shut r.0) (shut c.join.result) (shut p.1) (shut r.1) (shut c.join-in-len1-up.result) p.3 r.3 _ c.least_cause.ensures first.9 rest.10 j.shut_other j.shut k.shut_other k.shut fault

@@ -1,6 +1,7 @@
 use Rattle.std.proofs.Common.{◌∙◌, rules}
 use Rattle.qz_row_lock.specs.Seats.{ids, mine, seen, first_value}
 use Rattle.qz_serve.proofs.Asks.{under_same}
+use Rattle.qz_serve.proofs.Finished.{came_under}
 use Rattle.qz_serve.proofs.Joining.{ran_in}
 use Rattle.qz_serve.proofs.Stopping.{under_stopped}
 use Rattle.qz_serve.proofs.threads.nodes.run_node.Goals as goal
@@ -23,3 +24,9 @@ pub returns-clause-stopped : goal.returns-clause-stopped
 returns-clause-stopped g c =
     let f = c.work-cause.ensures in
     under_stopped _ _ _ _ _ c.args.until _ _ _ _ _ f.same.number f.stopped (search rules)
+
+pub returns-clause-ended : goal.returns-clause-ended
+returns-clause-ended g c none =
+    let k = g.S.RowStore in
+    let f = c.work-cause.ensures in
+    came_under k.kind k.listed (k.state (first_value c.args.row.now).opened.value) (g.C.SharedClock.shows c.args.clock.now) _ c.args.until c.args.me.now _ c.args.seat.number (seen c.work-cause.new.seat) (search rules) f.same.number (f.ended none)

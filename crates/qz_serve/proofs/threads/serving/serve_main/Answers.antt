@@ -7,6 +7,7 @@ use Rattle.qz_serve.specs.Heard.{heard, heard_since}
 use Rattle.qz_serve.specs.Declining.{AtLimit, DeclinedOnTheWay}
 use Rattle.qz_serve.specs.Entries.{IsScheduled}
 use Rattle.qz_serve.proofs.Closing.{main_served}
+use Rattle.qz_serve.proofs.Finished.{came_on, came_under, came_of, fault_shows}
 use Rattle.qz_serve.proofs.Stopping.{main_stopped, under_stopped}
 use Rattle.qz_serve.proofs.threads.serving.serve_main.Goals as goal
 
@@ -37,3 +38,21 @@ returns-clause-declined g c =
     subst (λ s. IfSome c.run_main-seat.result.1 (AtLimit (DeclinedOnTheWay k.kind k.listed asked (k.state s) (k.state c.close_row.result)))) o.opened.0
     (main_stopped k.kind k.listed opened (k.state c.close_row.result) g.met.S.RowStore.lists (first_entries row) r.of.past asked asked (known n) (λ e is. is) r.of.seen_is (ap (λ s. k.listed (k.state s).history) (o.opened.1 ∙ sym o.opened.0)) f.begins _
     (under_stopped k.kind k.listed opened _ _ c.args.until _ _ 0 (known n) _ o.counts.0 r.stopped until))
+
+pub returns-clause-ended : goal.returns-clause-ended
+returns-clause-ended g c none =
+    let k = g.S.RowStore in
+    let o = c.in_ok-row.ensures in
+    let r = c.run_main-seat.ensures in
+    let n = c.run_main-seat.result.0 in
+    let opened = k.state (first_value c.in_ok-row.row).opened.value in
+    let shows = g.C.SharedClock.shows c.args.clock.now in
+    came_of k.kind k.listed opened (k.state c.args.triggers) shows c.args.until c.args.me.now 0 (k.listed (k.state c.close_row.result).history) (ap k.state o.opened.0)
+    (came_on k.kind k.listed opened shows c.args.until c.args.me.now 0 (seen n) (k.listed (k.state c.close_row.result).history) c.close_row.ensures.begins
+    (came_under k.kind k.listed opened shows _ c.args.until c.args.me.now _ 0 (seen n) (search rules) o.counts.0 (r.ended none)))
+
+pub returns-clause-fault : goal.returns-clause-fault
+returns-clause-fault g c fault =
+    let k = g.S.RowStore in
+    let r = c.run_main-seat.ensures in
+    c.close_row.ensures.shut (fault_shows k.kind k.listed (k.state (first_value c.in_ok-row.row).opened.value) _ (known c.run_main-seat.result.0) c.run_main-seat.result.1 r.stopped fault)

@@ -1,10 +1,11 @@
 use Rattle.std.proofs.Common.{◌≡◌, ◌∙◌, ap, map, refl, rules, sym, to_z, of_z, w64}
 use Rattle.qz_types.specs.Rows.{MemberData}
-use Rattle.qz_row_lock.specs.Seats.{ids, mine, seen, first_value}
+use Rattle.qz_row_lock.specs.Seats.{ids, mine, seen, shut, first_value}
 use Rattle.qz_rounds.specs.Looking.{LeavesRows}
 use Rattle.qz_serve.specs.Asking.{heard_in, first_entries}
 use Rattle.qz_serve.specs.Heard.{heard, heard_since}
 use Rattle.qz_serve.proofs.Closing.{nodes_served}
+use Rattle.qz_serve.proofs.Finished.{either_closed, ended_as, nodes_on}
 use Rattle.qz_serve.proofs.Stopping.{closed_stopped, thread_as}
 use Rattle.qz_serve.proofs.Worked.{at_moment}
 use Rattle.qz_serve.proofs.threads.serving.serve_nodes.Goals as goal
@@ -54,3 +55,25 @@ returns-clause-declined g c =
     (ap k.state o.opened.0) (ap q.state p.opened.0) until (ap (λ s. LeavesRows q.kind q.listed q.state g.T.RoundStore.tables (q.state s)) p.opened.0) (ap (λ s. q.listed (q.state s).history) p.opened.0)
     (closed_stopped k.kind k.listed opened (first_entries row) q.kind q.listed row_opened (q.listed (q.state (first_value rounds).store).history) (g.C.SharedClock.shows c.args.clock.now) _ (LeavesRows q.kind q.listed q.state g.T.RoundStore.tables row_opened) (q.listed row_opened.history)
     c.lists_last.ensures c.lists_last-2.ensures names (seen n) (seen m) now now_rows (ap (λ s. k.listed (k.state s).history) (o.opened.1 ∙ sym o.opened.0)) (ap (λ s. q.listed (q.state s).history) (p.opened.1 ∙ sym p.opened.0)) f.begins h.begins _ r.stopped)
+
+pub returns-clause-ended : goal.returns-clause-ended
+returns-clause-ended g c none =
+    let k = g.S.RowStore in
+    let q = g.T.RowStore in
+    let o = c.in_ok-row.ensures in
+    let p = c.in_ok-rounds.ensures in
+    let r = c.run_nodes-seat.ensures in
+    let n = c.run_nodes-seat.result.0 in
+    let m = c.run_nodes-seat.result.1 in
+    let opened = k.state (first_value c.in_ok-row.row).opened.value in
+    let row_opened = q.state (first_value c.in_ok-rounds.rounds).opened.value in
+    let shows = g.C.SharedClock.shows c.args.clock.now in
+    ended_as k.kind k.listed opened shows _ (q.listed row_opened.history) (k.state c.args.triggers) c.args.until (q.listed (q.state c.args.states).history) (k.listed (k.state c.close_row.result).history) (q.listed (q.state c.close_row-2.result).history) c.args.members.now
+    (ap k.state o.opened.0) (search rules) (ap (λ s. q.listed (q.state s).history) p.opened.0)
+    (nodes_on k.kind k.listed opened shows _ (q.listed row_opened.history) (seen n) (k.listed (k.state c.close_row.result).history) (seen m) (q.listed (q.state c.close_row-2.result).history) c.args.members.now c.close_row.ensures.begins c.close_row-2.ensures.begins (r.ended none))
+
+pub returns-clause-fault : goal.returns-clause-fault
+returns-clause-fault g c fault =
+    let n = c.run_nodes-seat.result.0 in
+    let m = c.run_nodes-seat.result.1 in
+    either_closed (shut n) (shut m) _ _ c.close_row.ensures.shut c.close_row-2.ensures.shut (c.run_nodes-seat.ensures.fault fault)
