@@ -8,6 +8,7 @@ ghost use Rattle.qz_rounds.specs.Looking.{LeavesRows, HasCheckedIn};
 ghost use Rattle.qz_rounds.specs.Adding.{IsRecovery, IsRoundEntry, AddsRounds};
 ghost use Rattle.qz_rounds.specs.Declining.{IsStopped};
 ghost use Rattle.qz_rounds.specs.Recovering.{LooksAndRecovers};
+ghost use Rattle.qz_rounds.specs.Rounds.{MadeLastRound};
 
 use qz_rounds::{NodeStore, RoundStore, SharedClock};
 use qz_run::Declined;
@@ -58,6 +59,7 @@ pub fn check_rounds<S: NodeStore, T: RoundStore, R: Wait, C: SharedClock>(
     ensures same { (seat.new.number ≡ seat.old.number) × (seat.new.more ≡ seat.old.more) × (seat.new.parts ≡ seat.old.parts) × (ids seat.new ≡ ids seat.old) }
     ensures same_state { (state.new.number ≡ state.old.number) × (state.new.more ≡ state.old.more) × (state.new.parts ≡ state.old.parts) × (ids state.new ≡ ids state.old) }
     ensures adds { AddsRounds (C.shows clock.now) (LeavesRows T.kind T.listed T.state T.tables (T.state (first_value states.now).opened.value)) (T.listed (T.state (first_value states.now).opened.value).history) me.now (known seat.new) (known state.new) }
+    ensures last { OnOk result (MadeLastRound T.kind T.listed (T.state (first_value states.now).opened.value) S.kind S.listed (S.state (first_value row.now).opened.value) (C.shows clock.now) until (LeavesRows T.kind T.listed T.state T.tables (T.state (first_value states.now).opened.value)) me.now seat.old.number state.old.number (known seat.new) (known state.new)) }
     ensures ended { OnOk result ((at : ℤ) × C.shows clock.now at × (until ≤ℤ at) × HasCheckedIn (T.listed (T.state (first_value states.now).opened.value).history) me.now.node at (seen state.new)) }
     ensures stopped { IfErr result (λ why.
         IsStopped S.kind S.listed (S.state (first_value row.now).opened.value) (IsRecovery (C.shows clock.now) (LeavesRows T.kind T.listed T.state T.tables (T.state (first_value states.now).opened.value)) (T.listed (T.state (first_value states.now).opened.value).history) me.now (seen state.new)) (known seat.new) why
