@@ -1,5 +1,6 @@
 pub mod Feeding
 pub mod Over
+pub mod Promoted
 pub mod Reading
 pub mod Records
 pub mod Rooms

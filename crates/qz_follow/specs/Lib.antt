@@ -1,5 +1,6 @@
 pub mod Following
 pub mod Kept
 pub mod Payloads
+pub mod Promoting
 pub mod Taking
 pub mod View

@@ -5,6 +5,6 @@
 pub enum Keeping {
     /// Nothing: its memory doesn't grow with the stream, but with its tables alone. It can't be promoted.
     Tables,
-    /// The payloads of records, as they came, so that it can be promoted. Its memory grows with them.
+    /// The payloads of records, as they came: a promotion writes them into the new store byte for byte. Its memory grows with them.
     Payloads,
 }

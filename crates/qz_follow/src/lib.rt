@@ -6,9 +6,11 @@ mod faults;
 mod follower;
 mod keeping;
 mod laws;
+mod promoting;
 mod taken;
 
 pub use faults::FollowFault;
 pub use follower::Follower;
 pub use keeping::Keeping;
 pub use laws::{ends_are_told, entries_are_those_of_the_bytes, faults_are_told};
+pub use promoting::PromoteFault;

@@ -28,7 +28,7 @@ const FIRST_GATE: u64 = 16;
 /// What was taken of a stream.
 #[derive(Drop)]
 pub(crate) struct Taken {
-    alloc: Global,
+    pub(crate) alloc: Global,
     pub(crate) tables: PlainStore,
     // the version of the format that the stream has, 1 or 2
     pub(crate) version: u8,
