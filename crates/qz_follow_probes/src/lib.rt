@@ -1,11 +1,16 @@
 //! Calls of a follower, once more: edits of them show which wrong answers the contracts of these calls refuse.
 #![tactic(auto)]
 
-ghost use Rattle.std.specs.Prelude.{◌≡◌, ◌↔◌, None, Some, length, IfOk, IfErr, IsTrue};
+ghost use Rattle.std.specs.Prelude.{◌≡◌, ◌↔◌, ◌≤◌, ℕ, None, Some, length, true, IfOk, IfErr, IsTrue, OnOk, MatchResult};
 ghost use Rattle.qz_follow.specs.Following.{Follows, Keeps, IsEnded};
-ghost use Rattle.qz_follow.specs.View.{view};
+ghost use Rattle.qz_follow.specs.Promoting.{IsOpenWith, Promotes};
+ghost use Rattle.qz_follow.specs.View.{view, keeps_of};
+ghost use Rattle.qz_stream.specs.Standing.{header_length_of};
+ghost use Rattle.qz_trigger_store.specs.View.{disk_state};
 
-use qz_follow::{FollowFault, Follower};
+use qz_disk::Disk;
+use qz_follow::{FollowFault, Follower, PromoteFault};
+use qz_trigger_store::TriggerStore;
 
 /// [`Follower::feed`].
 pub fn feed(follower: &mut Follower, piece: &[u8]) -> Result<u64, FollowFault>
@@ -32,4 +37,20 @@ pub fn ended(follower: &Follower) -> bool
     ensures { IsTrue result ↔ IsEnded (view follower.now) }
 {
     follower.ended()
+}
+
+/// [`Follower::promote`].
+pub fn promote<D: Disk>(follower: Follower, disk: D) -> Result<TriggerStore<D>, (PromoteFault, D)>
+    requires kept { keeps_of follower ≡ true }
+    requires begins { (at : ℕ) → (view follower).fault ≡ Some (FollowFault.BadStream at) → 6 ≤ at }
+    ensures store { IfOk result (IsOpenWith (view follower).version (view follower).entries) }
+    ensures promotes { D.honest → MatchResult result (λ store. Promotes (view follower).version (view follower).entries None (D.state disk) (disk_state store))
+        (λ e. Promotes (view follower).version (view follower).entries (Some e.0) (D.state disk) (D.state e.1)) }
+    ensures short { (at : ℕ) → IfErr result (λ e. (e.0 ≡ PromoteFault.Short at) ↔ (header_length_of (view follower).standing ≡ Some at)) }
+    ensures long { OnOk result (header_length_of (view follower).standing ≡ None) }
+{
+    match follower.promote(disk) {
+        Ok(store) => Ok(store),
+        Err((fault, disk)) => Err((fault, disk)),
+    }
 }
