@@ -65,10 +65,10 @@ module _ {H S E R : Type 0} (k : StoreKind H S E R) (lawful : IsLawful k) (v : �
   IsGate gate count b = (ps : List (List ℕ)) → Holds b v k.number ps → (gate ≡ end_of ps) × (count ≡ length ps)
 
   -- what the whole list leaves is what the history leaves
-  pub whole_leaves : (n : ℕ) (B T : S) (found added es : List E) → T ≡ k.replay_from B (found ++ added) → IsEndOf k v (k.history n B found) es → T ≡ k.replay_from (k.empty v) (es ++ added)
-  whole_leaves n B T found added es state is =
+  pub whole_leaves : (O : S) (n : ℕ) (B T : S) (found added es : List E) → T ≡ k.replay_from B (found ++ added) → IsEndOf k O (k.history n B found) es → T ≡ k.replay_from O (es ++ added)
+  whole_leaves O n B T found added es state is =
       let h = k.history n B (found ++ added) in
-      state ∙ sym (λ i. k.replay_from (lawful.base_is n B (found ++ added) i) (lawful.entries_are n B (found ++ added) i)) ∙ end_leaves k lawful v h (es ++ added) (end_more k lawful v n B found added es is)
+      state ∙ sym (λ i. k.replay_from (lawful.base_is n B (found ++ added) i) (lawful.entries_are n B (found ++ added) i)) ∙ end_leaves k lawful O h (es ++ added) (end_more k lawful O n B found added es is)
 
   as_held : (w number : ℕ) (b : List ℕ) (ps : List (List ℕ)) → w ≡ v → number ≡ k.number → Holds b w number ps → Holds b v k.number ps
   as_held w number b ps w_is number_is holds = subst (λ (n : ℕ). Holds b v n ps) number_is (subst (λ (x : ℕ). Holds b x number ps) w_is holds)
@@ -77,13 +77,13 @@ module _ {H S E R : Type 0} (k : StoreKind H S E R) (lawful : IsLawful k) (v : �
   as_journal w number b ps w_is number_is holds = subst (λ (x : ℕ). Holds b x number ps) (sym w_is) (subst (λ (n : ℕ). Holds b v n ps) (sym number_is) holds)
 
   -- A journal in this version and of this kind appends a record of an entry that is accepted.
-  module _ (w number gate count : ℕ) (p : List ℕ) (e : E) (es : List E) (b : List ℕ) (w_is : w ≡ v) (number_is : number ≡ k.number) (is : k.IsRecordOf p e) (held : HoldAll k v b es) (gated : IsGate gate count b)
-      (passes : IsAccepted k (k.replay_from (k.empty v) es) e) (late : 16 ≤ gate) where
-    pub next_held : (c : List ℕ) → ((ps : List (List ℕ)) → Holds b w number ps → gate ≡ end_of ps → Holds c w number (ps ++ p ∷ [])) → take gate c ≡ take gate b → HoldAll k v c (es ++ e ∷ [])
+  module _ (w number gate count : ℕ) (p : List ℕ) (e : E) (O : S) (es : List E) (b : List ℕ) (w_is : w ≡ v) (number_is : number ≡ k.number) (is : k.IsRecordOf p e) (held : HoldAll k v O b es) (gated : IsGate gate count b)
+      (passes : IsAccepted k (k.replay_from O es) e) (late : 16 ≤ gate) where
+    pub next_held : (c : List ℕ) → ((ps : List (List ℕ)) → Holds b w number ps → gate ≡ end_of ps → Holds c w number (ps ++ p ∷ [])) → take gate c ≡ take gate b → HoldAll k v O c (es ++ e ∷ [])
     next_held c grows front =
         let ps = held.store.0 in
         let holds = held.store.1 in
-        whole_next k lawful v b c p ps es e holds held (as_held w number c (ps ++ p ∷ []) w_is number_is (grows ps (as_journal w number b ps w_is number_is holds) (gated ps holds).0)) (take-shorter 16 gate c b late front) is passes
+        whole_next k lawful v O b c p ps es e holds held (as_held w number c (ps ++ p ∷ []) w_is number_is (grows ps (as_journal w number b ps w_is number_is holds) (gated ps holds).0)) (take-shorter 16 gate c b late front) is passes
 
     pub next_gate : (after more : ℕ) (c : List ℕ) → after ≡ gate + (5 + length p) → more ≡ count + 1 → ((ps : List (List ℕ)) → Holds b w number ps → gate ≡ end_of ps → Holds c w number (ps ++ p ∷ [])) → IsGate after more c
     next_gate after more c after_is more_is grows qs holds =
@@ -93,39 +93,39 @@ module _ {H S E R : Type 0} (k : StoreKind H S E R) (lawful : IsLawful k) (v : �
         let same : ps ++ p ∷ [] ≡ qs = holds_once c v v k.number (ps ++ p ∷ []) qs there holds in
         (omega (arith, after_is, here.0, end_of-push ps p, ap end_of same), omega (arith, more_is, here.1, length-append ps (p ∷ []), ap (λ (l : List (List ℕ)). length l) same))
 
-    either_is : (ps : List (List ℕ)) (c : List ℕ) → Holds b v k.number ps → IsBeforeOrAfter w number ps p c → take gate c ≡ take gate b → MayHoldAll k v es (Some e) c
-    either_is ps c holds (inl before) front = inl (whole_same k lawful v b c ps es holds held (as_held w number c ps w_is number_is before) (take-shorter 16 gate c b late front))
-    either_is ps c holds (inr after) front = inr (whole_next k lawful v b c p ps es e holds held (as_held w number c (ps ++ p ∷ []) w_is number_is after) (take-shorter 16 gate c b late front) is passes)
+    either_is : (ps : List (List ℕ)) (c : List ℕ) → Holds b v k.number ps → IsBeforeOrAfter w number ps p c → take gate c ≡ take gate b → MayHoldAll k v O es (Some e) c
+    either_is ps c holds (inl before) front = inl (whole_same k lawful v O b c ps es holds held (as_held w number c ps w_is number_is before) (take-shorter 16 gate c b late front))
+    either_is ps c holds (inr after) front = inr (whole_next k lawful v O b c p ps es e holds held (as_held w number c (ps ++ p ∷ []) w_is number_is after) (take-shorter 16 gate c b late front) is passes)
 
     -- a crash at any moment of that leaves the whole list, or it and the entry
-    pub next_leaves : (s t : DiskState) → ((ps : List (List ℕ)) → Holds b w number ps → gate ≡ end_of ps → LeavesOnly s t (IsBeforeOrAfter w number ps p)) → LeavesOnly s t (λ c. take gate c ≡ take gate b) → LeavesOnly s t (MayHoldAll k v es (Some e))
+    pub next_leaves : (s t : DiskState) → ((ps : List (List ℕ)) → Holds b w number ps → gate ≡ end_of ps → LeavesOnly s t (IsBeforeOrAfter w number ps p)) → LeavesOnly s t (λ c. take gate c ≡ take gate b) → LeavesOnly s t (MayHoldAll k v O es (Some e))
     next_leaves s t leaves front =
         let ps = held.store.0 in
         let holds = held.store.1 in
         weaker s t _ _ (both_leave s t _ _ (leaves ps (as_journal w number b ps w_is number_is holds) (gated ps holds).0) front) (λ c both. either_is ps c holds both.0 both.1)
 
   -- the list with what was added, as one
-  pub whole_with : (es old new : List E) (e : E) (c : List ℕ) → new ≡ old ++ e ∷ [] → HoldAll k v c ((es ++ old) ++ e ∷ []) → HoldAll k v c (es ++ new)
-  whole_with es old new e c is held = subst (HoldAll k v c) (sym (more es old new e is)) held
+  pub whole_with : (O : S) (es old new : List E) (e : E) (c : List ℕ) → new ≡ old ++ e ∷ [] → HoldAll k v O c ((es ++ old) ++ e ∷ []) → HoldAll k v O c (es ++ new)
+  whole_with O es old new e c is held = subst (HoldAll k v O c) (sym (more es old new e is)) held
 
   -- where the content is the only image
-  pub images_of : (es : List E) (u : Option E) (s : DiskState) → u ≡ None → Only s.content s → HoldAll k v s.content es → (b : List ℕ) → s.IsImage b → MayHoldAll k v es u b
-  images_of es u s none only held b is = subst (λ x. MayHoldAll k v es x b) (sym none) (subst (λ (l : List ℕ). HoldAll k v l es) (sym (only b is)) held)
+  pub images_of : (O : S) (es : List E) (u : Option E) (s : DiskState) → u ≡ None → Only s.content s → HoldAll k v O s.content es → (b : List ℕ) → s.IsImage b → MayHoldAll k v O es u b
+  images_of O es u s none only held b is = subst (λ x. MayHoldAll k v O es x b) (sym none) (subst (λ (l : List ℕ). HoldAll k v O l es) (sym (only b is)) held)
 
   -- each image after a fault
-  pub images_undecided : (es : List E) (u : Option E) (e : E) (s t : DiskState) → u ≡ Some e → DiskIsLawful t → LeavesOnly s t (MayHoldAll k v es (Some e)) → (b : List ℕ) → t.IsImage b → MayHoldAll k v es u b
-  images_undecided es u e s t u_is lawful leaves b is = subst (λ x. MayHoldAll k v es x b) (sym u_is) (leaves.each b (lawful.counts_now s.clock b leaves.later is))
+  pub images_undecided : (O : S) (es : List E) (u : Option E) (e : E) (s t : DiskState) → u ≡ Some e → DiskIsLawful t → LeavesOnly s t (MayHoldAll k v O es (Some e)) → (b : List ℕ) → t.IsImage b → MayHoldAll k v O es u b
+  images_undecided O es u e s t u_is lawful leaves b is = subst (λ x. MayHoldAll k v O es x b) (sym u_is) (leaves.each b (lawful.counts_now s.clock b leaves.later is))
 
   -- the moments of an append that went through
-  pub leaves_with : (es old new : List E) (e : E) (s t : DiskState) (u x : Option E) → new ≡ old ++ e ∷ [] → u ≡ None → x ≡ None
-      → LeavesOnly s t (MayHoldAll k v (es ++ old) (Some e)) → LeavesOnly s t (λ b. MayHoldAll k v (es ++ old) u b ⊎ MayHoldAll k v (es ++ new) x b)
-  leaves_with es old new e s t u x is u_is x_is leaves =
-      weaker s t _ _ leaves (λ b either. ⊎_elim (λ before. inl (subst (λ y. MayHoldAll k v (es ++ old) y b) (sym u_is) before)) (λ after. inr (subst (λ y. MayHoldAll k v (es ++ new) y b) (sym x_is) (whole_with es old new e b is after))) either)
+  pub leaves_with : (O : S) (es old new : List E) (e : E) (s t : DiskState) (u x : Option E) → new ≡ old ++ e ∷ [] → u ≡ None → x ≡ None
+      → LeavesOnly s t (MayHoldAll k v O (es ++ old) (Some e)) → LeavesOnly s t (λ b. MayHoldAll k v O (es ++ old) u b ⊎ MayHoldAll k v O (es ++ new) x b)
+  leaves_with O es old new e s t u x is u_is x_is leaves =
+      weaker s t _ _ leaves (λ b either. ⊎_elim (λ before. inl (subst (λ y. MayHoldAll k v O (es ++ old) y b) (sym u_is) before)) (λ after. inr (subst (λ y. MayHoldAll k v O (es ++ new) y b) (sym x_is) (whole_with O es old new e b is after))) either)
 
   -- and of one that failed
-  pub leaves_undecided : (es : List E) (e : E) (s t : DiskState) (u x : Option E) → x ≡ Some e → LeavesOnly s t (MayHoldAll k v es (Some e)) → LeavesOnly s t (λ b. MayHoldAll k v es u b ⊎ MayHoldAll k v es x b)
-  leaves_undecided es e s t u x x_is leaves = weaker s t _ _ leaves (λ b either. inr (subst (λ y. MayHoldAll k v es y b) (sym x_is) either))
+  pub leaves_undecided : (O : S) (es : List E) (e : E) (s t : DiskState) (u x : Option E) → x ≡ Some e → LeavesOnly s t (MayHoldAll k v O es (Some e)) → LeavesOnly s t (λ b. MayHoldAll k v O es u b ⊎ MayHoldAll k v O es x b)
+  leaves_undecided O es e s t u x x_is leaves = weaker s t _ _ leaves (λ b either. inr (subst (λ y. MayHoldAll k v O es y b) (sym x_is) either))
 
   -- the moments of calls after which each image was one before
-  pub leaves_images : (es : List E) (u : Option E) (s t : DiskState) → LeavesOnly s t s.IsImage → ((b : List ℕ) → s.IsImage b → MayHoldAll k v es u b) → LeavesOnly s t (MayHoldAll k v es u)
-  leaves_images es u s t leaves images = weaker s t _ _ leaves images
+  pub leaves_images : (O : S) (es : List E) (u : Option E) (s t : DiskState) → LeavesOnly s t s.IsImage → ((b : List ℕ) → s.IsImage b → MayHoldAll k v O es u b) → LeavesOnly s t (MayHoldAll k v O es u)
+  leaves_images O es u s t leaves images = weaker s t _ _ leaves images

@@ -15,17 +15,17 @@ use Rattle.qz_stores.specs.declared.stores.Store.{Store}
 use Rattle.qz_stores.proofs.Histories.{now_may, held_from}
 
 -- the bytes of one history are those of another that is the same
-pub may_as : {H S E R : Type 0} (k : StoreKind H S E R) (w : WholeList E) (s t : StoreState H E) (b : List ℕ) → t.history ≡ s.history → t.undecided ≡ s.undecided → MayBe k w t.history t.undecided b → MayBe k w s.history s.undecided b
+pub may_as : {H S E R : Type 0} (k : StoreKind H S E R) (w : WholeList S E) (s t : StoreState H E) (b : List ℕ) → t.history ≡ s.history → t.undecided ≡ s.undecided → MayBe k w t.history t.undecided b → MayBe k w s.history s.undecided b
 may_as k w s t b history undecided may = subst (λ u. MayBe k w s.history u b) undecided (subst (λ h. MayBe k w h t.undecided b) history may)
 
 module _ {D K E R C : Type 0} {g : Ghosts D} {k : Kinds K E R C} (lawful : IsLawful k.kind) where
   -- Each image is that of the history, or of it with the undecided entry.
-  pub now : (s : Store D K E R C g k) → g.honest → (w : WholeList E) → GoesOnFrom s w → (b : List ℕ) → (disk_state s).IsImage b → MayBe k.kind w (view s).history s.undecided b
+  pub now : (s : Store D K E R C g k) → g.honest → (w : WholeList k.State E) → GoesOnFrom s w → (b : List ℕ) → (disk_state s).IsImage b → MayBe k.kind w (view s).history s.undecided b
   now s honest w from b is =
       now_may k.kind lawful (version_of s) (base_count_of s) (base_of s) (opened_of s) (found_of s) (s.ended honest) (added_of s) s.undecided b w from
-      (s.images honest (w.entries ++ from.0) (held_from k.kind lawful (version_of s) (base_count_of s) (base_of s) (opened_of s) (found_of s) (s.ended honest) w from) b is)
+      (s.images honest w.start (w.entries ++ from.0) (held_from k.kind lawful (version_of s) (base_count_of s) (base_of s) (opened_of s) (found_of s) (s.ended honest) w from) b is)
 
-  pub from_told : {P : Type 0} (s : Store D K E R C g k) → IsTold s → (g.honest → (w : WholeList E) → GoesOnFrom s w → P) → ∥ P ∥₁
+  pub from_told : {P : Type 0} (s : Store D K E R C g k) → IsTold s → (g.honest → (w : WholeList k.State E) → GoesOnFrom s w → P) → ∥ P ∥₁
   from_told s told then = ∥∥₁_map told.1 (λ x. then told.0 x.0 x.1)
 
   -- No call was made.
@@ -33,12 +33,12 @@ module _ {D K E R C : Type 0} {g : Ghosts D} {k : Kinds K E R C} (lawful : IsLaw
   rests s disk honest w from = (from, Moments.started (disk_state s) _ disk (λ b is. inl (now s honest w from b is)))
 
   -- What was opened stays.
-  pub goes_on_still : (s t : Store D K E R C g k) (w : WholeList E) → IsOpenedAsBefore s t → GoesOnFrom s w → GoesOnFrom t w
-  goes_on_still s t w same from = (from.0, same.0 ∙ from.1, subst (λ (o : List ℕ). HoldAll k.kind w.version o (w.entries ++ from.0)) (sym same.4) from.2)
+  pub goes_on_still : (s t : Store D K E R C g k) (w : WholeList k.State E) → IsOpenedAsBefore s t → GoesOnFrom s w → GoesOnFrom t w
+  goes_on_still s t w same from = (from.0, same.0 ∙ from.1, subst (λ (o : List ℕ). HoldAll k.kind w.version w.start o (w.entries ++ from.0)) (sym same.4) from.2)
 
   -- One call after another, where what is of the state between them is of the first or of the last.
   pub then_leaves : (s t u : Store D K E R C g k) → LeavesHistories s t → LeavesHistories t u
-      → ((w : WholeList E) (b : List ℕ) → MayBe k.kind w (view t).history (view t).undecided b → IsOfEither k.kind w (view s) (view u) b) → LeavesHistories s u
+      → ((w : WholeList k.State E) (b : List ℕ) → MayBe k.kind w (view t).history (view t).undecided b → IsOfEither k.kind w (view s) (view u) b) → LeavesHistories s u
   then_leaves s t u first second between w from =
       let one = first w from in
       let two = second w one.0 in

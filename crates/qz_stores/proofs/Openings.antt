@@ -1,5 +1,5 @@
 -- What an opening from the slot in use on reads is an end of the whole list, where the bytes hold one.
-use Rattle.std.proofs.Common.{◌≡◌, ◌⊎◌, inl, inr, ⊎_elim, ℕ, true, List, [], ◌∷◌, ◌++◌, length, take, refl, sym, ◌∙◌, ap, subst, arith}
+use Rattle.std.proofs.Common.{◌≡◌, ◌⊎◌, inl, inr, ⊎_elim, ℕ, false, List, [], ◌∷◌, ◌++◌, length, take, refl, sym, ◌∙◌, ap, subst, arith}
 use Rattle.std.proofs.Props.{props}
 use Rattle.std.proofs.Math.Logic.{∥∥₁_elim}
 use Rattle.std.specs.Prelude.{Option, Some, None, unwrap_or}
@@ -7,7 +7,7 @@ use Rattle.std.specs.List.{AllZip}
 use Rattle.qz_journal.specs.declared.errors.MountError.{MountError}
 use Rattle.qz_journal.specs.declared.errors.MountError.TheVariants as mount
 use Rattle.qz_journal.specs.declared.slots.Slots.{Slots}
-use Rattle.qz_journal.specs.Layout.{is_version, IsHeader, Holds, blocks, end_from, end_of}
+use Rattle.qz_journal.specs.Layout.{IsHeader, Holds, blocks, end_from, end_of}
 use Rattle.qz_journal.specs.Slots.{IsSlot, slot, slots_of, slot_in_use, HasTrueSlots}
 use Rattle.qz_journal.specs.Tails.{start_at, start_of, IsTail, IsCounted, IsRest, IsTailRefused}
 use Rattle.qz_journal.proofs.Headers.{one_version}
@@ -46,26 +46,26 @@ used b gate is = ⊎_elim (λ none. let both : None ≡ Some gate = sym none ∙
 
 module _ {H S E R : Type 0} (k : StoreKind H S E R) (lawful : IsLawful k) where
   -- the whole list, cut where a tail begins, and what the base there is
-  record Split (v : ℕ) (whole : List E) (tail : List (List ℕ)) (T : S) (n : ℕ) : Type 0 where
+  record Split (O : S) (whole : List E) (tail : List (List ℕ)) (T : S) (n : ℕ) : Type 0 where
     earlier : List E
     later : List E
     whole_is : whole ≡ earlier ++ later
     n_is : n ≡ length earlier
-    T_is : T ≡ k.replay_from (k.empty v) earlier
+    T_is : T ≡ k.replay_from O earlier
     recorded : RecordEntries k tail later
 
-  abbrev Snapshots : ℕ → List ℕ → List (List ℕ) → List E → Type 0
-  Snapshots v b ps whole = (gate offset : ℕ) → IsSlot gate → slot gate b ≡ Some offset → IsSnapshotAt k v ps whole offset
+  abbrev Snapshots : S → List ℕ → List (List ℕ) → List E → Type 0
+  Snapshots O b ps whole = (gate offset : ℕ) → IsSlot gate → slot gate b ≡ Some offset → IsSnapshotAt k O ps whole offset
 
   -- These bytes hold the whole list, and this tail was read from them.
-  module _ (v w count : ℕ) (b : List ℕ) (whole : List E) (tail : List (List ℕ)) (held : HoldAll k v b whole) (is : IsTail b w k.number (start_of (slots_of b)) tail) (counted : IsCounted (slot_in_use (slots_of b)) count tail) where
-    true_slots : Snapshots v b held.store.0 whole → HasTrueSlots b held.store.0
-    true_slots snapshots gate offset is_slot opened = true_offset k lawful v offset held.store.0 whole (snapshots gate offset is_slot opened)
+  module _ (v w count : ℕ) (O : S) (b : List ℕ) (whole : List E) (tail : List (List ℕ)) (held : HoldAll k v O b whole) (is : IsTail b w k.number (start_of (slots_of b)) tail) (counted : IsCounted (slot_in_use (slots_of b)) count tail) where
+    true_slots : Snapshots O b held.store.0 whole → HasTrueSlots b held.store.0
+    true_slots snapshots gate offset is_slot opened = true_offset k lawful O offset held.store.0 whole (snapshots gate offset is_slot opened)
 
     pub same_version : w ≡ v
     same_version = one_version w v k.number (take 16 b) is.header held.store.1.header
 
-    rest : Snapshots v b held.store.0 whole → IsRest held.store.0 tail (start_of (slots_of b)) (end_from (start_of (slots_of b)) tail) count
+    rest : Snapshots O b held.store.0 whole → IsRest held.store.0 tail (start_of (slots_of b)) (end_from (start_of (slots_of b)) tail) count
     rest snapshots = (whole_tail b b w v k.number (start_of (slots_of b)) (end_from (start_of (slots_of b)) tail) count (slots_of b) held.store.0 tail refl refl refl is refl counted held.store.1 (true_slots snapshots)).1
 
     -- what stands at a snapshot that is in use
@@ -76,9 +76,9 @@ module _ {H S E R : Type 0} (k : StoreKind H S E R) (lawful : IsLawful k) where
       whole_is : whole ≡ earlier ++ later
       recorded_before : RecordEntries k before earlier
       recorded : RecordEntries k tail later
-      snapshot : k.BeginSnapshot tail (k.replay_from (k.empty v) earlier) (length before) (length earlier)
+      snapshot : k.BeginSnapshot tail (k.replay_from O earlier) (length before) (length earlier)
 
-    at_use : (gate : ℕ) → slot_in_use (slots_of b) ≡ Some gate → Snapshots v b held.store.0 whole → AtUse gate
+    at_use : (gate : ℕ) → slot_in_use (slots_of b) ≡ Some gate → Snapshots O b held.store.0 whole → AtUse gate
     at_use gate in_use snapshots =
         let u = used b gate in_use in
         let s = snapshots gate u.offset u.is_slot u.opened in
@@ -94,10 +94,10 @@ module _ {H S E R : Type 0} (k : StoreKind H S E R) (lawful : IsLawful k) where
           whole_is = s.entries_are;
           recorded_before = s.recorded;
           recorded = subst (λ (l : List (List ℕ)). RecordEntries k l s.later) (sym same.1) back;
-          snapshot = subst (λ (l : List (List ℕ)). k.BeginSnapshot l (k.replay_from (k.empty v) s.earlier) (length s.before) (length s.earlier)) (sym same.1) s.snapshot;
+          snapshot = subst (λ (l : List (List ℕ)). k.BeginSnapshot l (k.replay_from O s.earlier) (length s.before) (length s.earlier)) (sym same.1) s.snapshot;
         }
 
-    split : (o : Option ℕ) (T : S) (n : ℕ) → slot_in_use (slots_of b) ≡ o → IsBase k o w tail T n → Snapshots v b held.store.0 whole → Split v whole tail T n
+    split : (o : Option ℕ) (T : S) (n : ℕ) → slot_in_use (slots_of b) ≡ o → IsBase k o w tail T n → Snapshots O b held.store.0 whole → Split O whole tail T n
     split None T n in_use base snapshots =
         let r = rest snapshots in
         let start : start_of (slots_of b) ≡ 16 = ap (λ o. start_at o (slots_of b)) in_use in
@@ -108,53 +108,53 @@ module _ {H S E R : Type 0} (k : StoreKind H S E R) (lawful : IsLawful k) where
           later = whole;
           whole_is = refl;
           n_is = base.1;
-          T_is = base.0 ∙ ap k.empty same_version ∙ sym (lawful.replay_none (k.empty v));
+          T_is = base.0 ∙ ap k.empty same_version ∙ sym (held.begins in_use) ∙ sym (lawful.replay_none O);
           recorded = subst (λ (l : List (List ℕ)). RecordEntries k l whole) (sym same.1) (held.recorded held.store.0 held.store.1);
         }
     split (Some gate) T n in_use base snapshots =
         let u = at_use gate in_use snapshots in
-        let one = lawful.snapshots_once tail T (k.replay_from (k.empty v) u.earlier) base.before (length u.before) n (length u.earlier) base.snapshot u.snapshot in
+        let one = lawful.snapshots_once tail T (k.replay_from O u.earlier) base.before (length u.before) n (length u.earlier) base.snapshot u.snapshot in
         record { earlier = u.earlier; later = u.later; whole_is = u.whole_is; n_is = one.1; T_is = one.0; recorded = u.recorded }
 
-    pub read_end : (n : ℕ) (T : S) (entries : List E) → IsRead k (slot_in_use (slots_of b)) w tail n T entries → IsEndOf k v (k.history n T entries) whole
+    pub read_end : (n : ℕ) (T : S) (entries : List E) → IsRead k (slot_in_use (slots_of b)) w tail n T entries → IsEndOf k O (k.history n T entries) whole
     read_end n T entries read =
-        each_slot (IsSnapshotAt k v held.store.0 whole) b (IsEndOf-prop k v (k.history n T entries) whole) (held.slots held.store.0 held.store.1) (λ snapshots.
+        each_slot (IsSnapshotAt k O held.store.0 whole) b (IsEndOf-prop k O (k.history n T entries) whole) (held.slots held.store.0 held.store.1) (λ snapshots.
         let s = split (slot_in_use (slots_of b)) T n refl read.base snapshots in
-        end_as k lawful v n T entries whole s.earlier s.later s.whole_is s.n_is s.T_is (recorded_once k lawful tail entries s.later read.taken.recorded s.recorded))
+        end_as k lawful O n T entries whole s.earlier s.later s.whole_is s.n_is s.T_is (recorded_once k lawful tail entries s.later read.taken.recorded s.recorded))
 
     both-prop : (a c d e : ℕ) → IsProp ((a ≡ c) × (d ≡ e))
     both-prop a c d e = hlevel props
 
     pub read_place : (ps : List (List ℕ)) → Holds b v k.number ps → (end_from (start_of (slots_of b)) tail ≡ end_of ps) × (count ≡ length ps)
     read_place ps holds =
-        each_slot (IsSnapshotAt k v held.store.0 whole) b (both-prop (end_from (start_of (slots_of b)) tail) (end_of ps) count (length ps)) (held.slots held.store.0 held.store.1) (λ snapshots.
+        each_slot (IsSnapshotAt k O held.store.0 whole) b (both-prop (end_from (start_of (slots_of b)) tail) (end_of ps) count (length ps)) (held.slots held.store.0 held.store.1) (λ snapshots.
         let r = rest snapshots in
         let same : held.store.0 ≡ ps = holds_once b v v k.number held.store.0 ps held.store.1 holds in
         (r.gate_is ∙ ap end_of same, r.count_is ∙ ap (λ (l : List (List ℕ)). length l) same))
 
     -- Nothing of it is refused.
 
-    never_unread : (gate : ℕ) → slot_in_use (slots_of b) ≡ Some gate → IsUnread k (Some gate) tail → Snapshots v b held.store.0 whole → ⊥
+    never_unread : (gate : ℕ) → slot_in_use (slots_of b) ≡ Some gate → IsUnread k (Some gate) tail → Snapshots O b held.store.0 whole → ⊥
     never_unread gate in_use unread snapshots =
         let u = at_use gate in_use snapshots in
-        let T = k.replay_from (k.empty v) u.earlier in
-        let known : is_version v ≡ true = held.store.1.header.known in
+        let T = k.replay_from O u.earlier in
         ∥∥₁_elim u.recorded_before (λ x y. absurd x) (λ zip. ∥∥₁_elim held.legal (λ x y. absurd x) (λ legal.
-        let legal_before = legal_front k lawful (k.empty v) u.earlier u.later (subst (k.IsLegalFrom (k.empty v)) u.whole_is legal) in
-        ∥∥₁_elim (lawful.valid_left v u.earlier known (have_records k (records k u.before) u.earlier zip) legal_before) (λ x y. absurd x) (λ valid.
-        unread.1 T (length u.earlier) (record { before = length u.before; snapshot = u.snapshot; counted = recorded_few k u.before u.earlier zip; valid = valid }))))
+        let legal_before = legal_front k lawful O u.earlier u.later (subst (k.IsLegalFrom O) u.whole_is legal) in
+        ∥∥₁_elim held.valid (λ x y. absurd x) (λ begun.
+        ∥∥₁_elim (lawful.valid_left O u.earlier begun (have_records k (records k u.before) u.earlier zip) legal_before) (λ x y. absurd x) (λ valid.
+        unread.1 T (length u.earlier) (record { before = length u.before; snapshot = u.snapshot; counted = recorded_few k u.before u.earlier zip; valid = valid })))))
 
-    never_unfit : (T : S) (n at : ℕ) → IsBase k (slot_in_use (slots_of b)) w tail T n → HaveUnfit k T (start_of (slots_of b)) tail at → Snapshots v b held.store.0 whole → ⊥
+    never_unfit : (T : S) (n at : ℕ) → IsBase k (slot_in_use (slots_of b)) w tail T n → HaveUnfit k T (start_of (slots_of b)) tail at → Snapshots O b held.store.0 whole → ⊥
     never_unfit T n at base has snapshots =
         let s = split (slot_in_use (slots_of b)) T n refl base snapshots in
         let parts : records k tail ≡ records k has.taken ++ has.payload ∷ records k has.more =
         ap (records k) has.whole ∙ records_append k has.taken (has.payload ∷ has.more) ∙ ap (λ (l : List (List ℕ)). records k has.taken ++ l) (records_append k (has.payload ∷ []) has.more ∙ ap (λ (l : List (List ℕ)). l ++ records k has.more) (one_record k has.payload has.no_part)) in
         ∥∥₁_elim held.legal (λ x y. absurd x) (λ legal.
-        let legal_after = subst (λ (U : S). k.IsLegalFrom U s.later) (sym s.T_is) (legal_back k lawful (k.empty v) s.earlier s.later (subst (k.IsLegalFrom (k.empty v)) s.whole_is legal)) in
+        let legal_after = subst (λ (U : S). k.IsLegalFrom U s.later) (sym s.T_is) (legal_back k lawful O s.earlier s.later (subst (k.IsLegalFrom O) s.whole_is legal)) in
         none_unfit k lawful T (records k has.taken) has.entries s.later has.payload (records k has.more) has.are_taken.recorded
         (subst (λ (l : List (List ℕ)). ∥ AllZip k.IsRecordOf l s.later ∥₁) parts s.recorded) legal_after has.unfit)
 
-    never_stopped : (at : ℕ) → IsStopped k (slot_in_use (slots_of b)) w (start_of (slots_of b)) tail at → Snapshots v b held.store.0 whole → ⊥
+    never_stopped : (at : ℕ) → IsStopped k (slot_in_use (slots_of b)) w (start_of (slots_of b)) tail at → Snapshots O b held.store.0 whole → ⊥
     never_stopped at (inl unread) snapshots = never_unread at unread.0 (subst (λ o. IsUnread k o tail) unread.0 unread.1) snapshots
     never_stopped at (inr (T, n, base, has)) snapshots = never_unfit T n at base has snapshots
 
@@ -162,42 +162,52 @@ module _ {H S E R : Type 0} (k : StoreKind H S E R) (lawful : IsLawful k) where
     only_outside mount.NoMemory stop = inr refl
     only_outside mount.NotAStore stop = absurd stop
     only_outside mount.Fault stop = absurd stop
-    only_outside (mount.Damaged at) stop = absurd (each_slot (IsSnapshotAt k v held.store.0 whole) b (λ x y. absurd x) (held.slots held.store.0 held.store.1) (never_stopped at stop))
+    only_outside (mount.Damaged at) stop = absurd (each_slot (IsSnapshotAt k O held.store.0 whole) b (λ x y. absurd x) (held.slots held.store.0 held.store.1) (never_stopped at stop))
 
   -- a journal with the whole list isn't damaged
-  pub never_damaged : (v number at : ℕ) (b : List ℕ) (whole : List E) (tail : List (List ℕ)) → number ≡ k.number → HoldAll k v b whole → IsTailRefused b number tail (mount.Damaged at) → ⊥
-  never_damaged v number at b whole tail number_is held refused =
-      each_slot (IsSnapshotAt k v held.store.0 whole) b (λ x y. absurd x) (held.slots held.store.0 held.store.1) (λ snapshots.
-      neither (tail_only_outside b v k.number held.store.0 tail (mount.Damaged at) held.store.1 (λ gate offset is_slot opened. true_offset k lawful v offset held.store.0 whole (snapshots gate offset is_slot opened)) (subst (λ n. IsTailRefused b n tail (mount.Damaged at)) number_is refused)))
+  pub never_damaged : (v number at : ℕ) (O : S) (b : List ℕ) (whole : List E) (tail : List (List ℕ)) → number ≡ k.number → HoldAll k v O b whole → IsTailRefused b number tail (mount.Damaged at) → ⊥
+  never_damaged v number at O b whole tail number_is held refused =
+      each_slot (IsSnapshotAt k O held.store.0 whole) b (λ x y. absurd x) (held.slots held.store.0 held.store.1) (λ snapshots.
+      neither (tail_only_outside b v k.number held.store.0 tail (mount.Damaged at) held.store.1 (λ gate offset is_slot opened. true_offset k lawful O offset held.store.0 whole (snapshots gate offset is_slot opened)) (subst (λ n. IsTailRefused b n tail (mount.Damaged at)) number_is refused)))
     where
       neither : (mount.Damaged at ≡ mount.Fault) ⊎ (mount.Damaged at ≡ mount.NoMemory) → ⊥
       neither (inl is) = absurd (cc)
       neither (inr is) = absurd (cc)
 
+  -- a store of a kind without snapshots starts as a new one
+  pub new_start : (v : ℕ) (O : S) (b : List ℕ) (whole : List E) → k.has_snapshots ≡ false → HoldAll k v O b whole → O ≡ k.empty v
+  new_start v O b whole none held = at (slot_in_use (slots_of b)) refl
+    where
+      at : (o : Option ℕ) → slot_in_use (slots_of b) ≡ o → O ≡ k.empty v
+      at None is = held.begins is
+      at (Some gate) is =
+          let u = used b gate is in
+          ∥∥₁_elim (held.slots held.store.0 held.store.1 gate u.offset u.is_slot u.opened) (k.states_once O (k.empty v)) (λ s. absurd (lawful.none_made none s.from (k.replay_from O s.earlier) (length s.before) (length s.earlier) s.snapshot))
+
   -- it is refused by disk or memory alone
-  pub whole_outside : (v number : ℕ) (b : List ℕ) (whole : List E) (tail : List (List ℕ)) (e : MountError) → number ≡ k.number → HoldAll k v b whole → IsTailRefused b number tail e → (e ≡ mount.Fault) ⊎ (e ≡ mount.NoMemory)
-  whole_outside v number b whole tail mount.NoMemory number_is held refused = inr refl
-  whole_outside v number b whole tail mount.Fault number_is held refused = inl refl
-  whole_outside v number b whole tail mount.NotAStore number_is held refused = absurd (refused (v, subst (λ n. IsHeader v n (take 16 b)) (sym number_is) held.store.1.header))
-  whole_outside v number b whole tail (mount.Damaged at) number_is held refused = absurd (never_damaged v number at b whole tail number_is held refused)
+  pub whole_outside : (v number : ℕ) (O : S) (b : List ℕ) (whole : List E) (tail : List (List ℕ)) (e : MountError) → number ≡ k.number → HoldAll k v O b whole → IsTailRefused b number tail e → (e ≡ mount.Fault) ⊎ (e ≡ mount.NoMemory)
+  whole_outside v number O b whole tail mount.NoMemory number_is held refused = inr refl
+  whole_outside v number O b whole tail mount.Fault number_is held refused = inl refl
+  whole_outside v number O b whole tail mount.NotAStore number_is held refused = absurd (refused (v, subst (λ n. IsHeader v n (take 16 b)) (sym number_is) held.store.1.header))
+  whole_outside v number O b whole tail (mount.Damaged at) number_is held refused = absurd (never_damaged v number at O b whole tail number_is held refused)
 
   -- What a restart decides: the bytes that it reads hold the list with what was added, or that and the undecided entry.
-  pub decided : (v w count n : ℕ) (b : List ℕ) (whole : List E) (u : Option E) (tail : List (List ℕ)) (T : S) (entries : List E) → MayHoldAll k v whole u b → IsTail b w k.number (start_of (slots_of b)) tail
-      → IsCounted (slot_in_use (slots_of b)) count tail → IsRead k (slot_in_use (slots_of b)) w tail n T entries → IsDecidedFrom k v whole u (k.history n T entries)
-  decided v w count n b whole None tail T entries may is counted read = read_end v w count b whole tail may is counted n T entries read
-  decided v w count n b whole (Some e) tail T entries (inl may) is counted read = inl (read_end v w count b whole tail may is counted n T entries read)
-  decided v w count n b whole (Some e) tail T entries (inr may) is counted read = inr (read_end v w count b (whole ++ e ∷ []) tail may is counted n T entries read)
+  pub decided : (v w count n : ℕ) (O : S) (b : List ℕ) (whole : List E) (u : Option E) (tail : List (List ℕ)) (T : S) (entries : List E) → MayHoldAll k v O whole u b → IsTail b w k.number (start_of (slots_of b)) tail
+      → IsCounted (slot_in_use (slots_of b)) count tail → IsRead k (slot_in_use (slots_of b)) w tail n T entries → IsDecidedFrom k O whole u (k.history n T entries)
+  decided v w count n O b whole None tail T entries may is counted read = read_end v w count O b whole tail may is counted n T entries read
+  decided v w count n O b whole (Some e) tail T entries (inl may) is counted read = inl (read_end v w count O b whole tail may is counted n T entries read)
+  decided v w count n O b whole (Some e) tail T entries (inr may) is counted read = inr (read_end v w count O b (whole ++ e ∷ []) tail may is counted n T entries read)
 
-  pub starved : (v w count : ℕ) (b : List ℕ) (whole : List E) (u : Option E) (tail : List (List ℕ)) (e : MountError) → MayHoldAll k v whole u b → IsTail b w k.number (start_of (slots_of b)) tail → IsCounted (slot_in_use (slots_of b)) count tail
+  pub starved : (v w count : ℕ) (O : S) (b : List ℕ) (whole : List E) (u : Option E) (tail : List (List ℕ)) (e : MountError) → MayHoldAll k v O whole u b → IsTail b w k.number (start_of (slots_of b)) tail → IsCounted (slot_in_use (slots_of b)) count tail
       → IsStop k (slot_in_use (slots_of b)) w (start_of (slots_of b)) tail e → (e ≡ mount.Fault) ⊎ (e ≡ mount.NoMemory)
-  starved v w count b whole None tail e may is counted stop = only_outside v w count b whole tail may is counted e stop
-  starved v w count b whole (Some x) tail e (inl may) is counted stop = only_outside v w count b whole tail may is counted e stop
-  starved v w count b whole (Some x) tail e (inr may) is counted stop = only_outside v w count b (whole ++ x ∷ []) tail may is counted e stop
+  starved v w count O b whole None tail e may is counted stop = only_outside v w count O b whole tail may is counted e stop
+  starved v w count O b whole (Some x) tail e (inl may) is counted stop = only_outside v w count O b whole tail may is counted e stop
+  starved v w count O b whole (Some x) tail e (inr may) is counted stop = only_outside v w count O b (whole ++ x ∷ []) tail may is counted e stop
 
-  pub may_outside : (v number : ℕ) (b : List ℕ) (whole : List E) (u : Option E) (tail : List (List ℕ)) (e : MountError) → number ≡ k.number → MayHoldAll k v whole u b → IsTailRefused b number tail e → (e ≡ mount.Fault) ⊎ (e ≡ mount.NoMemory)
-  may_outside v number b whole None tail e number_is may refused = whole_outside v number b whole tail e number_is may refused
-  may_outside v number b whole (Some x) tail e number_is (inl may) refused = whole_outside v number b whole tail e number_is may refused
-  may_outside v number b whole (Some x) tail e number_is (inr may) refused = whole_outside v number b (whole ++ x ∷ []) tail e number_is may refused
+  pub may_outside : (v number : ℕ) (O : S) (b : List ℕ) (whole : List E) (u : Option E) (tail : List (List ℕ)) (e : MountError) → number ≡ k.number → MayHoldAll k v O whole u b → IsTailRefused b number tail e → (e ≡ mount.Fault) ⊎ (e ≡ mount.NoMemory)
+  may_outside v number O b whole None tail e number_is may refused = whole_outside v number O b whole tail e number_is may refused
+  may_outside v number O b whole (Some x) tail e number_is (inl may) refused = whole_outside v number O b whole tail e number_is may refused
+  may_outside v number O b whole (Some x) tail e number_is (inr may) refused = whole_outside v number O b (whole ++ x ∷ []) tail e number_is may refused
 
   -- What a journal that was opened from the slot in use on says of itself, and of these bytes.
   pub record Found (x version number start gate count : ℕ) (o : Option ℕ) (s : Slots) (b : List ℕ) (tail : List (List ℕ)) : Type 0 where
@@ -241,25 +251,25 @@ module _ {H S E R : Type 0} (k : StoreKind H S E R) (lawful : IsLawful k) where
 
     -- Where the bytes hold a whole list.
 
-    pub found_version : (v : ℕ) (whole : List E) → HoldAll k v b whole → x ≡ v
-    found_version v whole held = same_version v x count b whole tail held found_tail found_counted
+    pub found_version : (v : ℕ) (O : S) (whole : List E) → HoldAll k v O b whole → x ≡ v
+    found_version v O whole held = same_version v x count O b whole tail held found_tail found_counted
 
-    pub found_end : (v n : ℕ) (T : S) (whole entries : List E) → HoldAll k v b whole → IsRead k o x tail n T entries → IsEndOf k v (k.history n T entries) whole
-    found_end v n T whole entries held read = read_end v x count b whole tail held found_tail found_counted n T entries (found_read n T entries read)
+    pub found_end : (v n : ℕ) (O T : S) (whole entries : List E) → HoldAll k v O b whole → IsRead k o x tail n T entries → IsEndOf k O (k.history n T entries) whole
+    found_end v n O T whole entries held read = read_end v x count O b whole tail held found_tail found_counted n T entries (found_read n T entries read)
 
-    pub found_place : (v : ℕ) (whole : List E) → HoldAll k v b whole → (ps : List (List ℕ)) → Holds b v k.number ps → (gate ≡ end_of ps) × (count ≡ length ps)
-    found_place v whole held ps holds =
-        let place = read_place v x count b whole tail held found_tail found_counted ps holds in
+    pub found_place : (v : ℕ) (O : S) (whole : List E) → HoldAll k v O b whole → (ps : List (List ℕ)) → Holds b v k.number ps → (gate ≡ end_of ps) × (count ≡ length ps)
+    found_place v O whole held ps holds =
+        let place = read_place v x count O b whole tail held found_tail found_counted ps holds in
         (f.gate_is ∙ ap (λ n. end_from n tail) from_is ∙ place.0, place.1)
 
-    pub found_outside : (v : ℕ) (whole : List E) (e : MountError) → HoldAll k v b whole → IsStop k o x start tail e → (e ≡ mount.Fault) ⊎ (e ≡ mount.NoMemory)
-    found_outside v whole e held stop = only_outside v x count b whole tail held found_tail found_counted e (found_stop e stop)
+    pub found_outside : (v : ℕ) (O : S) (whole : List E) (e : MountError) → HoldAll k v O b whole → IsStop k o x start tail e → (e ≡ mount.Fault) ⊎ (e ≡ mount.NoMemory)
+    found_outside v O whole e held stop = only_outside v x count O b whole tail held found_tail found_counted e (found_stop e stop)
 
-    pub found_decided : (v n : ℕ) (T : S) (whole entries : List E) (u : Option E) → MayHoldAll k v whole u b → IsRead k o x tail n T entries → IsDecidedFrom k v whole u (k.history n T entries)
-    found_decided v n T whole entries u may read = decided v x count n b whole u tail T entries may found_tail found_counted (found_read n T entries read)
+    pub found_decided : (v n : ℕ) (O T : S) (whole entries : List E) (u : Option E) → MayHoldAll k v O whole u b → IsRead k o x tail n T entries → IsDecidedFrom k O whole u (k.history n T entries)
+    found_decided v n O T whole entries u may read = decided v x count n O b whole u tail T entries may found_tail found_counted (found_read n T entries read)
 
-    pub found_starved : (v : ℕ) (whole : List E) (u : Option E) (e : MountError) → MayHoldAll k v whole u b → IsStop k o x start tail e → (e ≡ mount.Fault) ⊎ (e ≡ mount.NoMemory)
-    found_starved v whole u e may stop = starved v x count b whole u tail e may found_tail found_counted (found_stop e stop)
+    pub found_starved : (v : ℕ) (O : S) (whole : List E) (u : Option E) (e : MountError) → MayHoldAll k v O whole u b → IsStop k o x start tail e → (e ≡ mount.Fault) ⊎ (e ≡ mount.NoMemory)
+    found_starved v O whole u e may stop = starved v x count O b whole u tail e may found_tail found_counted (found_stop e stop)
 
   -- of bytes that are the same
   pub found_in : (x version number start gate count : ℕ) (o : Option ℕ) (s : Slots) (b c : List ℕ) (tail : List (List ℕ)) → b ≡ c → Found x version number start gate count o s b tail → Found x version number start gate count o s c tail

@@ -112,13 +112,13 @@ module _ {H S E R : Type 0} (k : StoreKind H S E R) (lawful : IsLawful k) where
   legal_back T es fs all = legal_on T es [] fs all (lawful.legal_none (k.replay_from T es))
 
   -- a list that is cut after the entries that come before the base
-  pub end_as : (v n : ℕ) (T : S) (fs whole earlier later : List E) → whole ≡ earlier ++ later → n ≡ length earlier → T ≡ k.replay_from (k.empty v) earlier → fs ≡ later → IsEndOf k v (k.history n T fs) whole
-  end_as v n T fs whole earlier later whole_is n_is T_is fs_is =
+  pub end_as : (O : S) (n : ℕ) (T : S) (fs whole earlier later : List E) → whole ≡ earlier ++ later → n ≡ length earlier → T ≡ k.replay_from O earlier → fs ≡ later → IsEndOf k O (k.history n T fs) whole
+  end_as O n T fs whole earlier later whole_is n_is T_is fs_is =
       let count : k.base_count (k.history n T fs) ≡ length earlier = lawful.base_count_is n T fs ∙ n_is in
       let before : take (length earlier) whole ≡ earlier = ap (take (length earlier)) whole_is ∙ take-append_seam earlier later in
       let behind : drop (length earlier) whole ≡ later = ap (drop (length earlier)) whole_is ∙ drop-append_seam earlier later in
       record {
         there = omega (arith, count, ap (λ (l : List E). length l) whole_is, length-append earlier later);
         rest = lawful.entries_are n T fs ∙ fs_is ∙ sym behind ∙ ap (λ (m : ℕ). drop m whole) (sym count);
-        base = lawful.base_is n T fs ∙ T_is ∙ ap (k.replay_from (k.empty v)) (sym before) ∙ ap (λ (m : ℕ). k.replay_from (k.empty v) (take m whole)) (sym count);
+        base = lawful.base_is n T fs ∙ T_is ∙ ap (k.replay_from O) (sym before) ∙ ap (λ (m : ℕ). k.replay_from O (take m whole)) (sym count);
       }

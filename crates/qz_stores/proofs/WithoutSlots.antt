@@ -14,7 +14,7 @@ use Rattle.qz_stores.specs.Opening.{IsBase, StandsFrom}
 some_none : (x : ℕ) → ◌≡◌ {A = Option ℕ} (Some x) None → ⊥
 some_none x is = cc
 
-none_open : (a b : Option ℕ) → gate_of_greater a b ≡ None → (a ≡ None) × (b ≡ None)
+pub none_open : (a b : Option ℕ) → gate_of_greater a b ≡ None → (a ≡ None) × (b ≡ None)
 none_open None None is = (refl, refl)
 none_open None (Some b) is = absurd (some_none 11 is)
 none_open (Some a) None is = absurd (some_none 6 is)
@@ -29,7 +29,7 @@ module _ {H S E R : Type 0} (k : StoreKind H S E R) (lawful : IsLawful k) where
   pub new_there : (v : ℕ) (b : List ℕ) (h : H) → slot_in_use (slots_of b) ≡ None → StandsFrom k v b h → (k.base h ≡ k.empty v) × (k.base_count h ≡ 0)
   new_there v b h none stands = subst (λ o. IsBase k o v stands.payloads (k.base h) (k.base_count h)) none stands.read.base
 
-  pub all_there : (v : ℕ) (b : List ℕ) (h : H) → slot_in_use (slots_of b) ≡ None → StandsFrom k v b h → HoldAll k v b (k.entries h)
+  pub all_there : (v : ℕ) (b : List ℕ) (h : H) → slot_in_use (slots_of b) ≡ None → StandsFrom k v b h → HoldAll k v (k.empty v) b (k.entries h)
   all_there v b h none stands =
       let t = stands.tail in
       let start : start_of (slots_of b) ≡ 16 = ap (λ o. start_at o (slots_of b)) none in
@@ -39,15 +39,17 @@ module _ {H S E R : Type 0} (k : StoreKind H S E R) (lawful : IsLawful k) where
       record {
         store = (stands.payloads, holds);
         recorded = λ qs also. subst (λ (l : List (List ℕ)). RecordEntries k l (k.entries h)) (holds_once b v v k.number stands.payloads qs holds also) stands.read.taken.recorded;
+        valid = lawful.valid_new v t.header.known;
         legal = ∣ subst (λ (T : S). k.IsLegalFrom T (k.entries h)) (new_there v b h none stands).0 stands.read.taken.legal ∣₁;
         slots = λ qs also gate offset is opened. absurd (shut closed.0 closed.1 gate offset is opened);
+        begins = λ _. refl;
       }
     where
       shut : slot 6 b ≡ None → slot 11 b ≡ None → (gate offset : ℕ) → IsSlot gate → slot gate b ≡ Some offset → ⊥
       shut six eleven gate offset (inl is) opened = let both : None ≡ Some offset = sym six ∙ subst (λ g. slot g b ≡ Some offset) is opened in absurd (cc)
       shut six eleven gate offset (inr is) opened = let both : None ≡ Some offset = sym eleven ∙ subst (λ g. slot g b ≡ Some offset) is opened in absurd (cc)
 
-  pub all_of_them : (v : ℕ) (b : List ℕ) (h : H) → slot_in_use (slots_of b) ≡ None → StandsFrom k v b h → IsEndOf k v h (k.entries h)
+  pub all_of_them : (v : ℕ) (b : List ℕ) (h : H) → slot_in_use (slots_of b) ≡ None → StandsFrom k v b h → IsEndOf k (k.empty v) h (k.entries h)
   all_of_them v b h none stands =
       let new = new_there v b h none stands in
       record {

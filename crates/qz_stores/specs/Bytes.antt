@@ -17,11 +17,11 @@ pub record BeginsNew {H S E R : Type 0} (k : StoreKind H S E R) (version : ℕ) 
   pub base : k.base h ≡ k.empty version
 
 -- The bytes hold a whole list that begins with this one. The history is an end of it, or that with the undecided entry is.
-abbrev pub MayBe : {H S E R : Type 0} → StoreKind H S E R → WholeList E → H → Option E → List ℕ → Type 0
+abbrev pub MayBe : {H S E R : Type 0} → StoreKind H S E R → WholeList S E → H → Option E → List ℕ → Type 0
 MayBe k w h undecided bytes = MayBeOf (entry_kind k) (Stands k w) h undecided bytes
 
 -- The bytes are those of the state before a call, or of the state after it.
-abbrev pub IsOfEither : {H S E R : Type 0} → StoreKind H S E R → WholeList E → StoreState H E → StoreState H E → List ℕ → Type 0
+abbrev pub IsOfEither : {H S E R : Type 0} → StoreKind H S E R → WholeList S E → StoreState H E → StoreState H E → List ℕ → Type 0
 IsOfEither k w s t bytes = MayBe k w s.history s.undecided bytes ⊎ MayBe k w t.history t.undecided bytes
 
 -- An undecided entry has a record, and was accepted at the state that the history leaves.

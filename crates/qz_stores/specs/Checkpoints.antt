@@ -3,7 +3,7 @@ use Rattle.std.specs.Prelude.{◌≡◌, ◌⊎◌, ℕ, ◌≤◌, Bool, true, 
 use Rattle.std.specs.declared.result.Result.{Result}
 use Rattle.qz_civil.specs.Causes.{Rose}
 use Rattle.qz_journal.specs.Layout.{Holds, end_of}
-use Rattle.qz_journal.specs.Slots.{IsSlot, slot}
+use Rattle.qz_journal.specs.Slots.{IsSlot, slot, slots_of, slot_in_use}
 use Rattle.qz_types.specs.declared.errors.SubmitError.{SubmitError}
 use Rattle.qz_types.specs.declared.errors.SubmitError.TheVariants as submit
 use Rattle.qz_stores.specs.Stores.{StoreState, Same, Stops}
@@ -12,12 +12,13 @@ use Rattle.qz_stores.specs.Bases.{records}
 
 -- A crash in a checkpoint of this state, which so many entries left, leaves the payloads that stood and some parts of
 -- snapshots. A slot that is open then was so before, with that offset; or it leads to the end of the payloads that stood, and
--- the snapshot is whole there.
+-- the snapshot is whole there. The slot in use is never closed: where no slot is open then, none was before.
 pub record IsMidway {H S E R : Type 0} (k : StoreKind H S E R) (version : ℕ) (T : S) (entries : ℕ) (old : List ℕ) (payloads : List (List ℕ)) (bytes : List ℕ) : Type 0 where
   pub parts : List (List ℕ)
   pub holds : Holds bytes version k.number (payloads ++ parts)
   pub passed : records k parts ≡ []
   pub slots : (gate offset : ℕ) → IsSlot gate → slot gate bytes ≡ Some offset → (slot gate old ≡ Some offset) ⊎ ((offset ≡ end_of payloads) × k.BeginSnapshot parts T (length payloads) entries)
+  pub in_use : slot_in_use (slots_of bytes) ≡ None → slot_in_use (slots_of old) ≡ None
 
 -- A snapshot was made. It is so many payloads more, and no entry.
 pub record Marks {H E : Type 0} (s t : StoreState H E) : Type 0 where

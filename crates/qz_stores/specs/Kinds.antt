@@ -122,8 +122,9 @@ pub record IsLawful {H S E R : Type 0} (k : StoreKind H S E R) : Type 0 where
   pub legal_none : (T : S) → k.IsLegalFrom T []
   pub legal_more : (T : S) (es : List E) (e : E) → k.IsLegalFrom T es → IsAccepted k (k.replay_from T es) e → k.IsLegalFrom T (es ++ e ∷ [])
   pub legal_at : (T : S) (es : List E) (e : E) (fs : List E) → k.IsLegalFrom T (es ++ e ∷ fs) → IsAccepted k (k.replay_from T es) e
-  -- entries that a new store accepts leave a valid state
-  pub valid_left : (version : ℕ) (es : List E) → is_version version ≡ true → AllByRecursion (HasRecord k) es → k.IsLegalFrom (k.empty version) es → ∥ k.IsValid (k.replay_from (k.empty version) es) ∥₁
+  -- the state of a new store is valid, and entries that are accepted from a valid state on leave a valid one
+  pub valid_new : (version : ℕ) → is_version version ≡ true → ∥ k.IsValid (k.empty version) ∥₁
+  pub valid_left : (T : S) (es : List E) → k.IsValid T → AllByRecursion (HasRecord k) es → k.IsLegalFrom T es → ∥ k.IsValid (k.replay_from T es) ∥₁
   -- a history is its base and its list
   pub whole : (h : H) → k.history (k.base_count h) (k.base h) (k.entries h) ≡ h
   pub base_count_is : (n : ℕ) (T : S) (es : List E) → k.base_count (k.history n T es) ≡ n

@@ -69,18 +69,18 @@ view {g = g} {k = k} s = record {
 }
 
 -- What the disk held when the store was opened is a whole list that begins with this one.
-abbrev pub GoesOnFrom : {D K E R C : Type 0} {g : Ghosts D} {k : Kinds K E R C} → Store D K E R C g k → WholeList E → Type 0
-GoesOnFrom {E = E} {k = k} s w = (more : List E) × (version_of s ≡ w.version) × HoldAll k.kind w.version (opened_of s) (w.entries ++ more)
+abbrev pub GoesOnFrom : {D K E R C : Type 0} {g : Ghosts D} {k : Kinds K E R C} → Store D K E R C g k → WholeList k.State E → Type 0
+GoesOnFrom {E = E} {k = k} s w = (more : List E) × (version_of s ≡ w.version) × HoldAll k.kind w.version w.start (opened_of s) (w.entries ++ more)
 
 -- The disk is honest, and held a whole list when the store was opened.
 abbrev pub IsTold : {D K E R C : Type 0} {g : Ghosts D} {k : Kinds K E R C} → Store D K E R C g k → Type 0
-IsTold {E = E} {g = g} s = g.honest × ∥ ((w : WholeList E) × GoesOnFrom s w) ∥₁
+IsTold {E = E} {g = g} {k = k} s = g.honest × ∥ ((w : WholeList k.State E) × GoesOnFrom s w) ∥₁
 
 -- The store goes on from each whole list that it went on from, and a crash at any moment leaves the history before the call
 -- or the one after it.
 abbrev pub LeavesHistories : {D K E R C : Type 0} {g : Ghosts D} {k : Kinds K E R C} → Store D K E R C g k → Store D K E R C g k → Type 0
 LeavesHistories {E = E} {k = k} s t =
-    (w : WholeList E) → GoesOnFrom s w → GoesOnFrom t w × LeavesOnly (disk_state s) (disk_state t) (IsOfEither k.kind w (view s) (view t))
+    (w : WholeList k.State E) → GoesOnFrom s w → GoesOnFrom t w × LeavesOnly (disk_state s) (disk_state t) (IsOfEither k.kind w (view s) (view t))
 
 -- What a store was opened on is as it was: its base and the entries found, and the bytes.
 abbrev pub IsOpenedAsBefore : {D K E R C : Type 0} {g : Ghosts D} {k : Kinds K E R C} → Store D K E R C g k → Store D K E R C g k → Type 0

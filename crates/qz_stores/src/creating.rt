@@ -3,8 +3,7 @@ ghost use Rattle.std.specs.Prelude.{◌≡◌, ◌≤◌, [], true, None, Some, 
 ghost use Rattle.qz_civil.specs.Causes.{Rose};
 ghost use Rattle.qz_journal.specs.Layout.{is_version, end_of};
 ghost use Rattle.qz_journal.specs.Making.{Makes};
-ghost use Rattle.qz_stores.specs.Bases.{IsWhole};
-ghost use Rattle.qz_stores.specs.Creating.{no_entries};
+ghost use Rattle.qz_stores.specs.Bases.{list_of, IsWhole};
 ghost use Rattle.qz_stores.specs.Kinds.{history_of};
 ghost use Rattle.qz_stores.specs.Opening.{IsOpened};
 ghost use Rattle.qz_stores.specs.View.{view, version_of, opened_of, found_of, added_of, behind_of, slots_of, disk_state, GoesOnFrom};
@@ -29,8 +28,8 @@ impl<D: Disk, K: Kind> Store<D, K> {
         ensures made { D.honest → MatchResult result (λ store. Makes version K.kind.number None (D.state disk) (disk_state store))
             (λ e. Makes version K.kind.number (Some e.0) (D.state disk) (D.state e.1)) }
         // The disk holds the whole list of no entries, and the store goes on from it.
-        ensures whole { D.honest → IfOk result (λ store. IsWhole K.kind (no_entries version) (disk_state store).content
-            × (opened_of store ≡ (disk_state store).content) × GoesOnFrom store (no_entries version)) }
+        ensures whole { D.honest → IfOk result (λ store. IsWhole K.kind (list_of K.kind version []) (disk_state store).content
+            × (opened_of store ≡ (disk_state store).content) × GoesOnFrom store (list_of K.kind version [])) }
         ensures later { MatchResult result (λ store. D.faults disk ≤ (view store).faults) (λ e. D.faults disk ≤ D.faults e.1) }
         ensures fault { IfErr result (λ e. e.0 ≡ NewStoreError.Fault → Rose (D.faults disk) (D.faults e.1)) }
     {

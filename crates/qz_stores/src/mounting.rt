@@ -8,7 +8,7 @@ ghost use Rattle.qz_journal.specs.Tails.{start_of};
 ghost use Rattle.qz_journal.specs.Through.{OnlyReads, OnlyReadsUnless};
 ghost use Rattle.qz_journal.specs.View.{disk_of as journal_disk, version_of as journal_version, kind_of, gate_of, count_of, closed_at};
 ghost use Rattle.qz_stores.specs.Kinds.{HasRecord};
-ghost use Rattle.qz_stores.specs.Bases.{HoldAll, IsEndOf, WholeList, IsWhole, Stands};
+ghost use Rattle.qz_stores.specs.Bases.{HoldAll, IsEndOf, WholeList, list_of, IsWhole, Stands};
 ghost use Rattle.qz_stores.specs.Bytes.{BeginsNew};
 ghost use Rattle.qz_stores.specs.Opening.{IsOpened, IsRefused, StandsFrom};
 ghost use Rattle.qz_stores.specs.View.{view, version_of, opened_of, found_of, added_of, behind_of, slots_of, disk_state, GoesOnFrom};
@@ -45,11 +45,11 @@ impl<D: Disk, K: Kind> Store<D, K> {
         ensures reads_err { D.honest → IfErr result (λ e. OnlyReadsUnless (e.0 ≡ MountError.Fault) (D.state disk) (D.state e.1)) }
         ensures refused { D.honest → IfErr result (λ e. IsRefused K.kind (D.state disk).content e.0) }
         // Where the bytes hold a whole list, the store goes on from it and has an end of it, or memory or the disk fails.
-        ensures whole { D.honest → (w : WholeList K.Entry) → IsWhole K.kind w (D.state disk).content
+        ensures whole { D.honest → (w : WholeList K.State K.Entry) → IsWhole K.kind w (D.state disk).content
             → MatchResult result (λ store. GoesOnFrom store w × Stands K.kind w (D.state disk).content (view store).history) (λ e. (e.0 ≡ MountError.Fault) ⊎ (e.0 ≡ MountError.NoMemory)) }
-        // Where no slot is open, they hold the one that was read.
+        // Where no slot is open, they hold the one that was read, and it starts as a new store does.
         ensures without_slots { D.honest → IfOk result (λ store. slot_in_use (slots_in (D.state disk).content) ≡ None
-            → IsWhole K.kind (record { version = version_of store; entries = found_of store }) (D.state disk).content) }
+            → IsWhole K.kind (list_of K.kind (version_of store) (found_of store)) (D.state disk).content) }
         // No slot is open in a store of a kind without snapshots.
         ensures no_slots { K.kind.has_snapshots ≡ false → IfOk result (λ store. slot_in_use (slots_of store) ≡ None) }
         ensures later { IfOk result (λ store. D.faults disk ≤ (view store).faults) }
@@ -90,8 +90,8 @@ pub(crate) fn begin<D: Disk, K: Kind>(
     requires new { K.kind.has_snapshots ≡ false → (reread.base_count ≡ 0) × ((K.state reread.base.value) ≡ K.kind.empty reread.version) }
     requires recorded { ∥ AllByRecursion (HasRecord K.kind) reread.entries.items ∥₁ }
     requires legal { ∥ K.kind.IsLegalFrom (K.state reread.base.value) reread.entries.items ∥₁ }
-    requires ended { D.honest → (whole : List K.Entry) → HoldAll K.kind reread.version (D.state (journal_disk journal)).content whole → IsEndOf K.kind reread.version (K.kind.history reread.base_count (K.state reread.base.value) reread.entries.items) whole }
-    requires gated { D.honest → (whole : List K.Entry) → HoldAll K.kind reread.version (D.state (journal_disk journal)).content whole → (payloads : List (List ℕ)) → Holds (D.state (journal_disk journal)).content reread.version K.kind.number payloads
+    requires ended { D.honest → (start : K.State) → (whole : List K.Entry) → HoldAll K.kind reread.version start (D.state (journal_disk journal)).content whole → IsEndOf K.kind start (K.kind.history reread.base_count (K.state reread.base.value) reread.entries.items) whole }
+    requires gated { D.honest → (start : K.State) → (whole : List K.Entry) → HoldAll K.kind reread.version start (D.state (journal_disk journal)).content whole → (payloads : List (List ℕ)) → Holds (D.state (journal_disk journal)).content reread.version K.kind.number payloads
         → (gate_of journal ≡ end_of payloads) × (count_of journal ≡ length payloads) }
     ensures journal { result.journal ≡ journal }
     ensures version { result.version ≡ reread.version }

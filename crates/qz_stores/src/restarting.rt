@@ -44,11 +44,11 @@ impl<D: Disk, K: Kind> Store<D, K> {
         ensures kept { IsOpenedAsBefore self.old self.new × (added_of self.new ≡ added_of self.old) }
         ensures read { IfOk result (λ reread. IsReread reread self.new) }
         // Where the disk held a whole list when the store was opened, another end of the history's whole list was read, or of that
-        // with the undecided entry.
-        ensures decided { D.honest → IfOk result (λ reread. (w : WholeList K.Entry) → GoesOnFrom self.old w → IsDecided K.kind (view self.old).history (view self.old).undecided (history_read reread)) }
+        // with the undecided entry. It starts as that list did.
+        ensures decided { D.honest → IfOk result (λ reread. (w : WholeList K.State K.Entry) → GoesOnFrom self.old w → IsDecided K.kind w.start (view self.old).history (view self.old).undecided (history_read reread)) }
         ensures stands { D.honest → IfOk result (λ reread. StandsFrom K.kind reread.version (disk_state self.old).content (history_read reread)) }
         ensures reads { D.honest → OnOk result (OnlyReads (disk_state self.old) (disk_state self.new)) }
-        ensures refused { D.honest → (w : WholeList K.Entry) → GoesOnFrom self.old w → IfErr result (λ e. (e ≡ MountError.Fault) ⊎ (e ≡ MountError.NoMemory)) }
+        ensures refused { D.honest → (w : WholeList K.State K.Entry) → GoesOnFrom self.old w → IfErr result (λ e. (e ≡ MountError.Fault) ⊎ (e ≡ MountError.NoMemory)) }
         ensures fault { result ≡ Err MountError.Fault → Rose (view self.old).faults (view self.new).faults }
         ensures leaves { D.honest → LeavesHistories self.old self.new }
     {

@@ -26,24 +26,24 @@ invariant_of-result-clause-recorded g c =
     subst (λ (l : List g.row.K-Entry.Denot). ∥ AllByRecursion (HasRecord g.K.Kind.kind) l ∥₁) (sym (none_more r.entries.items c.new.result.items c.new.ensures)) c.requires.recorded
 
 pub invariant_of-result-clause-ended : goal.invariant_of-result-clause-ended
-invariant_of-result-clause-ended g c honest whole held =
+invariant_of-result-clause-ended g c honest start whole held =
     let r = c.args.reread in
     let j = c.args.journal in
-    c.requires.ended honest whole (subst (λ x. HoldAll g.K.Kind.kind r.version (g.D.Disk.state x.disk).content whole) c.of-opened.ensures held)
+    c.requires.ended honest start whole (subst (λ x. HoldAll g.K.Kind.kind r.version start (g.D.Disk.state x.disk).content whole) c.of-opened.ensures held)
 
 pub invariant_of-result-clause-stands : goal.invariant_of-result-clause-stands
-invariant_of-result-clause-stands g c honest now whole held =
+invariant_of-result-clause-stands g c honest now start whole held =
     let r = c.args.reread in
     let j = c.args.journal in
-    subst (HoldAll g.K.Kind.kind r.version (g.D.Disk.state j.disk).content) (sym (none_more whole c.new.result.items c.new.ensures)) (subst (λ x. HoldAll g.K.Kind.kind r.version (g.D.Disk.state x.disk).content whole) c.of-opened.ensures held)
+    subst (HoldAll g.K.Kind.kind r.version start (g.D.Disk.state j.disk).content) (sym (none_more whole c.new.result.items c.new.ensures)) (subst (λ x. HoldAll g.K.Kind.kind r.version start (g.D.Disk.state x.disk).content whole) c.of-opened.ensures held)
 
 pub invariant_of-result-clause-gated : goal.invariant_of-result-clause-gated
-invariant_of-result-clause-gated g c honest now whole held =
+invariant_of-result-clause-gated g c honest now start whole held =
     let r = c.args.reread in
-    c.requires.gated honest whole (subst (λ x. HoldAll g.K.Kind.kind r.version (g.D.Disk.state x.disk).content whole) c.of-opened.ensures held)
+    c.requires.gated honest start whole (subst (λ x. HoldAll g.K.Kind.kind r.version start (g.D.Disk.state x.disk).content whole) c.of-opened.ensures held)
 
 pub invariant_of-result-clause-images : goal.invariant_of-result-clause-images
-invariant_of-result-clause-images g c honest whole held =
+invariant_of-result-clause-images g c honest start whole held =
     let r = c.args.reread in
     let j = c.args.journal in
-    images_of g.K.Kind.kind g.met.K.Kind.lawful r.version _ _ (g.D.Disk.state j.disk) refl (j.durable honest c.requires.open) (invariant_of-result-clause-stands g c honest refl whole held)
+    images_of g.K.Kind.kind g.met.K.Kind.lawful r.version start _ _ (g.D.Disk.state j.disk) refl (j.durable honest c.requires.open) (invariant_of-result-clause-stands g c honest refl start whole held)

@@ -12,77 +12,77 @@ returns-then-not-self-clause-leaves g c honest =
     rests g.met.K.Kind.lawful s (g.met.D.Disk.lawful honest s.journal.disk) honest
 
 pub invariant_of-self-clause-stands : goal.invariant_of-self-clause-stands
-invariant_of-self-clause-stands g c honest now whole held =
+invariant_of-self-clause-stands g c honest now start whole held =
     let k = g.K.Kind.kind in
     let l = g.met.K.Kind.lawful in
     let s = c.args.self.now in
     let m = c.checkpoint in
     let open_now : s.is_open ≡ true = c.if-not-self.false in
-    let leaves = marked k l s.version s.journal.version s.journal.gate s.journal.count s.base_count s.count (g.K.Kind.state s.base.value) (g.K.Kind.state s.state) s.found.items s.added.items whole (g.D.Disk.state s.journal.disk).content (g.D.Disk.state s.journal.disk) (g.D.Disk.state m.new.journal.disk)
-    (s.in_version open_now) s.replayed s.counted (s.ended honest whole held) (s.stands honest open_now whole held) (s.gated honest open_now whole held) (m.ensures.any_moment honest) in
+    let leaves = marked k l s.version s.journal.version s.journal.gate s.journal.count s.base_count s.count start (g.K.Kind.state s.base.value) (g.K.Kind.state s.state) s.found.items s.added.items whole (g.D.Disk.state s.journal.disk).content (g.D.Disk.state s.journal.disk) (g.D.Disk.state m.new.journal.disk)
+    (s.in_version open_now) s.replayed s.counted (s.ended honest start whole held) (s.stands honest open_now start whole held) (s.gated honest open_now start whole held) (m.ensures.any_moment honest) in
     content_among (g.D.Disk.state s.journal.disk) (g.D.Disk.state m.new.journal.disk) _ (g.met.D.Disk.lawful honest m.new.journal.disk) leaves
 
 pub invariant_of-self-clause-gated : goal.invariant_of-self-clause-gated
-invariant_of-self-clause-gated g c honest now whole held =
+invariant_of-self-clause-gated g c honest now start whole held =
     let k = g.K.Kind.kind in
     let l = g.met.K.Kind.lawful in
     let s = c.args.self.now in
     let m = c.checkpoint in
-    marked_gate k l s.version s.journal.version s.journal.gate s.journal.count m.new.journal.gate m.new.journal.count (k.snapshot_of (g.K.Kind.state s.state) s.journal.count s.count) (g.D.Disk.state s.journal.disk).content (g.D.Disk.state m.new.journal.disk).content (whole ++ s.added.items)
-    (s.in_version c.if-not-self.false) (s.stands honest c.if-not-self.false whole held) (s.gated honest c.if-not-self.false whole held) (λ ps holds at many. m.ensures.stands honest ps holds at many (c.in-Ok-true.is ∙ ap Ok c.in-Ok-true.field-0-test))
+    marked_gate k l s.version s.journal.version s.journal.gate s.journal.count m.new.journal.gate m.new.journal.count (k.snapshot_of (g.K.Kind.state s.state) s.journal.count s.count) (g.D.Disk.state s.journal.disk).content (g.D.Disk.state m.new.journal.disk).content start (whole ++ s.added.items)
+    (s.in_version c.if-not-self.false) (s.stands honest c.if-not-self.false start whole held) (s.gated honest c.if-not-self.false start whole held) (λ ps holds at many. m.ensures.stands honest ps holds at many (c.in-Ok-true.is ∙ ap Ok c.in-Ok-true.field-0-test))
 
 pub invariant_of-self-clause-images : goal.invariant_of-self-clause-images
-invariant_of-self-clause-images g c honest whole held =
+invariant_of-self-clause-images g c honest start whole held =
     let k = g.K.Kind.kind in
     let l = g.met.K.Kind.lawful in
     let s = c.args.self.now in
     let m = c.checkpoint in
     let open_now : s.is_open ≡ true = c.if-not-self.false in
-    let leaves = marked k l s.version s.journal.version s.journal.gate s.journal.count s.base_count s.count (g.K.Kind.state s.base.value) (g.K.Kind.state s.state) s.found.items s.added.items whole (g.D.Disk.state s.journal.disk).content (g.D.Disk.state s.journal.disk) (g.D.Disk.state m.new.journal.disk)
-    (s.in_version open_now) s.replayed s.counted (s.ended honest whole held) (s.stands honest open_now whole held) (s.gated honest open_now whole held) (m.ensures.any_moment honest) in
-    images_left k l s.version (whole ++ s.added.items) s.undecided (g.D.Disk.state s.journal.disk) (g.D.Disk.state m.new.journal.disk) (g.met.D.Disk.lawful honest m.new.journal.disk) (settled_leaves k l s.version (whole ++ s.added.items) s.undecided (g.D.Disk.state s.journal.disk) (g.D.Disk.state m.new.journal.disk) (s.settled open_now) leaves)
+    let leaves = marked k l s.version s.journal.version s.journal.gate s.journal.count s.base_count s.count start (g.K.Kind.state s.base.value) (g.K.Kind.state s.state) s.found.items s.added.items whole (g.D.Disk.state s.journal.disk).content (g.D.Disk.state s.journal.disk) (g.D.Disk.state m.new.journal.disk)
+    (s.in_version open_now) s.replayed s.counted (s.ended honest start whole held) (s.stands honest open_now start whole held) (s.gated honest open_now start whole held) (m.ensures.any_moment honest) in
+    images_left k l s.version start (whole ++ s.added.items) s.undecided (g.D.Disk.state s.journal.disk) (g.D.Disk.state m.new.journal.disk) (g.met.D.Disk.lawful honest m.new.journal.disk) (settled_leaves k l s.version start (whole ++ s.added.items) s.undecided (g.D.Disk.state s.journal.disk) (g.D.Disk.state m.new.journal.disk) (s.settled open_now) leaves)
 
 pub invariant_of-self-in-Err-Fault-clause-images : goal.invariant_of-self-in-Err-Fault-clause-images
-invariant_of-self-in-Err-Fault-clause-images g c honest whole held =
+invariant_of-self-in-Err-Fault-clause-images g c honest start whole held =
     let k = g.K.Kind.kind in
     let l = g.met.K.Kind.lawful in
     let s = c.args.self.now in
     let m = c.checkpoint in
     let open_now : s.is_open ≡ true = c.if-not-self.false in
-    let leaves = marked k l s.version s.journal.version s.journal.gate s.journal.count s.base_count s.count (g.K.Kind.state s.base.value) (g.K.Kind.state s.state) s.found.items s.added.items whole (g.D.Disk.state s.journal.disk).content (g.D.Disk.state s.journal.disk) (g.D.Disk.state m.new.journal.disk)
-    (s.in_version open_now) s.replayed s.counted (s.ended honest whole held) (s.stands honest open_now whole held) (s.gated honest open_now whole held) (m.ensures.any_moment honest) in
-    images_left k l s.version (whole ++ s.added.items) s.undecided (g.D.Disk.state s.journal.disk) (g.D.Disk.state m.new.journal.disk) (g.met.D.Disk.lawful honest m.new.journal.disk) (settled_leaves k l s.version (whole ++ s.added.items) s.undecided (g.D.Disk.state s.journal.disk) (g.D.Disk.state m.new.journal.disk) (s.settled open_now) leaves)
+    let leaves = marked k l s.version s.journal.version s.journal.gate s.journal.count s.base_count s.count start (g.K.Kind.state s.base.value) (g.K.Kind.state s.state) s.found.items s.added.items whole (g.D.Disk.state s.journal.disk).content (g.D.Disk.state s.journal.disk) (g.D.Disk.state m.new.journal.disk)
+    (s.in_version open_now) s.replayed s.counted (s.ended honest start whole held) (s.stands honest open_now start whole held) (s.gated honest open_now start whole held) (m.ensures.any_moment honest) in
+    images_left k l s.version start (whole ++ s.added.items) s.undecided (g.D.Disk.state s.journal.disk) (g.D.Disk.state m.new.journal.disk) (g.met.D.Disk.lawful honest m.new.journal.disk) (settled_leaves k l s.version start (whole ++ s.added.items) s.undecided (g.D.Disk.state s.journal.disk) (g.D.Disk.state m.new.journal.disk) (s.settled open_now) leaves)
 
 pub invariant_of-self-in-Err-NoMemory-clause-stands : goal.invariant_of-self-in-Err-NoMemory-clause-stands
-invariant_of-self-in-Err-NoMemory-clause-stands g c honest now whole held =
+invariant_of-self-in-Err-NoMemory-clause-stands g c honest now start whole held =
     let k = g.K.Kind.kind in
     let l = g.met.K.Kind.lawful in
     let s = c.args.self.now in
     let m = c.checkpoint in
     let open_now : s.is_open ≡ true = c.if-not-self.false in
-    let leaves = marked k l s.version s.journal.version s.journal.gate s.journal.count s.base_count s.count (g.K.Kind.state s.base.value) (g.K.Kind.state s.state) s.found.items s.added.items whole (g.D.Disk.state s.journal.disk).content (g.D.Disk.state s.journal.disk) (g.D.Disk.state m.new.journal.disk)
-    (s.in_version open_now) s.replayed s.counted (s.ended honest whole held) (s.stands honest open_now whole held) (s.gated honest open_now whole held) (m.ensures.any_moment honest) in
+    let leaves = marked k l s.version s.journal.version s.journal.gate s.journal.count s.base_count s.count start (g.K.Kind.state s.base.value) (g.K.Kind.state s.state) s.found.items s.added.items whole (g.D.Disk.state s.journal.disk).content (g.D.Disk.state s.journal.disk) (g.D.Disk.state m.new.journal.disk)
+    (s.in_version open_now) s.replayed s.counted (s.ended honest start whole held) (s.stands honest open_now start whole held) (s.gated honest open_now start whole held) (m.ensures.any_moment honest) in
     content_among (g.D.Disk.state s.journal.disk) (g.D.Disk.state m.new.journal.disk) _ (g.met.D.Disk.lawful honest m.new.journal.disk) leaves
 
 pub invariant_of-self-in-Err-NoMemory-clause-gated : goal.invariant_of-self-in-Err-NoMemory-clause-gated
-invariant_of-self-in-Err-NoMemory-clause-gated g c honest now whole held payloads =
+invariant_of-self-in-Err-NoMemory-clause-gated g c honest now start whole held payloads =
     let k = g.K.Kind.kind in
     let s = c.args.self.now in
     let m = c.checkpoint in
     let is = c.in-Err-NoMemory.is ∙ ap Err c.in-Err-NoMemory.field-0-is in
     let same = m.ensures.unchanged (λ other. let both = sym other ∙ is in absurd (cc)) (λ other. let both = sym other ∙ is in absurd (cc)) in
-    subst (λ j. Holds (g.D.Disk.state j.disk).content s.version k.number payloads → (j.gate ≡ end_of payloads) × (j.count ≡ length payloads)) (sym same) (s.gated honest now whole held payloads)
+    subst (λ j. Holds (g.D.Disk.state j.disk).content s.version k.number payloads → (j.gate ≡ end_of payloads) × (j.count ≡ length payloads)) (sym same) (s.gated honest now start whole held payloads)
 
 pub invariant_of-self-in-Err-NoMemory-clause-images : goal.invariant_of-self-in-Err-NoMemory-clause-images
-invariant_of-self-in-Err-NoMemory-clause-images g c honest whole held =
+invariant_of-self-in-Err-NoMemory-clause-images g c honest start whole held =
     let k = g.K.Kind.kind in
     let l = g.met.K.Kind.lawful in
     let s = c.args.self.now in
     let m = c.checkpoint in
     let open_now : s.is_open ≡ true = c.if-not-self.false in
-    let leaves = marked k l s.version s.journal.version s.journal.gate s.journal.count s.base_count s.count (g.K.Kind.state s.base.value) (g.K.Kind.state s.state) s.found.items s.added.items whole (g.D.Disk.state s.journal.disk).content (g.D.Disk.state s.journal.disk) (g.D.Disk.state m.new.journal.disk)
-    (s.in_version open_now) s.replayed s.counted (s.ended honest whole held) (s.stands honest open_now whole held) (s.gated honest open_now whole held) (m.ensures.any_moment honest) in
-    images_left k l s.version (whole ++ s.added.items) s.undecided (g.D.Disk.state s.journal.disk) (g.D.Disk.state m.new.journal.disk) (g.met.D.Disk.lawful honest m.new.journal.disk) (settled_leaves k l s.version (whole ++ s.added.items) s.undecided (g.D.Disk.state s.journal.disk) (g.D.Disk.state m.new.journal.disk) (s.settled open_now) leaves)
+    let leaves = marked k l s.version s.journal.version s.journal.gate s.journal.count s.base_count s.count start (g.K.Kind.state s.base.value) (g.K.Kind.state s.state) s.found.items s.added.items whole (g.D.Disk.state s.journal.disk).content (g.D.Disk.state s.journal.disk) (g.D.Disk.state m.new.journal.disk)
+    (s.in_version open_now) s.replayed s.counted (s.ended honest start whole held) (s.stands honest open_now start whole held) (s.gated honest open_now start whole held) (m.ensures.any_moment honest) in
+    images_left k l s.version start (whole ++ s.added.items) s.undecided (g.D.Disk.state s.journal.disk) (g.D.Disk.state m.new.journal.disk) (g.met.D.Disk.lawful honest m.new.journal.disk) (settled_leaves k l s.version start (whole ++ s.added.items) s.undecided (g.D.Disk.state s.journal.disk) (g.D.Disk.state m.new.journal.disk) (s.settled open_now) leaves)
 
 pub returns-in-Ok-true-clause-leaves : goal.returns-in-Ok-true-clause-leaves
 returns-in-Ok-true-clause-leaves g c honest =
@@ -91,10 +91,10 @@ returns-in-Ok-true-clause-leaves g c honest =
     let s = c.args.self.now in
     let m = c.checkpoint in
     let open_now : s.is_open ≡ true = c.if-not-self.false in
-    same_left k l s.version s.base_count (g.K.Kind.state s.base.value) (g.D.Disk.state s.opened.value.disk).content s.found.items (s.ended honest) s.added.items s.added.items s.undecided s.undecided (g.D.Disk.state s.journal.disk) (g.D.Disk.state m.new.journal.disk) (λ whole held.
-    let leaves = marked k l s.version s.journal.version s.journal.gate s.journal.count s.base_count s.count (g.K.Kind.state s.base.value) (g.K.Kind.state s.state) s.found.items s.added.items whole (g.D.Disk.state s.journal.disk).content (g.D.Disk.state s.journal.disk) (g.D.Disk.state m.new.journal.disk)
-    (s.in_version open_now) s.replayed s.counted (s.ended honest whole held) (s.stands honest open_now whole held) (s.gated honest open_now whole held) (m.ensures.any_moment honest) in
-    settled_leaves k l s.version (whole ++ s.added.items) s.undecided (g.D.Disk.state s.journal.disk) (g.D.Disk.state m.new.journal.disk) (s.settled open_now) leaves)
+    same_left k l s.version s.base_count (g.K.Kind.state s.base.value) (g.D.Disk.state s.opened.value.disk).content s.found.items (s.ended honest) s.added.items s.added.items s.undecided s.undecided (g.D.Disk.state s.journal.disk) (g.D.Disk.state m.new.journal.disk) (λ start whole held.
+    let leaves = marked k l s.version s.journal.version s.journal.gate s.journal.count s.base_count s.count start (g.K.Kind.state s.base.value) (g.K.Kind.state s.state) s.found.items s.added.items whole (g.D.Disk.state s.journal.disk).content (g.D.Disk.state s.journal.disk) (g.D.Disk.state m.new.journal.disk)
+    (s.in_version open_now) s.replayed s.counted (s.ended honest start whole held) (s.stands honest open_now start whole held) (s.gated honest open_now start whole held) (m.ensures.any_moment honest) in
+    settled_leaves k l s.version start (whole ++ s.added.items) s.undecided (g.D.Disk.state s.journal.disk) (g.D.Disk.state m.new.journal.disk) (s.settled open_now) leaves)
 
 pub returns-in-Ok-false-clause-leaves : goal.returns-in-Ok-false-clause-leaves
 returns-in-Ok-false-clause-leaves g c honest =
@@ -103,10 +103,10 @@ returns-in-Ok-false-clause-leaves g c honest =
     let s = c.args.self.now in
     let m = c.checkpoint in
     let open_now : s.is_open ≡ true = c.if-not-self.false in
-    same_left k l s.version s.base_count (g.K.Kind.state s.base.value) (g.D.Disk.state s.opened.value.disk).content s.found.items (s.ended honest) s.added.items s.added.items s.undecided s.undecided (g.D.Disk.state s.journal.disk) (g.D.Disk.state m.new.journal.disk) (λ whole held.
-    let leaves = marked k l s.version s.journal.version s.journal.gate s.journal.count s.base_count s.count (g.K.Kind.state s.base.value) (g.K.Kind.state s.state) s.found.items s.added.items whole (g.D.Disk.state s.journal.disk).content (g.D.Disk.state s.journal.disk) (g.D.Disk.state m.new.journal.disk)
-    (s.in_version open_now) s.replayed s.counted (s.ended honest whole held) (s.stands honest open_now whole held) (s.gated honest open_now whole held) (m.ensures.any_moment honest) in
-    settled_leaves k l s.version (whole ++ s.added.items) s.undecided (g.D.Disk.state s.journal.disk) (g.D.Disk.state m.new.journal.disk) (s.settled open_now) leaves)
+    same_left k l s.version s.base_count (g.K.Kind.state s.base.value) (g.D.Disk.state s.opened.value.disk).content s.found.items (s.ended honest) s.added.items s.added.items s.undecided s.undecided (g.D.Disk.state s.journal.disk) (g.D.Disk.state m.new.journal.disk) (λ start whole held.
+    let leaves = marked k l s.version s.journal.version s.journal.gate s.journal.count s.base_count s.count start (g.K.Kind.state s.base.value) (g.K.Kind.state s.state) s.found.items s.added.items whole (g.D.Disk.state s.journal.disk).content (g.D.Disk.state s.journal.disk) (g.D.Disk.state m.new.journal.disk)
+    (s.in_version open_now) s.replayed s.counted (s.ended honest start whole held) (s.stands honest open_now start whole held) (s.gated honest open_now start whole held) (m.ensures.any_moment honest) in
+    settled_leaves k l s.version start (whole ++ s.added.items) s.undecided (g.D.Disk.state s.journal.disk) (g.D.Disk.state m.new.journal.disk) (s.settled open_now) leaves)
 
 pub returns-in-Err-Fault-clause-leaves : goal.returns-in-Err-Fault-clause-leaves
 returns-in-Err-Fault-clause-leaves g c honest =
@@ -115,10 +115,10 @@ returns-in-Err-Fault-clause-leaves g c honest =
     let s = c.args.self.now in
     let m = c.checkpoint in
     let open_now : s.is_open ≡ true = c.if-not-self.false in
-    same_left k l s.version s.base_count (g.K.Kind.state s.base.value) (g.D.Disk.state s.opened.value.disk).content s.found.items (s.ended honest) s.added.items s.added.items s.undecided s.undecided (g.D.Disk.state s.journal.disk) (g.D.Disk.state m.new.journal.disk) (λ whole held.
-    let leaves = marked k l s.version s.journal.version s.journal.gate s.journal.count s.base_count s.count (g.K.Kind.state s.base.value) (g.K.Kind.state s.state) s.found.items s.added.items whole (g.D.Disk.state s.journal.disk).content (g.D.Disk.state s.journal.disk) (g.D.Disk.state m.new.journal.disk)
-    (s.in_version open_now) s.replayed s.counted (s.ended honest whole held) (s.stands honest open_now whole held) (s.gated honest open_now whole held) (m.ensures.any_moment honest) in
-    settled_leaves k l s.version (whole ++ s.added.items) s.undecided (g.D.Disk.state s.journal.disk) (g.D.Disk.state m.new.journal.disk) (s.settled open_now) leaves)
+    same_left k l s.version s.base_count (g.K.Kind.state s.base.value) (g.D.Disk.state s.opened.value.disk).content s.found.items (s.ended honest) s.added.items s.added.items s.undecided s.undecided (g.D.Disk.state s.journal.disk) (g.D.Disk.state m.new.journal.disk) (λ start whole held.
+    let leaves = marked k l s.version s.journal.version s.journal.gate s.journal.count s.base_count s.count start (g.K.Kind.state s.base.value) (g.K.Kind.state s.state) s.found.items s.added.items whole (g.D.Disk.state s.journal.disk).content (g.D.Disk.state s.journal.disk) (g.D.Disk.state m.new.journal.disk)
+    (s.in_version open_now) s.replayed s.counted (s.ended honest start whole held) (s.stands honest open_now start whole held) (s.gated honest open_now start whole held) (m.ensures.any_moment honest) in
+    settled_leaves k l s.version start (whole ++ s.added.items) s.undecided (g.D.Disk.state s.journal.disk) (g.D.Disk.state m.new.journal.disk) (s.settled open_now) leaves)
 
 pub returns-in-Err-NoMemory-clause-leaves : goal.returns-in-Err-NoMemory-clause-leaves
 returns-in-Err-NoMemory-clause-leaves g c honest =
@@ -127,7 +127,7 @@ returns-in-Err-NoMemory-clause-leaves g c honest =
     let s = c.args.self.now in
     let m = c.checkpoint in
     let open_now : s.is_open ≡ true = c.if-not-self.false in
-    same_left k l s.version s.base_count (g.K.Kind.state s.base.value) (g.D.Disk.state s.opened.value.disk).content s.found.items (s.ended honest) s.added.items s.added.items s.undecided s.undecided (g.D.Disk.state s.journal.disk) (g.D.Disk.state m.new.journal.disk) (λ whole held.
-    let leaves = marked k l s.version s.journal.version s.journal.gate s.journal.count s.base_count s.count (g.K.Kind.state s.base.value) (g.K.Kind.state s.state) s.found.items s.added.items whole (g.D.Disk.state s.journal.disk).content (g.D.Disk.state s.journal.disk) (g.D.Disk.state m.new.journal.disk)
-    (s.in_version open_now) s.replayed s.counted (s.ended honest whole held) (s.stands honest open_now whole held) (s.gated honest open_now whole held) (m.ensures.any_moment honest) in
-    settled_leaves k l s.version (whole ++ s.added.items) s.undecided (g.D.Disk.state s.journal.disk) (g.D.Disk.state m.new.journal.disk) (s.settled open_now) leaves)
+    same_left k l s.version s.base_count (g.K.Kind.state s.base.value) (g.D.Disk.state s.opened.value.disk).content s.found.items (s.ended honest) s.added.items s.added.items s.undecided s.undecided (g.D.Disk.state s.journal.disk) (g.D.Disk.state m.new.journal.disk) (λ start whole held.
+    let leaves = marked k l s.version s.journal.version s.journal.gate s.journal.count s.base_count s.count start (g.K.Kind.state s.base.value) (g.K.Kind.state s.state) s.found.items s.added.items whole (g.D.Disk.state s.journal.disk).content (g.D.Disk.state s.journal.disk) (g.D.Disk.state m.new.journal.disk)
+    (s.in_version open_now) s.replayed s.counted (s.ended honest start whole held) (s.stands honest open_now start whole held) (s.gated honest open_now start whole held) (m.ensures.any_moment honest) in
+    settled_leaves k l s.version start (whole ++ s.added.items) s.undecided (g.D.Disk.state s.journal.disk) (g.D.Disk.state m.new.journal.disk) (s.settled open_now) leaves)

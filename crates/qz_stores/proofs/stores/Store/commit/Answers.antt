@@ -38,44 +38,44 @@ pub invariant_of-self-clause-passed : goal.invariant_of-self-clause-passed
 invariant_of-self-clause-passed g c = Appending.none_follows g.K.Kind.kind _ _ (c.args.self.now.settled c.requires.open)
 
 pub invariant_of-self-clause-stands : goal.invariant_of-self-clause-stands
-invariant_of-self-clause-stands g c honest now whole held =
+invariant_of-self-clause-stands g c honest now start whole held =
     let s = c.args.self.now in
     let k = g.K.Kind.kind in
     let l = g.met.K.Kind.lawful in
     let front = content_among _ _ _ (g.met.D.Disk.lawful honest c.append.new.self.disk) (c.append.ensures.front honest (s.ready c.requires.open)) in
-    Appending.whole_with k l s.version whole s.added.items _ c.args.entry _ c.and.ensures
-    (Appending.next_held k l s.version s.journal.version s.journal.kind s.journal.gate s.journal.count c.as_slice.result.now c.args.entry (whole ++ s.added.items) _ (s.in_version c.requires.open) s.number
-    (subst (λ (b : List ℕ). k.IsRecordOf b c.args.entry) (sym c.as_slice.ensures) c.requires.record.0) (s.stands honest c.requires.open whole held) (s.gated honest c.requires.open whole held)
-    (subst (λ T. IsAccepted k T c.args.entry) (Appending.whole_leaves k l s.version s.base_count (g.K.Kind.state s.base.value) (g.K.Kind.state s.state) s.found.items s.added.items whole s.replayed (s.ended honest whole held)) c.requires.accepted)
+    Appending.whole_with k l s.version start whole s.added.items _ c.args.entry _ c.and.ensures
+    (Appending.next_held k l s.version s.journal.version s.journal.kind s.journal.gate s.journal.count c.as_slice.result.now c.args.entry start (whole ++ s.added.items) _ (s.in_version c.requires.open) s.number
+    (subst (λ (b : List ℕ). k.IsRecordOf b c.args.entry) (sym c.as_slice.ensures) c.requires.record.0) (s.stands honest c.requires.open start whole held) (s.gated honest c.requires.open start whole held)
+    (subst (λ T. IsAccepted k T c.args.entry) (Appending.whole_leaves k l s.version start s.base_count (g.K.Kind.state s.base.value) (g.K.Kind.state s.state) s.found.items s.added.items whole s.replayed (s.ended honest start whole held)) c.requires.accepted)
     s.journal.after_header _ (c.in-Ok.ensures.stands honest) front)
 
 pub invariant_of-self-clause-gated : goal.invariant_of-self-clause-gated
-invariant_of-self-clause-gated g c honest now whole held =
+invariant_of-self-clause-gated g c honest now start whole held =
     let s = c.args.self.now in
     let k = g.K.Kind.kind in
     let l = g.met.K.Kind.lawful in
-    Appending.next_gate k l s.version s.journal.version s.journal.kind s.journal.gate s.journal.count c.as_slice.result.now c.args.entry (whole ++ s.added.items) _ (s.in_version c.requires.open) s.number
-    (subst (λ (b : List ℕ). k.IsRecordOf b c.args.entry) (sym c.as_slice.ensures) c.requires.record.0) (s.stands honest c.requires.open whole held) (s.gated honest c.requires.open whole held)
-    (subst (λ T. IsAccepted k T c.args.entry) (Appending.whole_leaves k l s.version s.base_count (g.K.Kind.state s.base.value) (g.K.Kind.state s.state) s.found.items s.added.items whole s.replayed (s.ended honest whole held)) c.requires.accepted)
+    Appending.next_gate k l s.version s.journal.version s.journal.kind s.journal.gate s.journal.count c.as_slice.result.now c.args.entry start (whole ++ s.added.items) _ (s.in_version c.requires.open) s.number
+    (subst (λ (b : List ℕ). k.IsRecordOf b c.args.entry) (sym c.as_slice.ensures) c.requires.record.0) (s.stands honest c.requires.open start whole held) (s.gated honest c.requires.open start whole held)
+    (subst (λ T. IsAccepted k T c.args.entry) (Appending.whole_leaves k l s.version start s.base_count (g.K.Kind.state s.base.value) (g.K.Kind.state s.state) s.found.items s.added.items whole s.replayed (s.ended honest start whole held)) c.requires.accepted)
     s.journal.after_header _ _ _ c.in-Ok.ensures.ok.1 c.in-Ok.ensures.ok.2 (c.in-Ok.ensures.stands honest)
 
 pub invariant_of-self-clause-images : goal.invariant_of-self-clause-images
-invariant_of-self-clause-images g c honest whole held =
+invariant_of-self-clause-images g c honest start whole held =
     let s = c.args.self.now in
-    Appending.images_of g.K.Kind.kind g.met.K.Kind.lawful s.version _ s.undecided (g.D.Disk.state c.append.new.self.disk) (s.settled c.requires.open) (c.in-Ok.ensures.durable honest)
-    (invariant_of-self-clause-stands g c honest c.requires.open whole held)
+    Appending.images_of g.K.Kind.kind g.met.K.Kind.lawful s.version start _ s.undecided (g.D.Disk.state c.append.new.self.disk) (s.settled c.requires.open) (c.in-Ok.ensures.durable honest)
+    (invariant_of-self-clause-stands g c honest c.requires.open start whole held)
 
 pub returns-in-Ok-clause-leaves : goal.returns-in-Ok-clause-leaves
 returns-in-Ok-clause-leaves g c honest =
     let s = c.args.self.now in
     let k = g.K.Kind.kind in
     let l = g.met.K.Kind.lawful in
-    Histories.either_left k l s.version s.base_count (g.K.Kind.state s.base.value) (g.D.Disk.state s.opened.value.disk).content s.found.items (s.ended honest) s.added.items c.and.result.items s.undecided s.undecided (g.D.Disk.state s.journal.disk) (g.D.Disk.state c.append.new.self.disk) (λ whole held.
-    let leaves = Appending.next_leaves k l s.version s.journal.version s.journal.kind s.journal.gate s.journal.count c.as_slice.result.now c.args.entry (whole ++ s.added.items) _ (s.in_version c.requires.open) s.number
-    (subst (λ (b : List ℕ). k.IsRecordOf b c.args.entry) (sym c.as_slice.ensures) c.requires.record.0) (s.stands honest c.requires.open whole held) (s.gated honest c.requires.open whole held)
-    (subst (λ T. IsAccepted k T c.args.entry) (Appending.whole_leaves k l s.version s.base_count (g.K.Kind.state s.base.value) (g.K.Kind.state s.state) s.found.items s.added.items whole s.replayed (s.ended honest whole held)) c.requires.accepted)
+    Histories.either_left k l s.version s.base_count (g.K.Kind.state s.base.value) (g.D.Disk.state s.opened.value.disk).content s.found.items (s.ended honest) s.added.items c.and.result.items s.undecided s.undecided (g.D.Disk.state s.journal.disk) (g.D.Disk.state c.append.new.self.disk) (λ start whole held.
+    let leaves = Appending.next_leaves k l s.version s.journal.version s.journal.kind s.journal.gate s.journal.count c.as_slice.result.now c.args.entry start (whole ++ s.added.items) _ (s.in_version c.requires.open) s.number
+    (subst (λ (b : List ℕ). k.IsRecordOf b c.args.entry) (sym c.as_slice.ensures) c.requires.record.0) (s.stands honest c.requires.open start whole held) (s.gated honest c.requires.open start whole held)
+    (subst (λ T. IsAccepted k T c.args.entry) (Appending.whole_leaves k l s.version start s.base_count (g.K.Kind.state s.base.value) (g.K.Kind.state s.state) s.found.items s.added.items whole s.replayed (s.ended honest start whole held)) c.requires.accepted)
     s.journal.after_header _ _ (c.append.ensures.any_moment honest (s.ready c.requires.open)) (c.append.ensures.front honest (s.ready c.requires.open)) in
-    Appending.leaves_with k l s.version whole s.added.items _ c.args.entry _ _ s.undecided s.undecided c.and.ensures (s.settled c.requires.open) (s.settled c.requires.open) leaves)
+    Appending.leaves_with k l s.version start whole s.added.items _ c.args.entry _ _ s.undecided s.undecided c.and.ensures (s.settled c.requires.open) (s.settled c.requires.open) leaves)
 
 pub returns-in-Ok-clause-ok : goal.returns-in-Ok-clause-ok
 returns-in-Ok-clause-ok g c =
@@ -107,24 +107,24 @@ invariant_of-self-in-Err-clause-passed g c =
     Appending.one_follows g.K.Kind.kind (g.K.Kind.state c.args.self.now.state) _ c.args.entry c.close.ensures.undecided (c.args.ready.record, c.requires.record.0) c.requires.accepted
 
 pub invariant_of-self-in-Err-clause-images : goal.invariant_of-self-in-Err-clause-images
-invariant_of-self-in-Err-clause-images g c honest whole held =
+invariant_of-self-in-Err-clause-images g c honest start whole held =
     let s = c.args.self.now in
     let k = g.K.Kind.kind in
     let l = g.met.K.Kind.lawful in
-    let leaves = Appending.next_leaves k l s.version s.journal.version s.journal.kind s.journal.gate s.journal.count c.as_slice.result.now c.args.entry (whole ++ s.added.items) _ (s.in_version c.requires.open) s.number
-    (subst (λ (b : List ℕ). k.IsRecordOf b c.args.entry) (sym c.as_slice.ensures) c.requires.record.0) (s.stands honest c.requires.open whole held) (s.gated honest c.requires.open whole held)
-    (subst (λ T. IsAccepted k T c.args.entry) (Appending.whole_leaves k l s.version s.base_count (g.K.Kind.state s.base.value) (g.K.Kind.state s.state) s.found.items s.added.items whole s.replayed (s.ended honest whole held)) c.requires.accepted)
+    let leaves = Appending.next_leaves k l s.version s.journal.version s.journal.kind s.journal.gate s.journal.count c.as_slice.result.now c.args.entry start (whole ++ s.added.items) _ (s.in_version c.requires.open) s.number
+    (subst (λ (b : List ℕ). k.IsRecordOf b c.args.entry) (sym c.as_slice.ensures) c.requires.record.0) (s.stands honest c.requires.open start whole held) (s.gated honest c.requires.open start whole held)
+    (subst (λ T. IsAccepted k T c.args.entry) (Appending.whole_leaves k l s.version start s.base_count (g.K.Kind.state s.base.value) (g.K.Kind.state s.state) s.found.items s.added.items whole s.replayed (s.ended honest start whole held)) c.requires.accepted)
     s.journal.after_header _ _ (c.append.ensures.any_moment honest (s.ready c.requires.open)) (c.append.ensures.front honest (s.ready c.requires.open)) in
-    Appending.images_undecided k l s.version (whole ++ s.added.items) _ c.args.entry _ _ c.close.ensures.undecided (g.met.D.Disk.lawful honest c.append.new.self.disk) leaves
+    Appending.images_undecided k l s.version start (whole ++ s.added.items) _ c.args.entry _ _ c.close.ensures.undecided (g.met.D.Disk.lawful honest c.append.new.self.disk) leaves
 
 pub returns-in-Err-clause-leaves : goal.returns-in-Err-clause-leaves
 returns-in-Err-clause-leaves g c honest =
     let s = c.args.self.now in
     let k = g.K.Kind.kind in
     let l = g.met.K.Kind.lawful in
-    Histories.either_left k l s.version s.base_count (g.K.Kind.state s.base.value) (g.D.Disk.state s.opened.value.disk).content s.found.items (s.ended honest) s.added.items s.added.items s.undecided c.close.new.undecided (g.D.Disk.state s.journal.disk) (g.D.Disk.state c.append.new.self.disk) (λ whole held.
-    let leaves = Appending.next_leaves k l s.version s.journal.version s.journal.kind s.journal.gate s.journal.count c.as_slice.result.now c.args.entry (whole ++ s.added.items) _ (s.in_version c.requires.open) s.number
-    (subst (λ (b : List ℕ). k.IsRecordOf b c.args.entry) (sym c.as_slice.ensures) c.requires.record.0) (s.stands honest c.requires.open whole held) (s.gated honest c.requires.open whole held)
-    (subst (λ T. IsAccepted k T c.args.entry) (Appending.whole_leaves k l s.version s.base_count (g.K.Kind.state s.base.value) (g.K.Kind.state s.state) s.found.items s.added.items whole s.replayed (s.ended honest whole held)) c.requires.accepted)
+    Histories.either_left k l s.version s.base_count (g.K.Kind.state s.base.value) (g.D.Disk.state s.opened.value.disk).content s.found.items (s.ended honest) s.added.items s.added.items s.undecided c.close.new.undecided (g.D.Disk.state s.journal.disk) (g.D.Disk.state c.append.new.self.disk) (λ start whole held.
+    let leaves = Appending.next_leaves k l s.version s.journal.version s.journal.kind s.journal.gate s.journal.count c.as_slice.result.now c.args.entry start (whole ++ s.added.items) _ (s.in_version c.requires.open) s.number
+    (subst (λ (b : List ℕ). k.IsRecordOf b c.args.entry) (sym c.as_slice.ensures) c.requires.record.0) (s.stands honest c.requires.open start whole held) (s.gated honest c.requires.open start whole held)
+    (subst (λ T. IsAccepted k T c.args.entry) (Appending.whole_leaves k l s.version start s.base_count (g.K.Kind.state s.base.value) (g.K.Kind.state s.state) s.found.items s.added.items whole s.replayed (s.ended honest start whole held)) c.requires.accepted)
     s.journal.after_header _ _ (c.append.ensures.any_moment honest (s.ready c.requires.open)) (c.append.ensures.front honest (s.ready c.requires.open)) in
-    Appending.leaves_undecided k l s.version (whole ++ s.added.items) c.args.entry _ _ s.undecided _ c.close.ensures.undecided leaves)
+    Appending.leaves_undecided k l s.version start (whole ++ s.added.items) c.args.entry _ _ s.undecided _ c.close.ensures.undecided leaves)

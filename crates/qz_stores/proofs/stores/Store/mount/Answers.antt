@@ -18,7 +18,7 @@ begin-requires-clause-counted g c =
     omega (arith, r.counted, counted_in k g.met.K.Kind.lawful c.slot.result c.version.result c.in-Ok.journal.count r.base_count c.in-Ok.payloads (g.K.Kind.state r.base.value) r.entries.items (subst (λ o. IsCounted o c.in-Ok.journal.count c.in-Ok.payloads) (sym c.slot.ensures) c.in-Ok.ensures.ground.4) c.in-Ok-replay.ensures.read)
 
 pub begin-requires-clause-ended : goal.begin-requires-clause-ended
-begin-requires-clause-ended g c honest whole held =
+begin-requires-clause-ended g c honest start whole held =
     let k = g.K.Kind.kind in
     let j = c.in-Ok.journal in
     let e = c.in-Ok.ensures in
@@ -33,10 +33,10 @@ begin-requires-clause-ended g c honest whole held =
       counted = e.ground.4;
     } in
     let r = c.in-Ok-replay.reread in
-    found_end k g.met.K.Kind.lawful c.version.result j.version c.number.result c.in-Ok.start j.gate j.count c.slot.result j.slots (g.D.Disk.state j.disk).content c.in-Ok.payloads f r.version r.base_count (g.K.Kind.state r.base.value) whole r.entries.items held c.in-Ok-replay.ensures.read
+    found_end k g.met.K.Kind.lawful c.version.result j.version c.number.result c.in-Ok.start j.gate j.count c.slot.result j.slots (g.D.Disk.state j.disk).content c.in-Ok.payloads f r.version r.base_count start (g.K.Kind.state r.base.value) whole r.entries.items held c.in-Ok-replay.ensures.read
 
 pub begin-requires-clause-gated : goal.begin-requires-clause-gated
-begin-requires-clause-gated g c honest whole held payloads holds =
+begin-requires-clause-gated g c honest start whole held payloads holds =
     let k = g.K.Kind.kind in
     let j = c.in-Ok.journal in
     let e = c.in-Ok.ensures in
@@ -50,7 +50,7 @@ begin-requires-clause-gated g c honest whole held payloads holds =
       is_tail = e.stands honest;
       counted = e.ground.4;
     } in
-    found_place k g.met.K.Kind.lawful c.version.result j.version c.number.result c.in-Ok.start j.gate j.count c.slot.result j.slots (g.D.Disk.state j.disk).content c.in-Ok.payloads f c.in-Ok-replay.reread.version whole held payloads holds
+    found_place k g.met.K.Kind.lawful c.version.result j.version c.number.result c.in-Ok.start j.gate j.count c.slot.result j.slots (g.D.Disk.state j.disk).content c.in-Ok.payloads f c.in-Ok-replay.reread.version start whole held payloads holds
 
 pub returns-in-Ok-replay-clause-stands : goal.returns-in-Ok-replay-clause-stands
 returns-in-Ok-replay-clause-stands g c honest =
@@ -105,18 +105,18 @@ returns-in-Ok-replay-clause-whole g c honest w held =
     let history : (view t).history ≡ k.history r.base_count (g.K.Kind.state r.base.value) r.entries.items = λ i. k.history (c.begin.ensures.base.0 i) (c.begin.ensures.base.1 i) (same i) in
     let l = g.met.K.Kind.lawful in
     let all : w.entries ++ [] ≡ w.entries = append-nil w.entries in
-    let version : t.version ≡ w.version = c.begin.ensures.version ∙ c.in-Ok-replay.ensures.version ∙ found_version k l c.version.result j.version c.number.result c.in-Ok.start j.gate j.count c.slot.result j.slots b c.in-Ok.payloads there w.version w.entries held in
-    let is = found_end k l c.version.result j.version c.number.result c.in-Ok.start j.gate j.count c.slot.result j.slots b c.in-Ok.payloads there w.version r.base_count (g.K.Kind.state r.base.value) w.entries r.entries.items held c.in-Ok-replay.ensures.read in
+    let version : t.version ≡ w.version = c.begin.ensures.version ∙ c.in-Ok-replay.ensures.version ∙ found_version k l c.version.result j.version c.number.result c.in-Ok.start j.gate j.count c.slot.result j.slots b c.in-Ok.payloads there w.version w.start w.entries held in
+    let is = found_end k l c.version.result j.version c.number.result c.in-Ok.start j.gate j.count c.slot.result j.slots b c.in-Ok.payloads there w.version r.base_count w.start (g.K.Kind.state r.base.value) w.entries r.entries.items held c.in-Ok-replay.ensures.read in
     let opened : opened_of t ≡ b = c.begin.ensures.opened.3 ∙ (e.reads honest).content in (
       (
         [],
         version,
-        subst (λ (x : List g.row.K-Entry.Denot). HoldAll k w.version (opened_of t) x) (sym all) (subst (λ (o : List ℕ). HoldAll k w.version o w.entries) (sym opened) held),
+        subst (λ (x : List g.row.K-Entry.Denot). HoldAll k w.version w.start (opened_of t) x) (sym all) (subst (λ (o : List ℕ). HoldAll k w.version w.start o w.entries) (sym opened) held),
       ),
       record {
         more = [];
-        held = subst (λ (x : List g.row.K-Entry.Denot). HoldAll k w.version b x) (sym all) held;
-        end_of_them = subst (λ (x : List g.row.K-Entry.Denot). IsEndOf k w.version (view t).history x) (sym all) (subst (λ h. IsEndOf k w.version h w.entries) (sym history) is);
+        held = subst (λ (x : List g.row.K-Entry.Denot). HoldAll k w.version w.start b x) (sym all) held;
+        end_of_them = subst (λ (x : List g.row.K-Entry.Denot). IsEndOf k w.start (view t).history x) (sym all) (subst (λ h. IsEndOf k w.start h w.entries) (sym history) is);
       },
     )
 
@@ -128,7 +128,7 @@ returns-in-Ok-replay-clause-without_slots g c honest none =
     let b = (g.D.Disk.state c.args.disk).content in
     let h = (view t).history in
     let list : k.entries h ≡ t.found.items = l.entries_are t.base_count (g.K.Kind.state t.base.value) (t.found.items ++ t.added.items) ∙ none_more t.found.items t.added.items c.begin.ensures.opened.2 in
-    subst (λ (x : List g.row.K-Entry.Denot). HoldAll k t.version b x) list (all_there k l t.version b h none (returns-in-Ok-replay-clause-stands g c honest))
+    subst (λ (x : List g.row.K-Entry.Denot). HoldAll k t.version (k.empty t.version) b x) list (all_there k l t.version b h none (returns-in-Ok-replay-clause-stands g c honest))
 
 pub returns-in-Ok-replay-clause-no_slots : goal.returns-in-Ok-replay-clause-no_slots
 returns-in-Ok-replay-clause-no_slots g c none =
@@ -173,7 +173,7 @@ returns-in-Ok-clause-whole g c honest w held =
     } in
     let b = (g.D.Disk.state c.args.disk).content in
     let there = found_in k g.met.K.Kind.lawful c.version.result j.version c.number.result c.in-Ok.start j.gate j.count c.slot.result j.slots (g.D.Disk.state j.disk).content b c.in-Ok.payloads (e.reads honest).content f in
-    found_outside k g.met.K.Kind.lawful c.version.result j.version c.number.result c.in-Ok.start j.gate j.count c.slot.result j.slots b c.in-Ok.payloads there w.version w.entries c.in-Err-replay.error held c.in-Err-replay.ensures.stopped
+    found_outside k g.met.K.Kind.lawful c.version.result j.version c.number.result c.in-Ok.start j.gate j.count c.slot.result j.slots b c.in-Ok.payloads there w.version w.start w.entries c.in-Err-replay.error held c.in-Err-replay.ensures.stopped
 
 pub returns-then-at-first_gate-clause-refused : goal.returns-then-at-first_gate-clause-refused
 returns-then-at-first_gate-clause-refused g c honest =
@@ -185,7 +185,7 @@ pub returns-then-at-first_gate-clause-whole : goal.returns-then-at-first_gate-cl
 returns-then-at-first_gate-clause-whole g c honest w held =
     let r = c.in-Err in
     let refused = refused_as (g.D.Disk.state c.args.disk).content c.number.result r.salvaged.payloads r.error (mount.Damaged c.in-Damaged.at) c.in-Damaged.is (r.ensures.refused honest) in
-    absurd (never_damaged g.K.Kind.kind g.met.K.Kind.lawful w.version c.number.result c.in-Damaged.at (g.D.Disk.state c.args.disk).content w.entries r.salvaged.payloads c.number.ensures held refused)
+    absurd (never_damaged g.K.Kind.kind g.met.K.Kind.lawful w.version c.number.result c.in-Damaged.at w.start (g.D.Disk.state c.args.disk).content w.entries r.salvaged.payloads c.number.ensures held refused)
 
 pub returns-in-Damaged-clause-refused : goal.returns-in-Damaged-clause-refused
 returns-in-Damaged-clause-refused g c honest =
@@ -200,4 +200,4 @@ pub returns-in-Damaged-clause-whole : goal.returns-in-Damaged-clause-whole
 returns-in-Damaged-clause-whole g c honest w held =
     let r = c.in-Err in
     let refused = refused_as (g.D.Disk.state c.args.disk).content c.number.result r.salvaged.payloads r.error (mount.Damaged c.in-Damaged.at) c.in-Damaged.is (r.ensures.refused honest) in
-    absurd (never_damaged g.K.Kind.kind g.met.K.Kind.lawful w.version c.number.result c.in-Damaged.at (g.D.Disk.state c.args.disk).content w.entries r.salvaged.payloads c.number.ensures held refused)
+    absurd (never_damaged g.K.Kind.kind g.met.K.Kind.lawful w.version c.number.result c.in-Damaged.at w.start (g.D.Disk.state c.args.disk).content w.entries r.salvaged.payloads c.number.ensures held refused)

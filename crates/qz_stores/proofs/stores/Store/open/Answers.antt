@@ -61,7 +61,7 @@ pub invariant_of-self-clause-passed : goal.invariant_of-self-clause-passed
 invariant_of-self-clause-passed g c = none_follows g.K.Kind.kind _ _ c.settle.ensures
 
 pub invariant_of-self-clause-ended : goal.invariant_of-self-clause-ended
-invariant_of-self-clause-ended g c honest whole held =
+invariant_of-self-clause-ended g c honest start whole held =
     let k = g.K.Kind.kind in
     let l = g.met.K.Kind.lawful in
     let j = c.args.self.now.journal in
@@ -78,15 +78,15 @@ invariant_of-self-clause-ended g c honest whole held =
       is_tail = read.tail honest;
       counted = read.count;
     } in
-    found_end k l r.version r.version k.number (start_of j.slots) j.gate j.count (slot_in_use j.slots) j.slots b read.payloads f r.version r.base_count (g.K.Kind.state r.base.value) whole r.entries.items
-    (subst (λ x. HoldAll g.K.Kind.kind c.args.reread.version (g.D.Disk.state x.disk).content whole) c.of.ensures held) read.read
+    found_end k l r.version r.version k.number (start_of j.slots) j.gate j.count (slot_in_use j.slots) j.slots b read.payloads f r.version r.base_count start (g.K.Kind.state r.base.value) whole r.entries.items
+    (subst (λ x. HoldAll g.K.Kind.kind c.args.reread.version start (g.D.Disk.state x.disk).content whole) c.of.ensures held) read.read
 
 pub invariant_of-self-clause-stands : goal.invariant_of-self-clause-stands
-invariant_of-self-clause-stands g c honest now whole held =
-    subst (HoldAll g.K.Kind.kind c.args.reread.version (g.D.Disk.state c.args.self.now.journal.disk).content) (sym (none_more whole c.new.result.items c.new.ensures)) (subst (λ x. HoldAll g.K.Kind.kind c.args.reread.version (g.D.Disk.state x.disk).content whole) c.of.ensures held)
+invariant_of-self-clause-stands g c honest now start whole held =
+    subst (HoldAll g.K.Kind.kind c.args.reread.version start (g.D.Disk.state c.args.self.now.journal.disk).content) (sym (none_more whole c.new.result.items c.new.ensures)) (subst (λ x. HoldAll g.K.Kind.kind c.args.reread.version start (g.D.Disk.state x.disk).content whole) c.of.ensures held)
 
 pub invariant_of-self-clause-gated : goal.invariant_of-self-clause-gated
-invariant_of-self-clause-gated g c honest now whole held payloads holds =
+invariant_of-self-clause-gated g c honest now start whole held payloads holds =
     let k = g.K.Kind.kind in
     let l = g.met.K.Kind.lawful in
     let j = c.args.self.now.journal in
@@ -103,12 +103,12 @@ invariant_of-self-clause-gated g c honest now whole held payloads holds =
       is_tail = read.tail honest;
       counted = read.count;
     } in
-    found_place k l r.version r.version k.number (start_of j.slots) j.gate j.count (slot_in_use j.slots) j.slots b read.payloads f r.version whole (subst (λ x. HoldAll g.K.Kind.kind c.args.reread.version (g.D.Disk.state x.disk).content whole) c.of.ensures held) payloads holds
+    found_place k l r.version r.version k.number (start_of j.slots) j.gate j.count (slot_in_use j.slots) j.slots b read.payloads f r.version start whole (subst (λ x. HoldAll g.K.Kind.kind c.args.reread.version start (g.D.Disk.state x.disk).content whole) c.of.ensures held) payloads holds
 
 pub invariant_of-self-clause-images : goal.invariant_of-self-clause-images
-invariant_of-self-clause-images g c honest whole held =
+invariant_of-self-clause-images g c honest start whole held =
     let j = c.args.self.now.journal in
-    images_of g.K.Kind.kind g.met.K.Kind.lawful c.args.reread.version (whole ++ c.new.result.items) _ (g.D.Disk.state j.disk) c.settle.ensures (j.durable honest c.requires.read.is_open) (invariant_of-self-clause-stands g c honest refl whole held)
+    images_of g.K.Kind.kind g.met.K.Kind.lawful c.args.reread.version start (whole ++ c.new.result.items) _ (g.D.Disk.state j.disk) c.settle.ensures (j.durable honest c.requires.read.is_open) (invariant_of-self-clause-stands g c honest refl start whole held)
 
 pub returns-clause-opened : goal.returns-clause-opened
 returns-clause-opened g c =
@@ -143,10 +143,12 @@ returns-clause-opens g c = record {
       } in
       let whole = w.entries ++ from.0 in
       let held = held_from k l s.version s.base_count (g.K.Kind.state s.base.value) (g.D.Disk.state s.opened.value.disk).content s.found.items (s.ended honest) w from in
-      let before = k.history s.base_count (g.K.Kind.state s.base.value) (s.found.items ++ s.added.items) in
-      subst (λ (x : List g.row.K-Entry.Denot). IsDecided k before s.undecided (k.history r.base_count (g.K.Kind.state r.base.value) x)) (sym (none_more r.entries.items c.new.result.items c.new.ensures))
-      (now_decided k l s.version s.base_count (g.K.Kind.state s.base.value) (g.D.Disk.state s.opened.value.disk).content s.found.items (s.ended honest) s.added.items s.undecided (k.history r.base_count (g.K.Kind.state r.base.value) r.entries.items) w from
-      (found_decided k l r.version r.version k.number (start_of j.slots) j.gate j.count (slot_in_use j.slots) j.slots b read.payloads f s.version r.base_count (g.K.Kind.state r.base.value) (whole ++ s.added.items) r.entries.items s.undecided (s.images honest whole held b (g.met.D.Disk.lawful honest j.disk).content) read.read)));
+      let before = k.history s.base_count (g.K.Kind.state s.base.value) (s.found.items ++ s.added.items) in (
+        w.start,
+        subst (λ (x : List g.row.K-Entry.Denot). IsDecided k w.start before s.undecided (k.history r.base_count (g.K.Kind.state r.base.value) x)) (sym (none_more r.entries.items c.new.result.items c.new.ensures))
+            (now_decided k l s.version s.base_count (g.K.Kind.state s.base.value) (g.D.Disk.state s.opened.value.disk).content s.found.items (s.ended honest) s.added.items s.undecided (k.history r.base_count (g.K.Kind.state r.base.value) r.entries.items) w from
+            (found_decided k l r.version r.version k.number (start_of j.slots) j.gate j.count (slot_in_use j.slots) j.slots b read.payloads f s.version r.base_count w.start (g.K.Kind.state r.base.value) (whole ++ s.added.items) r.entries.items s.undecided (s.images honest w.start whole held b (g.met.D.Disk.lawful honest j.disk).content) read.read)),
+      ));
   later = omega arith;
 }
 
@@ -198,8 +200,8 @@ returns-clause-leaves g c honest w from =
       counted = read.count;
     } in
     let there = goes_on_in k l w (view s).history s.undecided b (now l s honest w from b (g.met.D.Disk.lawful honest j.disk).content) in
-    let version = found_version k l r.version r.version k.number (start_of j.slots) j.gate j.count (slot_in_use j.slots) j.slots b read.payloads f w.version (w.entries ++ there.0) there.1 in
-    let opened = subst (λ x. HoldAll k w.version (g.D.Disk.state x.disk).content (w.entries ++ there.0)) (sym c.of.ensures) there.1 in
+    let version = found_version k l r.version r.version k.number (start_of j.slots) j.gate j.count (slot_in_use j.slots) j.slots b read.payloads f w.version w.start (w.entries ++ there.0) there.1 in
+    let opened = subst (λ x. HoldAll k w.version w.start (g.D.Disk.state x.disk).content (w.entries ++ there.0)) (sym c.of.ensures) there.1 in
     ((there.0, version, opened), started (disk_state s) _ (g.met.D.Disk.lawful honest j.disk) (λ x is. inl (now l s honest w from x is)))
 
 pub returns-clause-history : goal.returns-clause-history
