@@ -1,5 +1,6 @@
 pub mod Adopted
 pub mod Appending
+pub mod Beginnings
 pub mod Blocks
 pub mod Committing
 pub mod GoesOn

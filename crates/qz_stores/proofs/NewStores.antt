@@ -40,6 +40,10 @@ early : (gate : ℕ) → IsSlot gate → gate + 5 ≤ 16
 early gate (inl is) = omega (arith, is)
 early gate (inr is) = omega (arith, is)
 
+-- nor is one in bytes that begin with it
+pub closed_new : (v kind gate offset : ℕ) (b : List ℕ) → IsSlot gate → take 16 b ≡ new_header v kind → slot gate b ≡ Some offset → ⊥
+closed_new v kind gate offset b is header opened = none_open v kind gate offset is (sym (slot_before gate 16 (new_header v kind) b (early gate is) (header ∙ sym (take_header v kind))) ∙ opened)
+
 module _ {H S E R : Type 0} (k : StoreKind H S E R) (lawful : IsLawful k) where
   pub new_whole : (v : ℕ) (b : List ℕ) → Holds b v k.number [] → take 16 b ≡ new_header v k.number → IsWhole k (list_of k v []) b
   new_whole v b holds header = record {
@@ -48,7 +52,7 @@ module _ {H S E R : Type 0} (k : StoreKind H S E R) (lawful : IsLawful k) where
     valid = lawful.valid_new v holds.header.known;
     legal = ∣ lawful.legal_none (k.empty v) ∣₁;
     slots = λ ps also gate offset is opened.
-        absurd (none_open v k.number gate offset is (sym (slot_before gate 16 (new_header v k.number) b (early gate is) (header ∙ sym (take_header v k.number))) ∙ opened));
+        absurd (closed_new v k.number gate offset b is header opened);
     begins = λ none. refl;
   }
 

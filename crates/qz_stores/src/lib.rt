@@ -3,6 +3,7 @@
 
 mod adopting;
 mod checkpoints;
+mod compacting;
 mod creating;
 mod gates;
 mod kinds;
@@ -14,6 +15,7 @@ mod restarting;
 mod stores;
 mod submitting;
 
+pub use compacting::CompactError;
 pub use kinds::{CheckpointError, Kind, TakeError};
 pub use rereads::Reread;
 pub use stores::Store;
