@@ -6,14 +6,24 @@ use Rattle.qz_stores.specs.Bytes as store
 use Rattle.qz_stores.specs.Opening as opening
 use Rattle.qz_checkin.specs.History.{StateHistory}
 use Rattle.qz_checkin.specs.Kinds.{state_kind}
+use Rattle.qz_checkin.specs.Rows.{StateTables}
 
 -- the history begins with a new store of this format version
 abbrev pub BeginsNew : ℕ → StateHistory → Type 0
 BeginsNew version h = store.BeginsNew state_kind version h
 
--- a whole list of entries, in a store of some format version
+-- A whole list of entries, in a store of some format version, and the rows with which it starts. A state store has no snapshots,
+-- so these are those of a new store.
 abbrev pub Whole : Type 0
-Whole = list.WholeList StateEntryData
+Whole = list.WholeList StateTables StateEntryData
+
+-- the whole list of these entries from a new store of this format version on
+abbrev pub list_of : ℕ → List StateEntryData → Whole
+list_of version entries = list.list_of state_kind version entries
+
+-- the second list starts with the rows of the first, in the same version
+abbrev pub BeginsAs : Whole → Whole → Type 0
+BeginsAs w v = list.BeginsAs w v
 
 -- The bytes are a state store of this version. Its payloads are records of these entries, a new store accepts the entries one
 -- by one, and no slot is open.
@@ -32,10 +42,11 @@ Stands w bytes h = list.Stands state_kind w bytes h
 abbrev pub MayBe : Whole → StateHistory → Option StateEntryData → List ℕ → Type 0
 MayBe w h undecided bytes = store.MayBe state_kind w h undecided bytes
 
--- Both histories are ends of one whole list.
-abbrev pub AreEnds : StateHistory → StateHistory → Type 0
-AreEnds h g = list.AreEnds state_kind h g
+-- Both histories are ends of one whole list, which starts with these rows.
+abbrev pub AreEnds : StateTables → StateHistory → StateHistory → Type 0
+AreEnds start h g = list.AreEnds state_kind start h g
 
--- What a restart may find: another end of the history's whole list, or of that with the undecided entry.
-abbrev pub IsDecided : StateHistory → Option StateEntryData → StateHistory → Type 0
-IsDecided h undecided found = list.IsDecided state_kind h undecided found
+-- What a restart may find: another end of the history's whole list, which starts with these rows, or of that with the undecided
+-- entry.
+abbrev pub IsDecided : StateTables → StateHistory → Option StateEntryData → StateHistory → Type 0
+IsDecided start h undecided found = list.IsDecided state_kind start h undecided found

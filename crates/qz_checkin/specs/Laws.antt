@@ -1,11 +1,10 @@
 -- The state store is a lawful kind of store.
 use Rattle.std.proofs.Common.{◌≡◌, List, [], ◌∷◌, ◌++◌, refl}
-use Rattle.std.proofs.Math.Logic.{∥∥₁_map}
 use Rattle.std.specs.Prelude.{IsOk}
 use Rattle.qz_types.specs.Entries.{StateEntryData}
 use Rattle.qz_codec.proofs.StateRecords.{state_record_unique}
 use Rattle.qz_stores.specs.Kinds.{IsLawful}
-use Rattle.qz_checkin.specs.Rows.{StateTables, new_state_tables, StateOutcome, accepted, refused, IsAccepted, state_transaction}
+use Rattle.qz_checkin.specs.Rows.{StateTables, StateOutcome, accepted, refused, IsAccepted, state_transaction}
 use Rattle.qz_checkin.specs.Valid.{StatesValid}
 use Rattle.qz_checkin.specs.History.{rows_left, IsLegalFrom, replay_from}
 use Rattle.qz_checkin.specs.Entries.{answer_of}
@@ -57,7 +56,8 @@ state_lawful = record {
   legal_none = λ T. tt;
   legal_more = legal_more;
   legal_at = legal_at;
-  valid_left = λ version es known recorded legal. ∥∥₁_map valid_new (all_stay_valid new_state_tables es);
+  valid_new = λ version known. valid_new;
+  valid_left = λ T es valid recorded legal. ∣ all_stay_valid T es valid ∣₁;
   whole = λ h. refl;
   base_count_is = λ n T es. refl;
   base_is = λ n T es. refl;

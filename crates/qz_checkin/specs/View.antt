@@ -3,7 +3,7 @@ use Rattle.std.specs.Prelude.{ℕ, List, ◌++◌}
 use Rattle.qz_disk.specs.declared.disk.Disk.{Ghosts}
 use Rattle.qz_disk.specs.Disk.{DiskState}
 use Rattle.qz_types.specs.Entries.{StateEntryData}
-use Rattle.qz_stores.specs.Bases.{WholeList}
+use Rattle.qz_stores.specs.Bases.{WholeList, list_of as new_list}
 use Rattle.qz_stores.specs.Bytes as bytes_of
 use Rattle.qz_stores.specs.Restarting.{read_of}
 use Rattle.qz_stores.specs.declared.kinds.Kind.{Ghosts as Kinds}
@@ -12,7 +12,7 @@ use Rattle.qz_stores.specs.View as store
 use Rattle.qz_checkin.specs.Rows.{StateTables}
 use Rattle.qz_checkin.specs.Entries.{StatesState}
 use Rattle.qz_checkin.specs.Kinds.{state_kind}
-use Rattle.qz_checkin.specs.Bytes.{Whole}
+use Rattle.qz_checkin.specs.Bytes.{Whole, list_of}
 use Rattle.qz_checkin.specs.declared.stores.StateStore.{StateStore}
 
 -- the entries of its history
@@ -41,11 +41,11 @@ version_of s = store.version_of s.store
 
 -- its whole list, which is all of its history
 abbrev pub whole_of : {D : Type 0} {g : Ghosts D} → StateStore D g → Whole
-whole_of s = record { version = version_of s; entries = entries_of s }
+whole_of s = list_of (version_of s) (entries_of s)
 
 -- what was read anew, as a whole list
-abbrev pub whole_read : {K E R C : Type 0} {k : Kinds K E R C} → Reread K E R C k → WholeList E
-whole_read reread = record { version = reread.version; entries = read_of reread }
+abbrev pub whole_read : {K E R C : Type 0} {k : Kinds K E R C} → Reread K E R C k → WholeList k.State E
+whole_read {k = k} reread = new_list k.kind reread.version (read_of reread)
 
 -- What the disk held when the store was opened is a whole list that begins with this one.
 abbrev pub GoesOnFrom : {D : Type 0} {g : Ghosts D} → StateStore D g → Whole → Type 0

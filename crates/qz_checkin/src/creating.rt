@@ -4,8 +4,7 @@ ghost use Rattle.qz_civil.specs.Causes.{Rose};
 ghost use Rattle.qz_journal.specs.Layout.{end_of};
 ghost use Rattle.qz_journal.specs.Making.{Makes};
 ghost use Rattle.qz_journal.specs.declared.layout.TheConstants.{STATES};
-ghost use Rattle.qz_stores.specs.Creating.{no_entries};
-ghost use Rattle.qz_checkin.specs.Bytes.{IsWhole};
+ghost use Rattle.qz_checkin.specs.Bytes.{list_of, IsWhole};
 ghost use Rattle.qz_checkin.specs.History.{new_state_history};
 ghost use Rattle.qz_checkin.specs.Opening.{IsOpened};
 ghost use Rattle.qz_checkin.specs.View.{view, version_of, entries_of, disk_state, GoesOnFrom};
@@ -30,7 +29,7 @@ impl<D: Disk> StateStore<D> {
         ensures made { D.honest → MatchResult result (λ store. Makes 2 STATES None (D.state disk) (disk_state store))
             (λ e. Makes 2 STATES (Some e.0) (D.state disk) (D.state e.1)) }
         // The disk holds the whole list of no entries, and the store goes on from it.
-        ensures whole { D.honest → IfOk result (λ store. IsWhole (no_entries 2) (disk_state store).content × GoesOnFrom store (no_entries 2)) }
+        ensures whole { D.honest → IfOk result (λ store. IsWhole (list_of 2 []) (disk_state store).content × GoesOnFrom store (list_of 2 [])) }
         ensures later { MatchResult result (λ store. D.faults disk ≤ (view store).faults) (λ e. D.faults disk ≤ D.faults e.1) }
         ensures fault { IfErr result (λ e. e.0 ≡ NewStoreError.Fault → Rose (D.faults disk) (D.faults e.1)) }
     {

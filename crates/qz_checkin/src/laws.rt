@@ -5,8 +5,9 @@ ghost use Rattle.qz_types.specs.declared.errors.SubmitError.{SubmitError as Erro
 ghost use Rattle.qz_checkin.specs.Entries.{StatesState, of_states};
 ghost use Rattle.qz_checkin.specs.History.{StateHistory, replay_states};
 ghost use Rattle.qz_checkin.specs.Kinds.{state_kind};
-ghost use Rattle.qz_checkin.specs.Bytes.{Whole, IsWhole, MayBe, AreEnds};
+ghost use Rattle.qz_checkin.specs.Bytes.{Whole, BeginsAs, IsWhole, MayBe, AreEnds};
 ghost use Rattle.qz_checkin.specs.Opening.{IsSound, IsOpened};
+ghost use Rattle.qz_checkin.specs.Rows.{StateTables};
 ghost use Rattle.qz_stores.specs.Stores.{Submits, Shuts};
 ghost use Rattle.qz_stores.specs.Bases.{Opens};
 
@@ -26,10 +27,10 @@ pub fn restarting_keeps_stores_sound()
     ensures opened { (s t : StatesState) → Opens state_kind ⊥ s t → IsOpened t → IsSound t }
 {}
 
-/// Histories that are ends of one whole list leave the same rows. What a crash leaves of a history is a whole list, so that
-/// it can be opened again. It does nothing: its contract says so.
-#[tactic(auto, using(crate::proofs::Histories::same_rows, crate::proofs::Histories::may_hold))]
+/// Histories that are ends of one whole list leave the same rows. What a crash leaves of a history is a whole list with the same
+/// start, so that it can be opened again. It does nothing: its contract says so.
+#[tactic(auto, using(crate::proofs::Histories::may_hold))]
 pub fn histories_of_one_list()
-    ensures rows { (h g : StateHistory) → AreEnds h g → replay_states h ≡ replay_states g }
-    ensures whole { (w : Whole) (h : StateHistory) (undecided : Option StateEntryData) (bytes : List ℕ) → MayBe w h undecided bytes → (v : Whole) × IsWhole v bytes }
+    ensures rows { (start : StateTables) (h g : StateHistory) → AreEnds start h g → replay_states h ≡ replay_states g }
+    ensures whole { (w : Whole) (h : StateHistory) (undecided : Option StateEntryData) (bytes : List ℕ) → MayBe w h undecided bytes → (v : Whole) × BeginsAs w v × IsWhole v bytes }
 {}

@@ -36,7 +36,7 @@ impl<D: Disk> StateStore<D> {
         ensures shut { Shuts (view self.old) (view self.new) }
         ensures kept { entries_of self.new ≡ entries_of self.old }
         ensures read { IfOk result (λ reread. IsReread reread self.new.store) }
-        ensures decided { D.honest → IfOk result (λ reread. (w : Whole) → GoesOnFrom self.old w → IsDecided (view self.old).history (view self.old).undecided (history_read reread)) }
+        ensures decided { D.honest → IfOk result (λ reread. (w : Whole) → GoesOnFrom self.old w → IsDecided w.start (view self.old).history (view self.old).undecided (history_read reread)) }
         ensures stands { D.honest → IfOk result (λ reread. IsWhole (whole_read reread) (disk_state self.old).content) }
         // An honest disk that held a whole list has the history, or that with the undecided entry, so it or memory fails.
         ensures refused { D.honest → (w : Whole) → GoesOnFrom self.old w → IfErr result (λ e. (e ≡ MountError.Fault) ⊎ (e ≡ MountError.NoMemory)) }

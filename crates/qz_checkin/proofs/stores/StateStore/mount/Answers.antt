@@ -1,6 +1,6 @@
 use Rattle.std.proofs.Common.{◌++◌}
 use Rattle.qz_stores.specs.View.{view, opened_of}
-use Rattle.qz_checkin.specs.Bytes.{Whole}
+use Rattle.qz_checkin.specs.Bytes.{Whole, list_of}
 use Rattle.qz_checkin.proofs.Openings.{whole_there, goes_on}
 use Rattle.qz_checkin.proofs.stores.StateStore.mount.Goals as goal
 
@@ -14,5 +14,5 @@ returns-in-Ok-clause-stands g c honest =
 pub returns-in-Ok-clause-told : goal.returns-in-Ok-clause-told
 returns-in-Ok-clause-told g c honest =
     let s = c.in-Ok.store in
-    let whole : Whole = record { version = s.version; entries = s.found.items ++ s.added.items } in
+    let whole : Whole = list_of s.version (s.found.items ++ s.added.items) in
     (honest, ∣ (whole, (returns-in-Ok-clause-stands g c honest).1) ∣₁)

@@ -1,6 +1,6 @@
 use Rattle.std.proofs.Common.{◌∙◌, ◌++◌, sym, ap}
 use Rattle.qz_stores.specs.View.{view, opened_of}
-use Rattle.qz_checkin.specs.Bytes.{Whole}
+use Rattle.qz_checkin.specs.Bytes.{Whole, list_of}
 use Rattle.qz_checkin.proofs.Openings.{whole_there, goes_on}
 use Rattle.qz_checkin.proofs.stores.StateStore.open.Goals as goal
 
@@ -15,5 +15,5 @@ returns-clause-stands g c honest =
 pub returns-clause-told : goal.returns-clause-told
 returns-clause-told g c honest =
     let s = c.open.new.self in
-    let whole : Whole = record { version = s.version; entries = s.found.items ++ s.added.items } in
+    let whole : Whole = list_of s.version (s.found.items ++ s.added.items) in
     (honest, ∣ (whole, (returns-clause-stands g c honest).1) ∣₁)
