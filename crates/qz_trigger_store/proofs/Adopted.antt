@@ -1,5 +1,5 @@
 -- An entry that is submitted, or adopted, after calls that changed nothing.
-use Rattle.std.proofs.Common.{◌≡◌, ℕ, List, true}
+use Rattle.std.proofs.Common.{◌≡◌, ℕ, List}
 use Rattle.std.specs.Prelude.{Ok, Err, None, IfErr}
 use Rattle.std.specs.declared.result.Result.{Result}
 use Rattle.qz_codec.specs.Layout.{record_of}

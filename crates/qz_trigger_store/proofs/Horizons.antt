@@ -31,7 +31,7 @@ use Rattle.qz_model.specs.Recovery.{recovery_refusal, recovered, recover_member,
 use Rattle.qz_model.specs.Tests.{refuse_if, or_refusal}
 use Rattle.qz_model.specs.Triggers.{add_trigger_refusal, with_new_trigger, without_trigger_and_orphan, unknown_trigger, trigger_now_refusal}
 use Rattle.qz_types.specs.declared.replies.Refusal.TheVariants.{OldStore}
-use Rattle.qz_model.specs.History.{History, tables_left, replay}
+use Rattle.qz_model.specs.History.{tables_left, replay}
 use Rattle.qz_model.proofs.Histories.{replay_from-append}
 use Rattle.qz_model.proofs.KeptCompletion.{horizon-completed}
 use Rattle.qz_stores.specs.Kinds.{unless_refused}

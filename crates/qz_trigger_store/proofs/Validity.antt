@@ -1,10 +1,10 @@
 -- That tables are valid is known in one way at most, so that what is only known to be so can be taken apart.
-use Rattle.std.proofs.Common.{◌≡◌, ◌⊎◌, inl, inr, ℕ, ◌<◌, ◌≤◌, ◌^◌, ℤ, ◌≤ℤ◌, Bool, true, false, List, [], ◌∷◌, ◌++◌, length, refl, sym, ap, subst, ◌∙◌, arith}
+use Rattle.std.proofs.Common.{◌≡◌, inl, inr, ℕ, ◌<◌, ◌≤◌, ◌^◌, ℤ, ◌≤ℤ◌, true, false, List, [], ◌∷◌, ◌++◌, refl, sym, ap, subst, ◌∙◌, arith}
 use Rattle.std.proofs.Math.Logic.{∥∥₁_elim}
 use Rattle.std.proofs.Math.Path.{Σ_path}
 use Rattle.std.proofs.Props.{props}
 use Rattle.std.proofs.lemmas.List.{append_cancel_right}
-use Rattle.std.specs.Prelude.{Option, Some, None, IsSome, IfSome, IsTrue, ⊤}
+use Rattle.std.specs.Prelude.{Option, Some, None, IfSome}
 use Rattle.std.specs.Option.{IsSomeAnd, IsSomeAnd-prop}
 use Rattle.std.specs.List.{AllByRecursion, AllByRecursion-prop}
 use Rattle.std.specs.Fmt.{decimal}
@@ -19,7 +19,7 @@ use Rattle.qz_types.specs.Words.{key_cmp, text_cmp, trigger_of, member_of, fired
 use Rattle.qz_types.specs.declared.fired.FiredState.{FiredState}
 use Rattle.qz_types.specs.declared.fired.FiredState.TheVariants as row
 use Rattle.qz_types.specs.declared.limits.TheConstants.{NUMBER_LIMIT}
-use Rattle.qz_model.specs.Invariant.{AreOrdered, AreStored, AreWithinLimits, ReferencesAndLimits, AcquiredMatch, ConcurrencyAgrees, OneExclusive, BlockedAreBusy, RowsOfMembers, HaveNextTimes, AreFresh, HaveRowTimes, TablesValid, HasFlag, IsHorizon, IsRowOf, EndsIn, IsNumbered, HasTimes}
+use Rattle.qz_model.specs.Invariant.{AreOrdered, AreStored, AreWithinLimits, AcquiredMatch, RowsOfMembers, AreFresh, TablesValid, HasFlag, IsHorizon, IsRowOf, EndsIn, IsNumbered, HasTimes}
 use Rattle.qz_model.specs.Plan.{zone_named_by}
 use Rattle.qz_model.specs.Triggers.{is_reserved}
 use Rattle.qz_model.proofs.Numbers.{one_number}

@@ -1,18 +1,29 @@
 -- Which bytes are those of which whole list of entries, and of which history.
 use Rattle.std.specs.Prelude.{ℕ, List, Option}
 use Rattle.qz_types.specs.Entries.{EntryData}
+use Rattle.qz_types.specs.Tables.{SchedulerTables}
 use Rattle.qz_model.specs.History.{History}
 use Rattle.qz_stores.specs.Bases as bases
 use Rattle.qz_stores.specs.Bytes as store
 use Rattle.qz_stores.specs.Opening as opening
 use Rattle.qz_trigger_store.specs.Kinds.{trigger_kind}
 
--- a whole list of entries from a new store on, and the format version of that store
+-- A whole list of entries, the format version of the store, and the tables with which it starts: those of a new store, or those
+-- of the snapshot with which the store began.
 abbrev pub Whole : Type 0
-Whole = bases.WholeList EntryData
+Whole = bases.WholeList SchedulerTables EntryData
 
--- The bytes are a store of triggers that holds this list: its payloads are records of these entries and parts of snapshots, a
--- new store accepts the entries one by one, and each open slot leads to a snapshot of the tables that those before it leave.
+-- the whole list of these entries from a new store of this format version on
+abbrev pub list_of : ℕ → List EntryData → Whole
+list_of version entries = bases.list_of trigger_kind version entries
+
+-- the second list starts with the tables of the first, in the same version
+abbrev pub BeginsAs : Whole → Whole → Type 0
+BeginsAs w v = bases.BeginsAs w v
+
+-- The bytes are a store of triggers that holds this list: its payloads are records of these entries and parts of snapshots, the
+-- entries are accepted one by one from valid tables on, with which the list starts, and each open slot leads to a snapshot of
+-- the tables that those before it leave. Where no slot is open, the list starts as a new store does.
 abbrev pub IsWhole : Whole → List ℕ → Type 0
 IsWhole w bytes = bases.IsWhole trigger_kind w bytes
 
@@ -34,10 +45,11 @@ MayBe w h undecided bytes = store.MayBe trigger_kind w h undecided bytes
 abbrev pub StandsFrom : ℕ → List ℕ → History → Type 0
 StandsFrom version bytes h = opening.StandsFrom trigger_kind version bytes h
 
--- Both histories are ends of one whole list: they leave the same tables, after as many entries.
-abbrev pub AreEnds : History → History → Type 0
-AreEnds h g = bases.AreEnds trigger_kind h g
+-- Both histories are ends of one whole list, which starts with these tables: they leave the same tables, after as many entries.
+abbrev pub AreEnds : SchedulerTables → History → History → Type 0
+AreEnds start h g = bases.AreEnds trigger_kind start h g
 
--- What a restart may find: another end of the history's whole list, or of that with the undecided entry.
-abbrev pub IsDecided : History → Option EntryData → History → Type 0
-IsDecided h undecided found = bases.IsDecided trigger_kind h undecided found
+-- What a restart may find: another end of the history's whole list, which starts with these tables, or of that with the undecided
+-- entry.
+abbrev pub IsDecided : SchedulerTables → History → Option EntryData → History → Type 0
+IsDecided start h undecided found = bases.IsDecided trigger_kind start h undecided found

@@ -8,6 +8,7 @@ use Rattle.qz_codec.proofs.EntryFormats.{entry_record_unique}
 use Rattle.qz_model.specs.History.{tables_left, IsLegalFrom, replay_from}
 use Rattle.qz_model.specs.Transaction.{transaction}
 use Rattle.qz_model.proofs.Histories.{replay_from-append, IsLegalFrom-entry}
+use Rattle.qz_model.proofs.Kept.{valid-empty}
 use Rattle.qz_journal.specs.Slots.{IsHead, number_at}
 use Rattle.qz_snapshot.proofs.Kind.{headed, snapshot_more}
 use Rattle.qz_snapshot.proofs.Unique.{snapshot_once}
@@ -56,7 +57,8 @@ trigger_lawful = record {
   legal_none = λ T. tt;
   legal_more = λ T es e legal is. IsLegalFrom-entry T es e legal (accepted_by (transaction (replay_from T es) e) is);
   legal_at = legal_at;
-  valid_left = λ version es known recorded legal. ∣ valid_after version es recorded legal ∣₁;
+  valid_new = λ version known. ∣ valid-empty version ∣₁;
+  valid_left = λ T es valid recorded legal. ∣ valid_after T es valid recorded legal ∣₁;
   whole = λ h. refl;
   base_count_is = λ n T es. refl;
   base_is = λ n T es. refl;

@@ -1,9 +1,8 @@
 -- Entries that have records, and the tables that they leave.
-use Rattle.std.proofs.Common.{◌≡◌, ℕ, List, [], ◌∷◌, true, false, refl, IsTrue, subst, sym}
-use Rattle.std.specs.Prelude.{Bool}
+use Rattle.std.proofs.Common.{◌≡◌, ℕ, List, [], ◌∷◌, false, refl, IsTrue, subst, sym}
 use Rattle.std.specs.List.{AllByRecursion}
 use Rattle.qz_types.specs.Entries.{EntryData, is_entry}
-use Rattle.qz_types.specs.Tables.{empty}
+use Rattle.qz_types.specs.Tables.{SchedulerTables}
 use Rattle.qz_codec.proofs.ValidEntries.{entry_valid}
 use Rattle.qz_codec.specs.Layout.{entry}
 use Rattle.qz_codec.specs.Records.{recorded}
@@ -12,7 +11,6 @@ use Rattle.qz_values.specs.declared.versions.Version.TheVariants.{One, Two}
 use Rattle.qz_model.specs.History.{IsLegalFrom, replay_from}
 use Rattle.qz_model.specs.Invariant.{TablesValid}
 use Rattle.qz_model.proofs.Histories.{valid-replay}
-use Rattle.qz_model.proofs.Kept.{valid-empty}
 use Rattle.qz_snapshot.specs.Opening.{is_part}
 use Rattle.qz_stores.specs.Kinds.{HasRecord}
 use Rattle.qz_trigger_store.specs.Entries.{IsRecordOf}
@@ -23,9 +21,9 @@ pub each_proper : (es : List EntryData) → AllByRecursion (HasRecord trigger_ki
 each_proper [] all = tt
 each_proper (e ∷ es) all = (entry_valid all.0.1.version e all.0.1.has, each_proper es all.1)
 
--- what a new store accepts leaves valid tables
-pub valid_after : (version : ℕ) (es : List EntryData) → AllByRecursion (HasRecord trigger_kind) es → IsLegalFrom (empty version) es → TablesValid (replay_from (empty version) es)
-valid_after version es all legal = valid-replay (empty version) es (each_proper es all) (valid-empty version) legal
+-- what is accepted from valid tables on leaves valid tables
+pub valid_after : (T : SchedulerTables) (es : List EntryData) → TablesValid T → AllByRecursion (HasRecord trigger_kind) es → IsLegalFrom T es → TablesValid (replay_from T es)
+valid_after T es valid all legal = valid-replay T es (each_proper es all) valid legal
 
 -- a record begins with the byte of its version
 no_part : (version : Version) (e : EntryData) → is_part (recorded entry version e) ≡ false

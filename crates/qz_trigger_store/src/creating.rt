@@ -5,8 +5,7 @@ ghost use Rattle.qz_journal.specs.Layout.{is_version, end_of};
 ghost use Rattle.qz_journal.specs.Making.{Makes};
 ghost use Rattle.qz_journal.specs.declared.layout.TheConstants.{TRIGGERS};
 ghost use Rattle.qz_model.specs.History.{history_of_version};
-ghost use Rattle.qz_stores.specs.Creating.{no_entries};
-ghost use Rattle.qz_trigger_store.specs.Bytes.{IsWhole};
+ghost use Rattle.qz_trigger_store.specs.Bytes.{list_of, IsWhole};
 ghost use Rattle.qz_trigger_store.specs.Opening.{IsOpened};
 ghost use Rattle.qz_trigger_store.specs.View.{view, version_of, found_of, added_of, behind_of, slots_of, opened_of, keeps_of, keeps_entries, disk_state, GoesOnFrom};
 
@@ -36,8 +35,8 @@ impl<D: Disk> TriggerStore<D> {
         ensures made { D.honest → MatchResult result (λ store. Makes version TRIGGERS None (D.state disk) (disk_state store))
             (λ e. Makes version TRIGGERS (Some e.0) (D.state disk) (D.state e.1)) }
         // The disk holds the whole list of no entries, and the store goes on from it.
-        ensures whole { D.honest → IfOk result (λ store. IsWhole (no_entries version) (disk_state store).content
-            × (opened_of store ≡ (disk_state store).content) × GoesOnFrom store (no_entries version)) }
+        ensures whole { D.honest → IfOk result (λ store. IsWhole (list_of version []) (disk_state store).content
+            × (opened_of store ≡ (disk_state store).content) × GoesOnFrom store (list_of version [])) }
         ensures later { MatchResult result (λ store. D.faults disk ≤ (view store).faults) (λ e. D.faults disk ≤ D.faults e.1) }
         ensures fault { IfErr result (λ e. e.0 ≡ NewStoreError.Fault → Rose (D.faults disk) (D.faults e.1)) }
     {

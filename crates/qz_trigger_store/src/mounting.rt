@@ -4,7 +4,7 @@ ghost use Rattle.qz_civil.specs.Causes.{Rose};
 ghost use Rattle.qz_journal.specs.Slots.{slots_of as slots_in, slot_in_use};
 ghost use Rattle.qz_journal.specs.Tails.{start_of};
 ghost use Rattle.qz_journal.specs.Through.{OnlyReads, OnlyReadsUnless};
-ghost use Rattle.qz_trigger_store.specs.Bytes.{Whole, IsWhole, BeginsNew, Stands, StandsFrom};
+ghost use Rattle.qz_trigger_store.specs.Bytes.{Whole, list_of, IsWhole, BeginsNew, Stands, StandsFrom};
 ghost use Rattle.qz_trigger_store.specs.Opening.{IsOpened, IsRefused};
 ghost use Rattle.qz_trigger_store.specs.View.{view, version_of, found_of, added_of, behind_of, slots_of, opened_of, keeps_of, keeps_entries, disk_state, GoesOnFrom};
 
@@ -30,9 +30,9 @@ impl<D: Disk> TriggerStore<D> {
         ensures begins { IfOk result (λ store. slot_in_use (slots_of store) ≡ None → BeginsNew (version_of store) (view store).history) }
         ensures bytes { D.honest → IfOk result (λ store. (opened_of store ≡ (D.state disk).content) × (slots_of store ≡ slots_in (D.state disk).content)) }
         ensures stands { D.honest → IfOk result (λ store. StandsFrom (version_of store) (D.state disk).content (view store).history) }
-        // Where no slot is open, what was found is the whole list.
+        // Where no slot is open, what was found is the whole list, and it starts as a new store does.
         ensures without_slots { D.honest → IfOk result (λ store. slot_in_use (slots_in (D.state disk).content) ≡ None
-            → IsWhole (record { version = version_of store; entries = found_of store }) (D.state disk).content) }
+            → IsWhole (list_of (version_of store) (found_of store)) (D.state disk).content) }
         ensures reads { D.honest → IfOk result (λ store. OnlyReads (D.state disk) (disk_state store)) }
         // No more is read than the header and what stands from the slot's offset on.
         ensures reads_tail { D.honest → MatchResult result

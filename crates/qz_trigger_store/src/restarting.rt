@@ -40,7 +40,7 @@ impl<D: Disk> TriggerStore<D> {
         ensures kept { IsOpenedAsBefore self.old self.new × (added_of self.new ≡ added_of self.old) × (keeps_of self.new ≡ keeps_of self.old) }
         ensures read { IfOk result (λ reread. IsReread reread self.new.store) }
         // Where the disk held a whole list when the store was opened, what was read is an end of it and of what was added.
-        ensures decided { D.honest → IfOk result (λ reread. (w : Whole) → GoesOnFrom self.old w → IsDecided (view self.old).history (view self.old).undecided (history_read reread)) }
+        ensures decided { D.honest → IfOk result (λ reread. (w : Whole) → GoesOnFrom self.old w → IsDecided w.start (view self.old).history (view self.old).undecided (history_read reread)) }
         ensures stands { D.honest → IfOk result (λ reread. StandsFrom reread.version (disk_state self.old).content (history_read reread)) }
         ensures reads { D.honest → OnOk result (OnlyReads (disk_state self.old) (disk_state self.new)) }
         ensures refused { D.honest → (w : Whole) → GoesOnFrom self.old w → IfErr result (λ e. (e ≡ MountError.Fault) ⊎ (e ≡ MountError.NoMemory)) }

@@ -1,4 +1,4 @@
-use Rattle.std.proofs.Common.{◌≡◌, ◌∙◌, true, false, Ok, Err, Some, None, inl, inr, refl, sym, ap}
+use Rattle.std.proofs.Common.{◌≡◌, ◌∙◌, true, false, Ok, Err, Some, None, inr, refl, sym, ap}
 use Rattle.qz_journal.specs.View.{version_of, kind_of, gate_of, count_of, slots_of}
 use Rattle.qz_tables.specs.Contents.{TablesData}
 use Rattle.qz_trigger_store.proofs.Snapshots.{made_or_failed, lack_as, have_as, stands_after, any_moment}

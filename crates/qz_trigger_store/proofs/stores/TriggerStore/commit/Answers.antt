@@ -1,8 +1,7 @@
-use Rattle.std.proofs.Common.{◌≡◌, ◌∙◌, ℤ, List, [], ◌∷◌, ◌++◌, sym, ap, subst, refl, w64, to_z, of_z, arith}
+use Rattle.std.proofs.Common.{◌≡◌, ◌∙◌, ℤ, List, [], ◌∷◌, ◌++◌, sym, ap, w64, to_z, of_z, arith}
 use Rattle.std.proofs.lemmas.Grind.{common_steps}
 use Rattle.std.proofs.lemmas.Int.{to_z-of_z}
 use Rattle.qz_types.specs.Entries.{EntryData}
-use Rattle.qz_types.specs.declared.replies.Reply.{Reply}
 use Rattle.qz_types.specs.Tables.{SchedulerTables}
 use Rattle.qz_model.specs.History.{replay_from, replies_from, moments_from}
 use Rattle.qz_model.specs.Transaction.{transaction}
