@@ -1,5 +1,6 @@
 pub mod Accepted
 pub mod Bytes
+pub mod Compacting
 pub mod Entries
 pub mod Kinds
 pub mod Laws

@@ -4,6 +4,7 @@
 mod accepted;
 mod adopting;
 mod checkpoints;
+mod compacting;
 mod creating;
 mod kinds;
 mod laws;
