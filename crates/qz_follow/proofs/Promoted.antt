@@ -25,7 +25,6 @@ use Rattle.qz_codec.specs.declared.errors.ReadError.TheVariants as errors
 use Rattle.qz_model.specs.History.{History, IsLegalFrom, replay}
 use Rattle.qz_model.specs.Transaction.{transaction}
 use Rattle.qz_stores.specs.Bases.{HoldAll}
-use Rattle.qz_stores.specs.Creating.{no_entries}
 use Rattle.qz_stores.specs.Facts.{Encode-length}
 use Rattle.qz_stores.specs.Kinds.{IsAccepted, with_entry}
 use Rattle.qz_stores.specs.Stores.{HasRoom, Appends, Fails, Submits}
@@ -37,7 +36,7 @@ use Rattle.qz_types.specs.declared.errors.SubmitError.{SubmitError}
 use Rattle.qz_types.specs.declared.errors.SubmitError.TheVariants as submit
 use Rattle.qz_types.specs.declared.replies.Refusal.{Refusal}
 use Rattle.qz_types.specs.declared.replies.Reply.{Reply}
-use Rattle.qz_trigger_store.specs.Bytes.{IsWhole, Stands, MayBe}
+use Rattle.qz_trigger_store.specs.Bytes.{list_of, IsWhole, Stands, MayBe}
 use Rattle.qz_trigger_store.specs.Entries.{IsRecordOf, TriggerState, answer_of, adopted_entry, history_of}
 use Rattle.qz_trigger_store.specs.Kinds.{trigger_kind}
 use Rattle.qz_trigger_store.specs.Laws.{trigger_lawful}
@@ -47,7 +46,7 @@ use Rattle.qz_trigger_store.proofs.Images.{now}
 use Rattle.qz_trigger_store.proofs.Outcomes.{not_read}
 use Rattle.qz_civil.specs.Lists.{WithRoom}
 use Rattle.qz_follow.specs.Kept.{AreKept, KeepsRecords}
-use Rattle.qz_follow.specs.Promoting.{whole_of, HoldsFirst, HasEntries, Promotes, AreAdoptable, IsNext, IsOpenWith, HasAdopted, HasAdoptedFirst, Adopts, IsFailure, HasFilled, Fills, fault_of}
+use Rattle.qz_follow.specs.Promoting.{HoldsFirst, HasEntries, Promotes, AreAdoptable, IsNext, IsOpenWith, HasAdopted, HasAdoptedFirst, Adopts, IsFailure, HasFilled, Fills, fault_of}
 use Rattle.qz_follow.specs.declared.promoting.PromoteFault.{PromoteFault}
 use Rattle.qz_follow.specs.declared.promoting.PromoteFault.TheVariants as fault
 
@@ -65,7 +64,7 @@ zip_at (x ∷ xs) ys p (f ∷ es) fs e same all = zip_at xs ys p es fs e (omega 
 
 module _ (v : ℕ) (es : List EntryData) (ps : List (List ℕ)) (can : AreAdoptable v es ps) where
   pub as_many : length ps ≡ length es
-  as_many = ∥∥₁_elim can.kept (hlevel props) (λ k. Encode-length trigger_kind 0 ps es ∣ k.recorded ∣₁)
+  as_many = ∥∥₁_elim can.kept (hlevel props) (λ k. Encode-length trigger_kind ps es ∣ k.recorded ∣₁)
 
   -- The next payload is that at this place.
   module _ (i : ℕ) (p : List ℕ) (below : i < length ps) (here : p ≡ get_or ps i p) where
@@ -129,27 +128,27 @@ module _ (v : ℕ) (es : List EntryData) (ps : List (List ℕ)) (can : AreAdopta
 
 -- What the bytes of such a store are.
 
-pub stands_all : (v : ℕ) (first : List EntryData) (b : List ℕ) → Stands (no_entries v) b (history_of v first) → IsWhole (whole_of v first) b
-stands_all v first b stands = subst (λ (l : List EntryData). HoldAll trigger_kind v b l) (sym stands.end_of_them.rest) stands.held
+pub stands_all : (v : ℕ) (first : List EntryData) (b : List ℕ) → Stands (list_of v []) b (history_of v first) → IsWhole (list_of v first) b
+stands_all v first b stands = subst (λ (l : List EntryData). HoldAll trigger_kind v (empty v) b l) (sym stands.end_of_them.rest) stands.held
 
 module _ (v : ℕ) (entries first rest : List EntryData) (parts : entries ≡ first ++ rest) (h : History) (is : h ≡ history_of v first) where
-  stands_first : (b : List ℕ) → Stands (no_entries v) b h → HoldsFirst v entries b
-  stands_first b stands = (first, rest, parts, stands_all v first b (subst (Stands (no_entries v) b) is stands))
+  stands_first : (b : List ℕ) → Stands (list_of v []) b h → HoldsFirst v entries b
+  stands_first b stands = (first, rest, parts, stands_all v first b (subst (Stands (list_of v []) b) is stands))
 
-  pub may_first : (u : Option EntryData) (b : List ℕ) → u ≡ None → MayBe (no_entries v) h u b → HoldsFirst v entries b
-  may_first u b none may = stands_first b (subst (λ (x : Option EntryData). MayBe (no_entries v) h x b) none may)
+  pub may_first : (u : Option EntryData) (b : List ℕ) → u ≡ None → MayBe (list_of v []) h u b → HoldsFirst v entries b
+  may_first u b none may = stands_first b (subst (λ (x : Option EntryData). MayBe (list_of v []) h x b) none may)
 
   -- where the next entry is undecided
-  pub may_next : (u : Option EntryData) (e : EntryData) (more : List EntryData) (b : List ℕ) → u ≡ Some e → rest ≡ e ∷ more → MayBe (no_entries v) h u b → HoldsFirst v entries b
+  pub may_next : (u : Option EntryData) (e : EntryData) (more : List EntryData) (b : List ℕ) → u ≡ Some e → rest ≡ e ∷ more → MayBe (list_of v []) h u b → HoldsFirst v entries b
   may_next u e more b some next may =
       ⊎_elim (λ before. stands_first b before)
       (λ after. (
         first ++ e ∷ [],
         more,
         parts ∙ ap (λ (l : List EntryData). first ++ l) next ∙ sym (append_assoc first (e ∷ []) more),
-        stands_all v (first ++ e ∷ []) b (subst (Stands (no_entries v) b) (ap (with_entry trigger_kind e) is) after),
+        stands_all v (first ++ e ∷ []) b (subst (Stands (list_of v []) b) (ap (with_entry trigger_kind e) is) after),
       ))
-      (subst (λ (x : Option EntryData). MayBe (no_entries v) h x b) some may)
+      (subst (λ (x : Option EntryData). MayBe (list_of v []) h x b) some may)
 
 -- the count of faults rose since an earlier moment, too
 pub rose_later : (a b c : ℕ) → a ≤ b → Rose b c → Rose a c
@@ -161,15 +160,15 @@ module _ {D : Type 0} {g : Ghosts D} (v : ℕ) where
   settled s is_open = s.store.settled is_open
 
   -- an honest disk has these, and a crash leaves them
-  pub has_entries : (first : List EntryData) (s : TriggerStore D g) → g.honest → IsLawful (disk_state s) → GoesOnFrom s (no_entries v) → IsOpenWith v first s → HasEntries v first (disk_state s)
+  pub has_entries : (first : List EntryData) (s : TriggerStore D g) → g.honest → IsLawful (disk_state s) → GoesOnFrom s (list_of v []) → IsOpenWith v first s → HasEntries v first (disk_state s)
   has_entries first s honest lawful from with_them =
-      let each : (b : List ℕ) → (disk_state s).IsImage b → IsWhole (whole_of v first) b =
-      λ b is. stands_all v first b (subst (Stands (no_entries v) b) with_them.history (subst (λ (x : Option EntryData). MayBe (no_entries v) (view s).history x b) (settled s with_them.is_open) (now s honest (no_entries v) from b is))) in
+      let each : (b : List ℕ) → (disk_state s).IsImage b → IsWhole (list_of v first) b =
+      λ b is. stands_all v first b (subst (Stands (list_of v []) b) with_them.history (subst (λ (x : Option EntryData). MayBe (list_of v []) (view s).history x b) (settled s with_them.is_open) (now s honest (list_of v []) from b is))) in
       record { content = each (disk_state s).content lawful.content; images = each }
 
   -- one record more, or a failure
   module _ (entries first more : List EntryData) (e : EntryData) (parts : entries ≡ first ++ e ∷ more) (p : List ℕ) (s t : TriggerStore D g) (with_them : IsOpenWith v first s) where
-    next_may : (r : Result (Unit {0}) PromoteFault) → Adopts p e r s t → (b : List ℕ) → MayBe (no_entries v) (view t).history (view t).undecided b → HoldsFirst v entries b
+    next_may : (r : Result (Unit {0}) PromoteFault) → Adopts p e r s t → (b : List ℕ) → MayBe (list_of v []) (view t).history (view t).undecided b → HoldsFirst v entries b
     next_may (Ok x) done b may =
         may_first v entries (first ++ e ∷ []) more (parts ∙ sym (append_assoc first (e ∷ []) more)) (view t).history (done.2.history ∙ ap (with_entry trigger_kind e) with_them.history) (view t).undecided b done.2.undecided may
     next_may (Err fault.NoMemory) done b may =
@@ -181,9 +180,9 @@ module _ {D : Type 0} {g : Ghosts D} (v : ℕ) where
     next_may (Err fault.Exists) done b may = absurd done
     next_may (Err fault.OtherKind) done b may = absurd done
 
-    pub next_leaves : (r : Result (Unit {0}) PromoteFault) → Adopts p e r s t → LeavesEither s t → GoesOnFrom s (no_entries v) → LeavesOnly (disk_state s) (disk_state t) (HoldsFirst v entries)
+    pub next_leaves : (r : Result (Unit {0}) PromoteFault) → Adopts p e r s t → LeavesEither s t → GoesOnFrom s (list_of v []) → LeavesOnly (disk_state s) (disk_state t) (HoldsFirst v entries)
     next_leaves r done leaves from =
-        Moments.weaker (disk_state s) (disk_state t) _ _ (leaves (no_entries v) from).1
+        Moments.weaker (disk_state s) (disk_state t) _ _ (leaves (list_of v []) from).1
         (λ b either. ⊎_elim (λ before. may_first v entries first (e ∷ more) parts (view s).history with_them.history (view s).undecided b (settled s with_them.is_open) before) (λ after. next_may r done b after) either)
 
     -- memory ran out
@@ -236,10 +235,10 @@ module _ (v : ℕ) (entries : List EntryData) (s m t : DiskState) (made : Makes 
   failed = record { found = tt; made = tt; kept = λ there. absurd (made.found there); kept_at_any_moment = λ there. absurd (made.found there); any_moment = moment }
 
 -- The beginning: nothing was adopted.
-pub starts : {D : Type 0} {g : Ghosts D} (v : ℕ) (entries : List EntryData) (s : TriggerStore D g) → g.honest → IsLawful (disk_state s) → GoesOnFrom s (no_entries v) → IsOpenWith v [] s → LeavesOnly (disk_state s) (disk_state s) (HoldsFirst v entries)
+pub starts : {D : Type 0} {g : Ghosts D} (v : ℕ) (entries : List EntryData) (s : TriggerStore D g) → g.honest → IsLawful (disk_state s) → GoesOnFrom s (list_of v []) → IsOpenWith v [] s → LeavesOnly (disk_state s) (disk_state s) (HoldsFirst v entries)
 starts v entries s honest lawful from with_them =
     Moments.started (disk_state s) (HoldsFirst v entries) lawful (λ b is.
-    may_first v entries [] entries refl (view s).history with_them.history (view s).undecided b (settled v s with_them.is_open) (now s honest (no_entries v) from b is))
+    may_first v entries [] entries refl (view s).history with_them.history (view s).undecided b (settled v s with_them.is_open) (now s honest (list_of v []) from b is))
 
 -- one call after another
 pub opened_both : {D : Type 0} {g : Ghosts D} (s m t : TriggerStore D g) → IsOpenedAsBefore s m → IsOpenedAsBefore m t → IsOpenedAsBefore s t
@@ -301,7 +300,7 @@ pub adoptable : (v end count : ℕ) (es : List EntryData) (kept : Option (WithRo
 adoptable v end count es kept list is records legal counted few low =
     let there : ∥ AreKept end es list.items ∥₁ = subst (λ (o : Option (WithRoom (List ℕ))). ∥ KeepsRecords end es o ∥₁) is records in
     let end_is : end ≡ end_of list.items = ∥∥₁_elim there (hlevel props) (λ k. k.end_is) in
-    let many : length list.items ≡ length es = ∥∥₁_elim there (hlevel props) (λ k. Encode-length trigger_kind 0 list.items es ∣ k.recorded ∣₁) in
+    let many : length list.items ≡ length es = ∥∥₁_elim there (hlevel props) (λ k. Encode-length trigger_kind list.items es ∣ k.recorded ∣₁) in
     record { kept = subst (λ n. ∥ AreKept n es list.items ∥₁) end_is there; legal = legal; low = omega (arith, low, end_is); few = omega (arith, many, counted, few) }
 
 -- A store that was just made has adopted nothing.
@@ -325,7 +324,7 @@ same_error r a b p q = cc
 
 -- What was filled.
 
-module _ {D : Type 0} {g : Ghosts D} (v : ℕ) (entries : List EntryData) (o t : TriggerStore D g) (honest : g.honest) (lawful : IsLawful (disk_state t)) (from : GoesOnFrom t (no_entries v)) where
+module _ {D : Type 0} {g : Ghosts D} (v : ℕ) (entries : List EntryData) (o t : TriggerStore D g) (honest : g.honest) (lawful : IsLawful (disk_state t)) (from : GoesOnFrom t (list_of v [])) where
   filled_by : (before : ℕ) (y : PromoteFault) → IsFailure before y (view t).faults → (y ≡ fault.NoMemory → HasAdoptedFirst v entries t) → HasFilled v entries (Some y) (disk_state t)
   filled_by before fault.NoMemory is first = let f = first refl in (f.0, f.1, f.2, has_entries v f.0 t honest lawful from f.3)
   filled_by before fault.Fault is first = tt

@@ -42,7 +42,7 @@ last_is ps before p payload gate same is gate_is =
 module _ {H S E R : Type 0} (k : StoreKind H S E R) (lawful : IsLawful k) where
   -- there are as many records as entries
   pub counted : (ps : List (List ℕ)) (es : List E) → RecordEntries k ps es → length (records k ps) ≡ length es
-  counted ps es recorded = Encode-length k 0 (records k ps) es recorded
+  counted ps es recorded = Encode-length k (records k ps) es recorded
 
   -- payloads without a record have no fault in any version
   pub sound_begun : (said : Option ℕ) (v w : ℕ) (ps : List (List ℕ)) (es : List E) → IsBegun said es v w → AreSound k v ps es → AreSound k w ps es

@@ -98,8 +98,8 @@ module _ {H S E R : Type 0} (k : StoreKind H S E R) (lawful : IsLawful k) where
       let same : q.payloads ≡ p.payloads = taken_once bytes q.payloads p.payloads q.whole p.whole in
       recorded_once k lawful p.payloads es fs p.recorded (subst (λ (l : List (List ℕ)). RecordEntries k l fs) same q.recorded)
 
-  pub store_taken : (v : ℕ) (bytes : List ℕ) (es : List E) → k.number ≡ 84 → HoldAll k v bytes es → HasTaken k bytes es
-  store_taken v bytes es triggers held =
+  pub store_taken : (v : ℕ) (start : S) (bytes : List ℕ) (es : List E) → k.number ≡ 84 → HoldAll k v start bytes es → HasTaken k bytes es
+  store_taken v start bytes es triggers held =
       let ps = held.store.0 in
       record { payloads = ps; whole = store-taken bytes v ps (holds-store bytes v ps (subst (λ n. Holds bytes v n ps) triggers held.store.1)); recorded = held.recorded ps held.store.1 }
 

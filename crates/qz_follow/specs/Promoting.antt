@@ -14,7 +14,7 @@ use Rattle.qz_types.specs.declared.replies.Reply.{Reply}
 use Rattle.qz_model.specs.History.{IsLegalFrom, replay}
 use Rattle.qz_stores.specs.Kinds.{IsAccepted}
 use Rattle.qz_stores.specs.Stores.{HasRoom, Appends, Fails}
-use Rattle.qz_trigger_store.specs.Bytes.{Whole, IsWhole}
+use Rattle.qz_trigger_store.specs.Bytes.{list_of, IsWhole}
 use Rattle.qz_trigger_store.specs.Entries.{TriggerState, IsRecordOf, adopted_entry, history_of}
 use Rattle.qz_trigger_store.specs.Kinds.{trigger_kind}
 use Rattle.qz_trigger_store.specs.View.{view, version_of, found_of, added_of, IsAsBefore}
@@ -23,18 +23,14 @@ use Rattle.qz_follow.specs.Kept.{AreKept}
 use Rattle.qz_follow.specs.declared.promoting.PromoteFault.{PromoteFault}
 use Rattle.qz_follow.specs.declared.promoting.PromoteFault.TheVariants as fault
 
--- the whole list of these entries, in a store of this version
-abbrev pub whole_of : ℕ → List EntryData → Whole
-whole_of version entries = record { version = version; entries = entries }
-
 -- The bytes are a store of this version, which holds the first of these entries.
 abbrev pub HoldsFirst : ℕ → List EntryData → List ℕ → Type 0
-HoldsFirst version entries bytes = (first : List EntryData) × (rest : List EntryData) × (entries ≡ first ++ rest) × IsWhole (whole_of version first) bytes
+HoldsFirst version entries bytes = (first : List EntryData) × (rest : List EntryData) × (entries ≡ first ++ rest) × IsWhole (list_of version first) bytes
 
 -- The disk holds a store of this version with these entries, and a crash leaves that.
 pub record HasEntries (version : ℕ) (entries : List EntryData) (s : DiskState) : Type 0 where
-  pub content : IsWhole (whole_of version entries) s.content
-  pub images : (bytes : List ℕ) → s.IsImage bytes → IsWhole (whole_of version entries) bytes
+  pub content : IsWhole (list_of version entries) s.content
+  pub images : (bytes : List ℕ) → s.IsImage bytes → IsWhole (list_of version entries) bytes
 
 -- the same, for the first of these entries
 abbrev pub HasFirst : ℕ → List EntryData → DiskState → Type 0

@@ -3,9 +3,9 @@ ghost use Rattle.std.specs.Prelude.{◌≡◌, ◌≢◌, ◌⊎◌, ◌↔◌, 
 ghost use Rattle.qz_civil.specs.Causes.{Rose};
 ghost use Rattle.qz_disk.specs.Disk.{LeavesOnly};
 ghost use Rattle.qz_journal.specs.Layout.{IsPayload, is_version};
-ghost use Rattle.qz_stores.specs.Creating.{no_entries};
 ghost use Rattle.qz_stream.specs.Standing.{header_length_of};
 ghost use Rattle.qz_types.specs.Entries.{EntryData};
+ghost use Rattle.qz_trigger_store.specs.Bytes.{list_of};
 ghost use Rattle.qz_trigger_store.specs.Entries.{IsRecordOf};
 ghost use Rattle.qz_trigger_store.specs.View.{view as store_view, version_of, added_of, keeps_of as keeps_entries_of, disk_state, GoesOnFrom, IsOpenedAsBefore, LeavesEither};
 ghost use Rattle.qz_follow.specs.Promoting.{Promotes, HoldsFirst, AreAdoptable, IsNext, IsOpenWith, HasAdopted, HasAdoptedFirst, Adopts, IsFailure, Fills};
@@ -60,7 +60,7 @@ impl Follower {
         ensures keeps { IfOk result (λ store. keeps_entries_of store ≡ false) }
         ensures promotes { D.honest → MatchResult result (λ store. Promotes (view self).version (view self).entries None (D.state disk) (disk_state store))
             (λ e. Promotes (view self).version (view self).entries (Some e.0) (D.state disk) (D.state e.1)) }
-        ensures goes_on { D.honest → IfOk result (λ store. GoesOnFrom store (no_entries (view self).version)) }
+        ensures goes_on { D.honest → IfOk result (λ store. GoesOnFrom store (list_of (view self).version [])) }
         ensures short { (at : ℕ) → IfErr result (λ e. (e.0 ≡ PromoteFault.Short at) ↔ (header_length_of (view self).standing ≡ Some at)) }
         ensures long { OnOk result (header_length_of (view self).standing ≡ None) }
         ensures untouched { (at : ℕ) → header_length_of (view self).standing ≡ Some at → IfErr result (λ e. e.1 ≡ disk) }
@@ -103,7 +103,7 @@ impl Taken {
         ensures keeps { IfOk result (λ store. keeps_entries_of store ≡ false) }
         ensures promotes { D.honest → MatchResult result (λ store. Promotes self.version self.entries.items None (D.state disk) (disk_state store))
             (λ e. Promotes self.version self.entries.items (Some e.0) (D.state disk) (D.state e.1)) }
-        ensures goes_on { D.honest → IfOk result (λ store. GoesOnFrom store (no_entries self.version)) }
+        ensures goes_on { D.honest → IfOk result (λ store. GoesOnFrom store (list_of self.version [])) }
         ensures long { (at : ℕ) → IfErr result (λ e. e.0 ≢ PromoteFault.Short at) }
         ensures fault { IfErr result (λ e. e.0 ≡ PromoteFault.Fault → Rose (D.faults disk) (D.faults e.1)) }
         ensures later { MatchResult result (λ store. D.faults disk ≤ (store_view store).faults) (λ e. D.faults disk ≤ D.faults e.1) }
@@ -139,7 +139,7 @@ fn make<D: Disk>(
     ensures keeps { IfOk result (λ store. keeps_entries_of store ≡ false) }
     ensures promotes { D.honest → MatchResult result (λ store. Promotes version entries.now.items None (D.state disk) (disk_state store))
         (λ e. Promotes version entries.now.items (Some e.0) (D.state disk) (D.state e.1)) }
-    ensures goes_on { D.honest → IfOk result (λ store. GoesOnFrom store (no_entries version)) }
+    ensures goes_on { D.honest → IfOk result (λ store. GoesOnFrom store (list_of version [])) }
     ensures long { (at : ℕ) → IfErr result (λ e. e.0 ≢ PromoteFault.Short at) }
     ensures fault { IfErr result (λ e. e.0 ≡ PromoteFault.Fault → Rose (D.faults disk) (D.faults e.1)) }
     ensures later { MatchResult result (λ store. D.faults disk ≤ (store_view store).faults) (λ e. D.faults disk ≤ D.faults e.1) }
@@ -162,9 +162,9 @@ fn fill<D: Disk>(
     requires adoptable { AreAdoptable version entries.now.items records.now }
     ensures store { IfOk result (IsOpenWith version entries.now.items) }
     ensures keeps { IfOk result (λ s. keeps_entries_of s ≡ keeps_entries_of store) }
-    ensures fills { D.honest → GoesOnFrom store (no_entries version) → MatchResult result (λ s. Fills version entries.now.items None (disk_state store) (disk_state s))
+    ensures fills { D.honest → GoesOnFrom store (list_of version []) → MatchResult result (λ s. Fills version entries.now.items None (disk_state store) (disk_state s))
         (λ e. Fills version entries.now.items (Some e.0) (disk_state store) (D.state e.1)) }
-    ensures goes_on { GoesOnFrom store (no_entries version) → IfOk result (λ s. GoesOnFrom s (no_entries version)) }
+    ensures goes_on { GoesOnFrom store (list_of version []) → IfOk result (λ s. GoesOnFrom s (list_of version [])) }
     ensures failed { IfErr result (λ e. IsFailure (store_view store).faults e.0 (D.faults e.1)) }
     ensures later { MatchResult result (λ s. (store_view store).faults ≤ (store_view s).faults) (λ e. (store_view store).faults ≤ D.faults e.1) }
 {
@@ -190,7 +190,7 @@ fn adopt_all<D: Disk>(
     ensures opened { IsOpenedAsBefore store.old store.new × (keeps_entries_of store.new ≡ keeps_entries_of store.old) }
     ensures later { (store_view store.old).faults ≤ (store_view store.new).faults }
     // A crash at any moment leaves the first of the entries.
-    ensures any_moment { D.honest → GoesOnFrom store.old (no_entries version) → LeavesOnly (disk_state store.old) (disk_state store.new) (HoldsFirst version entries.now.items) }
+    ensures any_moment { D.honest → GoesOnFrom store.old (list_of version []) → LeavesOnly (disk_state store.old) (disk_state store.new) (HoldsFirst version entries.now.items) }
 {
     for record in records {
         adopt_next(alloc, store, record.as_slice())?;

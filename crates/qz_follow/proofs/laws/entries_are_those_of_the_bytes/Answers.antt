@@ -14,4 +14,4 @@ pub returns-clause-once : goal.returns-clause-once
 returns-clause-once c = one_taken trigger_kind trigger_lawful
 
 pub returns-clause-store : goal.returns-clause-store
-returns-clause-store c w bytes whole = store_taken trigger_kind trigger_lawful w.version bytes w.entries refl whole
+returns-clause-store c w bytes whole = store_taken trigger_kind trigger_lawful w.version w.start bytes w.entries refl whole

@@ -1,9 +1,9 @@
-use Rattle.std.proofs.Common.{◌≡◌, ◌∙◌, ℕ, List, take, drop, suc, refl, sym, subst, arith}
+use Rattle.std.proofs.Common.{◌≡◌, ◌∙◌, ℕ, List, [], take, drop, suc, refl, sym, subst, arith}
 use Rattle.std.specs.Prelude.{Ok, Err}
 use Rattle.std.proofs.lemmas.Result.{err_from_is_err_and}
 use Rattle.qz_disk.proofs.Moments
-use Rattle.qz_stores.specs.Creating.{no_entries}
 use Rattle.qz_stores.proofs.Moments.{goes_on_still}
+use Rattle.qz_trigger_store.specs.Bytes.{list_of}
 use Rattle.qz_trigger_store.specs.Laws.{trigger_lawful}
 use Rattle.qz_journal.specs.Layout.{IsPayload}
 use Rattle.qz_types.specs.Entries.{EntryData}
@@ -63,7 +63,7 @@ loop-record-preserved g c =
       opened = opened_both c.args.store.now s t w.invariant.opened c.adopt_next.ensures.opened.0;
       keeps = c.adopt_next.ensures.opened.1 ∙ w.invariant.keeps;
       later = omega (arith, w.invariant.later, adopts_later p e.0 (Ok tt) s t done);
-      goes_on = λ from. goes_on_still trigger_lawful s.store t.store (no_entries v) c.adopt_next.ensures.opened.0 (w.invariant.goes_on from);
+      goes_on = λ from. goes_on_still trigger_lawful s.store t.store (list_of v []) c.adopt_next.ensures.opened.0 (w.invariant.goes_on from);
       any_moment = λ honest from.
           Moments.then_leaves (disk_state c.args.store.now) (disk_state s) (disk_state t) (HoldsFirst v es) (HoldsFirst v es) (HoldsFirst v es) (w.invariant.any_moment honest from)
           (next_leaves v es (take i es) (drop (suc i) es) e.0 e.1 p s t was.with_them (Ok tt) done (c.adopt_next.ensures.any_moment honest) (w.invariant.goes_on from)) (λ b x. x) (λ b x. x);

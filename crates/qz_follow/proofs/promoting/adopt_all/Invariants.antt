@@ -1,6 +1,6 @@
-use Rattle.std.proofs.Common.{◌≡◌, ◌≤◌, take}
+use Rattle.std.proofs.Common.{◌≡◌, ◌≤◌, [], take}
 use Rattle.qz_disk.specs.Disk.{LeavesOnly}
-use Rattle.qz_stores.specs.Creating.{no_entries}
+use Rattle.qz_trigger_store.specs.Bytes.{list_of}
 use Rattle.qz_trigger_store.specs.View.{view, keeps_of, disk_state, GoesOnFrom, IsOpenedAsBefore}
 use Rattle.qz_follow.specs.Promoting.{HoldsFirst, HasAdopted}
 use Rattle.qz_follow.proofs.promoting.adopt_all.Given as goal
@@ -12,6 +12,6 @@ invariant-loop-record g l = record {
   opened : IsOpenedAsBefore l.initial.store l.store;
   keeps : keeps_of l.store ≡ keeps_of l.initial.store;
   later : (view l.initial.store).faults ≤ (view l.store).faults;
-  goes_on : GoesOnFrom l.initial.store (no_entries l.version) → GoesOnFrom l.store (no_entries l.version);
-  any_moment : g.D.Disk.honest → GoesOnFrom l.initial.store (no_entries l.version) → LeavesOnly (disk_state l.initial.store) (disk_state l.store) (HoldsFirst l.version l.entries.items);
+  goes_on : GoesOnFrom l.initial.store (list_of l.version []) → GoesOnFrom l.store (list_of l.version []);
+  any_moment : g.D.Disk.honest → GoesOnFrom l.initial.store (list_of l.version []) → LeavesOnly (disk_state l.initial.store) (disk_state l.store) (HoldsFirst l.version l.entries.items);
 }
