@@ -1,5 +1,5 @@
 -- A command that is a leave.
-use Rattle.std.proofs.Common.{◌≡◌, true, refl, sym, subst}
+use Rattle.std.proofs.Common.{◌≡◌, true, refl, subst}
 use Rattle.std.specs.Prelude.{ℤ, IfOk, IfErr}
 use Rattle.std.specs.declared.result.Result.{Result}
 use Rattle.qz_types.specs.Rows.{MemberData}

@@ -4,6 +4,7 @@ use Rattle.std.proofs.Math.Logic.{∥∥₁_elim}
 use Rattle.std.specs.Prelude.{◌&&◌, ◌||◌}
 use Rattle.qz_types.specs.Rows.{MemberData}
 use Rattle.qz_types.specs.Entries.{EntryData, StateEntryData}
+use Rattle.qz_types.specs.Tables.{SchedulerTables}
 use Rattle.qz_types.specs.declared.replies.Reply.{Reply}
 use Rattle.qz_types.specs.declared.replies.Refusal.{Refusal}
 use Rattle.qz_steps.specs.declared.questions.Question.{Question}
@@ -22,6 +23,7 @@ use Rattle.qz_checkin.specs.Entries.{StatesState, of_states}
 use Rattle.qz_checkin.specs.History.{StateHistory, replay_states}
 use Rattle.qz_checkin.specs.Kinds.{rows_once, state_kind}
 use Rattle.qz_checkin.specs.Laws.{state_lawful}
+use Rattle.qz_checkin.specs.Rows.{StateTables}
 use Rattle.qz_cluster.specs.Asking.{answer_to}
 use Rattle.qz_cluster.specs.Script.{TimedStep, StepEffect, refuse, with_optional, with_optional_state}
 use Rattle.qz_cluster.specs.Steps.{ClusterState, needs_triggers, needs_states, is_closed_for, is_restart, is_show, is_unheld, rows_of, first_refusal, state_entry_of_step, entry_of_step, held_after, Stays, StatesDone, TriggersDone, AtStates, AtTriggers, StepCase}
@@ -153,13 +155,13 @@ same_question p q is = cc
 
 -- Of a restart. An open store has nothing undecided, so what it finds leaves the tables and the rows that it had.
 
-triggers_found : (h : History) (u : Option EntryData) (found : History) → u ≡ None → IsDecided trigger_kind h u found → replay found ≡ replay h
-triggers_found h None found none is = sym (same_state trigger_kind trigger_lawful h found is)
-triggers_found h (Some e) found none is = let bad : ◌≡◌ {A = Option EntryData} (Some e) None = none in absurd cc
+triggers_found : (start : SchedulerTables) (h : History) (u : Option EntryData) (found : History) → u ≡ None → IsDecided trigger_kind start h u found → replay found ≡ replay h
+triggers_found start h None found none is = sym (same_state trigger_kind trigger_lawful start h found is)
+triggers_found start h (Some e) found none is = let bad : ◌≡◌ {A = Option EntryData} (Some e) None = none in absurd cc
 
-states_found : (h : StateHistory) (u : Option StateEntryData) (found : StateHistory) → u ≡ None → IsDecided state_kind h u found → replay_states found ≡ replay_states h
-states_found h None found none is = sym (same_state state_kind state_lawful h found is)
-states_found h (Some e) found none is = let bad : ◌≡◌ {A = Option StateEntryData} (Some e) None = none in absurd cc
+states_found : (start : StateTables) (h : StateHistory) (u : Option StateEntryData) (found : StateHistory) → u ≡ None → IsDecided state_kind start h u found → replay_states found ≡ replay_states h
+states_found start h None found none is = sym (same_state state_kind state_lawful start h found is)
+states_found start h (Some e) found none is = let bad : ◌≡◌ {A = Option StateEntryData} (Some e) None = none in absurd cc
 
 restart_plain : (honest : Type 0) (at : ℤ) (r : StepReply) (S S' : ClusterState) → StepCase honest (record { step = Restart; at = at }) r S S' → IsReady S → (r ≡ reply.Fault → ⊥) → honest
     → IsPlain r (effect_at S Restart at) S S'
@@ -172,8 +174,8 @@ restart_plain honest at reply.Fault S S' case ready no_fault is = absurd (no_fau
 restart_plain honest at (reply.Shown s) S S' case ready no_fault is = let bad : ◌≡◌ {A = Step} Restart (Show case.question) = case.asked in absurd cc
 restart_plain honest at reply.Restarted S S' case ready no_fault is = record {
   reply = refl;
-  tables = ∥∥₁_elim (case.triggers.decided is) (tables_once _ _) (triggers_found S.triggers.history S.triggers.undecided S'.triggers.history ready.triggers_settled);
-  rows = ∥∥₁_elim (case.states.decided is) (rows_once _ _) (states_found S.states.history S.states.undecided S'.states.history ready.states_settled);
+  tables = ∥∥₁_elim (case.triggers.decided is) (tables_once _ _) (λ d. triggers_found d.0 S.triggers.history S.triggers.undecided S'.triggers.history ready.triggers_settled d.1);
+  rows = ∥∥₁_elim (case.states.decided is) (rows_once _ _) (λ d. states_found d.0 S.states.history S.states.undecided S'.states.history ready.states_settled d.1);
   held = case.held;
 }
 

@@ -1,5 +1,5 @@
 -- The case of a restart, step by step.
-use Rattle.std.proofs.Common.{◌≡◌, ◌⊎◌, inl, inr, ⊎_elim, ℕ, ℤ, ◌≤◌, List, true, false, refl, sym, ◌∙◌, subst, arith}
+use Rattle.std.proofs.Common.{◌≡◌, ◌⊎◌, inl, inr, ⊎_elim, ℕ, ℤ, ◌≤◌, true, false, refl, sym, ◌∙◌, subst, arith}
 use Rattle.std.proofs.Math.Logic.{∥∥₁_elim}
 use Rattle.std.specs.Prelude.{IfOk, IfErr, Ok, Err}
 use Rattle.std.specs.declared.result.Result.{Result}
@@ -43,10 +43,10 @@ shut_again s t u first second = record {
 }
 
 pub opens_after : {H S E R : Type 0} (kind : StoreKind H S E R) (honest : Type 0) (s t u : StoreState H E) → Shuts s t → Opens kind honest t u → Opens kind honest s u
-opens_after kind honest s t u first second = record {
+opens_after {S = S} kind honest s t u first second = record {
   is_open = second.is_open;
   undecided = second.undecided;
-  decided = λ h. subst (λ x. ∥ IsDecided kind x s.undecided u.history ∥₁) first.history (subst (λ x. ∥ IsDecided kind t.history x u.history ∥₁) first.undecided (second.decided h));
+  decided = λ h. subst (λ x. ∥ ((start : S) × IsDecided kind start x s.undecided u.history) ∥₁) first.history (subst (λ x. ∥ ((start : S) × IsDecided kind start t.history x u.history) ∥₁) first.undecided (second.decided h));
   later = omega (arith, first.later, second.later);
 }
 

@@ -1,6 +1,5 @@
 -- A script goes on in the same way from histories that leave the same.
 use Rattle.std.proofs.Common.{◌≡◌, List, [], ◌∷◌, Option, Some, None, refl, sym, ap, ◌∙◌}
-use Rattle.qz_types.specs.Rows.{MemberData}
 use Rattle.qz_types.specs.Entries.{EntryData, StateEntryData}
 use Rattle.qz_types.specs.Tables.{SchedulerTables}
 use Rattle.qz_model.specs.History.{History, replay, tables_left}

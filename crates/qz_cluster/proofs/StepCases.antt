@@ -11,7 +11,7 @@ use Rattle.qz_checkin.specs.Entries.{of_states}
 use Rattle.qz_steps.specs.Steps.{is_step}
 use Rattle.qz_steps.specs.declared.steps.Step.TheVariants.{Join, CheckIn}
 use Rattle.qz_cluster.specs.Script.{TimedStep, check_in_entry}
-use Rattle.qz_cluster.specs.Steps.{ClusterState, is_closed, is_closed_for, is_unheld, IsStep, IsCutShort, Submits, StepCase, EndCase, state_entry_of_step}
+use Rattle.qz_cluster.specs.Steps.{ClusterState, is_closed, is_unheld, IsStep, IsCutShort, Submits, StepCase, EndCase, state_entry_of_step}
 use Rattle.qz_cluster.specs.Submitting.{Declined, StatesSubmitted, Unsubmitted}
 use Rattle.qz_cluster.proofs.Unaccepted.{same_here}
 use Rattle.qz_cluster.specs.declared.errors.StepEnd.{StepEnd}

@@ -1,5 +1,4 @@
 -- What a step came to where the disks tell what they hold, it came to where something else says that they do.
-use Rattle.std.proofs.Common.{inl, inr}
 use Rattle.std.proofs.Math.Logic.{∥∥₁_elim}
 use Rattle.std.proofs.Props.{props}
 use Rattle.qz_steps.specs.declared.steps.StepReply.{StepReply}
@@ -10,7 +9,7 @@ use Rattle.qz_stores.specs.Stores.{StoreState}
 use Rattle.qz_trigger_store.specs.Kinds.{trigger_kind}
 use Rattle.qz_checkin.specs.Kinds.{state_kind}
 use Rattle.qz_cluster.specs.Script.{TimedStep}
-use Rattle.qz_cluster.specs.Steps.{ClusterState, RestartedStep, StepCase, IsStep, LostStore, EndCase, IsCutShort}
+use Rattle.qz_cluster.specs.Steps.{ClusterState, StepCase, IsStep, LostStore, EndCase, IsCutShort}
 use Rattle.qz_cluster.specs.declared.errors.StepEnd.{StepEnd}
 use Rattle.qz_cluster.specs.declared.errors.StepEnd.TheVariants as ends
 

@@ -2,7 +2,7 @@
 use Rattle.std.specs.Prelude.{◌≡◌, ℕ, List, None}
 use Rattle.qz_journal.specs.Slots.{slots_of, slot_in_use}
 use Rattle.qz_model.specs.History.{History}
-use Rattle.qz_trigger_store.specs.Bytes.{Whole, IsWhole, Stands, StandsFrom, BeginsNew}
+use Rattle.qz_trigger_store.specs.Bytes.{Whole, list_of, IsWhole, Stands, StandsFrom, BeginsNew}
 use Rattle.qz_trigger_store.specs.Entries.{TriggerState}
 use Rattle.qz_checkin.specs.Bytes.{Whole as WholeRows, IsWhole as IsWholeRows, Stands as RowsStand}
 use Rattle.qz_checkin.specs.Entries.{StatesState}
@@ -11,7 +11,7 @@ use Rattle.qz_checkin.specs.Entries.{StatesState}
 pub record IsAll (bytes : List ℕ) (h : History) : Type 0 where
   pub version : ℕ
   pub begins : BeginsNew version h
-  pub whole : IsWhole (record { version = version; entries = h.entries }) bytes
+  pub whole : IsWhole (list_of version h.entries) bytes
 
 -- What was opened of a trigger store. Its history begins with the snapshot at the slot in use, and is what the bytes from there on
 -- tell. Where the bytes hold a whole list, with true snapshots, it is an end of it. Where no slot is open, it is all that they

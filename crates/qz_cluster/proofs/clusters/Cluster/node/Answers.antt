@@ -1,7 +1,6 @@
-use Rattle.std.proofs.Common.{◌≡◌, w64, sym, ap, subst, ◌∙◌}
+use Rattle.std.proofs.Common.{w64, sym, ap, subst, ◌∙◌}
 use Rattle.std.proofs.lemmas.Int.{to_z-of_z}
 use Rattle.std.specs.Prelude.{ℕ, IfOk, IfErr, option_map}
-use Rattle.qz_types.specs.Rows.{MemberData}
 use Rattle.qz_types.specs.Words.{member_of}
 use Rattle.qz_checkin.specs.View.{view as states_view}
 use Rattle.qz_steps.specs.declared.steps.Step.TheVariants.{Node}

@@ -2,7 +2,7 @@ use Rattle.std.proofs.Common.{refl}
 use Rattle.std.proofs.Math.Logic.{∥∥₁_map}
 use Rattle.qz_types.specs.declared.stores.Store.TheVariants.{Triggers, States}
 use Rattle.qz_trigger_store.specs.Kinds.{trigger_kind}
-use Rattle.qz_trigger_store.specs.View.{view as store_view, IsTold as TriggersTold}
+use Rattle.qz_trigger_store.specs.View.{IsTold as TriggersTold}
 use Rattle.qz_checkin.specs.Kinds.{state_kind}
 use Rattle.qz_checkin.specs.View.{view as states_view, IsTold as StatesTold}
 use Rattle.qz_cluster.specs.View.{IsTold}
