@@ -1,7 +1,7 @@
 -- Along the steps of a script nothing is lost: each state has all that the one before it has.
 use Rattle.std.proofs.Common.{◌≡◌, ◌⊎◌, inl, inr, ℕ, ◌≤◌, List, [], ◌∷◌, ◌++◌, length, take, drop, Option, Some, None, refl, sym, ap, ◌∙◌, subst, arith, append_assoc, append-nil, take-append-drop}
 use Rattle.std.proofs.lemmas.List.{length-take-le}
-use Rattle.std.proofs.Math.Logic.{∥∥₁_elim, ∥∥₁_map}
+use Rattle.std.proofs.Math.Logic.{∥∥₁_map}
 use Rattle.qz_disk.specs.declared.disk.Disk.{Ghosts}
 use Rattle.qz_types.specs.Entries.{EntryData, StateEntryData}
 use Rattle.qz_types.specs.declared.replies.Reply.{Reply}
@@ -17,7 +17,9 @@ use Rattle.qz_trigger_store.specs.Laws.{trigger_lawful}
 use Rattle.qz_checkin.specs.Entries.{StatesState}
 use Rattle.qz_checkin.specs.Kinds.{state_kind}
 use Rattle.qz_checkin.specs.Laws.{state_lawful}
+use Rattle.qz_checkin.specs.Rows.{new_state_tables}
 use Rattle.qz_types.specs.Rows.{MemberData}
+use Rattle.qz_types.specs.Tables.{empty}
 use Rattle.qz_cluster.specs.Script.{TimedStep}
 use Rattle.qz_cluster.specs.Steps.{ClusterState, StatesDone, TriggersDone, AtStates, AtTriggers, StepCase}
 use Rattle.qz_open.specs.Runs.{StepsDone}
@@ -29,11 +31,11 @@ use Rattle.qz_top.proofs.LossLaws.{entry_keeps}
 module _ {H S E R : Type 0} (k : StoreKind H S E R) (lawful : IsLawful k) where
   -- the history is an end of some list
   abbrev pub HasEnd : H → Type 0
-  HasEnd h = ∥ ((version : ℕ) × (entries : List E) × IsEndOf k version h entries) ∥₁
+  HasEnd h = ∥ ((start : S) × (entries : List E) × IsEndOf k start h entries) ∥₁
 
   -- an end without its last entry
-  end_without : (v : ℕ) (h : H) (e : E) (l : List E) → IsEndOf k v (with_entry k e h) l → (es : List E) × (l ≡ es ++ e ∷ []) × IsEndOf k v h es
-  end_without v h e l is =
+  end_without : (start : S) (h : H) (e : E) (l : List E) → IsEndOf k start (with_entry k e h) l → (es : List E) × (l ≡ es ++ e ∷ []) × IsEndOf k start h es
+  end_without start h e l is =
       let n = k.base_count h in
       let front = take n l in
       let count : k.base_count (with_entry k e h) ≡ n = lawful.base_count_is n (k.base h) (k.entries h ++ e ∷ []) in
@@ -41,24 +43,24 @@ module _ {H S E R : Type 0} (k : StoreKind H S E R) (lawful : IsLawful k) where
       let base : k.base (with_entry k e h) ≡ k.base h = lawful.base_is n (k.base h) (k.entries h ++ e ∷ []) in
       let there : n ≤ length l = omega (arith, count, is.there) in
       let behind : k.entries h ++ e ∷ [] ≡ drop n l = sym list ∙ is.rest ∙ ap (λ (m : ℕ). drop m l) count in
-      let state : k.base h ≡ k.replay_from (k.empty v) front = sym base ∙ is.base ∙ ap (λ (m : ℕ). k.replay_from (k.empty v) (take m l)) count in
+      let state : k.base h ≡ k.replay_from start front = sym base ∙ is.base ∙ ap (λ (m : ℕ). k.replay_from start (take m l)) count in
       let whole : l ≡ front ++ (k.entries h ++ e ∷ []) = sym (take-append-drop n l) ∙ ap (λ (x : List E). front ++ x) (sym behind) in (
         front ++ k.entries h,
         whole ∙ sym (append_assoc front (k.entries h) (e ∷ [])),
-        subst (λ (x : H). IsEndOf k v x (front ++ k.entries h)) (lawful.whole h)
-            (end_as k lawful v n (k.base h) (k.entries h) (front ++ k.entries h) front (k.entries h) refl (sym (length-take-le n l there)) state refl),
+        subst (λ (x : H). IsEndOf k start x (front ++ k.entries h)) (lawful.whole h)
+            (end_as k lawful start n (k.base h) (k.entries h) (front ++ k.entries h) front (k.entries h) refl (sym (length-take-le n l there)) state refl),
       )
 
   -- What a step makes of a history: it stays, or it has one entry more, or a restart decides it.
   abbrev pub Moves : Type 0 → H → Option E → H → Type 0
-  Moves told h u h' = (h' ≡ h) ⊎ ((e : E) × (h' ≡ with_entry k e h)) ⊎ (told → ∥ IsDecided k h u h' ∥₁)
+  Moves told h u h' = (h' ≡ h) ⊎ ((e : E) × (h' ≡ with_entry k e h)) ⊎ (told → ∥ ((start : S) × IsDecided k start h u h') ∥₁)
 
-  decided_all : (h : H) (u : Option E) (h' : H) → IsDecided k h u h' → (version : ℕ) × (entries : List E) × (more : List E) × IsEndOf k version h entries × IsEndOf k version h' (entries ++ more)
-  decided_all h None h' d = (d.version, d.entries, [], d.first, subst (IsEndOf k d.version h') (sym (append-nil d.entries)) d.second)
-  decided_all h (Some e) h' (inl d) = (d.version, d.entries, [], d.first, subst (IsEndOf k d.version h') (sym (append-nil d.entries)) d.second)
-  decided_all h (Some e) h' (inr d) =
-      let cut = end_without d.version h e d.entries d.first in
-      (d.version, cut.0, e ∷ [], cut.2, subst (IsEndOf k d.version h') cut.1 d.second)
+  decided_all : (h : H) (u : Option E) (h' : H) → (start : S) × IsDecided k start h u h' → (start : S) × (entries : List E) × (more : List E) × IsEndOf k start h entries × IsEndOf k start h' (entries ++ more)
+  decided_all h None h' (O, d) = (O, d.entries, [], d.first, subst (IsEndOf k O h') (sym (append-nil d.entries)) d.second)
+  decided_all h (Some e) h' (O, inl d) = (O, d.entries, [], d.first, subst (IsEndOf k O h') (sym (append-nil d.entries)) d.second)
+  decided_all h (Some e) h' (O, inr d) =
+      let cut = end_without O h e d.entries d.first in
+      (O, cut.0, e ∷ [], cut.2, subst (IsEndOf k O h') cut.1 d.second)
 
   pub moved : (told : Type 0) → told → (h : H) (u : Option E) (h' : H) → HasEnd h → Moves told h u h' → HasAllOf k h' h
   moved told is h u h' has (inl same) =
@@ -124,10 +126,10 @@ pub ends_found : {D : Type 0} (g : Ghosts D) (triggers states : D) (opened : Clu
 ends_found g triggers states opened found told =
     let is = found told.0 in
     let rows = is.1.whole is.1.all is.1.held in (
-      ∥∥₁_map told.1 (λ x. let stands = is.0.whole x.0 x.1 in (x.0.version, x.0.entries ++ stands.more, stands.end_of_them)),
-      ∣ (is.1.all.version, is.1.all.entries ++ rows.more, rows.end_of_them) ∣₁,
+      ∥∥₁_map told.1 (λ x. let stands = is.0.whole x.0 x.1 in (x.0.start, x.0.entries ++ stands.more, stands.end_of_them)),
+      ∣ (is.1.all.start, is.1.all.entries ++ rows.more, rows.end_of_them) ∣₁,
     )
 
 -- and new ones
 pub new_ends : (m n : ℕ) → HaveEnds (new_cluster m n)
-new_ends m n = (∣ (2, [], record { there = omega arith; rest = refl; base = refl }) ∣₁, ∣ (2, [], record { there = omega arith; rest = refl; base = refl }) ∣₁)
+new_ends m n = (∣ (empty 2, [], record { there = omega arith; rest = refl; base = refl }) ∣₁, ∣ (new_state_tables, [], record { there = omega arith; rest = refl; base = refl }) ∣₁)

@@ -1,20 +1,18 @@
 -- How opened stores stand, and that what a crash leaves holds a whole list that begins as before.
-use Rattle.std.proofs.Common.{◌≡◌, ◌⊎◌, inl, inr, ℕ, List, [], ◌∷◌, ◌++◌, true, false, refl, sym, ap, subst, ◌∙◌, append_assoc, arith}
+use Rattle.std.proofs.Common.{◌≡◌, inl, inr, ℕ, List, [], ◌∷◌, ◌++◌, true, false, refl, sym, subst, append_assoc, arith}
 use Rattle.std.proofs.Math.Logic.{∥∥₁_elim, ∥∥₁_map}
 use Rattle.std.specs.Prelude.{Option}
 use Rattle.qz_disk.specs.declared.disk.Disk.{Ghosts}
-use Rattle.qz_disk.specs.Disk.{LeavesOnly}
 use Rattle.qz_disk.proofs.Moments.{weaker}
 use Rattle.qz_types.specs.Entries.{EntryData, StateEntryData}
-use Rattle.qz_types.specs.Tables.{empty}
+use Rattle.qz_types.specs.Tables.{SchedulerTables}
 use Rattle.qz_laws.specs.Losses.{AreExact}
 use Rattle.qz_laws.proofs.Histories.{exact}
 use Rattle.qz_model.specs.History.{History}
-use Rattle.qz_model.proofs.Kept.{valid-empty}
 use Rattle.qz_stores.specs.Bases.{HoldAll, records}
 use Rattle.qz_stores.proofs.Histories.{goes_on_in}
 use Rattle.qz_stores.proofs.Whole.{have_records}
-use Rattle.qz_trigger_store.specs.Bytes.{Whole, IsWhole, MayBe}
+use Rattle.qz_trigger_store.specs.Bytes.{Whole, MayBe}
 use Rattle.qz_trigger_store.specs.Entries.{TriggerState}
 use Rattle.qz_trigger_store.specs.Kinds.{trigger_kind}
 use Rattle.qz_trigger_store.specs.Laws.{trigger_lawful}
@@ -23,7 +21,7 @@ use Rattle.qz_trigger_store.specs.Proper.{each_proper}
 use Rattle.qz_trigger_store.specs.View.{view, base_of, found_of, added_of, version_of}
 use Rattle.qz_trigger_store.specs.declared.stores.TriggerStore.{TriggerStore}
 use Rattle.qz_trigger_store.proofs.Kept.{legal, base_valid, history_valid, payloads_enough}
-use Rattle.qz_checkin.specs.Bytes.{Whole as WholeRows, IsWhole as IsWholeRows, MayBe as RowsMayBe}
+use Rattle.qz_checkin.specs.Bytes.{Whole as WholeRows, MayBe as RowsMayBe}
 use Rattle.qz_checkin.specs.Entries.{StatesState}
 use Rattle.qz_checkin.specs.History.{StateHistory, replay_from}
 use Rattle.qz_checkin.specs.Kinds.{state_kind}
@@ -44,24 +42,24 @@ use Rattle.qz_top.specs.Standing.{longer, HoldLonger, HoldLongerRows, IsInOrder}
 use Rattle.qz_top.proofs.NodeRunLaws.{rows_legal}
 
 -- A whole list recovered what it lost.
-whole_exact : (version : ℕ) (es : List EntryData) (b : List ℕ) → HoldAll trigger_kind version b es → ∥ AreExact (empty version) es ∥₁
-whole_exact version es b held =
+whole_exact : (version : ℕ) (start : SchedulerTables) (es : List EntryData) (b : List ℕ) → HoldAll trigger_kind version start b es → ∥ AreExact start es ∥₁
+whole_exact version start es b held =
     let recorded = held.recorded held.store.0 held.store.1 in
-    ∥∥₁_elim recorded squash₁ (λ all. ∥∥₁_map held.legal (λ legal. exact (empty version) es (valid-empty version) (each_proper es (have_records trigger_kind (records trigger_kind held.store.0) es all)) legal))
+    ∥∥₁_elim recorded squash₁ (λ all. ∥∥₁_elim held.valid squash₁ (λ valid. ∥∥₁_map held.legal (λ legal. exact start es valid (each_proper es (have_records trigger_kind (records trigger_kind held.store.0) es all)) legal)))
 
 -- Longer lists.
 
-pub longer_of : (w : Whole) (b : List ℕ) → (more : List EntryData) × HoldAll trigger_kind w.version b (w.entries ++ more) → HoldLonger w b
-longer_of w b (more, held) = record { more = more; held = held; recovered = whole_exact w.version (w.entries ++ more) b held }
+pub longer_of : (w : Whole) (b : List ℕ) → (more : List EntryData) × HoldAll trigger_kind w.version w.start b (w.entries ++ more) → HoldLonger w b
+longer_of w b (more, held) = record { more = more; held = held; recovered = whole_exact w.version w.start (w.entries ++ more) b held }
 
-pub rows_longer_of : (v : WholeRows) (b : List ℕ) → (more : List StateEntryData) × HoldAll state_kind v.version b (v.entries ++ more) → HoldLongerRows v b
+pub rows_longer_of : (v : WholeRows) (b : List ℕ) → (more : List StateEntryData) × HoldAll state_kind v.version v.start b (v.entries ++ more) → HoldLongerRows v b
 rows_longer_of v b (more, held) = record { more = more; held = held }
 
 pub longer_still : (w : Whole) (more : List EntryData) (b : List ℕ) → HoldLonger (longer w more) b → HoldLonger w b
-longer_still w more b holds = longer_of w b (more ++ holds.more, subst (λ (l : List EntryData). HoldAll trigger_kind w.version b l) (append_assoc w.entries more holds.more) holds.held)
+longer_still w more b holds = longer_of w b (more ++ holds.more, subst (λ (l : List EntryData). HoldAll trigger_kind w.version w.start b l) (append_assoc w.entries more holds.more) holds.held)
 
 pub rows_longer_still : (v : WholeRows) (more : List StateEntryData) (b : List ℕ) → HoldLongerRows (longer v more) b → HoldLongerRows v b
-rows_longer_still v more b holds = rows_longer_of v b (more ++ holds.more, subst (λ (l : List StateEntryData). HoldAll state_kind v.version b l) (append_assoc v.entries more holds.more) holds.held)
+rows_longer_still v more b holds = rows_longer_of v b (more ++ holds.more, subst (λ (l : List StateEntryData). HoldAll state_kind v.version v.start b l) (append_assoc v.entries more holds.more) holds.held)
 
 -- what may be on a disk
 pub may_longer : (w : Whole) (h : History) (u : Option EntryData) (b : List ℕ) → MayBe w h u b → HoldLonger w b
@@ -130,11 +128,11 @@ module _ {D : Type 0} {g : Ghosts D} where
   pub states_sound : (s : StateStore D g) → AreSound (states_view s)
   states_sound s =
       let new = s.store.new_base refl in
-      let left : ∥ StatesValid (replay_from new_state_tables (entries_of s)) ∥₁ = ∥∥₁_elim s.store.recorded squash₁ (λ recorded. state_lawful.valid_left 2 (entries_of s) refl recorded (states_legal s)) in
+      let left : ∥ StatesValid (replay_from new_state_tables (entries_of s)) ∥₁ = ∥∥₁_elim s.store.recorded squash₁ (λ recorded. ∥∥₁_elim (state_lawful.valid_new 2 refl) squash₁ (λ valid. state_lawful.valid_left new_state_tables (entries_of s) valid recorded (states_legal s))) in
       record {
         version = s.store.version;
         begins = λ none. record { known = s.store.known; count = s.store.new_count refl; base = new };
-        base = subst (λ (T : StateTables). ∥ StatesValid T ∥₁) (sym new) (state_lawful.valid_left 2 [] refl tt tt);
+        base = subst (λ (T : StateTables). ∥ StatesValid T ∥₁) (sym new) (state_lawful.valid_new 2 refl);
         legal = rows_legal s;
         state = subst (λ (T : StateTables). ∥ StatesValid (replay_from T (entries_of s)) ∥₁) (sym new) left;
         counted = λ is_open. omega (arith, s.store.placed is_open, s.store.counted);

@@ -1,19 +1,18 @@
 -- Calls one after another keep what the disks held.
-use Rattle.std.proofs.Common.{◌≡◌, ◌⊎◌, inl, inr, ℕ, List, [], ◌∷◌, refl, sym, subst, arith}
-use Rattle.std.proofs.Math.Logic.{∥∥₁_elim, ∥∥₁_map}
-use Rattle.std.specs.Prelude.{⊤, Result, Ok, Err}
+use Rattle.std.proofs.Common.{inl, inr, ℕ, List, [], ◌∷◌, sym, subst}
+use Rattle.std.proofs.Math.Logic.{∥∥₁_elim}
+use Rattle.std.specs.Prelude.{Result, Ok, Err}
 use Rattle.std.specs.List.{AllByRecursion}
 use Rattle.qz_disk.specs.declared.disk.Disk.{Ghosts}
-use Rattle.qz_disk.specs.Disk.{IsLawful, Only, LeavesOnly}
+use Rattle.qz_disk.specs.Disk.{IsLawful, LeavesOnly}
 use Rattle.qz_disk.proofs.Moments.{started, then_leaves}
-use Rattle.qz_io.specs.Outside.{Outside}
 use Rattle.qz_journal.specs.declared.layout.TheConstants.{TRIGGERS, STATES}
 use Rattle.qz_journal.proofs.Headers.{header_store}
 use Rattle.qz_stores.proofs.NewStores.{new_whole}
-use Rattle.qz_trigger_store.specs.Bytes.{Whole, IsWhole}
+use Rattle.qz_trigger_store.specs.Bytes.{Whole, list_of}
 use Rattle.qz_trigger_store.specs.Kinds.{trigger_kind}
 use Rattle.qz_trigger_store.specs.Laws.{trigger_lawful}
-use Rattle.qz_checkin.specs.Bytes.{Whole as WholeRows, IsWhole as IsWholeRows}
+use Rattle.qz_checkin.specs.Bytes.{Whole as WholeRows, list_of as rows_list_of}
 use Rattle.qz_checkin.specs.Kinds.{state_kind}
 use Rattle.qz_checkin.specs.Laws.{state_lawful}
 use Rattle.qz_cluster.specs.Steps.{ClusterState}
@@ -26,7 +25,6 @@ use Rattle.qz_top.specs.InTurn.{Call, HasHeadline, BeginsWith, Keeps, Follows, I
 use Rattle.qz_top.specs.Making.{IsNew}
 use Rattle.qz_top.specs.NodeRuns.{IsKept}
 use Rattle.qz_top.specs.Standing.{longer, HoldLonger, HoldLongerRows, OutlastsCrashes}
-use Rattle.qz_top.specs.declared.ended.Ended.{Ended}
 use Rattle.qz_top.proofs.StandingLaws.{longer_of, rows_longer_of, longer_still, rows_longer_still}
 
 module _ {D : Type 0} {g : Ghosts D} (honest : g.honest) (lawful : (d : D) → IsLawful (g.state d)) (w : Whole) (v : WholeRows) (c : Call g) (begins : BeginsWith w v c) where
@@ -106,10 +104,10 @@ module _ {D : Type 0} {g : Ghosts D} (honest : g.honest) (lawful : (d : D) → I
 
 -- New stores hold empty lists, and a crash leaves them.
 module _ {D : Type 0} (g : Ghosts D) where
-  pub new_entries : (old new : D) → IsNew TRIGGERS (g.state old) (g.state new) → (b : List ℕ) → (g.state new).IsImage b → HoldLonger (record { version = 2; entries = [] }) b
+  pub new_entries : (old new : D) → IsNew TRIGGERS (g.state old) (g.state new) → (b : List ℕ) → (g.state new).IsImage b → HoldLonger (list_of 2 []) b
   new_entries old new made b is =
-      subst (HoldLonger (record { version = 2; entries = [] })) (sym (made.durable b is)) (longer_of _ (g.state new).content ([], new_whole trigger_kind trigger_lawful 2 (g.state new).content made.empty made.header))
+      subst (HoldLonger (list_of 2 [])) (sym (made.durable b is)) (longer_of _ (g.state new).content ([], new_whole trigger_kind trigger_lawful 2 (g.state new).content made.empty made.header))
 
-  pub new_rows : (old new : D) → IsNew STATES (g.state old) (g.state new) → (b : List ℕ) → (g.state new).IsImage b → HoldLongerRows (record { version = 2; entries = [] }) b
+  pub new_rows : (old new : D) → IsNew STATES (g.state old) (g.state new) → (b : List ℕ) → (g.state new).IsImage b → HoldLongerRows (rows_list_of 2 []) b
   new_rows old new made b is =
-      subst (HoldLongerRows (record { version = 2; entries = [] })) (sym (made.durable b is)) (rows_longer_of _ (g.state new).content ([], new_whole state_kind state_lawful 2 (g.state new).content made.empty made.header))
+      subst (HoldLongerRows (rows_list_of 2 [])) (sym (made.durable b is)) (rows_longer_of _ (g.state new).content ([], new_whole state_kind state_lawful 2 (g.state new).content made.empty made.header))

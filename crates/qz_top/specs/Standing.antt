@@ -2,7 +2,6 @@
 use Rattle.std.specs.Prelude.{⊤, ◌≡◌, ◌≤◌, ℕ, List, [], ◌∷◌, ◌++◌}
 use Rattle.qz_disk.specs.declared.disk.Disk.{Ghosts}
 use Rattle.qz_types.specs.Entries.{EntryData, StateEntryData}
-use Rattle.qz_types.specs.Tables.{empty}
 use Rattle.qz_laws.specs.Losses.{AreExact}
 use Rattle.qz_stores.specs.Bases.{WholeList, IsEndOf}
 use Rattle.qz_stores.specs.Kinds.{StoreKind}
@@ -19,16 +18,16 @@ use Rattle.qz_top.specs.Moments.{HasTriggers, HasStates}
 use Rattle.qz_top.specs.NodeRuns.{IsKept}
 use Rattle.qz_top.specs.declared.ended.Ended.{Ended}
 
--- a list that begins with this one, in the same format version
-abbrev pub longer : {E : Type 0} → WholeList E → List E → WholeList E
-longer w more = record { version = w.version; entries = w.entries ++ more }
+-- a list that begins with this one, in the same format version and from the same start
+abbrev pub longer : {S E : Type 0} → WholeList S E → List E → WholeList S E
+longer w more = record { version = w.version; start = w.start; entries = w.entries ++ more }
 
--- The bytes of a trigger store hold a whole list that begins with this one. Of all executions that were lost in it, from its first
--- entry on, each yielded one recovery trigger if its job asked for it and was still stored, else none.
+-- The bytes of a trigger store hold a whole list that begins with this one. Of all executions that were lost in it, from its start
+-- on, each yielded one recovery trigger if its job asked for it and was still stored, else none.
 pub record HoldLonger (w : Whole) (bytes : List ℕ) : Type 0 where
   pub more : List EntryData
   pub held : IsWhole (longer w more) bytes
-  pub recovered : ∥ AreExact (empty w.version) (w.entries ++ more) ∥₁
+  pub recovered : ∥ AreExact w.start (w.entries ++ more) ∥₁
 
 -- The bytes of a state store hold a whole list that begins with this one.
 pub record HoldLongerRows (v : WholeRows) (bytes : List ℕ) : Type 0 where
@@ -38,7 +37,7 @@ pub record HoldLongerRows (v : WholeRows) (bytes : List ℕ) : Type 0 where
 -- The later history has all that the earlier one has: there is a whole list of which the earlier one is an end, and the later one is
 -- an end of that list or of one that goes on from it. So the tables that the earlier one left are those that the later one went on from.
 abbrev pub HasAllOf : {H S E R : Type 0} → StoreKind H S E R → H → H → Type 0
-HasAllOf {E = E} k later earlier = ∥ ((version : ℕ) × (entries : List E) × (more : List E) × IsEndOf k version earlier entries × IsEndOf k version later (entries ++ more)) ∥₁
+HasAllOf {S = S} {E = E} k later earlier = ∥ ((start : S) × (entries : List E) × (more : List E) × IsEndOf k start earlier entries × IsEndOf k start later (entries ++ more)) ∥₁
 
 -- each of these states has all that the one before it has
 abbrev pub LoseNothing : ClusterState → List ClusterState → Type 0

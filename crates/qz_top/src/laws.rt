@@ -2,8 +2,8 @@
 ghost use Rattle.std.specs.Prelude.{List, ℕ, ◌∷◌, []};
 ghost use Rattle.std.specs.List.{AllByRecursion};
 ghost use Rattle.qz_journal.specs.declared.layout.TheConstants.{TRIGGERS, STATES};
-ghost use Rattle.qz_trigger_store.specs.Bytes.{Whole};
-ghost use Rattle.qz_checkin.specs.Bytes.{Whole as WholeRows};
+ghost use Rattle.qz_trigger_store.specs.Bytes.{Whole, list_of};
+ghost use Rattle.qz_checkin.specs.Bytes.{Whole as WholeRows, list_of as rows_list_of};
 ghost use Rattle.qz_top.specs.InTurn.{Call, HasHeadline, BeginsWith, Keeps, InTurn};
 ghost use Rattle.qz_top.specs.Making.{IsNew};
 ghost use Rattle.qz_top.specs.Standing.{HoldLonger, HoldLongerRows};
@@ -22,6 +22,6 @@ pub fn calls_keep_histories<D: Disk>()
 /// A store that `init` made holds the empty list, and a crash leaves nothing else: so the first call may come. It does nothing: its
 /// contract says so.
 pub fn new_stores_hold_empty_lists<D: Disk>()
-    ensures triggers { (old new : D) → IsNew TRIGGERS (D.state old) (D.state new) → (b : List ℕ) → (D.state new).IsImage b → HoldLonger (record { version = 2; entries = [] }) b }
-    ensures states { (old new : D) → IsNew STATES (D.state old) (D.state new) → (b : List ℕ) → (D.state new).IsImage b → HoldLongerRows (record { version = 2; entries = [] }) b }
+    ensures triggers { (old new : D) → IsNew TRIGGERS (D.state old) (D.state new) → (b : List ℕ) → (D.state new).IsImage b → HoldLonger (list_of 2 []) b }
+    ensures states { (old new : D) → IsNew STATES (D.state old) (D.state new) → (b : List ℕ) → (D.state new).IsImage b → HoldLongerRows (rows_list_of 2 []) b }
 {}

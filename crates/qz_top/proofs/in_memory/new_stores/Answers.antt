@@ -1,13 +1,12 @@
-use Rattle.std.proofs.Common.{◌≡◌, refl, sym, subst, [], List, ℕ}
-use Rattle.qz_disk.specs.declared.disk.Disk.{Ghosts}
+use Rattle.std.proofs.Common.{sym, subst, [], List, ℕ}
 use Rattle.qz_journal.specs.Layout.{Holds}
 use Rattle.qz_journal.specs.declared.layout.TheConstants.{TRIGGERS, STATES}
 use Rattle.qz_cluster.specs.View.{view as cluster_view}
 use Rattle.qz_stores.proofs.NewStores.{new_whole, new_found, placed_new}
-use Rattle.qz_trigger_store.specs.Bytes.{Whole, IsWhole}
+use Rattle.qz_trigger_store.specs.Bytes.{Whole, list_of}
 use Rattle.qz_trigger_store.specs.Kinds.{trigger_kind}
 use Rattle.qz_trigger_store.specs.Laws.{trigger_lawful}
-use Rattle.qz_checkin.specs.Bytes.{Whole as WholeRows, IsWhole as IsWholeRows}
+use Rattle.qz_checkin.specs.Bytes.{Whole as WholeRows, list_of as rows_list_of}
 use Rattle.qz_checkin.specs.Kinds.{state_kind}
 use Rattle.qz_checkin.specs.Laws.{state_lawful}
 use Rattle.qz_top.proofs.TrailLaws.{new_state}
@@ -15,10 +14,10 @@ use Rattle.qz_top.proofs.in_memory.new_stores.Goals as goal
 
 -- the whole list of a new store
 abbrev none : Whole
-none = record { version = 2; entries = [] }
+none = list_of 2 []
 
 abbrev no_rows : WholeRows
-no_rows = record { version = 2; entries = [] }
+no_rows = rows_list_of 2 []
 
 pub returns-in-Ok-clause-told : goal.returns-in-Ok-clause-told
 returns-in-Ok-clause-told c =
