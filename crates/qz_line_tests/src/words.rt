@@ -166,7 +166,7 @@ const RUNS: &[WordRow] = &[
     ),
 ];
 
-/// Words of `serve`, and how many nodes they ask for up to which moment.
+/// Words of `serve`, and how many nodes they ask for up to which moment, with how many looks.
 #[derive(Clone, Copy, Debug)]
 struct ServeRow {
     words: &'static [&'static str],
@@ -186,7 +186,32 @@ const SERVES: &[ServeRow] = &[
         want: Ok(Serving {
             nodes: 16,
             until: 7258118399999,
+            looks: None,
         }),
+    },
+    ServeRow {
+        words: &["serve", "2", "0", "1000"],
+        want: Ok(Serving {
+            nodes: 2,
+            until: 0,
+            looks: Some(1000),
+        }),
+    },
+    ServeRow {
+        words: &["serve", "1", "0", "0"],
+        want: Err(WordFault::OutOfRange { place: 3 }),
+    },
+    ServeRow {
+        words: &["serve", "1", "0", "1001"],
+        want: Err(WordFault::OutOfRange { place: 3 }),
+    },
+    ServeRow {
+        words: &["serve", "17", "0", "x"],
+        want: Err(WordFault::BadNumber { place: 3 }),
+    },
+    ServeRow {
+        words: &["serve", "1", "0", "1", "1"],
+        want: Err(WordFault::WrongCount { found: 4 }),
     },
     ServeRow {
         words: &[],

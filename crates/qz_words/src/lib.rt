@@ -9,5 +9,5 @@ mod wishes;
 
 pub use limits::limits_are;
 pub use running::{BUDGET_LIMIT, DAY_LIMIT, JOB_LIMIT, NODE_LIMIT, USUAL_BUDGET};
-pub use serves::{Serving, read_serve};
+pub use serves::{LOOK_LIMIT, Serving, read_serve};
 pub use wishes::{COUNT_LIMIT, Wish, WordFault, read_words};
