@@ -1,2 +1,3 @@
 pub mod Boarded
 pub mod Glances
+pub mod StatusBoards

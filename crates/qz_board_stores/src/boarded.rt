@@ -55,16 +55,30 @@ impl<D: Disk, R: Wait + Drop> Boarded<D, R> {
         }
     }
 
-    /// The store, and the board's writer.
-    pub(crate) fn into_parts(self) -> (SharedTriggers<D>, BoardWriter<TriggerHistories>)
+    /// The store under a board that shows an earlier moment of it. What it has further is posted; without memory the board
+    /// stays behind.
+    pub(crate) fn over(
+        rt: R,
+        store: SharedTriggers<D>,
+        writer: BoardWriter<TriggerHistories>,
+    ) -> Boarded<D, R>
+        requires begins { IsPrefix (posted writer) (view store.store).history.entries }
+        requires goes_on { IsPrefix (offered writer) (view store.store).history.entries }
+        requires basis { writer_basis writer ≡ Some (base_of (view store.store).history) }
+        ensures store { result.store ≡ store }
+        ensures board { writer_board result.writer ≡ writer_board writer }
+    {
+        let mut writer = writer;
+        let _ = writer.post(&rt, &store);
+        Boarded { rt, store, writer }
+    }
+
+    /// The store, the board's writer, and the handle.
+    pub(crate) fn into_parts(self) -> (SharedTriggers<D>, BoardWriter<TriggerHistories>, R)
         ensures { (result.0 ≡ self.store) × (result.1 ≡ self.writer) }
     {
-        let Boarded {
-            rt: _,
-            store,
-            writer,
-        } = self;
-        (store, writer)
+        let Boarded { rt, store, writer } = self;
+        (store, writer, rt)
     }
 }
 

@@ -73,7 +73,7 @@ pub fn close_with_board<D: Disk, R: Wait + Drop>(
     ensures board { writer_board result.1 ≡ writer_board (first_value row).opened.value.writer }
 {
     let boarded = close_row(row, seat);
-    let (store, writer) = boarded.into_parts();
+    let (store, writer, _) = boarded.into_parts();
     let SharedTriggers { store } = store;
     (store, writer)
 }
