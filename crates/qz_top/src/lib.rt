@@ -37,4 +37,4 @@ pub use open_stores::open_node_stores;
 pub use qz_words::WordFault;
 pub use reports::report;
 pub use statuses::{BadKind, Status};
-pub use telling::tell_run;
+pub use telling::{tell_run, tell_run_after};

@@ -40,6 +40,28 @@ pub fn tell_run<K: Sink, D: Disk>(
     }
 }
 
+/// The same, with other lines before them. All is written at once.
+#[tactic(auto, using(crate::proofs::TellingLaws::wrote_none))]
+pub fn tell_run_after<K: Sink, D: Disk>(
+    alloc: Global,
+    before: &Text,
+    triggers: &TriggerStore<D>,
+    status: Status,
+    out: &mut K,
+) -> Status
+    requires status { IsOfNodes status }
+    requires keeps { keeps_of triggers.now ≡ true }
+    ensures written { WritesRun result (before.now ++ text_since (found_history triggers.now) (replay (view triggers.now).history) (added_of triggers.now)) (output_alone K.Sink out.old) (output_alone K.Sink out.new) }
+    ensures status { (result ≡ status) ⊎ (result ≡ Status.WriteFault) ⊎ (result ≡ Status.NoMemory) }
+    ensures write { result ≡ Status.WriteFault → Rose (K.faults out.old) (K.faults out.new) }
+    ensures handed { HandsOnWritten K.Sink out.old out.new }
+{
+    match text_after(alloc, before, triggers) {
+        Ok(text) => tell(out, text.as_str(), status),
+        Err(_) => Status::NoMemory,
+    }
+}
+
 /// Writes the line that sums up what the store accepted since it was opened. It answers the status, or why it isn't written.
 #[tactic(auto, using(crate::proofs::TellingLaws::wrote_none))]
 pub(crate) fn tell_summary<K: Sink, D: Disk>(
@@ -84,6 +106,19 @@ fn text_of<D: Disk>(alloc: Global, triggers: &TriggerStore<D>) -> Result<Text, N
     let lines = lines_of(alloc, triggers)?;
     let summary = summary_line(alloc, &summary_of(triggers))?;
     joined(alloc, &lines, &summary)
+}
+
+// Other lines, and then these.
+fn text_after<D: Disk>(
+    alloc: Global,
+    before: &Text,
+    triggers: &TriggerStore<D>,
+) -> Result<Text, NoMemory>
+    requires { keeps_of triggers.now ≡ true }
+    ensures { IfOk result (λ text. text ≡ before.now ++ text_since (found_history triggers.now) (replay (view triggers.now).history) (added_of triggers.now)) }
+{
+    let text = text_of(alloc, triggers)?;
+    joined(alloc, before, &text)
 }
 
 // The lines of what the store accepted since it was opened. A number past 64 bits would want more memory than there is.
