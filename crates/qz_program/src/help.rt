@@ -11,9 +11,10 @@ pub const HELP: &str = "usage: qz_sched < LINES           a script on new stores
        qz_sched run NODES FROM UNTIL [BUDGET]
                                   nodes work on the stores of the current folder, on a
                                   clock that begins at FROM, up to UNTIL
-       qz_sched serve NODES UNTIL
+       qz_sched serve NODES UNTIL [LOOKS]
                                   nodes work on the stores of the current folder, each in
-                                  threads of its own, until the system's clock shows UNTIL
+                                  threads of its own, until the system's clock shows UNTIL;
+                                  LOOKS lines of a status board show how that went on
        qz_sched gen SEED JOBS DAYS
                                   jobs and triggers from a number, run on new stores
        qz_sched times AFTER COUNT < LINES

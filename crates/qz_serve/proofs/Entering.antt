@@ -4,9 +4,7 @@ use Rattle.std.specs.Prelude.{Contains}
 use Rattle.qz_types.specs.Entries.{EntryData, StateEntryData}
 use Rattle.qz_types.specs.Rows.{MemberData}
 use Rattle.qz_types.specs.declared.commands.Actor.TheVariants.{Client, Node}
-use Rattle.qz_types.specs.declared.commands.Command.{Command}
 use Rattle.qz_types.specs.declared.commands.Command.TheVariants.{Join, Leave}
-use Rattle.qz_types.specs.declared.states.StateCommand.{StateCommand}
 use Rattle.qz_types.specs.declared.states.StateCommand.TheVariants.{CheckIn, Forget}
 use Rattle.qz_run.specs.declared.stores.TheConstants.{CHECK_IN_INTERVAL}
 use Rattle.qz_serve.specs.Ours.{IsCheckIn, IsForget, IsJoin, IsLeave}

@@ -1,5 +1,5 @@
 -- What a thread knows of its end, as it steps, and as more is seen.
-use Rattle.std.proofs.Common.{◌≡◌, ◌⊎◌, inl, inr, arith, ◌≤ℤ◌, ◌||◌, ℕ, ℤ, Bool, true, false, List, [], ◌∷◌, ◌++◌, length, ◌<◌, if◌then◌else◌, refl, sym, ap, ◌∙◌, subst, rules}
+use Rattle.std.proofs.Common.{◌≡◌, ◌⊎◌, inl, inr, arith, ◌≤ℤ◌, ◌||◌, ℕ, ℤ, Bool, true, false, List, [], ◌∷◌, ◌++◌, length, ◌<◌, if◌then◌else◌, refl, sym, ap, ◌∙◌, subst}
 use Rattle.std.specs.Prelude.{⊤, Option, Some, None, Ok, Err, IfErr, IfOk, IfSome, OnOk, int_le, nat_lt}
 use Rattle.std.specs.declared.result.Result.{Result}
 use Rattle.std.specs.List.{AllByRecursion}
@@ -21,9 +21,8 @@ use Rattle.qz_types.specs.declared.replies.Taken.{Taken}
 use Rattle.qz_node.specs.declared.turns.Held.{Held}
 use Rattle.qz_node.specs.declared.turns.Idle.{Idle}
 use Rattle.qz_node.specs.declared.turns.Idle.TheVariants as idle
-use Rattle.qz_node.specs.declared.turns.Want.{Want}
 use Rattle.qz_node.specs.declared.turns.Want.TheVariants as want
-use Rattle.qz_node.specs.Turns.{TurnData, wanted, wanted_idle, wanted_held, wanted_of, wanted_with, learnt_moved, learnt_taken, learnt_reply, refused_with, ends_at_refusal, ended, is_fenced, new_turn}
+use Rattle.qz_node.specs.Turns.{TurnData, wanted, wanted_idle, wanted_of, wanted_with, learnt_moved, learnt_taken, learnt_reply, refused_with, ends_at_refusal, ended, is_fenced, new_turn}
 use Rattle.qz_node.specs.declared.turns.LastHeard.{LastHeard}
 use Rattle.qz_node.specs.declared.turns.LastHeard.TheVariants as last
 use Rattle.qz_node.specs.Hubs.{IsReplyTo, learnt_answer}
@@ -42,7 +41,7 @@ use Rattle.qz_serve.specs.Causes.{least_cause, rank}
 use Rattle.qz_serve.specs.Entries.{IsPlain, IsScheduled, IsWork, entry_by}
 use Rattle.qz_serve.specs.Heard.{Deed}
 use Rattle.qz_serve.specs.Ran.{MayFollow, Ran, RunsBy, context_in}
-use Rattle.qz_serve.specs.Finished.{CameToEnd, EndsThread, FoundNothing, KnowsEnd, NodeCameToEnd, RestedLate, WasAccepted, WasRefused}
+use Rattle.qz_serve.specs.Finished.{CameToEnd, EndsThread, FoundNothing, KnowsEnd, NodeCameToEnd, WasAccepted, WasRefused}
 
 module _ {H : Type 0} (kind : EntryKind H EntryData Reply) (listed : H → List EntryData) (opened : StoreState H EntryData) where
   -- More was seen.

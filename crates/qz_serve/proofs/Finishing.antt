@@ -8,7 +8,7 @@ use Rattle.std.specs.Prelude.{Option, Some, None, Bool, IfSome}
 use Rattle.qz_civil.specs.Causes.{Rose}
 use Rattle.qz_disk.specs.declared.disk.Disk.{Ghosts}
 use Rattle.qz_io.specs.Outside.{Outside}
-use Rattle.qz_types.specs.Entries.{EntryData, StateEntryData}
+use Rattle.qz_types.specs.Entries.{EntryData}
 use Rattle.qz_model.specs.History.{History, replay}
 use Rattle.qz_node.specs.Jobs.{JobMeaning}
 use Rattle.qz_stores.specs.Stores.{StoreState}
@@ -21,18 +21,18 @@ use Rattle.qz_checkin.specs.declared.stores.StateStore.{StateStore}
 use Rattle.qz_cluster.specs.Steps.{ClusterState}
 use Rattle.qz_run.specs.declared.commands.Declined.{Declined}
 use Rattle.qz_run.specs.declared.commands.Declined.TheVariants as why
-use Rattle.qz_run_stores.specs.Going.{Went, StatesWent}
+use Rattle.qz_run_stores.specs.Going.{StatesWent}
 use Rattle.qz_run_stores.specs.Ways.{KeepsStates, KeepsTriggers}
 use Rattle.qz_shared_stores.specs.Going.{TriggersWentOn}
 use Rattle.qz_shared_stores.specs.Laws.{histories_once}
 use Rattle.qz_words.specs.declared.serves.Serving.{Serving}
 use Rattle.qz_top.specs.Found.{found_history}
-use Rattle.qz_top.specs.NodeRuns.{both, IsToldAs, WentOn}
+use Rattle.qz_top.specs.NodeRuns.{both, IsToldAs, run_text, text_since}
 use Rattle.qz_top.specs.OpenStores.{JustOpened}
 use Rattle.qz_top.specs.Resting.{RestsNodes}
 use Rattle.qz_top.specs.declared.statuses.Status.{Status}
 use Rattle.qz_top.specs.declared.statuses.Status.TheVariants as status
-use Rattle.qz_top.proofs.NodeRunLaws.{kept_on_the_way, left_at_end, rows_legal, told_text}
+use Rattle.qz_top.proofs.NodeRunLaws.{kept_on_the_way, left_at_end, rows_legal}
 use Rattle.qz_top.proofs.NodeRestLaws.{MayRest, rested_kept, rests_may}
 use Rattle.qz_serve.specs.Courses.{EndsBy, OneIsClosed, TookCourse}
 use Rattle.qz_serve.specs.Declining.{AtLimit}
@@ -44,6 +44,7 @@ use Rattle.qz_serve.specs.Ours.{main_name, node_names, our_names}
 use Rattle.qz_serve.specs.Serves.{DidServe, DiskFailed, GaveUp, IsDecided, ServedOnDisk, status_of}
 use Rattle.qz_serve.specs.declared.both_stores.BothStores.{BothStores}
 use Rattle.qz_serve.specs.declared.served.Served.{Served}
+use Rattle.qz_serve.proofs.Boarding.{wrote_as}
 use Rattle.qz_serve.proofs.Coursing.{Added, course_added}
 
 bools_once : (a b : Bool) → IsProp (a ≡ b)
@@ -80,6 +81,9 @@ module _ {D : Type 0} {g : Ghosts D} where
   pub keeps_still : (b t : TriggerStore D g) → keeps_of b ≡ true → ∥ TriggersWentOn b t ∥₁ → keeps_of t ≡ true
   keeps_still b t keeps went = ∥∥₁_elim went (bools_once _ _) (λ w. w.keeps ∙ keeps)
 
+text_is : (begun end : ClusterState) (k : History) (es added : List EntryData) → k ≡ begun.triggers.history → es ≡ added → text_since k (replay end.triggers.history) es ≡ run_text begun end added
+text_is begun end k es added from all = ap (λ (h : History). text_since h (replay end.triggers.history) es) from ∙ ap (λ (xs : List EntryData). text_since begun.triggers.history (replay end.triggers.history) xs) all
+
 rose_after : (a b c : ℕ) → a ≤ b → Rose b c → Rose a c
 rose_after a b c earlier rose = omega (arith, earlier, rose)
 
@@ -106,10 +110,10 @@ module _ {D : Type 0} {g : Ghosts D} (first second : D) (b t : BothStores D g) (
 
 module _ {D : Type 0} {g : Ghosts D} (shows : ℤ → Type 0) (p : Serving) (jobs jobs' : List (List JobMeaning)) (first second : D) (b t : BothStores D g) (cause : Option Declined) (s : Served D) (old new : Outside) where
   -- The nodes worked on the opened stores, and the call ended.
-  pub served_by : JustOpened first second (triggers_of b) (states_of b) → TookCourse shows p.until (node_names p.nodes) main_name (state_of_both b) (state_of_both t) jobs jobs'
-      → EndsBy shows p.until (our_names p.nodes) cause (state_of_both t) → IfSome cause (AtLimit (WasDeclined shows p.until (our_names p.nodes) (state_of_both b) (state_of_both t))) → Proceeds cause b t → EndedCall (status_of cause) t s old new → ServedOnDisk g shows p jobs jobs' first second s old new
+  pub served_by : JustOpened first second (triggers_of b) (states_of b) → TookCourse shows p.until (node_names p.nodes) main_name cause (state_of_both b) (state_of_both t) jobs jobs'
+      → EndsBy shows p.until (our_names p.nodes) cause (state_of_both t) → IfSome cause (AtLimit (WasDeclined shows p.until (our_names p.nodes) (state_of_both b) (state_of_both t))) → Proceeds cause b t → EndedCall p.looks (triggers_view (triggers_of b)).history.entries (status_of cause) t s old new → ServedOnDisk g shows p jobs jobs' first second s old new
   served_by opened took ends declined proceeds ended =
-      let more : Added (state_of_both b) (state_of_both t) = course_added shows p.until (node_names p.nodes) main_name (state_of_both b) (state_of_both t) jobs jobs' took in
+      let more : Added (state_of_both b) (state_of_both t) = course_added shows p.until (node_names p.nodes) main_name cause (state_of_both b) (state_of_both t) jobs jobs' took in
       let same : found_history (triggers_of t) ≡ (triggers_view (triggers_of b)).history = history_is (triggers_of b) (triggers_of t) opened.nothing_added proceeds.kept.triggers in
       let accepted : added_of (triggers_of t) ≡ more.0 = added_is (triggers_of b) (triggers_of t) more.0 same more.2.entries in
       let may : MayRest (triggers_view (triggers_of t)) (triggers_view ended.rested) = rests_may ended.told_as s.status _ _ ended.rests in
@@ -130,7 +134,7 @@ module _ {D : Type 0} {g : Ghosts D} (shows : ℤ → Type 0) (p : Serving) (job
         went_on = more.2;
         told_as = ended.told_as;
         told = ended.told;
-        written = told_text ended.told_as (state_of_both b) (state_of_both t) (found_history (triggers_of t)) (added_of (triggers_of t)) more.0 old new same accepted ended.written;
+        written = wrote_as p.looks (triggers_view (triggers_of b)).history.entries (triggers_view (triggers_of t)).history ended.told_as _ (run_text (state_of_both b) (state_of_both t) more.0) old new (text_is (state_of_both b) (state_of_both t) (found_history (triggers_of t)) (added_of (triggers_of t)) more.0 same accepted) ended.written;
         end = both ended.rested (states_of t);
         rests = ended.rests;
         states_stay = refl;
@@ -169,7 +173,7 @@ told_fault told work (inl same) is = sym same ∙ is
 told_fault told work (inr (inl same)) is = let bad : status.WriteFault ≡ status.DiskFault = sym same ∙ is in absurd cc
 told_fault told work (inr (inr same)) is = let bad : status.NoMemory ≡ status.DiskFault = sym same ∙ is in absurd cc
 
-module _ {D : Type 0} {g : Ghosts D} (first second : D) (b t : BothStores D g) (cause : Option Declined) (s : Served D) (old new : Outside) where
+module _ {D : Type 0} {g : Ghosts D} (first second : D) (b t : BothStores D g) (cause : Option Declined) (looks : Option ℕ) (begun : List EntryData) (s : Served D) (old new : Outside) where
   later : Kept b t → (triggers_view (triggers_of b)).faults ≤ (triggers_view (triggers_of t)).faults
   later kept = ∥∥₁_elim kept.triggers (order_once _ _) (λ w. w.went.later)
 
@@ -178,7 +182,7 @@ module _ {D : Type 0} {g : Ghosts D} (first second : D) (b t : BothStores D g) (
   closed_rose opened kept (inl closed) = inl (triggers_rose first second b t opened kept closed)
   closed_rose opened kept (inr closed) = inr (states_rose first second b t opened kept closed)
 
-  disk_rose : JustOpened first second (triggers_of b) (states_of b) → Proceeds cause b t → (ended : EndedCall (status_of cause) t s old new) → s.status ≡ status.DiskFault
+  disk_rose : JustOpened first second (triggers_of b) (states_of b) → Proceeds cause b t → (ended : EndedCall looks begun (status_of cause) t s old new) → s.status ≡ status.DiskFault
       → Rose (g.faults first) (triggers_view ended.rested).faults ⊎ Rose (g.faults second) (states_view (states_of t)).faults
   disk_rose opened proceeds ended is = by (fault_told ended.told_as s.status _ _ ended.rests is) where
     by : ((ended.told_as ≡ status.DiskFault) × (triggers_view ended.rested ≡ triggers_view (triggers_of t))) ⊎ Rose (triggers_view (triggers_of t)).faults (triggers_view ended.rested).faults
@@ -188,7 +192,7 @@ module _ {D : Type 0} {g : Ghosts D} (first second : D) (b t : BothStores D g) (
         subst (λ (x : TriggerState). Rose (g.faults first) x.faults ⊎ Rose (g.faults second) (states_view (states_of t)).faults) (sym so.1) (closed_rose opened proceeds.kept (proceeds.fault fault))
     by (inr rose) = inl (omega (arith, opened.no_earlier.0, later proceeds.kept, rose))
 
-  pub disk_failed : JustOpened first second (triggers_of b) (states_of b) → Proceeds cause b t → EndedCall (status_of cause) t s old new → s.status ≡ status.DiskFault → DiskFailed g first second s.disks
+  pub disk_failed : JustOpened first second (triggers_of b) (states_of b) → Proceeds cause b t → EndedCall looks begun (status_of cause) t s old new → s.status ≡ status.DiskFault → DiskFailed g first second s.disks
   disk_failed opened proceeds ended is = subst (λ (x : Option (D × D)). DiskFailed g first second x) (sym ended.disks) (disk_rose opened proceeds ended is)
 
 -- Work on opened stores is one of the ways in which a call ends.
@@ -197,5 +201,5 @@ pub did_serve : {D : Type 0} {g : Ghosts D} (shows : ℤ → Type 0) (p : Servin
 did_serve shows p jobs jobs' triggers states s old new (inl served) = inl served
 did_serve shows p jobs jobs' triggers states s old new (inr gave) = inr (inr gave)
 
-pub ended_as : {D : Type 0} {g : Ghosts D} (work other : Status) (t : BothStores D g) (s : Served D) (old new : Outside) → work ≡ other → EndedCall work t s old new → EndedCall other t s old new
-ended_as work other t s old new same ended = subst (λ (x : Status). EndedCall x t s old new) same ended
+pub ended_as : {D : Type 0} {g : Ghosts D} (looks : Option ℕ) (opened : List EntryData) (work other : Status) (t : BothStores D g) (s : Served D) (old new : Outside) → work ≡ other → EndedCall looks opened work t s old new → EndedCall looks opened other t s old new
+ended_as looks opened work other t s old new same ended = subst (λ (x : Status). EndedCall looks opened x t s old new) same ended

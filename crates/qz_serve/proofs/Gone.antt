@@ -1,15 +1,13 @@
 -- Nodes that are gone, and what is due.
-use Rattle.std.proofs.Common.{◌≡◌, ◌+◌, ◌<◌, ◌≤◌, ℕ, ℤ, List, [], ◌∷◌, ◌++◌, true, false, length, slice_index_or, option_copied, Bor, sym, ap, ◌∙◌, subst, refl, arith}
+use Rattle.std.proofs.Common.{◌≡◌, ℕ, List, [], true, false, option_copied, Bor, sym, ap, ◌∙◌, subst, refl}
 use Rattle.std.proofs.lemmas.Bool.{false_from_ne_true}
 use Rattle.std.specs.Prelude.{Option, Some, None, Bool, not, is_some, IsSomeAnd}
-use Rattle.std.specs.List.{All}
-use Rattle.qz_types.specs.Rows.{MemberData, FiredData, StateData}
+use Rattle.qz_types.specs.Rows.{StateData}
 use Rattle.qz_types.specs.Tables.{SchedulerTables}
 use Rattle.qz_types.specs.Words.{member_of, same_text}
 use Rattle.qz_model.specs.History.{replay}
 use Rattle.qz_model.specs.Invariant.{TablesValid}
 use Rattle.qz_model.proofs.Changes.{HasMember}
-use Rattle.qz_model.proofs.NamedRows.{same_text_laws}
 use Rattle.qz_model.proofs.RowPoints.{All-weaker}
 use Rattle.qz_model.proofs.RowLaws.{member_of-alike}
 use Rattle.qz_checkin.specs.History.{replay_states}

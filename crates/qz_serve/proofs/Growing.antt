@@ -1,6 +1,6 @@
 -- How a store grows, and what it declines on the way.
 use Rattle.std.proofs.Common.{◌≡◌, ℕ, ◌+◌, ◌≤◌, List, [], ◌∷◌, ◌++◌, length, drop, true, refl, sym, ap, ◌∙◌, subst, arith, append_assoc, append-nil, length-append}
-use Rattle.std.specs.Prelude.{⊤, Option, Some, None, Err, IsOk}
+use Rattle.std.specs.Prelude.{⊤, Some, None, Err, IsOk}
 use Rattle.std.proofs.Math.Seq.{drop-length, drop-append_seam}
 use Rattle.std.proofs.lemmas.List.{drop-append-le}
 use Rattle.std.proofs.lemmas.List.Sums.{sum_by-append}
@@ -17,7 +17,7 @@ use Rattle.qz_rounds.specs.Declining.{declined_of, IsCause, IsStopped}
 use Rattle.qz_shared.specs.Calls.{Known}
 use Rattle.qz_shared.specs.Since.{with_entries, needs, further, history_at, gate_at, payloads_at, IsSince}
 use Rattle.qz_shared.proofs.Sinces.{goes_on}
-use Rattle.qz_serve.specs.Declining.{AtLimit, RefusesAtLimit, Declines, HasGrown, DeclinedOnTheWay}
+use Rattle.qz_serve.specs.Declining.{AtLimit, Declines, HasGrown, DeclinedOnTheWay}
 
 -- What is so of each limit is so of this one.
 pub limit_map : (P Q : Declined → Type 0) → ((w : Declined) → P w → Q w) → (w : Declined) → AtLimit P w → AtLimit Q w

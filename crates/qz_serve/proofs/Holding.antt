@@ -1,28 +1,26 @@
 -- What the stores keep through the parts of a call.
-use Rattle.std.proofs.Common.{◌≡◌, ◌⊎◌, inl, inr, ◌+◌, ◌≤◌, ◌∷◌, ◌++◌, [], List, ℕ, ℤ, Bool, true, false, length, take, length-append, append_assoc, refl, sym, ap, ◌∙◌, subst, arith}
+use Rattle.std.proofs.Common.{◌≡◌, inl, inr, ◌+◌, ◌≤◌, ◌++◌, List, ℕ, ℤ, true, length, take, length-append, append_assoc, refl, sym, ap, ◌∙◌, subst, arith}
 use Rattle.std.proofs.Math.Logic.{∥∥₁_elim, ∥∥₁_map}
 use Rattle.std.proofs.Math.Seq.{take-length}
-use Rattle.std.proofs.lemmas.List.{append-nil, take-append-le}
-use Rattle.std.proofs.Props.{props}
-use Rattle.std.specs.Prelude.{⊤, Option, Some, None, Result, Ok, Err, OnOk}
-use Rattle.qz_civil.specs.Causes.{Rose}
+use Rattle.std.proofs.lemmas.List.{take-append-le}
+use Rattle.std.specs.Prelude.{Option, Some, None, Ok, Err}
 use Rattle.qz_disk.specs.declared.disk.Disk.{Ghosts}
 use Rattle.qz_disk.proofs.Moments.{then_leaves}
 use Rattle.qz_types.specs.Entries.{EntryData, StateEntryData}
 use Rattle.qz_model.specs.History.{History}
 use Rattle.qz_stores.specs.Stores.{EntryKind, StoreState, MayBeOf}
-use Rattle.qz_trigger_store.specs.Bytes.{Whole, Stands}
+use Rattle.qz_trigger_store.specs.Bytes.{Stands}
 use Rattle.qz_trigger_store.specs.Entries.{trigger_entry}
-use Rattle.qz_trigger_store.specs.View.{view as triggers_view, disk_state, found_of, keeps_of, GoesOnFrom}
+use Rattle.qz_trigger_store.specs.View.{view as triggers_view, disk_state}
 use Rattle.qz_trigger_store.specs.declared.stores.TriggerStore.{TriggerStore}
-use Rattle.qz_checkin.specs.Bytes.{Whole as WholeRows, Stands as RowsStand}
+use Rattle.qz_checkin.specs.Bytes.{Stands as RowsStand}
 use Rattle.qz_checkin.specs.Entries.{of_states}
 use Rattle.qz_checkin.specs.History.{StateHistory}
-use Rattle.qz_checkin.specs.View.{view as states_view, disk_state as states_disk_state, GoesOnFrom as RowsGoOnFrom}
+use Rattle.qz_checkin.specs.View.{view as states_view, disk_state as states_disk_state}
 use Rattle.qz_checkin.specs.declared.stores.StateStore.{StateStore}
 use Rattle.qz_run.specs.declared.commands.Declined.{Declined}
 use Rattle.qz_run.specs.declared.commands.Declined.TheVariants as why
-use Rattle.qz_run_stores.specs.Going.{Went, StatesWent}
+use Rattle.qz_run_stores.specs.Going.{StatesWent}
 use Rattle.qz_run_stores.specs.Ways.{IsBetween, first_entries, first_rows, KeepsTriggers, KeepsStates}
 use Rattle.qz_run_stores.proofs.Going.{went_on}
 use Rattle.qz_shared_stores.specs.Going.{TriggersWentOn}

@@ -1,13 +1,13 @@
 -- What nodes leave that worked in threads, in words of the state store's own history.
-use Rattle.std.proofs.Common.{◌≡◌, ◌⊎◌, inl, inr, ℕ, ℤ, List, [], ◌∷◌, ◌++◌, drop, length, map, refl, sym, ap, ◌∙◌, subst}
-use Rattle.std.specs.Prelude.{⊤, Option, IfSome}
+use Rattle.std.proofs.Common.{◌≡◌, ◌⊎◌, inl, inr, ℕ, ℤ, List, [], ◌∷◌, drop, length, map, refl, sym, ap, ◌∙◌, subst}
+use Rattle.std.specs.Prelude.{Option, IfSome}
 use Rattle.std.specs.List.{AllByRecursion}
 use Rattle.qz_types.specs.Entries.{EntryData, StateEntryData}
 use Rattle.qz_types.specs.Rows.{EvidenceData, MemberData}
 use Rattle.qz_types.specs.declared.states.StateCommand.{StateCommand}
 use Rattle.qz_types.specs.declared.states.StateCommand.TheVariants.{CheckIn, Forget}
 use Rattle.qz_checkin.specs.Entries.{StatesState, of_states}
-use Rattle.qz_checkin.specs.History.{StateHistory, replay_states}
+use Rattle.qz_checkin.specs.History.{replay_states}
 use Rattle.qz_checkin.specs.Rows.{StateTables}
 use Rattle.qz_model.specs.History.{History, with_entry}
 use Rattle.qz_node.specs.Jobs.{JobMeaning}
@@ -78,11 +78,11 @@ module _ (leaves weaker : List StateEntryData → StateTables → Type 0) (weake
 
 -- Further entries leave the base of a history as it is.
 
-bases_stay : (h : History) (es : List EntryData) → (with_entries trigger_entry h es).base_count ≡ h.base_count
+pub bases_stay : (h : History) (es : List EntryData) → (with_entries trigger_entry h es).base_count ≡ h.base_count
 bases_stay h [] = refl
 bases_stay h (e ∷ es) = bases_stay (with_entry e h) es
 
-base_stays : (h : History) (es : List EntryData) → (with_entries trigger_entry h es).base ≡ h.base
+pub base_stays : (h : History) (es : List EntryData) → (with_entries trigger_entry h es).base ≡ h.base
 base_stays h [] = refl
 base_stays h (e ∷ es) = base_stays (with_entry e h) es
 

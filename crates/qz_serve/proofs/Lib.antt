@@ -1,4 +1,5 @@
 pub mod Asks
+pub mod Boarding
 pub mod Closing
 pub mod Coursing
 pub mod Deeds
@@ -19,5 +20,6 @@ pub mod Onces
 pub mod Ready
 pub mod Stopping
 pub mod Told
+pub mod Watching
 pub mod Worked
 pub mod Working

@@ -1,6 +1,6 @@
 -- How stores grow in the parts of a call, and what they decline on the way.
-use Rattle.std.proofs.Common.{◌≡◌, ◌⊎◌, inl, inr, ℕ, ℤ, List, [], ◌∷◌, ◌++◌, append_assoc, refl, sym, ap, ◌∙◌, subst}
-use Rattle.std.specs.Prelude.{⊤, Contains, Option, Some, None, Result, Ok, Err, IfErr, IfSome}
+use Rattle.std.proofs.Common.{◌≡◌, ◌⊎◌, inl, inr, ℕ, ℤ, List, ◌∷◌, ◌++◌, append_assoc, refl, sym, ap, ◌∙◌, subst}
+use Rattle.std.specs.Prelude.{⊤, Contains, Option, Result, Ok, Err, IfErr, IfSome}
 use mathlib.Core.List.{IsPrefix}
 use Rattle.qz_types.specs.Entries.{EntryData, StateEntryData}
 use Rattle.qz_types.specs.Rows.{EvidenceData, MemberData}
@@ -13,18 +13,16 @@ use Rattle.qz_cluster.specs.Steps.{ClusterState}
 use Rattle.qz_run.specs.declared.commands.Declined.{Declined}
 use Rattle.qz_trigger_store.specs.Entries.{trigger_entry}
 use Rattle.qz_shared.specs.Since.{further, IsSince}
-use Rattle.qz_rounds.specs.Adding.{IsOfRound, IsRecovery, IsRoundEntry}
+use Rattle.qz_rounds.specs.Adding.{IsOfRound, IsRecovery}
 use Rattle.qz_rounds.specs.Looking.{FindsLate, HasCheckedIn, check_in_by}
-use Rattle.qz_rounds.proofs.Lists.{prefix_refl}
 use Rattle.qz_serve.specs.Courses.{Leaves, row_entries_of}
 use Rattle.qz_serve.specs.Declining.{AtLimit, Declines, DeclinedOnTheWay, HasGrown}
 use Rattle.qz_serve.specs.Entries.{IsScheduled}
 use Rattle.qz_serve.specs.Limits.{IsOfOurs, IsRowOfOurs, StoresGrew, WasDeclined}
-use Rattle.qz_serve.specs.Once.{AddsNone, AddsOne, Once}
+use Rattle.qz_serve.specs.Once.{AddsNone, AddsOne}
 use Rattle.qz_serve.specs.Ours.{IsCheckIn, IsForget, IsJoin, IsLeave}
-use Rattle.qz_serve.specs.Stopping.{IsOfThreads, IsRowOfThreads}
-use Rattle.qz_serve.proofs.Growing.{declined_map, declined_now, declined_then, grown_more, grown_none, grown_same, grown_since, grown_then, later_history, limit_map}
-use Rattle.qz_serve.proofs.Stopping.{rows_on, some_map, threads_on}
+use Rattle.qz_serve.proofs.Growing.{declined_now, declined_then, grown_more, grown_none, grown_same, grown_since, grown_then, later_history, limit_map}
+use Rattle.qz_serve.proofs.Stopping.{some_map}
 
 -- The stores grew.
 

@@ -1,12 +1,12 @@
 -- Nodes that come and go, one call after another.
-use Rattle.std.proofs.Common.{◌≡◌, ◌⊎◌, inl, inr, ℕ, ℤ, List, [], ◌∷◌, ◌++◌, append_assoc, true, false, refl, lit<, sym, ap, ◌∙◌, subst}
+use Rattle.std.proofs.Common.{◌≡◌, ◌⊎◌, inl, inr, ℕ, ℤ, List, [], ◌∷◌, ◌++◌, append_assoc, refl, sym, ap, ◌∙◌, subst}
 use Rattle.std.proofs.lemmas.List.{append-nil}
 use Rattle.std.specs.Prelude.{⊤, Contains, Result, Ok, Err, OnOk}
 use Rattle.std.specs.List.{AllByRecursion}
 use Rattle.qz_disk.specs.declared.disk.Disk.{Ghosts}
 use Rattle.qz_types.specs.Entries.{EntryData, StateEntryData}
 use Rattle.qz_model.specs.History.{History}
-use Rattle.qz_trigger_store.specs.Entries.{TriggerState, trigger_entry}
+use Rattle.qz_trigger_store.specs.Entries.{trigger_entry}
 use Rattle.qz_trigger_store.specs.View.{view as triggers_view}
 use Rattle.qz_trigger_store.specs.declared.stores.TriggerStore.{TriggerStore}
 use Rattle.qz_checkin.specs.Entries.{of_states}
@@ -16,11 +16,8 @@ use Rattle.qz_checkin.specs.declared.stores.StateStore.{StateStore}
 use Rattle.qz_cluster.specs.Steps.{ClusterState}
 use Rattle.qz_run.specs.declared.commands.Declined.{Declined}
 use Rattle.qz_run.specs.declared.commands.Declined.TheVariants as why
-use Rattle.qz_run_stores.specs.Going.{StatesWent}
-use Rattle.qz_shared_stores.specs.Going.{TriggersWentOn}
 use Rattle.qz_top.specs.NodeRuns.{both, WentOn}
-use Rattle.qz_serve.specs.Courses.{AreBothOpen, OneIsClosed}
-use Rattle.qz_serve.specs.Going.{KeepOn, Moves, state_of_both, states_of, triggers_of, unit_of}
+use Rattle.qz_serve.specs.Going.{KeepOn, Moves, state_of_both, states_of, triggers_of}
 use Rattle.qz_serve.specs.Declining.{AtLimit, Declines}
 use Rattle.qz_serve.specs.Limits.{StoresGrew, WasDeclined}
 use Rattle.qz_serve.specs.Once.{AddsNone, AddsOne, Once}

@@ -1,5 +1,5 @@
 -- What one transaction comes to for a call.
-use Rattle.std.proofs.Common.{◌≡◌, inl, inr, true, false, ap, ◌∙◌, refl}
+use Rattle.std.proofs.Common.{◌≡◌, inl, inr, true, ◌∙◌, refl}
 use Rattle.std.specs.Prelude.{⊤, Option, Some, None, Result, Ok, Err, IfErr, OnOk}
 use Rattle.qz_types.specs.declared.errors.SubmitError.{SubmitError}
 use Rattle.qz_types.specs.declared.errors.SubmitError.TheVariants as submit

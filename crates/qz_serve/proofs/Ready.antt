@@ -8,7 +8,6 @@ use Rattle.qz_types.specs.declared.commands.Command.TheVariants as asks
 use Rattle.qz_types.specs.declared.errors.SubmitError.{SubmitError}
 use Rattle.qz_types.specs.declared.errors.SubmitError.TheVariants as submit
 use Rattle.qz_types.specs.declared.replies.MovedRow.{MovedRow}
-use Rattle.qz_types.specs.declared.replies.Refusal.{Refusal}
 use Rattle.qz_types.specs.declared.replies.Reply.{Reply}
 use Rattle.qz_types.specs.declared.replies.Reply.TheVariants as reply
 use Rattle.qz_types.specs.declared.replies.Taken.{Taken}
@@ -18,7 +17,7 @@ use Rattle.qz_node.specs.declared.turns.Idle.{Idle}
 use Rattle.qz_node.specs.declared.turns.Idle.TheVariants as idle
 use Rattle.qz_node.specs.declared.turns.Want.{Want}
 use Rattle.qz_node.specs.declared.turns.Want.TheVariants as want
-use Rattle.qz_node.specs.Turns.{TurnData, wanted, wanted_idle, wanted_held, wanted_with, learnt_moved, learnt_taken, learnt_reply, refused_with, ends_at_refusal, ended, is_fenced}
+use Rattle.qz_node.specs.Turns.{TurnData, wanted, wanted_idle, wanted_with, learnt_moved, learnt_taken, learnt_reply, refused_with, ends_at_refusal, ended, is_fenced}
 use Rattle.qz_node.specs.Hubs.{learnt_answer, IsReplyTo}
 use Rattle.qz_serve.specs.Asking.{CanStepAt, IsReady}
 use Rattle.qz_serve.specs.Entries.{IsPlain}

@@ -1,5 +1,5 @@
 -- Why a thread stopped is known of the seats into which its own were joined, and then of the stores.
-use Rattle.std.proofs.Common.{◌≡◌, ◌⊎◌, inl, inr, ℕ, ℤ, Bool, true, false, List, [], ◌∷◌, ◌++◌, if◌then◌else◌, refl, sym, subst}
+use Rattle.std.proofs.Common.{◌≡◌, ◌⊎◌, inl, inr, ℕ, ℤ, Bool, true, false, List, [], ◌∷◌, ◌++◌, if◌then◌else◌, sym, subst}
 use Rattle.std.specs.Prelude.{⊤, Contains, Option, Some, None, IfSome, nat_lt}
 use mathlib.Core.List.{IsPrefix}
 use Rattle.qz_types.specs.Entries.{EntryData, StateEntryData}

@@ -1,5 +1,5 @@
 -- What a call of a scheduler thread comes to.
-use Rattle.std.specs.Prelude.{⊤, ◌≡◌, ◌++◌, ℕ, ℤ, false, List, [], ◌∷◌, Option, Some, None, MatchOption, MatchResult}
+use Rattle.std.specs.Prelude.{⊤, ◌≡◌, ◌++◌, ℕ, ℤ, false, List, [], ◌∷◌, Option, None, MatchOption, MatchResult}
 use Rattle.std.specs.List.{AllByRecursion}
 use Rattle.std.specs.declared.result.Result.{Result}
 use Rattle.qz_types.specs.Entries.{EntryData}

@@ -1,6 +1,6 @@
 -- What a call of `serve` does to its stores, from the opening to the end.
-use Rattle.std.specs.Prelude.{⊤, ◌≡◌, ◌⊎◌, ℕ, ℤ, ◌≤ℤ◌, List, [], ◌∷◌, ◌++◌, map, Bool, true, false, Option, Some, None}
-use Rattle.std.specs.List.{All}
+use Rattle.std.specs.Prelude.{⊤, ◌≡◌, ◌⊎◌, ℕ, ℤ, ◌≤ℤ◌, List, [], ◌∷◌, ◌++◌, map, true, false, Option, Some, None}
+use Rattle.std.specs.List.{All, AllByRecursion}
 use Rattle.qz_types.specs.Entries.{EntryData, StateEntryData}
 use Rattle.qz_types.specs.Rows.{MemberData}
 use Rattle.qz_types.specs.Words.{member_of}
@@ -16,6 +16,7 @@ use Rattle.qz_seen.specs.Seen.{rows_of, some_due}
 use Rattle.qz_shared.specs.Since.{history_at}
 use Rattle.qz_cluster.specs.Steps.{ClusterState}
 use Rattle.qz_top.specs.NodeRuns.{WentOn}
+use Rattle.qz_serve.specs.Finished.{CameToEnd, NodeCameToEnd}
 use Rattle.qz_serve.specs.Heard.{Deed, heard_since}
 use Rattle.qz_serve.specs.Ours.{CameAndWent}
 use Rattle.qz_serve.specs.Served.{NodesServed, MainServed}
@@ -45,6 +46,14 @@ pub record WorkedAsMain (shows : ℤ → Type 0) (until : ℤ) (me : MemberData)
   pub served : MainServed shows until (done_since begun.triggers) me (entries_of begun) (entries_of end) jobs jobs'
   pub went_on : WentOn begun end served.added []
 
+-- Between two states of the stores both threads of each of these nodes came to their end.
+abbrev pub NodesEnded : (ℤ → Type 0) → ℤ → List MemberData → ClusterState → ClusterState → Type 0
+NodesEnded shows until members begun end = AllByRecursion (NodeCameToEnd trigger_entry (λ h. h.entries) begun.triggers shows until (row_entries_of begun) (entries_of end) (row_entries_of end)) members
+
+-- The same of the member that worked alone, under the number 0.
+abbrev pub MainEnded : (ℤ → Type 0) → ℤ → MemberData → ClusterState → ClusterState → Type 0
+MainEnded shows until me begun end = CameToEnd trigger_entry (λ h. h.entries) begun.triggers shows until me 0 (entries_of end)
+
 -- nothing was done
 abbrev pub DidNothing : ClusterState → ClusterState → List (List JobMeaning) → List (List JobMeaning) → Type 0
 DidNothing begun end jobs jobs' = (end ≡ begun) × (jobs' ≡ jobs)
@@ -60,20 +69,23 @@ pub record Turn : Type 0 where
 
 -- `nodes` are the names of the nodes that work in threads, and `main` is that of the node that works at the end.
 module _ (shows : ℤ → Type 0) (until : ℤ) (nodes : List (List ℕ)) (main : List ℕ) where
-  -- The latter joins and works, and then all of the call's nodes leave. The turn may be cut short.
-  pub record TookTurn (t : Turn) (end : ClusterState) (jobs' : List (List JobMeaning)) : Type 0 where
+  -- The latter joins and works, and then all of the call's nodes leave. The turn may be cut short, for this cause; where there is none,
+  -- the node came to the end of its work.
+  pub record TookTurn (cause : Option Declined) (t : Turn) (end : ClusterState) (jobs' : List (List JobMeaning)) : Type 0 where
     pub name : t.me.node ≡ main
     pub joins : CameAndWent shows (main ∷ []) t.begun t.joined
     pub works : WorkedAsMain shows until t.me t.joined t.worked t.jobs jobs' ⊎ DidNothing t.joined t.worked t.jobs jobs'
+    pub ended : cause ≡ None → MainEnded shows until t.me t.joined t.worked
     pub leaves : CameAndWent shows (nodes ++ main ∷ []) t.worked end
 
-  -- the turns, the latest first
-  abbrev pub TookTurns : List Turn → ClusterState → ClusterState → List (List JobMeaning) → List (List JobMeaning) → Type 0
-  TookTurns [] begun end jobs jobs' = DidNothing begun end jobs jobs'
-  TookTurns (t ∷ past) begun end jobs jobs' = TookTurns past begun t.begun jobs t.jobs × TookTurn t end jobs'
+  -- the turns, the latest first, which alone may be cut short
+  abbrev pub TookTurns : Option Declined → List Turn → ClusterState → ClusterState → List (List JobMeaning) → List (List JobMeaning) → Type 0
+  TookTurns cause [] begun end jobs jobs' = DidNothing begun end jobs jobs'
+  TookTurns cause (t ∷ past) begun end jobs jobs' = TookTurns None past begun t.begun jobs t.jobs × TookTurn cause t end jobs'
 
-  -- The nodes join, work in threads, and then come turns of the other. The work may be cut short after each of these.
-  pub record TookCourse (begun end : ClusterState) (jobs jobs' : List (List JobMeaning)) : Type 0 where
+  -- The nodes join, work in threads, and then come turns of the other. The work may be cut short after each of these, for this cause;
+  -- where there is none, all threads came to their end.
+  pub record TookCourse (cause : Option Declined) (begun end : ClusterState) (jobs jobs' : List (List JobMeaning)) : Type 0 where
     pub joined : ClusterState
     pub joins : CameAndWent shows nodes begun joined
     pub members : List MemberData
@@ -81,8 +93,9 @@ module _ (shows : ℤ → Type 0) (until : ℤ) (nodes : List (List ℕ)) (main 
     pub worked : ClusterState
     pub told : List (List JobMeaning)
     pub works : WorkedAsNodes shows until members joined worked jobs told ⊎ DidNothing joined worked jobs told
+    pub ended : cause ≡ None → NodesEnded shows until members joined worked
     pub turns : List Turn
-    pub took : TookTurns turns worked end told jobs'
+    pub took : TookTurns cause turns worked end told jobs'
 
 -- The node is no member, and has neither a state row nor a fired row.
 pub record IsGone (end : ClusterState) (name : List ℕ) : Type 0 where

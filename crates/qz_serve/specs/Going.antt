@@ -1,9 +1,7 @@
 -- What both stores keep while a call works on them.
 use Rattle.std.specs.Prelude.{⊤, ◌≡◌, ℕ, ℤ, List, Result, Ok, Err, IfErr, OnOk}
 use Rattle.qz_disk.specs.declared.disk.Disk.{Ghosts}
-use Rattle.qz_trigger_store.specs.View.{view as triggers_view}
 use Rattle.qz_trigger_store.specs.declared.stores.TriggerStore.{TriggerStore}
-use Rattle.qz_checkin.specs.View.{view as states_view}
 use Rattle.qz_checkin.specs.declared.stores.StateStore.{StateStore}
 use Rattle.qz_cluster.specs.Steps.{ClusterState}
 use Rattle.qz_run.specs.declared.commands.Declined.{Declined}

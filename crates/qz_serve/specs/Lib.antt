@@ -1,4 +1,5 @@
 pub mod Asking
+pub mod Boards
 pub mod Causes
 pub mod Courses
 pub mod Declining
@@ -18,3 +19,4 @@ pub mod Ran
 pub mod Served
 pub mod Serves
 pub mod Stopping
+pub mod Watching

@@ -3,7 +3,6 @@ use Rattle.std.specs.Prelude.{⊤, ◌≡◌, ◌⊎◌, ℕ, ℤ, List, false, 
 use Rattle.qz_civil.specs.Causes.{Rose}
 use Rattle.qz_disk.specs.declared.disk.Disk.{Ghosts}
 use Rattle.qz_io.specs.Outside.{Outside}
-use Rattle.qz_io.specs.declared.traits.Sink as sink
 use Rattle.qz_model.specs.History.{IsLegal, replay}
 use Rattle.qz_node.specs.Jobs.{JobMeaning}
 use Rattle.qz_types.specs.Entries.{EntryData, StateEntryData}
@@ -22,12 +21,13 @@ use Rattle.qz_words.specs.declared.wishes.WordFault.{WordFault}
 use Rattle.qz_stores.specs.Stores.{StoreState}
 use Rattle.qz_top.specs.Found.{HoldWhole, IsFoundOn}
 use Rattle.qz_top.specs.Moments.{HasStates, HasTriggers}
-use Rattle.qz_top.specs.NodeRuns.{WentOn, IsKeptOnTheWay, IsToldAs, WritesRun, run_text}
+use Rattle.qz_top.specs.NodeRuns.{WentOn, IsKeptOnTheWay, IsToldAs, run_text}
 use Rattle.qz_top.specs.OpenStores.{HasNoStores}
 use Rattle.qz_top.specs.Resting.{RestsNodes}
 use Rattle.qz_top.specs.declared.ended.Ended.{Ended}
 use Rattle.qz_top.specs.declared.statuses.Status.{Status}
 use Rattle.qz_top.specs.declared.statuses.Status.TheVariants as status
+use Rattle.qz_serve.specs.Boards.{WritesAfterBoard}
 use Rattle.qz_serve.specs.Courses.{TookCourse, EndsBy}
 use Rattle.qz_serve.specs.Declining.{AtLimit}
 use Rattle.qz_serve.specs.Limits.{WasDeclined}
@@ -57,17 +57,17 @@ pub record ServedOnDisk {D : Type 0} (g : Ghosts D) (shows : ℤ → Type 0) (p 
   -- the nodes' work and how it ended
   pub worked_to : ClusterState
   pub cause : Option Declined
-  pub took : TookCourse shows p.until (node_names p.nodes) main_name opened worked_to jobs jobs'
+  pub took : TookCourse shows p.until (node_names p.nodes) main_name cause opened worked_to jobs jobs'
   pub ends : EndsBy shows p.until (our_names p.nodes) cause worked_to
   -- where that was at a limit or a full journal, a store had declined for this reason what one of the call's nodes asked
   pub declined : IfSome cause (AtLimit (WasDeclined shows p.until (our_names p.nodes) opened worked_to))
-  -- what was added to both histories, and the text that was written of it
+  -- what was added to both histories, and the text that was written of it, after the lines of the board where looks were asked for
   pub added : List EntryData
   pub rows : List StateEntryData
   pub went_on : WentOn opened worked_to added rows
   pub told_as : Status
   pub told : IsToldAs told_as (status_of cause)
-  pub written : WritesRun told_as (run_text opened worked_to added) old new
+  pub written : WritesAfterBoard p.looks opened.triggers.history.entries worked_to.triggers.history told_as (run_text opened worked_to added) old new
   -- and then a checkpoint was made where one was due
   pub end : ClusterState
   pub rests : RestsNodes told_as s.status worked_to.triggers end.triggers
@@ -100,7 +100,7 @@ pub record FoundNoStores {D : Type 0} (g : Ghosts D) (jobs jobs' : List (List Jo
   pub none : HasNoStores triggers states ended old new
   pub same_jobs : jobs' ≡ jobs
 
--- There was no memory for a lock row, and the stores were given up with it. Nothing was written.
+-- There was no memory for a lock row or for a board, and the stores were given up. Nothing was written.
 pub record GaveUp {D : Type 0} (g : Ghosts D) (s : Served D) (old new : Outside) : Type 0 where
   pub status_is : s.status ≡ status.NoMemory
   pub no_disks : s.disks ≡ None

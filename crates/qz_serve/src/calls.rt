@@ -1,24 +1,28 @@
 //! The top call on the system's clock.
-ghost use Rattle.std.specs.Prelude.{◌≡◌, ◌≢◌, ◌⊎◌, ◌≤◌, map, true, false, Some, None, IfOk};
+ghost use Rattle.std.specs.Prelude.{◌≡◌, ◌≢◌, ◌⊎◌, ◌≤◌, ℕ, List, Option, map, true, false, Some, None, IfOk};
+ghost use mathlib.Core.List.{IsPrefix};
 ghost use Rattle.qz_civil.specs.Causes.{Rose};
 ghost use Rattle.qz_io.specs.Around.{output_alone};
-ghost use Rattle.qz_model.specs.History.{replay};
-ghost use Rattle.qz_trigger_store.specs.View.{view as triggers_view, added_of, keeps_of};
-ghost use Rattle.qz_top.specs.Found.{found_history};
+ghost use Rattle.qz_trigger_store.specs.View.{view as triggers_view, keeps_of};
 ghost use Rattle.qz_top.specs.HandingOn.{HandsOnWritten};
-ghost use Rattle.qz_top.specs.NodeRuns.{both, IsOfNodes, IsToldAs, WritesRun, text_since};
+ghost use Rattle.qz_top.specs.NodeRuns.{both, IsOfNodes};
 ghost use Rattle.qz_top.specs.OpenStores.{JustOpened};
 ghost use Rattle.qz_top.specs.Statuses.{Reported};
+ghost use Rattle.qz_types.specs.Entries.{EntryData};
 ghost use Rattle.qz_words.specs.Serves.{serving_of, IsServing};
+ghost use Rattle.qz_serve.specs.Boards.{ShowsSoFar, plan, plan_of};
 ghost use Rattle.qz_serve.specs.Courses.{AreBothOpen};
 ghost use Rattle.qz_serve.specs.Ending.{EndedCall};
 ghost use Rattle.qz_serve.specs.Going.{triggers_of};
 ghost use Rattle.qz_serve.specs.Serves.{DidAsAsked, DidServe, DiskFailed, HasCause, ServedOnDisk, GaveUp, status_of};
 
+use crate::boards::open_board;
 use crate::both_stores::BothStores;
 use crate::courses::take_course;
 use crate::served::Served;
+use crate::telling::tell;
 use crate::threads::Gate;
+use qz_board_stores::StatusBoard;
 use qz_checkin::StateStore;
 use qz_disk::Disk;
 use qz_io::Sink;
@@ -26,7 +30,7 @@ use qz_node::{Job, Jobs};
 use qz_rounds::SharedClock;
 use qz_run::Declined;
 use qz_shared_stores::{SharedStates, SharedTriggers};
-use qz_top::{Ended, Status, open_node_stores, report, rest_nodes, tell_run};
+use qz_top::{Ended, Status, open_node_stores, report, rest_nodes};
 use qz_trigger_store::TriggerStore;
 use qz_types::{NoMemory, Text};
 use qz_words::{Serving, read_serve};
@@ -34,7 +38,7 @@ use std::alloc::Global;
 use std::sync::Wait;
 use std::thread::Threads;
 
-/// Does what `serve NODES UNTIL` asks for, and writes a line on `err` where that didn't end well.
+/// Does what `serve NODES UNTIL [LOOKS]` asks for, and writes a line on `err` where that didn't end well.
 ///
 /// It opens both stores, and lets the nodes n1, n2 and so on work on them up to UNTIL by this clock, each in two threads: one
 /// fires, executes and completes what is due, with the node's own list of `jobs`, and one checks in every 7.5 seconds and
@@ -42,9 +46,12 @@ use std::thread::Threads;
 /// `main`, with the first list, until the clock reads UNTIL and nothing is due by then, and all of its nodes leave and are
 /// forgotten. It writes the lines that `run` writes.
 ///
+/// With LOOKS a status board shows the trigger store. It is looked at so many times, evenly until UNTIL while the nodes work, and
+/// once more after the last transaction. A line for each look is written before the other lines.
+///
 /// At the first limit that is passed, full journal or fault of a disk no further transaction is made, and the lines of what was
-/// done are written. Every other first word is unknown here. The disks come back, unless memory ran out where a lock row was to
-/// be made for their stores.
+/// done are written. Every other first word is unknown here. The disks come back, unless memory ran out where a lock row or a
+/// board was to be made for their stores.
 pub fn serve<
     R: Threads + Wait + Sync,
     K: Sink,
@@ -181,8 +188,12 @@ fn serve_opened<
         triggers: SharedTriggers { store: triggers },
         states: SharedStates { store: states },
     };
-    match take_course(rt, stores, clock, gate, serving, jobs) {
-        Ok((stores, cause)) => end_call(out, stores, status_of(cause)),
+    let Ok(shown) = open_board(rt, alloc, serving.looks, &stores.triggers.store) else {
+        return without_memory(stores);
+    };
+    let mut board = shown;
+    match take_course(rt, stores, clock, gate, serving, jobs, &mut board) {
+        Ok((stores, cause)) => end_call(out, stores, board, status_of(cause)),
         Err(NoMemory) => Served {
             status: Status::NoMemory,
             disks: None,
@@ -190,11 +201,29 @@ fn serve_opened<
     }
 }
 
+// Gives the stores up.
+fn without_memory<D: Disk>(stores: BothStores<D>) -> Served<D>
+    ensures { (result.status ≡ Status.NoMemory) × (result.disks ≡ None) }
+{
+    drop(stores);
+    Served {
+        status: Status::NoMemory,
+        disks: None,
+    }
+}
+
 // Writes what was added, and makes a checkpoint where one is due.
-fn end_call<K: Sink, D: Disk>(out: &mut K, stores: BothStores<D>, work: Status) -> Served<D>
+fn end_call<K: Sink, D: Disk, H: Wait + Drop>(
+    out: &mut K,
+    stores: BothStores<D>,
+    board: Option<StatusBoard<H>>,
+    work: Status,
+) -> Served<D>
     requires status { IsOfNodes work }
     requires keeps { keeps_of (triggers_of stores) ≡ true }
-    ensures ended { EndedCall work stores result (output_alone K.Sink out.old) (output_alone K.Sink out.new) }
+    requires shows { ShowsSoFar board (triggers_view (triggers_of stores)).history }
+    ensures ended { (looks : Option ℕ) (opened : List EntryData) → IsPrefix opened (triggers_view (triggers_of stores)).history.entries → plan_of board ≡ plan looks opened
+        → EndedCall looks opened work stores result (output_alone K.Sink out.old) (output_alone K.Sink out.new) }
     ensures read { result.status ≢ Status.ReadFault }
     ensures write { result.status ≡ Status.WriteFault → Rose (K.faults out.old) (K.faults out.new) }
     ensures handed { HandsOnWritten K.Sink out.old out.new }
@@ -207,31 +236,11 @@ fn end_call<K: Sink, D: Disk>(out: &mut K, stores: BothStores<D>, work: Status) 
     let SharedTriggers { store: triggers } = triggers;
     let SharedStates { store: states } = states;
     let mut triggers = triggers;
-    let told = tell(alloc, &triggers, work, out);
+    let told = tell(alloc, &triggers, board, work, out);
     let status = rest_nodes(&mut triggers, told);
     Served {
         status,
         disks: Some((triggers.into_disk(), states.into_disk())),
-    }
-}
-
-// Writes the lines of what was added and the summary line, unless memory ran out before.
-fn tell<K: Sink, D: Disk>(
-    alloc: Global,
-    triggers: &TriggerStore<D>,
-    work: Status,
-    out: &mut K,
-) -> Status
-    requires status { IsOfNodes work }
-    requires keeps { keeps_of triggers.now ≡ true }
-    ensures written { WritesRun result (text_since (found_history triggers.now) (replay (triggers_view triggers.now).history) (added_of triggers.now)) (output_alone K.Sink out.old) (output_alone K.Sink out.new) }
-    ensures status { IsToldAs result work }
-    ensures write { result ≡ Status.WriteFault → Rose (K.faults out.old) (K.faults out.new) }
-    ensures handed { HandsOnWritten K.Sink out.old out.new }
-{
-    match work {
-        Status::NoMemory => Status::NoMemory,
-        other => tell_run(alloc, triggers, other, out),
     }
 }
 

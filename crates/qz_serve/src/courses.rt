@@ -3,17 +3,21 @@ ghost use Rattle.std.specs.Prelude.{◌≡◌, ◌⊎◌, ◌≤ℤ◌, ℤ, ◌
 ghost use Rattle.std.specs.List.{All};
 ghost use Rattle.qz_types.specs.Rows.{MemberData};
 ghost use Rattle.qz_words.specs.Serves.{IsServing};
-ghost use Rattle.qz_serve.specs.Courses.{AreBothOpen, DidNothing, EndsBy, TookCourse, TookTurn, TookTurns, Turn, WorkedAsMain, WorkedAsNodes};
+ghost use Rattle.qz_trigger_store.specs.View.{view as triggers_view};
+ghost use Rattle.qz_serve.specs.Boards.{ShowsSoFar, plan_of};
+ghost use Rattle.qz_serve.specs.Courses.{AreBothOpen, DidNothing, EndsBy, MainEnded, NodesEnded, TookCourse, TookTurn, TookTurns, Turn, WorkedAsMain, WorkedAsNodes};
 ghost use Rattle.qz_serve.specs.Declining.{AtLimit};
-ghost use Rattle.qz_serve.specs.Going.{state_of_both};
+ghost use Rattle.qz_serve.specs.Going.{state_of_both, triggers_of};
 ghost use Rattle.qz_serve.specs.Keeping.{Proceeds};
 ghost use Rattle.qz_serve.specs.Limits.{WasDeclined};
 ghost use Rattle.qz_serve.specs.Names.{ours_of};
 ghost use Rattle.qz_serve.specs.Ours.{CameAndWent, node_names, main_name, our_names};
 
+use crate::boards::serve_on_board;
 use crate::both_stores::BothStores;
 use crate::names::Ours;
-use crate::threads::{Gate, serve_main, serve_nodes};
+use crate::threads::{Gate, serve_main};
+use qz_board_stores::StatusBoard;
 use qz_disk::Disk;
 use qz_node::{Job, Jobs};
 use qz_rounds::SharedClock;
@@ -26,12 +30,13 @@ use std::thread::Threads;
 
 /// The nodes of a call join and work in threads up to its end. Then the node `main` joins and works, and all leave, as often as
 /// it takes. Where that ended early the cause is given, with the stores as they are then. Without memory for a lock row the stores
-/// are given up.
+/// are given up. The board, if there is one, shows the trigger store while the nodes work in threads.
 pub(crate) fn take_course<
     R: Threads + Wait + Sync,
     D: Disk + Send,
     C: SharedClock + Sync,
     G: Gate + Sync,
+    H: Wait + Drop + Send,
 >(
     rt: &R,
     stores: BothStores<D>,
@@ -39,24 +44,34 @@ pub(crate) fn take_course<
     gate: &G,
     serving: Serving,
     jobs: &mut Vec<Jobs>,
+    board: &mut Option<StatusBoard<H>>,
 ) -> Result<(BothStores<D>, Option<Declined>), NoMemory>
     requires serving { IsServing serving }
     requires both_open { AreBothOpen (state_of_both stores) }
-    ensures took { IfOk result (λ r. TookCourse (C.shows clock.now) serving.until (node_names serving.nodes) main_name (state_of_both stores) (state_of_both r.0)
+    requires shows { ShowsSoFar board.old (triggers_view (triggers_of stores)).history }
+    ensures took { IfOk result (λ r. TookCourse (C.shows clock.now) serving.until (node_names serving.nodes) main_name r.1 (state_of_both stores) (state_of_both r.0)
         (map (λ list. map means list.items) jobs.old.items) (map (λ list. map means list.items) jobs.new.items)) }
     ensures ends { IfOk result (λ r. EndsBy (C.shows clock.now) serving.until (our_names serving.nodes) r.1 (state_of_both r.0)) }
     ensures declined { IfOk result (λ r. IfSome r.1 (AtLimit (WasDeclined (C.shows clock.now) serving.until (our_names serving.nodes) (state_of_both stores) (state_of_both r.0)))) }
     ensures proceeds { IfOk result (λ r. Proceeds r.1 stores r.0) }
+    ensures shows { IfOk result (λ r. ShowsSoFar board.new (triggers_view (triggers_of r.0)).history) }
+    ensures plan { IfOk result (λ r. plan_of board.new ≡ plan_of board.old) }
 {
     stores.keep_all();
     match Ours::new(stores.alloc, serving.nodes) {
-        Ok(ours) => take_course_of(rt, stores, clock, gate, serving.until, &ours, jobs),
+        Ok(ours) => take_course_of(rt, stores, clock, gate, serving.until, &ours, jobs, board),
         Err(NoMemory) => Ok((stores, Some(Declined::NoMemory))),
     }
 }
 
 // The course of these nodes.
-fn take_course_of<R: Threads + Wait + Sync, D: Disk + Send, C: SharedClock + Sync, G: Gate + Sync>(
+fn take_course_of<
+    R: Threads + Wait + Sync,
+    D: Disk + Send,
+    C: SharedClock + Sync,
+    G: Gate + Sync,
+    H: Wait + Drop + Send,
+>(
     rt: &R,
     stores: BothStores<D>,
     clock: &C,
@@ -64,15 +79,19 @@ fn take_course_of<R: Threads + Wait + Sync, D: Disk + Send, C: SharedClock + Syn
     until: i64,
     ours: &Ours,
     jobs: &mut Vec<Jobs>,
+    board: &mut Option<StatusBoard<H>>,
 ) -> Result<(BothStores<D>, Option<Declined>), NoMemory>
     requires until { until ≤ℤ LONGEST }
     requires few { length ours.now.nodes.items ≤ 16 }
     requires both_open { AreBothOpen (state_of_both stores) }
-    ensures took { IfOk result (λ r. TookCourse (C.shows clock.now) until ours.now.nodes.items ours.now.main (state_of_both stores) (state_of_both r.0)
+    requires shows { ShowsSoFar board.old (triggers_view (triggers_of stores)).history }
+    ensures took { IfOk result (λ r. TookCourse (C.shows clock.now) until ours.now.nodes.items ours.now.main r.1 (state_of_both stores) (state_of_both r.0)
         (map (λ list. map means list.items) jobs.old.items) (map (λ list. map means list.items) jobs.new.items)) }
     ensures ends { IfOk result (λ r. EndsBy (C.shows clock.now) until (ours_of ours.now) r.1 (state_of_both r.0)) }
     ensures declined { IfOk result (λ r. IfSome r.1 (AtLimit (WasDeclined (C.shows clock.now) until (ours_of ours.now) (state_of_both stores) (state_of_both r.0)))) }
     ensures proceeds { IfOk result (λ r. Proceeds r.1 stores r.0) }
+    ensures shows { IfOk result (λ r. ShowsSoFar board.new (triggers_view (triggers_of r.0)).history) }
+    ensures plan { IfOk result (λ r. plan_of board.new ≡ plan_of board.old) }
 {
     stores.keep_all();
     let mut stores = stores;
@@ -80,7 +99,7 @@ fn take_course_of<R: Threads + Wait + Sync, D: Disk + Send, C: SharedClock + Syn
         Ok(members) => members,
         Err(why) => return Ok((stores, Some(why))),
     };
-    let (stores, cause) = work_as_nodes(rt, stores, clock, gate, until, &members, jobs)?;
+    let (stores, cause) = work_as_nodes(rt, stores, clock, gate, until, &members, jobs, board)?;
     match cause {
         Some(why) => Ok((stores, Some(why))),
         None => take_turns(rt, stores, clock, gate, until, ours, jobs),
@@ -88,7 +107,13 @@ fn take_course_of<R: Threads + Wait + Sync, D: Disk + Send, C: SharedClock + Syn
 }
 
 // These members work in threads.
-fn work_as_nodes<R: Threads + Wait + Sync, D: Disk + Send, C: SharedClock + Sync, G: Gate + Sync>(
+fn work_as_nodes<
+    R: Threads + Wait + Sync,
+    D: Disk + Send,
+    C: SharedClock + Sync,
+    G: Gate + Sync,
+    H: Wait + Drop + Send,
+>(
     rt: &R,
     stores: BothStores<D>,
     clock: &C,
@@ -96,15 +121,20 @@ fn work_as_nodes<R: Threads + Wait + Sync, D: Disk + Send, C: SharedClock + Sync
     until: i64,
     members: &[MemberRow],
     jobs: &mut Vec<Jobs>,
+    board: &mut Option<StatusBoard<H>>,
 ) -> Result<(BothStores<D>, Option<Declined>), NoMemory>
     requires until { until ≤ℤ LONGEST }
     requires few { length members.now ≤ 16 }
     requires both_open { AreBothOpen (state_of_both stores) }
+    requires shows { ShowsSoFar board.old (triggers_view (triggers_of stores)).history }
     ensures worked { IfOk result (λ r. WorkedAsNodes (C.shows clock.now) until members.now (state_of_both stores) (state_of_both r.0)
         (map (λ list. map means list.items) jobs.old.items) (map (λ list. map means list.items) jobs.new.items)
         ⊎ DidNothing (state_of_both stores) (state_of_both r.0) (map (λ list. map means list.items) jobs.old.items) (map (λ list. map means list.items) jobs.new.items)) }
+    ensures ended { IfOk result (λ r. r.1 ≡ None → NodesEnded (C.shows clock.now) until members.now (state_of_both stores) (state_of_both r.0)) }
     ensures declined { IfOk result (λ r. IfSome r.1 (AtLimit (WasDeclined (C.shows clock.now) until (map (λ (m : MemberData). m.node) members.now) (state_of_both stores) (state_of_both r.0)))) }
     ensures proceeds { IfOk result (λ r. Proceeds r.1 stores r.0) }
+    ensures shows { IfOk result (λ r. ShowsSoFar board.new (triggers_view (triggers_of r.0)).history) }
+    ensures plan { IfOk result (λ r. plan_of board.new ≡ plan_of board.old) }
 {
     stores.keep_all();
     if !is_short(&stores.triggers) || !is_short(&stores.states) {
@@ -115,8 +145,8 @@ fn work_as_nodes<R: Threads + Wait + Sync, D: Disk + Send, C: SharedClock + Sync
         triggers,
         states,
     } = stores;
-    let (triggers, states, told) = serve_nodes(
-        rt, alloc, triggers, states, clock, gate, until, members, jobs,
+    let (triggers, states, told) = serve_on_board(
+        rt, alloc, triggers, states, clock, gate, until, members, jobs, board,
     )?;
     let stores = BothStores {
         alloc,
@@ -142,6 +172,7 @@ fn work_as_main<R: Wait, D: Disk, C: SharedClock, G: Gate>(
     ensures worked { IfOk result (λ r. WorkedAsMain (C.shows clock.now) until me.now (state_of_both stores) (state_of_both r.0)
         (map (λ list. map means list.items) jobs.old.items) (map (λ list. map means list.items) jobs.new.items)
         ⊎ DidNothing (state_of_both stores) (state_of_both r.0) (map (λ list. map means list.items) jobs.old.items) (map (λ list. map means list.items) jobs.new.items)) }
+    ensures ended { IfOk result (λ r. r.1 ≡ None → MainEnded (C.shows clock.now) until me.now (state_of_both stores) (state_of_both r.0)) }
     ensures declined { IfOk result (λ r. IfSome r.1 (AtLimit (WasDeclined (C.shows clock.now) until (me.now.node ∷ []) (state_of_both stores) (state_of_both r.0)))) }
     ensures proceeds { IfOk result (λ r. Proceeds r.1 stores r.0) }
 {
@@ -177,7 +208,7 @@ fn take_turn<R: Wait, D: Disk, C: SharedClock, G: Gate>(
     requires until { until ≤ℤ LONGEST }
     requires both_open { AreBothOpen (state_of_both stores) }
     ensures took { IfOk result (λ r. (t : Turn) × (t.begun ≡ state_of_both stores) × (t.jobs ≡ map (λ list. map means list.items) jobs.old.items)
-        × TookTurn (C.shows clock.now) until ours.now.nodes.items ours.now.main t (state_of_both r.0) (map (λ list. map means list.items) jobs.new.items)) }
+        × TookTurn (C.shows clock.now) until ours.now.nodes.items ours.now.main r.1 t (state_of_both r.0) (map (λ list. map means list.items) jobs.new.items)) }
     ensures declined { IfOk result (λ r. IfSome r.1 (AtLimit (WasDeclined (C.shows clock.now) until (ours_of ours.now) (state_of_both stores) (state_of_both r.0)))) }
     ensures proceeds { IfOk result (λ r. Proceeds r.1 stores r.0) }
 {
@@ -225,7 +256,7 @@ fn take_turns<R: Wait, D: Disk, C: SharedClock, G: Gate>(
 ) -> Result<(BothStores<D>, Option<Declined>), NoMemory>
     requires until { until ≤ℤ LONGEST }
     requires both_open { AreBothOpen (state_of_both stores) }
-    ensures took { IfOk result (λ r. (turns : List Turn) × TookTurns (C.shows clock.now) until ours.now.nodes.items ours.now.main turns (state_of_both stores) (state_of_both r.0)
+    ensures took { IfOk result (λ r. (turns : List Turn) × TookTurns (C.shows clock.now) until ours.now.nodes.items ours.now.main r.1 turns (state_of_both stores) (state_of_both r.0)
         (map (λ list. map means list.items) jobs.old.items) (map (λ list. map means list.items) jobs.new.items)) }
     ensures ends { IfOk result (λ r. EndsBy (C.shows clock.now) until (ours_of ours.now) r.1 (state_of_both r.0)) }
     ensures declined { IfOk result (λ r. IfSome r.1 (AtLimit (WasDeclined (C.shows clock.now) until (ours_of ours.now) (state_of_both stores) (state_of_both r.0)))) }

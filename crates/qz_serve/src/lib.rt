@@ -1,6 +1,7 @@
 //! Nodes that work in threads of their own on stores that they share.
 #![tactic(auto)]
 
+mod boards;
 mod both_stores;
 mod calls;
 mod courses;
@@ -8,6 +9,7 @@ mod entries;
 mod members;
 mod names;
 mod served;
+mod telling;
 mod threads;
 mod transactions;
 mod views;

@@ -12,6 +12,8 @@ mod pairs;
 mod performing;
 mod serving;
 mod steps;
+mod watched;
+mod watching;
 mod working;
 
 pub use gates::{Gate, OpenGate};

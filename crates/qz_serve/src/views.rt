@@ -49,17 +49,16 @@ impl<D: Disk> BothStores<D> {
     /// Why the work ends after some nodes worked and told this cause. Whether a disk failed is seen of the stores: one of them is
     /// closed then.
     pub(crate) fn cause_now(&self, told: Option<Declined>) -> Option<Declined>
+        requires closed { told ≡ Some Declined.Fault → OneIsClosed (state_of_both self.now) }
         ensures both_open { result ≡ None → AreBothOpen (state_of_both self.now) }
         ensures fault { result ≡ Some Declined.Fault → OneIsClosed (state_of_both self.now) }
-        ensures same { (result ≡ Some Declined.Fault) ⊎ (result ≡ told) ⊎ (result ≡ None) }
+        ensures same { (result ≡ Some Declined.Fault) ⊎ (result ≡ told) }
+        ensures none { result ≡ None → told ≡ None }
     {
         if self.triggers.store.closed() || self.states.store.closed() {
             return Some(Declined::Fault);
         }
-        match told {
-            Some(Declined::Fault) => None,
-            other => other,
-        }
+        told
     }
 
     // Whether a trigger waits whose next time isn't past this moment.

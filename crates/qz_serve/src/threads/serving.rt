@@ -16,13 +16,16 @@ ghost use Rattle.qz_serve.specs.Knowing.{EachTold, ShowsRan};
 ghost use Rattle.qz_serve.specs.Performing.{AlwaysPerforms, Performs};
 ghost use Rattle.qz_serve.specs.Served.{NodesServed, MainServed};
 ghost use Rattle.qz_serve.specs.Stopping.{IsOfThreads, IsRowOfThreads};
+ghost use Rattle.qz_serve.specs.Watching.{Watched};
 
 use crate::threads::Gate;
-use crate::threads::chain::run_nodes;
 use crate::threads::executing::execute;
 use crate::threads::lists::{put_list, take_list};
 use crate::threads::nodes::run_listed;
 use crate::threads::performing::{JobList, Meaning};
+use crate::threads::watched::run_watched;
+use qz_board::Subject;
+use qz_board_looks::Watch;
 use qz_node::{Job, JobContext, Jobs};
 use qz_rounds::{NodeStore, RoundStore, SharedClock};
 use qz_run::Declined;
@@ -41,13 +44,15 @@ fn lists_last<S: RowStore>()
 
 /// Members work on two stores up to a moment, in ms since 1970-01-01T00:00:00Z. Each has a scheduler thread and a check-in thread.
 /// The first member is the node 1 and has the first list of jobs, and so on; an absent list is empty. Where threads ended early,
-/// the cause of least exit number is given. Without memory the stores are given up, and nobody works.
+/// the cause of least exit number is given. Without memory the stores are given up, and nobody works. Where looks at a board are
+/// planned, they are made meanwhile.
 pub(crate) fn serve_nodes<
     S: NodeStore + Send,
     T: RoundStore + Send,
     R: Threads + Wait + Sync,
     C: SharedClock + Sync,
     G: Gate + Sync,
+    K: Subject,
 >(
     rt: &R,
     alloc: Global,
@@ -58,7 +63,8 @@ pub(crate) fn serve_nodes<
     until: i64,
     members: &[MemberRow],
     jobs: &mut Vec<Jobs>,
-) -> Result<(S, T, Option<Declined>), NoMemory>
+    looks: Option<Watch<K>>,
+) -> Result<(S, T, Option<Declined>, Option<Watch<K>>), NoMemory>
     requires few { (length (S.listed (S.state triggers).history) < 2 ^ 62) × (length (T.listed (T.state states).history) < 2 ^ 62) }
     requires until { until ≤ℤ LONGEST }
     requires members { length members.now ≤ 16 }
@@ -72,6 +78,7 @@ pub(crate) fn serve_nodes<
     ensures fault { IfOk result (λ r. r.2 ≡ Some Declined.Fault → ((S.state r.0).is_open ≡ false) ⊎ ((T.state r.1).is_open ≡ false)) }
     ensures since { IfOk result (λ r. IsSince S.kind S.listed (S.state triggers) (S.state r.0) × IsSince T.kind T.listed (T.state states) (T.state r.1)) }
     ensures went { IfOk result (λ r. ∥ S.Went triggers r.0 ∥₁ × ∥ T.Went states r.1 ∥₁) }
+    ensures looks { IfOk result (λ r. Watched looks r.3) }
     ensures untouched { OnErr result (jobs.new.items ≡ jobs.old.items) }
 {
     lists_last::<S>();
@@ -82,11 +89,11 @@ pub(crate) fn serve_nodes<
     let run = |jobs: &mut Jobs, context: &JobContext| -> Code
         ensures { Performs context.now result (map means jobs.old.items) (map means jobs.new.items) }
     { execute(jobs, context) };
-    let (seat, state, lists, cause) = run_nodes::<S, T, R, C, G, Jobs, _, Brand>(
-        rt, alloc, &row, &rounds, clock, gate, &run, until, 0, members, seat, state, lists,
+    let ((seat, state, lists, cause), looks) = run_watched::<S, T, R, C, G, Jobs, _, Brand, K>(
+        rt, alloc, &row, &rounds, clock, gate, &run, until, members, seat, state, lists, looks,
     );
     *jobs = lists;
-    Ok((close_row(row, seat), close_row(rounds, state), cause))
+    Ok((close_row(row, seat), close_row(rounds, state), cause, looks))
 }
 
 // The node `main`, with a row for itself and the first list of jobs.

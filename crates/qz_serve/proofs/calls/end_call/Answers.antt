@@ -3,10 +3,10 @@ use Rattle.qz_top.proofs.NodeRestLaws.{rests_read, rests_write}
 use Rattle.qz_serve.proofs.calls.end_call.Goals as goal
 
 pub returns-clause-ended : goal.returns-clause-ended
-returns-clause-ended g c = record {
+returns-clause-ended g c looks opened begins planned = record {
   told_as = c.tell-told.result;
   told = c.tell-told.ensures.status;
-  written = c.tell-told.ensures.written;
+  written = c.tell-told.ensures.written looks opened begins planned;
   rested = c.rest_nodes-status.new.triggers;
   rests = c.rest_nodes-status.ensures.rests;
   any_moment = c.rest_nodes-status.ensures.any_moment;

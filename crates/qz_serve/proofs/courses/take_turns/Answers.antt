@@ -1,8 +1,8 @@
-use Rattle.std.proofs.Common.{◌≡◌, rules, to_z, of_z, w64, map, refl}
+use Rattle.std.proofs.Common.{◌≡◌, rules, to_z, of_z, w64, map, refl, Some, None}
 use Rattle.qz_serve.specs.Going.{state_of_both}
 use Rattle.qz_serve.specs.Names.{ours_of}
 use Rattle.qz_serve.proofs.Holding.{ends_proceeds, proceeds_as, proceeds_none, proceeds_then}
-use Rattle.qz_serve.proofs.Coursing.{declined_named, turns_none, turns_more, turns_until}
+use Rattle.qz_serve.proofs.Coursing.{declined_named, turn_for, turns_none, turns_more, turns_until}
 use Rattle.qz_serve.proofs.Limiting.{if_declined}
 use Rattle.qz_serve.proofs.Stopping.{some_as}
 use Rattle.qz_serve.proofs.courses.take_turns.Goals as goal
@@ -16,14 +16,14 @@ take_turn-requires-clause-both_open g c = c.turns.invariant.proceeds.stays refl
 pub turns-preserved : goal.turns-preserved
 turns-preserved g c =
     record {
-      turns = turns_more (g.C.SharedClock.shows c.args.clock.now) (to_z w64 (of_z w64 c.args.until)) c.args.ours.now.nodes.items c.args.ours.now.main _ _ _ _ _ _ c.turns.invariant.turns c.in_ok-left.ensures.took;
+      turns = turns_more (g.C.SharedClock.shows c.args.clock.now) (to_z w64 (of_z w64 c.args.until)) c.args.ours.now.nodes.items c.args.ours.now.main None _ _ _ _ _ _ c.turns.invariant.turns (turn_for _ _ _ _ _ None _ _ _ _ c.in-None-cause.is c.in_ok-left.ensures.took);
       proceeds = proceeds_then _ _ _ _ c.turns.invariant.proceeds (proceeds_as _ _ _ _ c.in-None-cause.is c.in_ok-left.ensures.proceeds);
     }
 
 pub returns-in-Some-cause-clause-took : goal.returns-in-Some-cause-clause-took
 returns-in-Some-cause-clause-took g c =
     let until : to_z w64 (of_z w64 c.args.until) ≡ c.args.until = search rules in
-    turns_until (g.C.SharedClock.shows c.args.clock.now) _ c.args.until c.args.ours.now.nodes.items c.args.ours.now.main _ _ _ _ until (turns_more (g.C.SharedClock.shows c.args.clock.now) (to_z w64 (of_z w64 c.args.until)) c.args.ours.now.nodes.items c.args.ours.now.main _ _ _ _ _ _ c.turns.invariant.turns c.in_ok-left.ensures.took)
+    turns_until (g.C.SharedClock.shows c.args.clock.now) _ c.args.until c.args.ours.now.nodes.items c.args.ours.now.main (Some c.in-Some-cause.why) _ _ _ _ until (turns_more (g.C.SharedClock.shows c.args.clock.now) (to_z w64 (of_z w64 c.args.until)) c.args.ours.now.nodes.items c.args.ours.now.main (Some c.in-Some-cause.why) _ _ _ _ _ _ c.turns.invariant.turns (turn_for _ _ _ _ _ (Some c.in-Some-cause.why) _ _ _ _ c.in-Some-cause.is c.in_ok-left.ensures.took))
 
 pub returns-in-Some-cause-clause-ends : goal.returns-in-Some-cause-clause-ends
 returns-in-Some-cause-clause-ends g c = ends_proceeds (g.C.SharedClock.shows c.args.clock.now) c.args.until (ours_of c.args.ours.now) c.in-Some-cause.why _ _ (proceeds_as _ _ _ _ c.in-Some-cause.is c.in_ok-left.ensures.proceeds)
@@ -34,7 +34,7 @@ returns-in-Some-cause-clause-proceeds g c = proceeds_then _ _ _ _ c.turns.invari
 pub returns-then-is_over-clause-took : goal.returns-then-is_over-clause-took
 returns-then-is_over-clause-took g c =
     let until : to_z w64 (of_z w64 c.args.until) ≡ c.args.until = search rules in
-    turns_until (g.C.SharedClock.shows c.args.clock.now) _ c.args.until c.args.ours.now.nodes.items c.args.ours.now.main _ _ _ _ until (turns_more (g.C.SharedClock.shows c.args.clock.now) (to_z w64 (of_z w64 c.args.until)) c.args.ours.now.nodes.items c.args.ours.now.main _ _ _ _ _ _ c.turns.invariant.turns c.in_ok-left.ensures.took)
+    turns_until (g.C.SharedClock.shows c.args.clock.now) _ c.args.until c.args.ours.now.nodes.items c.args.ours.now.main None _ _ _ _ until (turns_more (g.C.SharedClock.shows c.args.clock.now) (to_z w64 (of_z w64 c.args.until)) c.args.ours.now.nodes.items c.args.ours.now.main None _ _ _ _ _ _ c.turns.invariant.turns (turn_for _ _ _ _ _ None _ _ _ _ c.in-None-cause.is c.in_ok-left.ensures.took))
 
 pub returns-then-is_over-clause-ends : goal.returns-then-is_over-clause-ends
 returns-then-is_over-clause-ends g c =

@@ -6,6 +6,7 @@ use Rattle.qz_serve.specs.Limits.{WasDeclined}
 use Rattle.std.proofs.lemmas.List.{append-nil}
 use Rattle.qz_serve.proofs.Holding.{proceeds_starved}
 use Rattle.qz_serve.proofs.Coursing.{cause_seen}
+use Rattle.qz_serve.proofs.Finished.{came_under}
 use Rattle.qz_serve.proofs.Leaving.{base_count_since, base_since, main_declined, main_until}
 use Rattle.qz_serve.proofs.Limiting.{grew_alone}
 use Rattle.qz_serve.proofs.courses.work_as_main.Goals as goal
@@ -42,3 +43,9 @@ returns-clause-declined g c =
     let end : ClusterState = both c.in_ok-triggers.triggers.store c.args.stores.states.store in
     cause_seen (WasDeclined shows c.args.until (c.args.me.now.node ∷ []) begun end) c.in_ok-triggers.told c.cause_now-cause.result c.cause_now-cause.ensures.same
     (main_declined shows _ c.args.until c.args.me.now begun end c.in_ok-triggers.told until c.in_ok-triggers.ensures.declined)
+
+pub cause_now-cause-requires : goal.cause_now-cause-requires
+cause_now-cause-requires g c = record { closed = λ fault. inl (c.in_ok-triggers.ensures.fault fault) }
+
+pub returns-clause-ended : goal.returns-clause-ended
+returns-clause-ended g c none = came_under _ _ _ _ _ c.args.until _ _ 0 _ (search rules) refl (c.in_ok-triggers.ensures.ended (c.cause_now-cause.ensures.none none))

@@ -1,5 +1,4 @@
-use Rattle.std.proofs.Common.{◌≡◌, Option, Some, None, true, false, sym, ◌∙◌, not, ap, is_some, option_copied, Bor}
-use Rattle.std.specs.Prelude.{is_none}
+use Rattle.std.proofs.Common.{sym, ◌∙◌, option_copied}
 use Rattle.qz_trigger_store.proofs.Kept.{history_valid}
 use Rattle.qz_serve.proofs.Gone.{gone_by, absent_by, copied_some}
 use Rattle.qz_serve.proofs.both_stores.BothStores.is_gone.Goals as goal

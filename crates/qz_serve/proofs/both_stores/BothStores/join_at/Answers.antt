@@ -1,5 +1,4 @@
 use Rattle.std.proofs.Common.{◌≡◌, rules}
-use Rattle.qz_types.specs.Entries.{EntryData}
 use Rattle.qz_types.specs.declared.commands.Actor.TheVariants.{Client}
 use Rattle.qz_types.specs.declared.commands.Command.TheVariants.{Join}
 use Rattle.qz_serve.proofs.Moving.{moves_starved, asks_moves}

@@ -1,4 +1,4 @@
-use Rattle.std.proofs.Common.{◌≡◌, ◌∙◌, ap, refl, rules, sym, subst, to_z, of_z, w64}
+use Rattle.std.proofs.Common.{◌≡◌, ◌∙◌, ap, rules, sym, subst, to_z, of_z, w64}
 use Rattle.std.specs.Prelude.{IfSome}
 use Rattle.qz_row_lock.specs.Seats.{ids, mine, seen, first_value}
 use Rattle.qz_shared.specs.Calls.{known}

@@ -1,4 +1,4 @@
-use Rattle.std.proofs.Common.{◌≡◌, ◌∙◌, ap, map, refl, rules, sym, to_z, of_z, w64}
+use Rattle.std.proofs.Common.{◌≡◌, ◌∙◌, ap, map, rules, sym, to_z, of_z, w64}
 use Rattle.qz_types.specs.Rows.{MemberData}
 use Rattle.qz_row_lock.specs.Seats.{ids, mine, seen, shut, first_value}
 use Rattle.qz_rounds.specs.Looking.{LeavesRows}
@@ -18,9 +18,9 @@ returns-clause-served g c =
     let rounds = c.in_ok-rounds.rounds in
     let o = c.in_ok-row.ensures in
     let p = c.in_ok-rounds.ensures in
-    let r = c.run_nodes-seat.ensures in
-    let n = c.run_nodes-seat.result.0 in
-    let m = c.run_nodes-seat.result.1 in
+    let r = c.run_watched-seat.ensures in
+    let n = c.run_watched-seat.result.0.0 in
+    let m = c.run_watched-seat.result.0.1 in
     let f = c.close_row.ensures in
     let h = c.close_row-2.ensures in
     nodes_served (g.C.SharedClock.shows c.args.clock.now) c.args.until k.seat_of _ (LeavesRows q.kind q.listed q.state g.T.RoundStore.tables (q.state c.args.states)) (heard_in row) (heard_since k.kind k.listed k.seat_of (k.state c.args.triggers)) c.args.members.now
@@ -39,9 +39,9 @@ returns-clause-declined g c =
     let rounds = c.in_ok-rounds.rounds in
     let o = c.in_ok-row.ensures in
     let p = c.in_ok-rounds.ensures in
-    let r = c.run_nodes-seat.ensures in
-    let n = c.run_nodes-seat.result.0 in
-    let m = c.run_nodes-seat.result.1 in
+    let r = c.run_watched-seat.ensures in
+    let n = c.run_watched-seat.result.0.0 in
+    let m = c.run_watched-seat.result.0.1 in
     let f = c.close_row.ensures in
     let h = c.close_row-2.ensures in
     let opened = k.state (first_value row).opened.value in
@@ -62,9 +62,9 @@ returns-clause-ended g c none =
     let q = g.T.RowStore in
     let o = c.in_ok-row.ensures in
     let p = c.in_ok-rounds.ensures in
-    let r = c.run_nodes-seat.ensures in
-    let n = c.run_nodes-seat.result.0 in
-    let m = c.run_nodes-seat.result.1 in
+    let r = c.run_watched-seat.ensures in
+    let n = c.run_watched-seat.result.0.0 in
+    let m = c.run_watched-seat.result.0.1 in
     let opened = k.state (first_value c.in_ok-row.row).opened.value in
     let row_opened = q.state (first_value c.in_ok-rounds.rounds).opened.value in
     let shows = g.C.SharedClock.shows c.args.clock.now in
@@ -74,6 +74,6 @@ returns-clause-ended g c none =
 
 pub returns-clause-fault : goal.returns-clause-fault
 returns-clause-fault g c fault =
-    let n = c.run_nodes-seat.result.0 in
-    let m = c.run_nodes-seat.result.1 in
-    either_closed (shut n) (shut m) _ _ c.close_row.ensures.shut c.close_row-2.ensures.shut (c.run_nodes-seat.ensures.fault fault)
+    let n = c.run_watched-seat.result.0.0 in
+    let m = c.run_watched-seat.result.0.1 in
+    either_closed (shut n) (shut m) _ _ c.close_row.ensures.shut c.close_row-2.ensures.shut (c.run_watched-seat.ensures.fault fault)
