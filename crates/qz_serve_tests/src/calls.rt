@@ -125,4 +125,26 @@ impl Told {
         }
         count
     }
+
+    /// How many lines of a board come before all others. There is none where a line of a board comes after another line, or
+    /// shows fewer entries than one before it.
+    pub fn looks(&self) -> Option<usize> {
+        let mut count = 0usize;
+        let mut shown = 0u64;
+        let mut others = false;
+        for line in self.text().split('\n') {
+            match line.strip_prefix("board ") {
+                Some(rest) => {
+                    let entries = rest.split(' ').next()?.parse::<u64>().ok()?;
+                    if others || entries < shown {
+                        return None;
+                    }
+                    shown = entries;
+                    count = count.saturating_add(1);
+                }
+                None => others = true,
+            }
+        }
+        Some(count)
+    }
 }

@@ -1,8 +1,8 @@
-//! A clock that goes on at each rest.
+//! Clocks that go on as the threads do.
 use crate::disks::Seen;
 use qz_rounds::SharedClock;
 use std::sync::Wait;
-use std::sync::atomic::{AtomicI64, Ordering};
+use std::sync::atomic::{AtomicBool, AtomicI64, AtomicU64, Ordering};
 
 /// By how much the clock goes on at a rest, in ms: as long as lies between two check-ins.
 const STEP: i64 = 7500;
@@ -41,4 +41,49 @@ impl<'a> SharedClock for RestingClock<'a> {
     fn rest<R: Wait>(&self, _rt: &R, _millis: u32) {
         self.at.fetch_add(STEP, Ordering::SeqCst);
     }
+}
+
+/// Shows one moment until it is told of an execution, and then a later one. It counts its readings since then.
+#[derive(Drop)]
+pub struct CountingClock {
+    at: i64,
+    later: i64,
+    told: AtomicBool,
+    readings: AtomicU64,
+}
+
+impl CountingClock {
+    pub fn new(at: i64, later: i64) -> CountingClock {
+        CountingClock {
+            at,
+            later,
+            told: AtomicBool::new(false),
+            readings: AtomicU64::new(0),
+        }
+    }
+
+    /// Tells it that an execution has begun.
+    pub fn tell(&self) {
+        self.told.store(true, Ordering::SeqCst);
+    }
+
+    pub fn readings(&self) -> u64 {
+        self.readings.load(Ordering::SeqCst)
+    }
+}
+
+impl SharedClock for CountingClock {
+    ghost use Rattle.std.specs.Prelude.{⊤};
+
+    ghost shows = { λ clock at. ⊤ };
+
+    fn now(&self) -> i64 {
+        if !self.told.load(Ordering::SeqCst) {
+            return self.at;
+        }
+        self.readings.fetch_add(1, Ordering::SeqCst);
+        self.later
+    }
+
+    fn rest<R: Wait>(&self, _rt: &R, _millis: u32) {}
 }

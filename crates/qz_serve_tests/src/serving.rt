@@ -1,8 +1,8 @@
 //! Nodes in threads, through the top call.
 use crate::calls::{FIRST, served, stored};
-use crate::clocks::RestingClock;
+use crate::clocks::{CountingClock, RestingClock};
 use crate::disks::{Role, Seen, WatchedDisk};
-use crate::gates::TwoAtOnce;
+use crate::gates::{ManyReadings, TwoAtOnce};
 use qz_rounds::StillClock;
 use qz_serve::OpenGate;
 use qz_top::Status;
@@ -39,12 +39,46 @@ fn what_is_due_once_is_fired_once(rt: HostRuntime) -> Result<(), Fail> {
         "{}",
         told.text()
     );
-    assert_eq!(rt; told.firings(), 1);
+    assert_eq!(rt; (told.looks(), told.firings()), (Some(0), 1));
     assert!(rt;
         told.text().contains(
             "\nsummary fired 1 misfired 0 recovered 0 jobs 0 triggers 0 at 1704067200000\n"
         )
     );
+    Ok(())
+}
+
+// A board is looked at three times while the nodes work, and once at the end.
+#[test]
+fn looks_come_before_the_history(rt: HostRuntime) -> Result<(), Fail> {
+    let disks = stored(rt.alloc(), ONCE).ok_or("no stores")?;
+    let clock = StillClock::new(FIRST);
+    let told = served(
+        &rt,
+        rt.alloc(),
+        &["serve", "2", "1704067200000", "3"],
+        disks,
+        &clock,
+        &OpenGate,
+    )
+    .ok_or("no memory")?;
+    assert!(rt; told.status == Status::Ok, "{}", told.text());
+    assert_eq!(rt; (told.looks(), told.firings()), (Some(4), 1));
+    Ok(())
+}
+
+// A gate holds the only execution until the clock was read a thousand times. Then all that reads it any more is the thread that looks,
+// twice for each look: the node is held, and its check-in thread has ended. So some looks show that the execution goes on.
+#[test]
+fn looks_are_made_while_a_job_runs(rt: HostRuntime) -> Result<(), Fail> {
+    let disks = stored(rt.alloc(), ONCE).ok_or("no stores")?;
+    let clock = CountingClock::new(FIRST, 1704070800000);
+    let gate = ManyReadings::new(&clock, 1000);
+    let words = ["serve", "1", "1704070800000", "1000"];
+    let told = served(&rt, rt.alloc(), &words, disks, &clock, &gate).ok_or("no memory")?;
+    assert!(rt; told.status == Status::Ok && gate.was_met());
+    assert_eq!(rt; (told.looks(), told.firings()), (Some(1001), 1));
+    assert!(rt; told.text().contains(" executing 1 "));
     Ok(())
 }
 
