@@ -3,7 +3,9 @@
 #![tactic(auto)]
 
 mod bad_words;
+mod looks;
 mod nodes;
 
 pub use bad_words::refuse;
+pub use looks::look;
 pub use nodes::serve;
