@@ -1,0 +1,25 @@
+-- The first entries of a standby's state store.
+use Rattle.std.specs.Prelude.{ℕ, ℤ, List, map}
+use Rattle.qz_types.specs.Entries.{EntryData, StateEntryData}
+use Rattle.qz_types.specs.Rows.{MemberData}
+use Rattle.qz_types.specs.Tables.{SchedulerTables, empty}
+use Rattle.qz_types.specs.declared.states.StateCommand.TheVariants.{CheckIn}
+use Rattle.qz_model.specs.History.{replay_from}
+use Rattle.qz_checkin.specs.Bytes.{Whole as WholeRows}
+use Rattle.qz_standby.specs.declared.checking_in.TheConstants.{CHECK_IN_INTERVAL}
+
+-- a member checks in at this reading of the clock
+abbrev pub check_in_of : ℤ → MemberData → StateEntryData
+check_in_of at member = record { at = at; seat = 0; command = CheckIn member.node CHECK_IN_INTERVAL }
+
+-- each member of these tables checks in, in the order of the names, at the recorded moment of the last transaction
+abbrev pub check_ins : SchedulerTables → List StateEntryData
+check_ins T = map (check_in_of T.last_moment) T.members
+
+-- the whole list of a state store of version 2 in which they have checked in
+abbrev pub rows_list : SchedulerTables → WholeRows
+rows_list T = record { version = 2; entries = check_ins T }
+
+-- that of the state store beside a trigger store of this version that has these entries
+abbrev pub rows_beside : ℕ → List EntryData → WholeRows
+rows_beside version entries = rows_list (replay_from (empty version) entries)
