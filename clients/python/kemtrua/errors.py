@@ -50,6 +50,7 @@ STATUSES: dict[int, tuple[str, str]] = {
     9: ("memory ran out", "give the program more memory; the last step may have been done"),
     10: ("both stores are there", "nothing to do"),
     12: ("the store is of format version 1", "upgrade it: qz_sched migrate"),
+    13: ("the input isn't the bytes of a trigger store", "send them from the first one on"),
 }
 
 

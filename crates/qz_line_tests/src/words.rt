@@ -31,6 +31,7 @@ const ASKED: &[WordRow] = &[
     (&["load"], Ok(Wish::Load)),
     (&["list"], Ok(Wish::List)),
     (&["migrate"], Ok(Wish::Migrate)),
+    (&["follow"], Ok(Wish::Follow)),
     (&["times", "0", "1"], Ok(Wish::Times { after: 0, count: 1 })),
     (
         &["times", "7258118399999", "1000"],

@@ -8,6 +8,7 @@ pub const HELP: &str = "usage: qz_sched < LINES           a script on new stores
        qz_sched load < DOCUMENT   jobs and triggers into the stores of the current folder
        qz_sched list              what the stores of the current folder hold
        qz_sched migrate           takes a trigger store of format version 1 to version 2
+       qz_sched follow < STREAM   new stores from the bytes of a trigger store
        qz_sched run NODES FROM UNTIL [BUDGET]
                                   nodes work on the stores of the current folder, on a
                                   clock that begins at FROM, up to UNTIL
@@ -49,6 +50,7 @@ work on them. Standard error says what ended a call early:
   status 4  write fault                status 10  the stores exist already
   status 5  disk fault                 status 11  too many rows
   status 6  no store, or a damaged one status 12  an old store: see migrate
+                                       status 13  a bad stream
 
 --help and --version, as the only word, print this text and the version.
 ";

@@ -1,6 +1,6 @@
 -- What a call did, by what its words ask for, and the causes of its status.
 use Rattle.std.proofs.Common.{◌≡◌, ◌⊎◌, inl, inr, List, Result, subst, refl, sym, ◌∙◌}
-use Rattle.std.specs.Prelude.{Err}
+use Rattle.std.specs.Prelude.{Ok, Err}
 use Rattle.qz_civil.specs.Causes.{Rose}
 use Rattle.qz_disk.specs.declared.disk.Disk.{Ghosts}
 use Rattle.qz_io.specs.Outside.{Outside}
@@ -32,6 +32,13 @@ done_at jobs jobs' triggers states e old new v w same done = subst (λ (x : Resu
 pub uses_at : (jobs jobs' : List JobMeaning) (v w : Result Wish WordFault) → v ≡ w → UsesJobs v jobs jobs' → UsesJobs w jobs jobs'
 uses_at jobs jobs' v w same uses = subst (λ (x : Result Wish WordFault). UsesJobs x jobs jobs') same uses
 
+-- words that aren't refused
+pub words_at : (w v : Wish) → w ≡ v → ◌≡◌ {A = Result Wish WordFault} (Ok v) (Ok w)
+words_at w v is = subst (λ (x : Wish). ◌≡◌ {A = Result Wish WordFault} (Ok x) (Ok w)) is refl
+
+pub cause_at : (s : Status) (v w : Result Wish WordFault) (old new : FaultCounts) → v ≡ w → HasCause s v old new → HasCause s w old new
+cause_at s v w old new same cause = subst (λ (x : Result Wish WordFault). HasCause s x old new) same cause
+
 -- the cause of a status that may be answered to such words
 pub caused_at : (s : Status) (v w : Result Wish WordFault) (old new : FaultCounts) → v ≡ w → ((fault : WordFault) → s ≡ status.BadWords fault → v ≡ Err fault)
     → (s ≡ status.ReadFault → Rose old.input new.input) → (s ≡ status.WriteFault → Rose old.output new.output) → (s ≡ status.DiskFault → DiskFailed v old new) → HasCause s w old new
@@ -49,6 +56,7 @@ caused_at status.Exists v w old new same words read write disk = tt
 caused_at (status.Budget firings) v w old new same words read write disk = tt
 caused_at (status.TooMany count) v w old new same words read write disk = tt
 caused_at status.OldStore v w old new same words read write disk = tt
+caused_at (status.BadStream at) v w old new same words read write disk = tt
 
 -- Statuses that some calls don't end with.
 

@@ -64,6 +64,7 @@ use Rattle.qz_top.specs.declared.line_handler.LineEnd.{LineEnd}
 use Rattle.qz_top.specs.declared.line_handler.LineEnd.TheVariants as ends
 use Rattle.qz_top.specs.declared.statuses.Status.{Status}
 use Rattle.qz_top.specs.declared.statuses.Status.TheVariants as status
+use Rattle.qz_top.proofs.FollowingLaws.{follow_done}
 
 -- No status tells of a fault then.
 
@@ -74,6 +75,7 @@ no_disk (Ok wish.List) o n none failed = ⊎_elim none.triggers none.states fail
 no_disk (Ok (wish.Run nodes from until budget)) o n none failed = ⊎_elim none.triggers none.states failed
 no_disk (Ok (wish.Gen seed jobs days)) o n none failed = ⊎_elim none.triggers none.states failed
 no_disk (Ok wish.Init) o n none failed = ⊎_elim none.triggers none.states failed
+no_disk (Ok wish.Follow) o n none failed = ⊎_elim none.triggers none.states failed
 no_disk (Ok wish.Migrate) o n none failed = none.triggers failed
 no_disk (Ok wish.Own) o n none failed = absurd failed
 no_disk (Ok (wish.Times after count)) o n none failed = absurd failed
@@ -119,6 +121,7 @@ script_done told status.Exists before after old new lines readings replies run i
 script_done told (status.Budget firings) before after old new lines readings replies run is none bytes left good = absurd run.called
 script_done told (status.TooMany count) before after old new lines readings replies run is none bytes left good = absurd run.called
 script_done told status.OldStore before after old new lines readings replies run is none bytes left good = absurd run.called
+script_done told (status.BadStream at) before after old new lines readings replies run is none bytes left good = absurd run.called
 
 own_done : (s : Status) (trail : List ClusterState) (old new : Outside) → OwnDone s trail old new → NoFault s → (bytes : List ℕ) → old.left ≡ Some bytes → first_bad (lines_of bytes) ≡ None → IsDoneOrFull s
 own_done s trail old new (inl ran) none bytes left good = script_done ⊤ s _ _ old new _ _ _ ran.run tt none bytes left good
@@ -145,6 +148,7 @@ done_or_full status.Exists is = absurd is
 done_or_full (status.Budget firings) is = absurd is
 done_or_full (status.TooMany count) is = absurd is
 done_or_full status.OldStore is = absurd is
+done_or_full (status.BadStream at) is = absurd is
 
 full_by_nodes : (s : Status) → IsDoneOrFull s → IsDoneByNodes s
 full_by_nodes status.Ok is = tt
@@ -153,6 +157,7 @@ full_by_nodes (status.JournalFull need room) is = tt
 full_by_nodes (status.Budget firings) is = tt
 full_by_nodes (status.TooMany count) is = tt
 full_by_nodes status.OldStore is = tt
+full_by_nodes (status.BadStream at) is = absurd is
 full_by_nodes (status.BadWords fault) is = absurd is
 full_by_nodes (status.BadLine line kind) is = absurd is
 full_by_nodes status.ReadFault is = absurd is
@@ -169,6 +174,7 @@ nodes_by_generator (status.JournalFull need room) is = tt
 nodes_by_generator (status.Budget firings) is = tt
 nodes_by_generator (status.TooMany count) is = tt
 nodes_by_generator status.OldStore is = tt
+nodes_by_generator (status.BadStream at) is = absurd is
 nodes_by_generator status.Exists is = tt
 nodes_by_generator (status.BadWords fault) is = absurd is
 nodes_by_generator (status.BadLine line kind) is = absurd is
@@ -210,6 +216,7 @@ finished_done status.Exists closed old new faults faults_now finishes none = abs
 finished_done (status.Budget firings) closed old new faults faults_now finishes none = absurd finishes
 finished_done (status.TooMany count) closed old new faults faults_now finishes none = absurd finishes
 finished_done status.OldStore closed old new faults faults_now finishes none = absurd finishes
+finished_done (status.BadStream at) closed old new faults faults_now finishes none = absurd finishes
 
 two_meanings : {A : Type 0} (x : Result Document LineFault) (document : Document) (fault : LineFault) → x ≡ Ok document → x ≡ Err fault → A
 two_meanings x document fault ok err = let bad : ◌≡◌ {A = Result Document LineFault} (Ok document) (Err fault) = sym ok ∙ err in absurd cc
@@ -229,6 +236,7 @@ none_done status.Exists before after old new had none bytes left document good =
 none_done (status.Budget firings) before after old new had none bytes left document good = absurd had.cause
 none_done (status.TooMany count) before after old new had none bytes left document good = absurd had.cause
 none_done status.OldStore before after old new had none bytes left document good = absurd had.cause
+none_done (status.BadStream at) before after old new had none bytes left document good = absurd had.cause
 
 document_done : (told : Type 0) (s : Status) (document : Document) (before after : RunState) (old new : Outside) → DidDocument told s document before after old new → told → NoFault s → IsDoneOrFull s
 document_done told s document before after old new (inl all) is none = finished_done s _ (only_output all.then) (only_output new) all.faults all.faults_now all.finishes none
@@ -256,6 +264,7 @@ listed_done status.Exists text old new wrote none = absurd wrote
 listed_done (status.Budget firings) text old new wrote none = absurd wrote
 listed_done (status.TooMany count) text old new wrote none = absurd wrote
 listed_done status.OldStore text old new wrote none = absurd wrote
+listed_done (status.BadStream at) text old new wrote none = absurd wrote
 
 upgraded_done : (s : Status) (at : ℤ) (opened end : TriggerState) (old new : Outside) → Upgrades s at opened end old new → NoFault s → IsDoneOrFull s
 upgraded_done status.Ok at opened end old new upgrades none = tt
@@ -272,6 +281,7 @@ upgraded_done status.Exists at opened end old new upgrades none = absurd upgrade
 upgraded_done (status.Budget firings) at opened end old new upgrades none = absurd upgrades
 upgraded_done (status.TooMany count) at opened end old new upgrades none = absurd upgrades
 upgraded_done status.OldStore at opened end old new upgrades none = absurd upgrades
+upgraded_done (status.BadStream place) at opened end old new upgrades none = absurd upgrades
 
 -- Fire times.
 
@@ -329,6 +339,7 @@ ended_told p (status.NotAStore st) end x ended = absurd ended
 ended_told p (status.Damaged st at) end x ended = absurd ended
 ended_told p status.Exists end x ended = absurd ended
 ended_told p status.OldStore end x ended = absurd ended
+ended_told p (status.BadStream at) end x ended = absurd ended
 
 told_so : (told work : Status) → IsToldAs told work → IsOfWork work → IsOfWork told
 told_so told work (inl same) is = subst IsOfWork (sym same) is
@@ -352,6 +363,7 @@ rested_done (status.NotAStore st) s a b is rests none = absurd is
 rested_done (status.Damaged st at) s a b is rests none = absurd is
 rested_done status.Exists s a b is rests none = absurd is
 rested_done status.OldStore s a b is rests none = absurd is
+rested_done (status.BadStream at) s a b is rests none = absurd is
 
 worked_done : (p : Plan) (jobs jobs' : List JobMeaning) (work told s : Status) (begun end : ClusterState) (a b : TriggerState) → Worked p work jobs jobs' begun end → IsToldAs told work → RestsNodes told s a b → NoFault s → IsDoneByNodes s
 worked_done p jobs jobs' work told s begun end a b worked as_work rests none = rested_done told s a b (told_so told work as_work (ended_told p work end (seen_after begun end worked.added worked.rows) worked.ends)) rests none
@@ -398,6 +410,7 @@ module _ {D : Type 0} (g : Ghosts D) (honest : g.honest) (t t' u u' : D) (trigge
   init_done (status.Budget firings) made none = absurd made
   init_done (status.TooMany count) made none = absurd made
   init_done status.OldStore made none = absurd made
+  init_done (status.BadStream at) made none = absurd made
 
 -- All calls.
 
@@ -442,6 +455,7 @@ module _ {D : Type 0} {g : Ghosts D} (triggers states : D) (e : Ended D g) (none
   ends_by (Ok wish.Load) jobs jobs' old new did (bytes, left, document, good) (list, rows, held) = load_words old new did bytes left document good list rows held
   ends_by (Ok wish.List) jobs jobs' old new did input (list, rows, held) = list_words _ _ did.ran list rows held
   ends_by (Ok wish.Migrate) jobs jobs' old new did input (list, rows, held) = migrate_words _ _ _ _ did.ran list rows held
+  ends_by (Ok wish.Follow) jobs jobs' old new did (bytes, left, right) (honest, begins) = follow_done triggers states e none.read none.write none.disk honest begins _ _ bytes did.ran left right
   ends_by (Ok (wish.Times after count)) jobs jobs' old new did (bytes, left, good, few) stores =
       times_done e.status (record { after = after; count = count }) (no_clock old) (no_clock new) did.told.end did.told.run.lines did.told.run.text did.told.run.known did.told.status_is did.told.run.ends none bytes left good few
   ends_by (Ok (wish.Run nodes from until budget)) jobs jobs' old new did input (list, rows, held) = run_words _ jobs jobs' _ _ did.ran list rows held

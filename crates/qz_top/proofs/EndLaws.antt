@@ -261,6 +261,7 @@ module _ {D K C : Type 0} (g : Ghosts D) (k : sink.Ghosts K) (c : clock.Ghosts C
   IsRun-whole (status.Budget firings) i j a b after out m n lines rests finishes = absurd finishes
   IsRun-whole (status.TooMany count) i j a b after out m n lines rests finishes = absurd finishes
   IsRun-whole status.OldStore i j a b after out m n lines rests finishes = absurd finishes
+  IsRun-whole (status.BadStream at) i j a b after out m n lines rests finishes = absurd finishes
 
   -- the output's count of faults while lines are done
   pub faults_later : (i j : Option (List ℕ)) (a b : State) → HandlesLines (Does {g = g} k c) (Ok tt) i j a b → k.faults a.out ≤ k.faults b.out
@@ -299,3 +300,4 @@ finish_called status.Exists closed old new m n finishes = absurd finishes
 finish_called (status.Budget firings) closed old new m n finishes = absurd finishes
 finish_called (status.TooMany count) closed old new m n finishes = absurd finishes
 finish_called status.OldStore closed old new m n finishes = absurd finishes
+finish_called (status.BadStream at) closed old new m n finishes = absurd finishes

@@ -178,6 +178,7 @@ finishes_none status.Exists closed old new faults faults_now finishes = absurd f
 finishes_none (status.Budget firings) closed old new faults faults_now finishes = absurd finishes
 finishes_none (status.TooMany count) closed old new faults faults_now finishes = absurd finishes
 finishes_none status.OldStore closed old new faults faults_now finishes = absurd finishes
+finishes_none (status.BadStream at) closed old new faults faults_now finishes = absurd finishes
 
 -- a load that stopped early ended with neither status
 not_whole : (s : Status) (end : LineEnd) → s ≡ status_at 0 end → (s ≡ status.Ok) ⊎ (s ≡ status.DiskFault) → ⊥

@@ -5,6 +5,7 @@ pub mod ClientLaws
 pub mod CompletingLaws
 pub mod Courses
 pub mod EndLaws
+pub mod FollowingLaws
 pub mod GeneratingLaws
 pub mod GrowingLaws
 pub mod HandingLaws

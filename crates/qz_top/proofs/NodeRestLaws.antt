@@ -54,6 +54,7 @@ rests_may status.NoMemory r s t rests = inl rests.1
 rests_may status.Exists r s t rests = inl rests.1
 rests_may (status.TooMany count) r s t rests = inl rests.1
 rests_may status.OldStore r s t rests = inl rests.1
+rests_may (status.BadStream at) r s t rests = inl rests.1
 
 -- the status stays, or tells that the checkpoint failed
 rests_status : (told r : Status) (s t : TriggerState) → RestsNodes told r s t → (r ≡ told) ⊎ ((r ≡ status.DiskFault) × Breaks s t) ⊎ (r ≡ status.NoMemory)
@@ -73,6 +74,7 @@ rests_status status.NoMemory r s t rests = inl rests.0
 rests_status status.Exists r s t rests = inl rests.0
 rests_status (status.TooMany count) r s t rests = inl rests.0
 rests_status status.OldStore r s t rests = inl rests.0
+rests_status (status.BadStream at) r s t rests = inl rests.0
 
 -- where nothing is done, the status stays
 pub rests_none : (told : Status) (s : TriggerState) → RestsNodes told told s s
@@ -90,6 +92,7 @@ rests_none status.NoMemory s = (refl, refl)
 rests_none status.Exists s = (refl, refl)
 rests_none (status.TooMany count) s = (refl, refl)
 rests_none status.OldStore s = (refl, refl)
+rests_none (status.BadStream at) s = (refl, refl)
 
 -- another status than those two was so before
 status_stays : (told r x : Status) (s t : TriggerState) → RestsNodes told r s t → (status.DiskFault ≡ x → ⊥) → (status.NoMemory ≡ x → ⊥) → r ≡ x → told ≡ x

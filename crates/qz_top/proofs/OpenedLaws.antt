@@ -87,6 +87,7 @@ end_sound honest status.Exists left lines more last after end not_own sound = sa
 end_sound honest (status.Budget firings) left lines more last after end not_own sound = same_run_sound last after end sound
 end_sound honest (status.TooMany count) left lines more last after end not_own sound = same_run_sound last after end sound
 end_sound honest status.OldStore left lines more last after end not_own sound = same_run_sound last after end sound
+end_sound honest (status.BadStream at) left lines more last after end not_own sound = same_run_sound last after end sound
 
 -- The trail stays, whatever the end left of the cluster.
 
@@ -109,6 +110,7 @@ end_trail honest status.Exists left lines more last after end = ap (λ (r : RunS
 end_trail honest (status.Budget firings) left lines more last after end = ap (λ (r : RunState). r.trail) end
 end_trail honest (status.TooMany count) left lines more last after end = ap (λ (r : RunState). r.trail) end
 end_trail honest status.OldStore left lines more last after end = ap (λ (r : RunState). r.trail) end
+end_trail honest (status.BadStream at) left lines more last after end = ap (λ (r : RunState). r.trail) end
 
 -- Where both stores were open at first, and one is closed after the steps and a checkpoint, a disk failed.
 pub ran_rose : (honest : Type 0) (S : ClusterState) (ts : List TimedStep) (rs : List StepReply) (last after : RunState) → RanSteps honest ts rs (begun false S) last → IsReady S → MayBreak last after

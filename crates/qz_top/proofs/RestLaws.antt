@@ -47,6 +47,7 @@ module _ (last after : RunState) where
   rests_may (status.Budget firings) rests = absurd rests
   rests_may (status.TooMany count) rests = absurd rests
   rests_may status.OldStore rests = absurd rests
+  rests_may (status.BadStream at) rests = absurd rests
 
   pub rested_history : MayBreak last after → after.cluster.triggers.history ≡ last.cluster.triggers.history
   rested_history (inl (inl same)) = ap (λ (r : RunState). r.cluster.triggers.history) same
@@ -114,6 +115,7 @@ module _ (last after : RunState) where
     rests_open (status.Budget firings) finishes other rested = absurd finishes
     rests_open (status.TooMany count) finishes other rested = absurd finishes
     rests_open status.OldStore finishes other rested = absurd finishes
+    rests_open (status.BadStream at) finishes other rested = absurd finishes
 
     pub rests_closed : (s : Status) → Finishes s true old new m n → (s ≡ status.NoMemory → ⊥) → MayBreak last after → RestsRun s last after
     rests_closed status.Ok finishes other may = let bad : true ≡ false = finishes.0 in absurd cc
@@ -130,6 +132,7 @@ module _ (last after : RunState) where
     rests_closed (status.Budget firings) finishes other may = absurd finishes
     rests_closed (status.TooMany count) finishes other may = absurd finishes
     rests_closed status.OldStore finishes other may = absurd finishes
+    rests_closed (status.BadStream at) finishes other may = absurd finishes
 
 -- a status that isn't Ok where a store is closed
 pub closed_not_ok : (s : Status) (old new : Outside) (m n : ℕ) → Finishes s true old new m n → s ≡ status.Ok → ⊥

@@ -159,6 +159,7 @@ writes_kept (status.Budget firings) x y z replies wrote kept = wrote_nothing x y
 writes_kept status.Exists x y z replies wrote kept = wrote_nothing x y z _ wrote kept
 writes_kept (status.TooMany count) x y z replies wrote kept = wrote_nothing x y z _ wrote kept
 writes_kept status.OldStore x y z replies wrote kept = wrote_nothing x y z _ wrote kept
+writes_kept (status.BadStream at) x y z replies wrote kept = wrote_nothing x y z _ wrote kept
 
 module _ {D K C : Type 0} (g : Ghosts D) (k : sink.Ghosts K) (c : clock.Ghosts C) where
   -- The handler refused the next line.

@@ -64,6 +64,7 @@ wrote_all (status.NotAStore store) text old new is appends handed = absurd is
 wrote_all (status.Damaged store at) text old new is appends handed = absurd is
 wrote_all status.Exists text old new is appends handed = absurd is
 wrote_all status.OldStore text old new is appends handed = absurd is
+wrote_all (status.BadStream at) text old new is appends handed = absurd is
 
 -- Nothing was written.
 pub wrote_none : (text : List ℕ) (o : Outside) → WritesRun status.NoMemory text o o

@@ -22,7 +22,7 @@ use Rattle.qz_words.specs.declared.wishes.Wish.TheVariants as wish
 use Rattle.qz_top.specs.Found.{HoldWhole}
 use Rattle.qz_top.specs.HeadlineByWords.{OnlyLooked, HeadlineOf}
 use Rattle.qz_top.specs.InTurn.{Call, HasHeadline, BeginsWith, Keeps, Follows, InTurn}
-use Rattle.qz_top.specs.Making.{IsNew}
+use Rattle.qz_top.specs.Making.{IsNew, KeepsStores}
 use Rattle.qz_top.specs.NodeRuns.{IsKept}
 use Rattle.qz_top.specs.Standing.{longer, HoldLonger, HoldLongerRows, OutlastsCrashes}
 use Rattle.qz_top.proofs.StandingLaws.{longer_of, rows_longer_of, longer_still, rows_longer_still}
@@ -68,13 +68,19 @@ module _ {D : Type 0} {g : Ghosts D} (honest : g.honest) (lawful : (d : D) → I
     rows = λ b since. ∥∥₁_elim held_now squash₁ (λ held. ∥∥₁_elim rows_held_now squash₁ (λ rows. ∥∥₁_elim (outlasts.any_moment _ _ (held_whole held rows)) squash₁ (λ kept. rows_kept rows kept.1 b since)));
   }
 
-  keeps_by : (words : Result Wish WordFault) → HeadlineOf words c.triggers c.states c.ended c.old c.new → Keeps w v c
-  keeps_by (Err fault) looked = looked_keeps looked
-  keeps_by (Ok wish.Own) own = looked_keeps own.0
-  keeps_by (Ok wish.Init) keeps = record {
+  -- disks that begin as stores are kept
+  stores_keep : KeepsStores g c.triggers c.ended.triggers c.states c.ended.states → Keeps w v c
+  stores_keep keeps = record {
     entries = λ b since. ∥∥₁_elim held_now squash₁ (λ held. entries_looked (keeps.triggers honest (inl (header_store _ TRIGGERS (w.version, held.held.store.1.header)))) b since);
     rows = λ b since. ∥∥₁_elim rows_held_now squash₁ (λ rows. rows_looked (keeps.states honest (inl (header_store _ STATES (v.version, rows.held.store.1.header)))) b since);
   }
+
+  keeps_by : (words : Result Wish WordFault) → HeadlineOf words c.triggers c.states c.ended c.old c.new → Keeps w v c
+  keeps_by (Err fault) looked = looked_keeps looked
+  keeps_by (Ok wish.Own) own = looked_keeps own.0
+  keeps_by (Ok wish.Init) keeps = stores_keep keeps
+  keeps_by (Ok wish.Follow) (inl headline) = stores_keep headline.keeps
+  keeps_by (Ok wish.Follow) (inr looked) = looked_keeps looked.0
   keeps_by (Ok wish.Script) (inl headline) = outlasting_keeps headline.end headline.outlasts
   keeps_by (Ok wish.Script) (inr none) = looked_keeps none.looked
   keeps_by (Ok wish.Load) (inl headline) = outlasting_keeps headline.end headline.outlasts

@@ -71,6 +71,7 @@ module _ (P Q : Type 0) (tells : P → ∥ Q ∥₁) where
   end_under (status.Budget firings) left lines more last after end = end
   end_under (status.TooMany count) left lines more last after end = end
   end_under status.OldStore left lines more last after end = end
+  end_under (status.BadStream at) left lines more last after end = end
 
   pub run_under : (s : Status) (before after : RunState) (old new : Outside) (lines : List (List ℕ)) (readings : List ℤ) (replies : List StepReply)
       → IsRun Q s before after old new lines readings replies → IsRun P s before after old new lines readings replies

@@ -14,6 +14,8 @@ use Rattle.qz_words.specs.declared.wishes.WordFault.{WordFault}
 use Rattle.qz_words.specs.declared.wishes.Wish.{Wish}
 use Rattle.qz_words.specs.declared.wishes.Wish.TheVariants as wish
 use Rattle.qz_top.specs.Causes.{FaultCounts}
+use Rattle.qz_standby.specs.Fronts.{HasNone}
+use Rattle.qz_top.specs.Following.{IsRightStream}
 use Rattle.qz_top.specs.Found.{HoldWhole}
 use Rattle.qz_top.specs.Lines.{first_bad}
 use Rattle.qz_top.specs.declared.statuses.Status.{Status}
@@ -26,20 +28,23 @@ pub record NoneRose (old new : FaultCounts) : Type 0 where
   pub triggers : Rose old.triggers new.triggers → ⊥
   pub states : Rose old.states new.states → ⊥
 
--- The input's bytes are known, where the call reads it, and right: no line of a script or of `times` is bad, and a document is one.
+-- The input's bytes are known, where the call reads it, and right: no line of a script or of `times` is bad, a document is one, and a
+-- stream has no fault.
 abbrev pub HasRightInput : Result Wish WordFault → Option (List ℕ) → Type 0
 HasRightInput (Ok wish.Own) left = (bytes : List ℕ) × (left ≡ Some bytes) × (first_bad (lines_of bytes) ≡ None)
 HasRightInput (Ok wish.Script) left = (bytes : List ℕ) × (left ≡ Some bytes) × (first_bad (lines_of bytes) ≡ None)
 HasRightInput (Ok wish.Load) left = (bytes : List ℕ) × (left ≡ Some bytes) × (document : Document) × (document_meaning bytes ≡ Ok document)
 HasRightInput (Ok (wish.Times after count)) left =
     (bytes : List ℕ) × (left ≡ Some bytes) × AllByRecursion (λ line. IsOk (line_meaning line)) (lines_of bytes) × (length (lines_of bytes) ≤ LINE_COUNT_LIMIT)
+HasRightInput (Ok wish.Follow) left = (bytes : List ℕ) × (left ≡ Some bytes) × IsRightStream bytes
 HasRightInput w left = ⊤
 
--- both disks are honest and hold whole lists, where the call works on them
+-- both disks are honest and hold whole lists, where the call works on them; for one that makes the stores they begin as none
 abbrev pub HasStores : {D : Type 0} → Ghosts D → Result Wish WordFault → D → D → Type 0
 HasStores g (Err fault) triggers states = ⊤
 HasStores g (Ok wish.Own) triggers states = ⊤
 HasStores g (Ok (wish.Times after count)) triggers states = ⊤
+HasStores g (Ok wish.Follow) triggers states = g.honest × HasNone (g.state triggers).content (g.state states).content
 HasStores g w triggers states = (list : Whole) × (rows : WholeRows) × HoldWhole g triggers states list rows
 
 -- it came to its end, or memory ran out
@@ -74,6 +79,7 @@ EndsUnfailed (Ok wish.Script) s = IsDoneOrFull s
 EndsUnfailed (Ok wish.Load) s = IsDoneOrFull s
 EndsUnfailed (Ok wish.List) s = IsDone s
 EndsUnfailed (Ok wish.Migrate) s = IsDoneOrFull s
+EndsUnfailed (Ok wish.Follow) s = IsDone s
 EndsUnfailed (Ok (wish.Times after count)) s = IsDone s
 EndsUnfailed (Ok (wish.Run nodes from until budget)) s = IsDoneByNodes s
 EndsUnfailed (Ok (wish.Gen seed jobs days)) s = IsDoneByGenerator s

@@ -23,6 +23,7 @@ use Rattle.qz_words.specs.declared.wishes.Wish.{Wish}
 use Rattle.qz_words.specs.declared.wishes.Wish.TheVariants as wish
 use Rattle.qz_top.specs.Calls.{trail_of}
 use Rattle.qz_top.specs.Clients.{client_steps}
+use Rattle.qz_top.specs.Following.{MadeBoth, HeadlineOfStandby}
 use Rattle.qz_top.specs.Found.{HoldWhole}
 use Rattle.qz_top.specs.Headline.{Headline, HeadlineInMemory}
 use Rattle.qz_top.specs.LineOutcomes.{IsOwn}
@@ -108,5 +109,6 @@ HeadlineOf (Ok (wish.Run nodes from until budget)) triggers states e old new =
 HeadlineOf (Ok (wish.Gen seed jobs days)) triggers states e old new = HeadlineOfWork triggers states e ⊎ OpenedNone triggers states e
 HeadlineOf (Ok wish.Migrate) triggers states e old new = HeadlineOfUpgrade triggers states e ⊎ OnlyLooked triggers states e
 HeadlineOf {g = g} (Ok wish.Init) triggers states e old new = KeepsStores g triggers e.triggers states e.states
+HeadlineOf (Ok wish.Follow) triggers states e old new = HeadlineOfStandby triggers states e old.left new.left ⊎ (OnlyLooked triggers states e × (MadeBoth e.status → ⊥))
 -- the others work on no store
 HeadlineOf w triggers states e old new = OnlyLooked triggers states e

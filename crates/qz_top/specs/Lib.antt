@@ -3,6 +3,7 @@ pub mod Calls
 pub mod Causes
 pub mod Clients
 pub mod Completing
+pub mod Following
 pub mod Found
 pub mod Generating
 pub mod HandingOn

@@ -58,6 +58,7 @@ Reads status.Exists left left_now lines = ⊥
 Reads (status.Budget firings) left left_now lines = ⊥
 Reads (status.TooMany count) left left_now lines = ⊥
 Reads status.OldStore left left_now lines = ⊥
+Reads (status.BadStream at) left left_now lines = ⊥
 
 -- The line after those that were done asks for a step that was cut short. The step was tried at its own reading, or else
 -- at the one reading that was taken of the clock after those of these lines.
@@ -137,6 +138,7 @@ IsOfScript status.Exists = ⊥
 IsOfScript (status.Budget firings) = ⊥
 IsOfScript (status.TooMany count) = ⊥
 IsOfScript status.OldStore = ⊥
+IsOfScript (status.BadStream at) = ⊥
 IsOfScript s = ⊤
 
 -- A run of these lines from the first state on, with these readings of the clock and these replies. The last state is

@@ -1,5 +1,5 @@
 //! The top call.
-ghost use Rattle.std.specs.Prelude.{map};
+ghost use Rattle.std.specs.Prelude.{Ok, map};
 ghost use Rattle.qz_io.specs.Around.{outside};
 ghost use Rattle.qz_top.specs.Asked.{DidAsAsked, UsesJobs};
 ghost use Rattle.qz_top.specs.Causes.{counts, HasCause};
@@ -9,9 +9,10 @@ ghost use Rattle.qz_top.specs.HandingOn.{HandsOnWritten};
 ghost use Rattle.qz_top.specs.HeadlineByWords.{HeadlineOf};
 ghost use Rattle.qz_top.specs.Schedules.{FollowSchedules};
 ghost use Rattle.qz_top.specs.Statuses.{Reported};
-ghost use Rattle.qz_words.specs.Wishes.{wish_of};
+ghost use Rattle.qz_words.specs.Wishes.{wish_of, IsWish};
 
 use crate::ended::{Ended, ran_no_script};
+use crate::following::follow;
 use crate::gen_on_disk::{Workload, gen_on_disk};
 use crate::in_memory::own_script;
 use crate::list_on_disk::list_on_disk;
@@ -42,6 +43,8 @@ use std::alloc::Global;
 /// - `migrate` opens the trigger store, takes it from version 1 to version 2 with one transaction, and writes `migrated`; or it
 ///   writes `current` where the store needs none. The other disk isn't touched. `run` and `gen` do nothing on a store of version 1
 ///   that wasn't upgraded.
+/// - `follow` reads the bytes of a trigger store from `input`, makes both stores of them where there are none, and writes `followed`
+///   and the number of entries.
 /// - `run NODES FROM UNTIL [BUDGET]` opens both stores, lets so many nodes work on them with the jobs, on a clock that begins at
 ///   FROM, until nothing is due up to UNTIL, and writes a line for each entry that they added and one that sums them up.
 /// - `gen SEED JOBS DAYS` opens both stores. Where the trigger store's history is empty, it adds jobs and triggers that SEED gives,
@@ -99,24 +102,45 @@ fn work<S: Source, K: Sink, D: Disk, C: Clock>(
     ensures handed { HandsOnWritten K.Sink out.old out.new }
 {
     match read_words(words) {
+        Ok(wish) => do_as_asked(alloc, wish, input, out, triggers, states, clock, jobs),
         Err(fault) => ran_no_script(alloc, Status::BadWords { fault }, triggers, states),
-        Ok(Wish::Own) => own_script(alloc, input, out, triggers, states, clock),
-        Ok(Wish::Init) => make_stores(alloc, out, triggers, states),
-        Ok(Wish::Script) => script_on_disk(alloc, input, out, triggers, states, clock),
-        Ok(Wish::Times { after, count }) => {
+    }
+}
+
+// The same, for words that aren't refused.
+fn do_as_asked<S: Source, K: Sink, D: Disk, C: Clock>(
+    alloc: Global,
+    wish: Wish,
+    input: &mut S,
+    out: &mut K,
+    triggers: D,
+    states: D,
+    clock: &mut C,
+    jobs: &mut Jobs,
+) -> Ended<D>
+    requires { IsWish wish }
+    ensures done { DidAsAsked (Ok wish) (map means jobs.old.items) (map means jobs.new.items) triggers states result (outside S.Source K.Sink C.Clock input.old out.old clock.old) (outside S.Source K.Sink C.Clock input.new out.new clock.new) }
+    ensures jobs { UsesJobs (Ok wish) (map means jobs.old.items) (map means jobs.new.items) }
+    ensures cause { HasCause result.status (Ok wish) (counts S.Source K.Sink D.Disk input.old out.old triggers states) (counts S.Source K.Sink D.Disk input.new out.new result.triggers result.states) }
+    ensures handed { HandsOnWritten K.Sink out.old out.new }
+{
+    match wish {
+        Wish::Own => own_script(alloc, input, out, triggers, states, clock),
+        Wish::Init => make_stores(alloc, out, triggers, states),
+        Wish::Script => script_on_disk(alloc, input, out, triggers, states, clock),
+        Wish::Times { after, count } => {
             tell_times(alloc, input, out, triggers, states, Query { after, count })
         }
-        Ok(Wish::Load) => load_on_disk(alloc, input, out, triggers, states, clock),
-        Ok(Wish::List) => list_on_disk(alloc, out, triggers, states),
-        Ok(Wish::Migrate) => migrate(alloc, out, triggers, states, clock),
-        Ok(
-            Wish::Run {
-                nodes,
-                from,
-                until,
-                budget,
-            },
-        ) => {
+        Wish::Load => load_on_disk(alloc, input, out, triggers, states, clock),
+        Wish::List => list_on_disk(alloc, out, triggers, states),
+        Wish::Migrate => migrate(alloc, out, triggers, states, clock),
+        Wish::Follow => follow(alloc, input, out, triggers, states),
+        Wish::Run {
+            nodes,
+            from,
+            until,
+            budget,
+        } => {
             let plan = Plan {
                 nodes,
                 from,
@@ -125,13 +149,11 @@ fn work<S: Source, K: Sink, D: Disk, C: Clock>(
             };
             run_on_disk(alloc, plan, out, triggers, states, jobs)
         }
-        Ok(
-            Wish::Gen {
-                seed,
-                jobs: count,
-                days,
-            },
-        ) => {
+        Wish::Gen {
+            seed,
+            jobs: count,
+            days,
+        } => {
             let workload = Workload {
                 seed,
                 jobs: count,

@@ -7,6 +7,7 @@ mod commands;
 mod documents;
 mod ended;
 mod filling;
+mod following;
 mod gen_on_disk;
 mod in_memory;
 mod laws;

@@ -47,6 +47,7 @@ fn write_error<E: Sink>(status: Status, err: &mut E) -> Result<(), Failed>
         Status::Exists => write_all(err, b"qz: store exists\n"),
         Status::TooMany { count } => write_too_many(count, err),
         Status::OldStore => write_all(err, b"qz: old store\n"),
+        Status::BadStream { at } => write_bad_stream(at, err),
     }
 }
 
@@ -98,6 +99,14 @@ fn write_too_many<E: Sink>(count: u64, err: &mut E) -> Result<(), Failed>
     ensures cause { HasCause (E.faults err.old) (E.faults err.new) result }
 {
     write_number(b"qz: too many ", count, err)?;
+    write_all(err, b"\n")
+}
+
+fn write_bad_stream<E: Sink>(at: u64, err: &mut E) -> Result<(), Failed>
+    ensures ok { OnOk result (Appends (E.held err.old) (E.held err.new) (error_text (Status.BadStream at))) }
+    ensures cause { HasCause (E.faults err.old) (E.faults err.new) result }
+{
+    write_number(b"qz: bad stream at ", at, err)?;
     write_all(err, b"\n")
 }
 

@@ -68,13 +68,16 @@ pub enum Status {
     Budget { firings: u64 },
     /// Memory ran out.
     NoMemory,
-    /// `init`: both stores exist already. `gen`: the history of the trigger store isn't empty.
+    /// `init`: both stores exist already. `follow`: one of them does. `gen`: the history of the trigger store isn't empty.
     Exists,
     /// `run` and `gen`: a transaction of one of the nodes was refused, since there would be this many rows or members.
     TooMany { count: u64 },
     /// `run` and `gen`: the trigger store is one of version 1 that wasn't upgraded. Nothing was done or written; `migrate`
     /// upgrades it.
     OldStore,
+    /// `follow`: the first bad place of the input's bytes, as an offset; or their number, where they end within the header. No store
+    /// was made.
+    BadStream { at: u64 },
 }
 
 impl Status {
@@ -97,6 +100,7 @@ impl Status {
             Status::Exists => 10,
             Status::TooMany { count: _ } => 11,
             Status::OldStore => 12,
+            Status::BadStream { at: _ } => 13,
         }
     }
 }

@@ -25,6 +25,8 @@ pub enum Wish {
     List,
     /// A trigger store of format version 1 becomes one of version 2.
     Migrate,
+    /// New stores, from the bytes of a trigger store.
+    Follow,
     /// For each trigger of the input its first fire times after a moment.
     Times {
         /// In ms since 1970-01-01T00:00:00Z, from 0 to `LAST`.
@@ -80,6 +82,7 @@ pub fn read_words(words: &[Text]) -> Result<Wish, WordFault>
             "load" => alone(Wish::Load, further),
             "list" => alone(Wish::List, further),
             "migrate" => alone(Wish::Migrate, further),
+            "follow" => alone(Wish::Follow, further),
             "times" => times(further),
             "run" => run(further),
             "gen" => generate(further),
