@@ -34,6 +34,11 @@ abbrev pub AsksMigrate : Result Wish WordFault → Type 0
 AsksMigrate (Ok wish.Migrate) = ⊤
 AsksMigrate w = ⊥
 
+-- they ask for `follow`
+abbrev pub AsksFollow : Result Wish WordFault → Type 0
+AsksFollow (Ok wish.Follow) = ⊤
+AsksFollow w = ⊥
+
 -- they ask for `times`
 abbrev pub AsksTimes : Result Wish WordFault → Type 0
 AsksTimes (Ok (wish.Times after count)) = ⊤

@@ -4,6 +4,7 @@
 mod bad_words;
 mod documents;
 mod fire_times;
+mod following;
 mod listings;
 mod making;
 mod memory;
@@ -15,6 +16,7 @@ mod workloads;
 pub use bad_words::refuse;
 pub use documents::load;
 pub use fire_times::times;
+pub use following::follow;
 pub use listings::list;
 pub use making::init;
 pub use memory::own;
