@@ -8,6 +8,8 @@ mod cuts;
 #[cfg(test)]
 mod error_texts;
 #[cfg(test)]
+mod follows;
+#[cfg(test)]
 mod generated;
 #[cfg(test)]
 mod loads;
