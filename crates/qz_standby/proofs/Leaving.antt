@@ -26,7 +26,7 @@ looks_then a m n first second = record {
 only_then : (from : List ℕ) (a m : DiskState) → Stays a m → Only from a → Only from m
 only_then from a m stays only b is = only b ((stays.images b).0 is)
 
-module _ {H S E R : Type 0} (k : StoreKind H S E R) (w : WholeList E) where
+module _ {H S E R : Type 0} (k : StoreKind H S E R) (w : WholeList S E) where
   -- a disk that was looked at is as it may be before a store is made
   pub looks_first : (a n : DiskState) → Looks a n → LeavesFirst k w a n
   looks_first a n looks from only = weaker a n a.IsImage _ looks.any_moment (λ b is. inl (subst (Torn 0 17 from) (sym (only b is)) (torn_same 0 17 from)))

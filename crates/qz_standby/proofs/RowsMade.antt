@@ -1,5 +1,5 @@
 -- What the steps make of a disk.
-use Rattle.std.proofs.Common.{◌≡◌, inl, inr}
+use Rattle.std.proofs.Common.{◌≡◌, inl, inr, []}
 use Rattle.std.specs.Prelude.{Some, None, Result, Ok, Err, OnOk, IfErr}
 use Rattle.qz_disk.specs.declared.disk.Disk.{Ghosts}
 use Rattle.qz_disk.specs.Disk.{DiskState, IsLawful as DiskIsLawful, Torn, LeavesOnly}
@@ -12,7 +12,7 @@ use Rattle.qz_journal.specs.declared.layout.TheConstants.{STATES}
 use Rattle.qz_types.specs.declared.stores.Store.{Store}
 use Rattle.qz_types.specs.declared.stores.Store.TheVariants as store
 use Rattle.qz_types.specs.Tables.{SchedulerTables}
-use Rattle.qz_stores.specs.Creating.{no_entries}
+use Rattle.qz_checkin.specs.Bytes.{list_of}
 use Rattle.qz_checkin.specs.History.{new_state_history}
 use Rattle.qz_checkin.specs.Kinds.{state_kind}
 use Rattle.qz_checkin.specs.Laws.{state_lawful}
@@ -42,7 +42,7 @@ abbrev AllChecked : {D : Type 0} {g : Ghosts D} → SchedulerTables → StateSto
 AllChecked T t = ((view t).history ≡ record new_state_history { entries = check_ins T }) × ((view t).undecided ≡ None)
 
 module _ {D : Type 0} {g : Ghosts D} (honest : g.honest) (lawful : (d : D) → DiskIsLawful (g.state d)) (T : SchedulerTables) (old : D) (s t : StateStore D g) (made : MakesNew 2 STATES None (g.state old) (disk_state s))
-    (on : GoesOnFrom t (no_entries 2)) (leaves : LeavesOnly (disk_state s) (disk_state t) (HoldsFirst state_kind (rows_list T))) where
+    (on : GoesOnFrom t (list_of 2 [])) (leaves : LeavesOnly (disk_state s) (disk_state t) (HoldsFirst state_kind (rows_list T))) where
   first : LeavesFirst state_kind (rows_list T) (g.state old) (disk_state t)
   first from only = then_leaves (g.state old) (disk_state s) (disk_state t) (Torn 0 17 from) (HoldsFirst state_kind (rows_list T)) _ (made.any_moment from only) leaves (λ b torn. inl torn) (λ b held. inr held)
 

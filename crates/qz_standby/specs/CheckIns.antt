@@ -5,7 +5,7 @@ use Rattle.qz_types.specs.Rows.{MemberData}
 use Rattle.qz_types.specs.Tables.{SchedulerTables, empty}
 use Rattle.qz_types.specs.declared.states.StateCommand.TheVariants.{CheckIn}
 use Rattle.qz_model.specs.History.{replay_from}
-use Rattle.qz_checkin.specs.Bytes.{Whole as WholeRows}
+use Rattle.qz_checkin.specs.Bytes.{Whole as WholeRows, list_of}
 use Rattle.qz_standby.specs.declared.checking_in.TheConstants.{CHECK_IN_INTERVAL}
 
 -- a member checks in at this reading of the clock
@@ -18,7 +18,7 @@ check_ins T = map (check_in_of T.last_moment) T.members
 
 -- the whole list of a state store of version 2 in which they have checked in
 abbrev pub rows_list : SchedulerTables → WholeRows
-rows_list T = record { version = 2; entries = check_ins T }
+rows_list T = list_of 2 (check_ins T)
 
 -- that of the state store beside a trigger store of this version that has these entries
 abbrev pub rows_beside : ℕ → List EntryData → WholeRows

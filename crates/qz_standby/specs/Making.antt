@@ -5,7 +5,7 @@ use Rattle.qz_follow.specs.Following.{Following}
 use Rattle.qz_stores.specs.Bases.{WholeList, IsWhole}
 use Rattle.qz_stores.specs.Kinds.{StoreKind}
 use Rattle.qz_stream.specs.Standing.{header_length_of}
-use Rattle.qz_trigger_store.specs.Bytes.{Whole}
+use Rattle.qz_trigger_store.specs.Bytes.{Whole, list_of as new_list}
 use Rattle.qz_trigger_store.specs.Kinds.{trigger_kind}
 use Rattle.qz_checkin.specs.Bytes.{Whole as WholeRows}
 use Rattle.qz_checkin.specs.Kinds.{state_kind}
@@ -14,24 +14,24 @@ use Rattle.qz_standby.specs.Fronts.{HasOwn, HasNone, IsFirstOfOther, Looks}
 use Rattle.qz_standby.specs.declared.errors.Unmade.{Unmade}
 use Rattle.qz_standby.specs.declared.errors.Unmade.TheVariants as unmade
 
--- The bytes are a store of the first of these entries.
-pub record HoldsFirst {H S E R : Type 0} (k : StoreKind H S E R) (w : WholeList E) (bytes : List ℕ) : Type 0 where
+-- The bytes are a store that starts as this list does, and has the first of its entries.
+pub record HoldsFirst {H S E R : Type 0} (k : StoreKind H S E R) (w : WholeList S E) (bytes : List ℕ) : Type 0 where
   pub first : List E
   pub more : List E
   pub entries : w.entries ≡ first ++ more
-  pub held : IsWhole k (record { version = w.version; entries = first }) bytes
+  pub held : IsWhole k (record w { entries = first }) bytes
 
 -- A crash at any moment leaves a store of the first of these entries; before that the header, and the gate after it, may be there in part.
-abbrev pub LeavesFirst : {H S E R : Type 0} → StoreKind H S E R → WholeList E → DiskState → DiskState → Type 0
+abbrev pub LeavesFirst : {H S E R : Type 0} → StoreKind H S E R → WholeList S E → DiskState → DiskState → Type 0
 LeavesFirst k w old new = (from : List ℕ) → Only from old → LeavesOnly old new (λ b. Torn 0 17 from b ⊎ HoldsFirst k w b)
 
 -- the bytes, and what a crash leaves of them, hold this whole list
-abbrev pub HoldsNow : {H S E R : Type 0} → StoreKind H S E R → WholeList E → DiskState → Type 0
+abbrev pub HoldsNow : {H S E R : Type 0} → StoreKind H S E R → WholeList S E → DiskState → Type 0
 HoldsNow k w new = IsWhole k w new.content × ((b : List ℕ) → new.IsImage b → IsWhole k w b)
 
 -- the whole list of the trigger store that this follower is made into
 abbrev pub list_of : Following → Whole
-list_of f = record { version = f.version; entries = f.entries }
+list_of f = new_list f.version f.entries
 
 -- and that of the state store beside it
 abbrev pub rows_of : Following → WholeRows

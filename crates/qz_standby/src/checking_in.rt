@@ -1,12 +1,12 @@
 //! The first entries of a new state store: each member of the cluster has checked in.
-ghost use Rattle.std.specs.Prelude.{◌≡◌, ◌≤◌, None, OnOk, IfErr, Err, true};
+ghost use Rattle.std.specs.Prelude.{◌≡◌, ◌≤◌, [], None, OnOk, IfErr, Err, true};
 ghost use Rattle.qz_civil.specs.Causes.{Rose};
+ghost use Rattle.qz_checkin.specs.Bytes.{list_of};
 ghost use Rattle.qz_checkin.specs.History.{new_state_history};
 ghost use Rattle.qz_checkin.specs.Kinds.{state_kind};
 ghost use Rattle.qz_checkin.specs.View.{view, disk_state, GoesOnFrom};
 ghost use Rattle.qz_disk.specs.Disk.{LeavesOnly};
 ghost use Rattle.qz_model.specs.Invariant.{TablesValid};
-ghost use Rattle.qz_stores.specs.Creating.{no_entries};
 ghost use Rattle.qz_standby.specs.CheckIns.{check_ins, rows_list};
 ghost use Rattle.qz_standby.specs.Making.{HoldsFirst};
 ghost use Rattle.qz_standby.specs.Parts.{IsInPart};
@@ -31,7 +31,7 @@ pub(crate) fn check_in_members<D: Disk>(
     requires open { (view states.old).is_open ≡ true }
     requires decided { (view states.old).undecided ≡ None }
     ensures history { OnOk result (((view states.new).history ≡ record new_state_history { entries = check_ins tables.now.tables }) × ((view states.new).undecided ≡ None)) }
-    ensures any_moment { D.honest → GoesOnFrom states.old (no_entries 2) → GoesOnFrom states.new (no_entries 2)
+    ensures any_moment { D.honest → GoesOnFrom states.old (list_of 2 []) → GoesOnFrom states.new (list_of 2 [])
         × LeavesOnly (disk_state states.old) (disk_state states.new) (HoldsFirst state_kind (rows_list tables.now.tables)) }
     ensures unmade { IfErr result IsInPart }
     ensures later { (view states.old).faults ≤ (view states.new).faults }
