@@ -4,6 +4,7 @@
 mod deciding;
 mod faults;
 mod follower;
+mod giving;
 mod keeping;
 mod laws;
 mod promoting;
