@@ -32,6 +32,7 @@ const ASKED: &[WordRow] = &[
     (&["list"], Ok(Wish::List)),
     (&["migrate"], Ok(Wish::Migrate)),
     (&["follow"], Ok(Wish::Follow)),
+    (&["compact"], Ok(Wish::Compact)),
     (&["times", "0", "1"], Ok(Wish::Times { after: 0, count: 1 })),
     (
         &["times", "7258118399999", "1000"],

@@ -6,7 +6,7 @@ use Rattle.qz_civil.specs.declared.limits.TheConstants.{LAST}
 use Rattle.qz_words.specs.declared.wishes.TheConstants.{COUNT_LIMIT}
 use Rattle.qz_words.specs.declared.wishes.Wish.{Wish}
 use Rattle.qz_words.specs.declared.running.TheConstants.{NODE_LIMIT, BUDGET_LIMIT, JOB_LIMIT, DAY_LIMIT}
-use Rattle.qz_words.specs.declared.wishes.Wish.TheVariants.{Own, Init, Script, Load, List as ListAll, Migrate, Follow, Times, Run, Gen}
+use Rattle.qz_words.specs.declared.wishes.Wish.TheVariants.{Own, Init, Script, Load, List as ListAll, Migrate, Follow, Compact, Times, Run, Gen}
 use Rattle.qz_words.specs.declared.wishes.WordFault.{WordFault}
 use Rattle.qz_words.specs.declared.wishes.WordFault.TheVariants as fault
 use Rattle.qz_words.specs.Numbers.{number_of}
@@ -42,6 +42,7 @@ wish_of (word ∷ further) =
     else if bytes_eq word (codes "list") then alone ListAll further
     else if bytes_eq word (codes "migrate") then alone Migrate further
     else if bytes_eq word (codes "follow") then alone Follow further
+    else if bytes_eq word (codes "compact") then alone Compact further
     else if bytes_eq word (codes "times") then times further
     else if bytes_eq word (codes "run") then run further
     else if bytes_eq word (codes "gen") then generate further
@@ -56,6 +57,7 @@ IsWish Load = ⊤
 IsWish ListAll = ⊤
 IsWish Migrate = ⊤
 IsWish Follow = ⊤
+IsWish Compact = ⊤
 IsWish (Times after count) = (pos 0 ≤ℤ after) × (after ≤ℤ LAST) × (1 ≤ count) × (count ≤ COUNT_LIMIT)
 IsWish (Run nodes start end budget) =
     (1 ≤ nodes) × (nodes ≤ NODE_LIMIT) × (pos 0 ≤ℤ start) × (start ≤ℤ end) × (end ≤ℤ LAST) × (1 ≤ budget) × (budget ≤ BUDGET_LIMIT)

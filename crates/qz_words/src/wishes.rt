@@ -27,6 +27,8 @@ pub enum Wish {
     Migrate,
     /// New stores, from the bytes of a trigger store.
     Follow,
+    /// The same, and a snapshot stands in place of the entries.
+    Compact,
     /// For each trigger of the input its first fire times after a moment.
     Times {
         /// In ms since 1970-01-01T00:00:00Z, from 0 to `LAST`.
@@ -83,6 +85,7 @@ pub fn read_words(words: &[Text]) -> Result<Wish, WordFault>
             "list" => alone(Wish::List, further),
             "migrate" => alone(Wish::Migrate, further),
             "follow" => alone(Wish::Follow, further),
+            "compact" => alone(Wish::Compact, further),
             "times" => times(further),
             "run" => run(further),
             "gen" => generate(further),
