@@ -11,6 +11,7 @@ use Rattle.qz_standby.specs.Fronts.{HasOwn, HasNone, IsFirstOfOther, Looks}
 use Rattle.qz_standby.specs.Making.{LeavesFirst, MakesPart, LooksAtBoth, Makes}
 use Rattle.qz_standby.specs.declared.errors.Unmade.{Unmade}
 use Rattle.qz_standby.specs.declared.errors.Unmade.TheVariants as unmade
+use Rattle.qz_standby.specs.declared.forms.Form.{Form}
 
 -- One look after another.
 
@@ -38,8 +39,8 @@ module _ {H S E R : Type 0} (k : StoreKind H S E R) (w : WholeList S E) where
 none_then : (a m c d : DiskState) → Looks a m → Looks c d → HasNone m.content d.content → HasNone a.content c.content
 none_then a m c d looks also none = subst (λ (t : List ℕ). HasNone t c.content) looks.stays.content (subst (λ (s : List ℕ). HasNone m.content s) also.stays.content none)
 
-part_then : (f : Following) (t m n s u v : DiskState) → Looks t m → Looks s u → MakesPart f m n u v → MakesPart f t n s v
-part_then f t m n s u v first second part = record {
+part_then : (form : Form) (f : Following) (t m n s u v : DiskState) → Looks t m → Looks s u → MakesPart form f m n u v → MakesPart form f t n s v
+part_then form f t m n s u v first second part = record {
   none = none_then t m s u first second part.none;
   triggers = first_then _ _ t m n first part.triggers;
   states = first_then _ _ s u v second part.states;
@@ -52,16 +53,17 @@ looked_then P t m n s u v first second looked = record {
   states = looks_then s u v second looked.states;
 }
 
-some_then : (f : Following) (t m n s u v : DiskState) → Looks t m → Looks s u → LooksAtBoth (λ x y. ⊤) m n u v ⊎ MakesPart f m n u v → LooksAtBoth (λ x y. ⊤) t n s v ⊎ MakesPart f t n s v
-some_then f t m n s u v first second (inl looked) = inl (looked_then _ t m n s u v first second looked)
-some_then f t m n s u v first second (inr part) = inr (part_then f t m n s u v first second part)
+some_then : (form : Form) (f : Following) (t m n s u v : DiskState) → Looks t m → Looks s u → LooksAtBoth (λ x y. ⊤) m n u v ⊎ MakesPart form f m n u v → LooksAtBoth (λ x y. ⊤) t n s v ⊎ MakesPart form f t n s v
+some_then form f t m n s u v first second (inl looked) = inl (looked_then _ t m n s u v first second looked)
+some_then form f t m n s u v first second (inr part) = inr (part_then form f t m n s u v first second part)
 
 -- The disks were looked at before.
-pub makes_then : (r : Result ℕ Unmade) (f : Following) (t m n s u v : DiskState) → Looks t m → Looks s u → Makes r f m n u v → Makes r f t n s v
-makes_then (Ok count) f t m n s u v first second made = record { part = part_then f t m n s u v first second made.part; list = made.list; rows = made.rows }
-makes_then (Err unmade.Exists) f t m n s u v first second looked = looked_then HasOwn t m n s u v first second looked
-makes_then (Err (unmade.NotAStore store)) f t m n s u v first second looked =
+pub makes_then : (form : Form) (r : Result ℕ Unmade) (f : Following) (t m n s u v : DiskState) → Looks t m → Looks s u → Makes form r f m n u v → Makes form r f t n s v
+makes_then form (Ok count) f t m n s u v first second made = record { part = part_then form f t m n s u v first second made.part; list = made.list; rows = made.rows }
+makes_then form (Err unmade.Exists) f t m n s u v first second looked = looked_then HasOwn t m n s u v first second looked
+makes_then form (Err (unmade.NotAStore store)) f t m n s u v first second looked =
     looked_then (λ triggers states. (HasOwn triggers states → ⊥) × IsFirstOfOther store triggers states) t m n s u v first second looked
-makes_then (Err (unmade.Short at)) f t m n s u v first second looked = looked_then HasNone t m n s u v first second looked
-makes_then (Err unmade.NoMemory) f t m n s u v first second some = some_then f t m n s u v first second some
-makes_then (Err unmade.Fault) f t m n s u v first second some = some_then f t m n s u v first second some
+makes_then form (Err (unmade.Short at)) f t m n s u v first second looked = looked_then HasNone t m n s u v first second looked
+makes_then form (Err unmade.NoRoom) f t m n s u v first second part = (part.0, part_then form f t m n s u v first second part.1)
+makes_then form (Err unmade.NoMemory) f t m n s u v first second some = some_then form f t m n s u v first second some
+makes_then form (Err unmade.Fault) f t m n s u v first second some = some_then form f t m n s u v first second some

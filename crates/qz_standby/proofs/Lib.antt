@@ -1,8 +1,9 @@
 pub mod Firsts
 pub mod Leaving
 pub mod Looking
+pub mod MadeLaws
 pub mod Members
-pub mod PromotingLaws
 pub mod RowRoom
 pub mod RowsMade
 pub mod Streams
+pub mod TriggersMade

@@ -13,6 +13,7 @@ use Rattle.qz_standby.specs.Making.{Makes}
 use Rattle.qz_standby.specs.Parts.{AreFound, of_fronts}
 use Rattle.qz_standby.specs.declared.errors.Unmade.{Unmade}
 use Rattle.qz_standby.specs.declared.errors.Unmade.TheVariants as unmade
+use Rattle.qz_standby.specs.declared.forms.Form.{Form}
 
 -- bytes begin as a store of one kind at most
 not_both : (v w : ℕ) → front_of v TRIGGERS ≡ front_of w STATES → ⊥
@@ -36,9 +37,10 @@ found_by front.Neither front.Other t s p q = (not_own t s (λ own. p (inl own)) 
 found_by front.Neither front.Neither t s p q = (p, q)
 
 -- Then no stores are made.
-pub refused_makes : (x : Unmade) (f : Following) (t t' u u' : DiskState) → AreFound (Err x) t.content u.content → Looks t t' → Looks u u' → Makes (Err x) f t t' u u'
-refused_makes unmade.Exists f t t' u u' found first second = record { found = found; triggers = first; states = second }
-refused_makes (unmade.NotAStore st) f t t' u u' found first second = record { found = found; triggers = first; states = second }
-refused_makes (unmade.Short at) f t t' u u' found first second = absurd found
-refused_makes unmade.NoMemory f t t' u u' found first second = absurd found
-refused_makes unmade.Fault f t t' u u' found first second = inl (record { found = tt; triggers = first; states = second })
+pub refused_makes : (form : Form) (x : Unmade) (f : Following) (t t' u u' : DiskState) → AreFound (Err x) t.content u.content → Looks t t' → Looks u u' → Makes form (Err x) f t t' u u'
+refused_makes form unmade.Exists f t t' u u' found first second = record { found = found; triggers = first; states = second }
+refused_makes form (unmade.NotAStore st) f t t' u u' found first second = record { found = found; triggers = first; states = second }
+refused_makes form (unmade.Short at) f t t' u u' found first second = absurd found
+refused_makes form unmade.NoRoom f t t' u u' found first second = absurd found
+refused_makes form unmade.NoMemory f t t' u u' found first second = absurd found
+refused_makes form unmade.Fault f t t' u u' found first second = inl (record { found = tt; triggers = first; states = second })

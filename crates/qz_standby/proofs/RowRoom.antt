@@ -20,7 +20,7 @@ use Rattle.qz_journal.specs.Commits.{IsFull}
 use Rattle.qz_journal.specs.declared.layout.TheConstants.{MAX_BYTES, MAX_PAYLOADS}
 use Rattle.qz_checkin.specs.Entries.{answer_of, state_record_of}
 use Rattle.qz_checkin.specs.History.{replay_from, rows_left}
-use Rattle.qz_checkin.specs.Rows.{StateTables, new_state_tables, state_of, with_state, without_state, state_moment, accepted, refused, unless, check_in_refusal, forget_refusal, state_transaction}
+use Rattle.qz_checkin.specs.Rows.{StateTables, new_state_tables, state_of, with_state, without_state, state_moment, accepted, unless, check_in_refusal, forget_refusal, state_transaction}
 
 -- Each entry adds a row at most.
 

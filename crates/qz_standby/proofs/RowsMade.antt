@@ -9,7 +9,6 @@ use Rattle.qz_journal.specs.Making.{Makes as MakesNew}
 use Rattle.qz_journal.specs.declared.errors.NewStoreError.{NewStoreError}
 use Rattle.qz_journal.specs.declared.errors.NewStoreError.TheVariants as new_store
 use Rattle.qz_journal.specs.declared.layout.TheConstants.{STATES}
-use Rattle.qz_types.specs.declared.stores.Store.{Store}
 use Rattle.qz_types.specs.declared.stores.Store.TheVariants as store
 use Rattle.qz_types.specs.Tables.{SchedulerTables}
 use Rattle.qz_checkin.specs.Bytes.{list_of}
@@ -44,7 +43,7 @@ AllChecked T t = ((view t).history ≡ record new_state_history { entries = chec
 module _ {D : Type 0} {g : Ghosts D} (honest : g.honest) (lawful : (d : D) → DiskIsLawful (g.state d)) (T : SchedulerTables) (old : D) (s t : StateStore D g) (made : MakesNew 2 STATES None (g.state old) (disk_state s))
     (on : GoesOnFrom t (list_of 2 [])) (leaves : LeavesOnly (disk_state s) (disk_state t) (HoldsFirst state_kind (rows_list T))) where
   first : LeavesFirst state_kind (rows_list T) (g.state old) (disk_state t)
-  first from only = then_leaves (g.state old) (disk_state s) (disk_state t) (Torn 0 17 from) (HoldsFirst state_kind (rows_list T)) _ (made.any_moment from only) leaves (λ b torn. inl torn) (λ b held. inr held)
+  first from only = then_leaves (g.state old) (disk_state s) (disk_state t) (Torn 0 17 from) (HoldsFirst state_kind (rows_list T)) _ (made.any_moment from only) leaves (λ b torn. inl torn) (λ b held. inr (inr held))
 
   pub rows_made : (r : Result (Unit {0}) Unmade) → OnOk r (AllChecked T t) → IfErr r IsInPart → MakesRows r (rows_list T) (g.state old) (disk_state t)
   rows_made (Ok x) all part = (first, now_whole state_lawful t.store honest (lawful _) (rows_list T) on all.0 all.1)

@@ -2,10 +2,10 @@
 use Rattle.std.specs.Prelude.{ℕ, ℤ, List, map}
 use Rattle.qz_types.specs.Entries.{EntryData, StateEntryData}
 use Rattle.qz_types.specs.Rows.{MemberData}
-use Rattle.qz_types.specs.Tables.{SchedulerTables, empty}
+use Rattle.qz_types.specs.Tables.{SchedulerTables}
 use Rattle.qz_types.specs.declared.states.StateCommand.TheVariants.{CheckIn}
-use Rattle.qz_model.specs.History.{replay_from}
 use Rattle.qz_checkin.specs.Bytes.{Whole as WholeRows, list_of}
+use Rattle.qz_standby.specs.Forms.{left_by}
 use Rattle.qz_standby.specs.declared.checking_in.TheConstants.{CHECK_IN_INTERVAL}
 
 -- a member checks in at this reading of the clock
@@ -20,6 +20,6 @@ check_ins T = map (check_in_of T.last_moment) T.members
 abbrev pub rows_list : SchedulerTables → WholeRows
 rows_list T = list_of 2 (check_ins T)
 
--- that of the state store beside a trigger store of this version that has these entries
+-- that of the state store beside a trigger store of these entries, in this version
 abbrev pub rows_beside : ℕ → List EntryData → WholeRows
-rows_beside version entries = rows_list (replay_from (empty version) entries)
+rows_beside version entries = rows_list (left_by version entries)

@@ -1,4 +1,5 @@
 pub mod CheckIns
+pub mod Forms
 pub mod Fronts
 pub mod Making
 pub mod Parts

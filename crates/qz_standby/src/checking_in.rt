@@ -1,5 +1,5 @@
 //! The first entries of a new state store: each member of the cluster has checked in.
-ghost use Rattle.std.specs.Prelude.{◌≡◌, ◌≤◌, [], None, OnOk, IfErr, Err, true};
+ghost use Rattle.std.specs.Prelude.{◌≡◌, ◌≢◌, ◌⊎◌, ◌≤◌, [], None, OnOk, IfErr, Err, true};
 ghost use Rattle.qz_civil.specs.Causes.{Rose};
 ghost use Rattle.qz_checkin.specs.Bytes.{list_of};
 ghost use Rattle.qz_checkin.specs.History.{new_state_history};

@@ -26,6 +26,9 @@ pub enum Unmade {
     /// The stream has so many bytes, and that is less than a header. Both disks were only read.
     #[error("the stream ends at {at}, within the header")]
     Short { at: u64 },
+    /// The snapshot has no room in a store. The disk of triggers has an empty store then, and the other one was only read.
+    #[error("the snapshot has no room in a store")]
+    NoRoom,
     /// A disk that began with no store has none yet, or one of the first entries.
     #[error("no memory")]
     NoMemory,

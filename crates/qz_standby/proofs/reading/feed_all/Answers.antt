@@ -10,7 +10,7 @@ loop-fed-init g c = record {
   fed = ([], Consumes-nil _, c.requires.fresh, refl);
   fine = fresh_fine _ c.requires.fresh;
   not_ended = fresh_open _ c.requires.fresh;
-  keeps = c.requires.keeps;
+  keeps = refl;
   later = omega arith;
 }
 

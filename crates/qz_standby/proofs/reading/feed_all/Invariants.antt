@@ -1,4 +1,4 @@
-use Rattle.std.proofs.Common.{◌≡◌, ◌≤◌, ◌+◌, ◌-◌, ℕ, List, length, true}
+use Rattle.std.proofs.Common.{◌≡◌, ◌≤◌, ◌+◌, ◌-◌, ℕ, List, length}
 use Rattle.std.specs.Prelude.{None}
 use Rattle.std.specs.Io.KnownBytes.{Consumes}
 use Rattle.qz_follow.specs.Following.{IsFollowed, IsEnded}
@@ -12,7 +12,7 @@ invariant-loop-fed g l = record {
   fed : (bytes : List ℕ) × Consumes (g.S.Source.left l.fn.input) (g.S.Source.left l.input) bytes × IsFollowed bytes (view l.follower) × (l.fed ≡ length bytes);
   fine : (view l.follower).fault ≡ None;
   not_ended : IsEnded (view l.follower) → ⊥;
-  keeps : keeps_of l.follower ≡ true;
+  keeps : keeps_of l.follower ≡ keeps_of l.initial.follower;
   later : g.S.Source.faults l.fn.input ≤ g.S.Source.faults l.input;
 }
 
