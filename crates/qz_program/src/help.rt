@@ -9,6 +9,7 @@ pub const HELP: &str = "usage: qz_sched < LINES           a script on new stores
        qz_sched list              what the stores of the current folder hold
        qz_sched migrate           takes a trigger store of format version 1 to version 2
        qz_sched follow < STREAM   new stores from the bytes of a trigger store
+       qz_sched compact < STREAM  the same, with a snapshot in place of the entries
        qz_sched run NODES FROM UNTIL [BUDGET]
                                   nodes work on the stores of the current folder, on a
                                   clock that begins at FROM, up to UNTIL

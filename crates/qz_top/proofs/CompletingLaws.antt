@@ -64,6 +64,7 @@ use Rattle.qz_top.specs.declared.line_handler.LineEnd.{LineEnd}
 use Rattle.qz_top.specs.declared.line_handler.LineEnd.TheVariants as ends
 use Rattle.qz_top.specs.declared.statuses.Status.{Status}
 use Rattle.qz_top.specs.declared.statuses.Status.TheVariants as status
+use Rattle.qz_standby.specs.declared.forms.Form.TheVariants as form
 use Rattle.qz_top.proofs.FollowingLaws.{follow_done}
 
 -- No status tells of a fault then.
@@ -76,6 +77,7 @@ no_disk (Ok (wish.Run nodes from until budget)) o n none failed = ⊎_elim none.
 no_disk (Ok (wish.Gen seed jobs days)) o n none failed = ⊎_elim none.triggers none.states failed
 no_disk (Ok wish.Init) o n none failed = ⊎_elim none.triggers none.states failed
 no_disk (Ok wish.Follow) o n none failed = ⊎_elim none.triggers none.states failed
+no_disk (Ok wish.Compact) o n none failed = ⊎_elim none.triggers none.states failed
 no_disk (Ok wish.Migrate) o n none failed = none.triggers failed
 no_disk (Ok wish.Own) o n none failed = absurd failed
 no_disk (Ok (wish.Times after count)) o n none failed = absurd failed
@@ -455,7 +457,8 @@ module _ {D : Type 0} {g : Ghosts D} (triggers states : D) (e : Ended D g) (none
   ends_by (Ok wish.Load) jobs jobs' old new did (bytes, left, document, good) (list, rows, held) = load_words old new did bytes left document good list rows held
   ends_by (Ok wish.List) jobs jobs' old new did input (list, rows, held) = list_words _ _ did.ran list rows held
   ends_by (Ok wish.Migrate) jobs jobs' old new did input (list, rows, held) = migrate_words _ _ _ _ did.ran list rows held
-  ends_by (Ok wish.Follow) jobs jobs' old new did (bytes, left, right) (honest, begins) = follow_done triggers states e none.read none.write none.disk honest begins _ _ bytes did.ran left right
+  ends_by (Ok wish.Follow) jobs jobs' old new did (bytes, left, right) (honest, begins) = follow_done form.Entries triggers states e none.read none.write none.disk honest begins _ _ bytes did.ran left right
+  ends_by (Ok wish.Compact) jobs jobs' old new did (bytes, left, right) (honest, begins) = follow_done form.Snapshot triggers states e none.read none.write none.disk honest begins _ _ bytes did.ran left right
   ends_by (Ok (wish.Times after count)) jobs jobs' old new did (bytes, left, good, few) stores =
       times_done e.status (record { after = after; count = count }) (no_clock old) (no_clock new) did.told.end did.told.run.lines did.told.run.text did.told.run.known did.told.status_is did.told.run.ends none bytes left good few
   ends_by (Ok (wish.Run nodes from until budget)) jobs jobs' old new did input (list, rows, held) = run_words _ jobs jobs' _ _ did.ran list rows held

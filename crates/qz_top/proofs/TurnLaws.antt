@@ -81,6 +81,8 @@ module _ {D : Type 0} {g : Ghosts D} (honest : g.honest) (lawful : (d : D) → I
   keeps_by (Ok wish.Init) keeps = stores_keep keeps
   keeps_by (Ok wish.Follow) (inl headline) = stores_keep headline.keeps
   keeps_by (Ok wish.Follow) (inr looked) = looked_keeps looked.0
+  keeps_by (Ok wish.Compact) (inl headline) = stores_keep headline.keeps
+  keeps_by (Ok wish.Compact) (inr looked) = looked_keeps looked.0
   keeps_by (Ok wish.Script) (inl headline) = outlasting_keeps headline.end headline.outlasts
   keeps_by (Ok wish.Script) (inr none) = looked_keeps none.looked
   keeps_by (Ok wish.Load) (inl headline) = outlasting_keeps headline.end headline.outlasts

@@ -30,6 +30,7 @@ use Rattle.qz_top.specs.declared.ended.Ended.{Ended}
 use Rattle.qz_top.specs.declared.gen_on_disk.Workload.{Workload}
 use Rattle.qz_top.specs.declared.statuses.Status.{Status}
 use Rattle.qz_top.specs.declared.statuses.Status.TheVariants as status
+use Rattle.qz_standby.specs.declared.forms.Form.TheVariants as form
 use Rattle.qz_top.proofs.FollowingLaws.{follow_headline}
 use Rattle.qz_top.proofs.HeadlineLaws.{script_headline, memory_headline, load_headline}
 use Rattle.qz_top.proofs.StandingLaws.{may_longer, kept_weaker, way_kept}
@@ -147,7 +148,8 @@ module _ {D : Type 0} {g : Ghosts D} (lawful : g.honest → (d : D) → IsLawful
   headline_of (Ok wish.Load) jobs jobs' old new did = load_words old new did
   headline_of (Ok wish.List) jobs jobs' old new did = list_words _ _ did.ran
   headline_of (Ok wish.Migrate) jobs jobs' old new did = migrate_words _ _ _ _ did.ran
-  headline_of (Ok wish.Follow) jobs jobs' old new did = follow_headline lawful triggers states e _ _ did.ran
+  headline_of (Ok wish.Follow) jobs jobs' old new did = follow_headline lawful form.Entries triggers states e _ _ did.ran
+  headline_of (Ok wish.Compact) jobs jobs' old new did = follow_headline lawful form.Snapshot triggers states e _ _ did.ran
   headline_of (Ok (wish.Times after count)) jobs jobs' old new did = untouched_both did.disks
   headline_of (Ok (wish.Run nodes from until budget)) jobs jobs' old new did = run_words _ jobs jobs' _ _ did.ran
   headline_of (Ok (wish.Gen seed jobs_wanted days)) jobs jobs' old new did = gen_words _ jobs jobs' _ _ did.ran

@@ -8,6 +8,8 @@ use Rattle.qz_words.specs.declared.wishes.WordFault.{WordFault}
 use Rattle.qz_words.specs.declared.wishes.Wish.{Wish}
 use Rattle.qz_words.specs.declared.wishes.Wish.TheVariants as wish
 use Rattle.qz_top.specs.Calls.{OwnDone, RanOnDisk, LoadedOnDisk, ListedOnDisk, NotOpened, trail_of}
+use Rattle.qz_standby.specs.declared.forms.Form.{Form}
+use Rattle.qz_standby.specs.declared.forms.Form.TheVariants as form
 use Rattle.qz_top.specs.Following.{RanFollow}
 use Rattle.qz_top.specs.Generating.{Generates}
 use Rattle.qz_top.specs.Making.{IsInit, KeepsStores, SaysMade}
@@ -68,9 +70,9 @@ pub record Migrated {D : Type 0} {g : Ghosts D} (triggers states : D) (e : Ended
   pub ran : RanMigrate triggers states e old.readings new.readings (only_output old) (only_output new)
   pub not_read : new.left ≡ old.left
 
--- Both stores were made of the input's bytes, or it is told why not; the clock wasn't asked.
-pub record Followed {D : Type 0} {g : Ghosts D} (triggers states : D) (e : Ended D g) (old new : Outside) : Type 0 where
-  pub ran : RanFollow triggers states e (no_clock old) (no_clock new)
+-- Both stores were made of the input's bytes, that of triggers in this form, or it is told why not; the clock wasn't asked.
+pub record Followed {D : Type 0} {g : Ghosts D} (form : Form) (triggers states : D) (e : Ended D g) (old new : Outside) : Type 0 where
+  pub ran : RanFollow form triggers states e (no_clock old) (no_clock new)
   pub not_asked : new.readings ≡ old.readings
 
 -- Fire times were told: at most so many of each trigger, after this moment.
@@ -113,7 +115,8 @@ DidAsAsked (Ok wish.Script) jobs jobs' triggers states e old new = RanScript tri
 DidAsAsked (Ok wish.Load) jobs jobs' triggers states e old new = RanLoad triggers states e old new
 DidAsAsked (Ok wish.List) jobs jobs' triggers states e old new = Listed triggers states e old new
 DidAsAsked (Ok wish.Migrate) jobs jobs' triggers states e old new = Migrated triggers states e old new
-DidAsAsked (Ok wish.Follow) jobs jobs' triggers states e old new = Followed triggers states e old new
+DidAsAsked (Ok wish.Follow) jobs jobs' triggers states e old new = Followed form.Entries triggers states e old new
+DidAsAsked (Ok wish.Compact) jobs jobs' triggers states e old new = Followed form.Snapshot triggers states e old new
 DidAsAsked (Ok (wish.Times after count)) jobs jobs' triggers states e old new = ToldTimes after count triggers states e old new
 DidAsAsked (Ok (wish.Run nodes from until budget)) jobs jobs' triggers states e old new =
     RanPlan (record { nodes = nodes; from = from; until = until; budget = budget }) jobs jobs' triggers states e old new

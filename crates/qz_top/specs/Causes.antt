@@ -25,8 +25,8 @@ counts s k d input out triggers states = record {
   states = d.faults states;
 }
 
--- a disk failed that the call works on: `script`, `load`, `list`, `init`, `follow`, `run` and `gen` work on both, `migrate` on that
--- of triggers, other calls on none
+-- a disk failed that the call works on: `script`, `load`, `list`, `init`, `follow`, `compact`, `run` and `gen` work on both, `migrate`
+-- on that of triggers, other calls on none
 abbrev pub DiskFailed : Result Wish WordFault → FaultCounts → FaultCounts → Type 0
 DiskFailed (Ok wish.Script) old new = Rose old.triggers new.triggers ⊎ Rose old.states new.states
 DiskFailed (Ok wish.Load) old new = Rose old.triggers new.triggers ⊎ Rose old.states new.states
@@ -35,6 +35,7 @@ DiskFailed (Ok (wish.Run nodes from until budget)) old new = Rose old.triggers n
 DiskFailed (Ok (wish.Gen seed jobs days)) old new = Rose old.triggers new.triggers ⊎ Rose old.states new.states
 DiskFailed (Ok wish.Init) old new = Rose old.triggers new.triggers ⊎ Rose old.states new.states
 DiskFailed (Ok wish.Follow) old new = Rose old.triggers new.triggers ⊎ Rose old.states new.states
+DiskFailed (Ok wish.Compact) old new = Rose old.triggers new.triggers ⊎ Rose old.states new.states
 DiskFailed (Ok wish.Migrate) old new = Rose old.triggers new.triggers
 DiskFailed w old new = ⊥
 

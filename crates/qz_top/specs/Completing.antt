@@ -37,6 +37,7 @@ HasRightInput (Ok wish.Load) left = (bytes : List ℕ) × (left ≡ Some bytes) 
 HasRightInput (Ok (wish.Times after count)) left =
     (bytes : List ℕ) × (left ≡ Some bytes) × AllByRecursion (λ line. IsOk (line_meaning line)) (lines_of bytes) × (length (lines_of bytes) ≤ LINE_COUNT_LIMIT)
 HasRightInput (Ok wish.Follow) left = (bytes : List ℕ) × (left ≡ Some bytes) × IsRightStream bytes
+HasRightInput (Ok wish.Compact) left = (bytes : List ℕ) × (left ≡ Some bytes) × IsRightStream bytes
 HasRightInput w left = ⊤
 
 -- both disks are honest and hold whole lists, where the call works on them; for one that makes the stores they begin as none
@@ -45,6 +46,7 @@ HasStores g (Err fault) triggers states = ⊤
 HasStores g (Ok wish.Own) triggers states = ⊤
 HasStores g (Ok (wish.Times after count)) triggers states = ⊤
 HasStores g (Ok wish.Follow) triggers states = g.honest × HasNone (g.state triggers).content (g.state states).content
+HasStores g (Ok wish.Compact) triggers states = g.honest × HasNone (g.state triggers).content (g.state states).content
 HasStores g w triggers states = (list : Whole) × (rows : WholeRows) × HoldWhole g triggers states list rows
 
 -- it came to its end, or memory ran out
@@ -53,7 +55,7 @@ IsDone status.Ok = ⊤
 IsDone status.NoMemory = ⊤
 IsDone s = ⊥
 
--- or the next transaction found no room on its disk
+-- or the next transaction, or a snapshot, found no room on its disk
 abbrev pub IsDoneOrFull : Status → Type 0
 IsDoneOrFull (status.JournalFull need room) = ⊤
 IsDoneOrFull s = IsDone s
@@ -80,6 +82,7 @@ EndsUnfailed (Ok wish.Load) s = IsDoneOrFull s
 EndsUnfailed (Ok wish.List) s = IsDone s
 EndsUnfailed (Ok wish.Migrate) s = IsDoneOrFull s
 EndsUnfailed (Ok wish.Follow) s = IsDone s
+EndsUnfailed (Ok wish.Compact) s = IsDoneOrFull s
 EndsUnfailed (Ok (wish.Times after count)) s = IsDone s
 EndsUnfailed (Ok (wish.Run nodes from until budget)) s = IsDoneByNodes s
 EndsUnfailed (Ok (wish.Gen seed jobs days)) s = IsDoneByGenerator s

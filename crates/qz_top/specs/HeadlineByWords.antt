@@ -18,6 +18,8 @@ use Rattle.qz_checkin.specs.Bytes.{Whole as WholeRows}
 use Rattle.qz_cluster.specs.Found.{IsFoundIn}
 use Rattle.qz_cluster.specs.Script.{TimedStep}
 use Rattle.qz_cluster.specs.Steps.{ClusterState}
+use Rattle.qz_standby.specs.declared.forms.Form.{Form}
+use Rattle.qz_standby.specs.declared.forms.Form.TheVariants as form
 use Rattle.qz_words.specs.declared.wishes.WordFault.{WordFault}
 use Rattle.qz_words.specs.declared.wishes.Wish.{Wish}
 use Rattle.qz_words.specs.declared.wishes.Wish.TheVariants as wish
@@ -99,6 +101,10 @@ pub record OpenedNone {D : Type 0} {g : Ghosts D} (triggers states : D) (e : End
   pub looked : OnlyLooked triggers states e
   pub why : (w : Whole) (v : WholeRows) → HoldWhole g triggers states w v → (e.status ≡ status.DiskFault) ⊎ (e.status ≡ status.NoMemory)
 
+-- Stores were made of the input's bytes, or begun; or the disks were read at most, and the call doesn't tell that it made them.
+abbrev pub MakesStandby : {D : Type 0} {g : Ghosts D} → Form → D → D → Ended D g → Option (List ℕ) → Option (List ℕ) → Type 0
+MakesStandby form triggers states e left left_now = HeadlineOfStandby form triggers states e left left_now ⊎ (OnlyLooked triggers states e × (MadeBoth e.status → ⊥))
+
 abbrev pub HeadlineOf : {D : Type 0} {g : Ghosts D} → Result Wish WordFault → D → D → Ended D g → Outside → Outside → Type 0
 HeadlineOf (Ok wish.Own) triggers states e old new =
     OnlyLooked triggers states e × (HeadlineInMemory (LinesAsk e.status old new) (trail_of e.trail) ⊎ (e.status ≡ status.NoMemory))
@@ -109,6 +115,7 @@ HeadlineOf (Ok (wish.Run nodes from until budget)) triggers states e old new =
 HeadlineOf (Ok (wish.Gen seed jobs days)) triggers states e old new = HeadlineOfWork triggers states e ⊎ OpenedNone triggers states e
 HeadlineOf (Ok wish.Migrate) triggers states e old new = HeadlineOfUpgrade triggers states e ⊎ OnlyLooked triggers states e
 HeadlineOf {g = g} (Ok wish.Init) triggers states e old new = KeepsStores g triggers e.triggers states e.states
-HeadlineOf (Ok wish.Follow) triggers states e old new = HeadlineOfStandby triggers states e old.left new.left ⊎ (OnlyLooked triggers states e × (MadeBoth e.status → ⊥))
+HeadlineOf (Ok wish.Follow) triggers states e old new = MakesStandby form.Entries triggers states e old.left new.left
+HeadlineOf (Ok wish.Compact) triggers states e old new = MakesStandby form.Snapshot triggers states e old.left new.left
 -- the others work on no store
 HeadlineOf w triggers states e old new = OnlyLooked triggers states e

@@ -27,6 +27,7 @@ use qz_disk::Disk;
 use qz_io::{Clock, Sink, Source};
 use qz_node::{Job, Jobs};
 use qz_run::Plan;
+use qz_standby::Form;
 use qz_times::Query;
 use qz_types::Text;
 use qz_words::{Wish, read_words};
@@ -44,7 +45,8 @@ use std::alloc::Global;
 ///   writes `current` where the store needs none. The other disk isn't touched. `run` and `gen` do nothing on a store of version 1
 ///   that wasn't upgraded.
 /// - `follow` reads the bytes of a trigger store from `input`, makes both stores of them where there are none, and writes `followed`
-///   and the number of entries.
+///   and the number of entries. `compact` does the same, and writes `compacted` and that number: its trigger store begins with a
+///   snapshot of the tables that the entries leave, and has none of them.
 /// - `run NODES FROM UNTIL [BUDGET]` opens both stores, lets so many nodes work on them with the jobs, on a clock that begins at
 ///   FROM, until nothing is due up to UNTIL, and writes a line for each entry that they added and one that sums them up.
 /// - `gen SEED JOBS DAYS` opens both stores. Where the trigger store's history is empty, it adds jobs and triggers that SEED gives,
@@ -134,7 +136,8 @@ fn do_as_asked<S: Source, K: Sink, D: Disk, C: Clock>(
         Wish::Load => load_on_disk(alloc, input, out, triggers, states, clock),
         Wish::List => list_on_disk(alloc, out, triggers, states),
         Wish::Migrate => migrate(alloc, out, triggers, states, clock),
-        Wish::Follow => follow(alloc, input, out, triggers, states),
+        Wish::Follow => follow(alloc, Form::Entries, input, out, triggers, states),
+        Wish::Compact => follow(alloc, Form::Snapshot, input, out, triggers, states),
         Wish::Run {
             nodes,
             from,

@@ -1,10 +1,11 @@
-//! `follow`: both stores are made of the bytes of a trigger store.
-ghost use Rattle.std.specs.Prelude.{◌≡◌, ◌⊎◌, [], IfOk, true, None};
+//! `follow` and `compact`: both stores are made of the bytes of a trigger store.
+ghost use Rattle.std.specs.Prelude.{◌≡◌, ◌⊎◌, [], IfOk, None};
 ghost use Rattle.qz_civil.specs.Causes.{Rose};
 ghost use Rattle.qz_follow.specs.View.{view, keeps_of};
 ghost use Rattle.qz_io.specs.Around.{without_clock, output_alone};
 ghost use Rattle.qz_top.specs.Calls.{trail_of};
-ghost use Rattle.qz_top.specs.Following.{RanFollow, StoodBy, SaysFollowed, followed_text, unmade_status, unread_status};
+ghost use Rattle.qz_top.specs.Following.{RanFollow, StoodBy, SaysFollowed, done_word, followed_text, unmade_status, unread_status};
+ghost use Rattle.qz_standby.specs.Forms.{needs_payloads};
 ghost use Rattle.qz_top.specs.HandingOn.{HandsOnWritten};
 
 use crate::Status;
@@ -14,26 +15,31 @@ use itoa::Buffer;
 use qz_disk::Disk;
 use qz_follow::{FollowFault, Follower};
 use qz_io::{Sink, Source};
-use qz_standby::{Standby, Unmade, Unread, read_stream, stand_by};
+use qz_standby::{Form, Standby, Unmade, Unread, read_stream, stand_by};
 use qz_types::{NoMemory, Text};
 use std::alloc::Global;
 
-/// Reads the bytes of a trigger store to their end, makes both stores of them, and writes how many entries they have.
+// What a store has behind its first gate, in bytes.
+const SNAPSHOT_ROOM: u64 = 536870895;
+
+/// Reads the bytes of a trigger store to their end, makes both stores of them, that of triggers in this form, and writes how many
+/// entries they have.
 pub(crate) fn follow<S: Source, K: Sink, D: Disk>(
     alloc: Global,
+    form: Form,
     input: &mut S,
     out: &mut K,
     triggers: D,
     states: D,
 ) -> Ended<D>
-    ensures done { RanFollow triggers states result (without_clock S.Source K.Sink input.old out.old) (without_clock S.Source K.Sink input.new out.new) }
+    ensures done { RanFollow form triggers states result (without_clock S.Source K.Sink input.old out.old) (without_clock S.Source K.Sink input.new out.new) }
     ensures read { result.status ≡ Status.ReadFault → Rose (S.faults input.old) (S.faults input.new) }
     ensures write { result.status ≡ Status.WriteFault → Rose (K.faults out.old) (K.faults out.new) }
     ensures disk { result.status ≡ Status.DiskFault → Rose (D.faults triggers) (D.faults result.triggers) ⊎ Rose (D.faults states) (D.faults result.states) }
     ensures handed { HandsOnWritten K.Sink out.old out.new }
 {
-    match read_stream(alloc, input) {
-        Ok(follower) => make_of(alloc, follower, out, triggers, states),
+    match read_stream(alloc, form, input) {
+        Ok(follower) => make_of(alloc, form, follower, out, triggers, states),
         Err(unread) => ran_no_script(alloc, unread_status(unread), triggers, states),
     }
 }
@@ -55,20 +61,21 @@ fn unread_status(unread: Unread) -> Status
 // Makes both stores of a follower, and says so. The memory for the text is taken before the first write.
 fn make_of<K: Sink, D: Disk>(
     alloc: Global,
+    form: Form,
     follower: Follower,
     out: &mut K,
     triggers: D,
     states: D,
 ) -> Ended<D>
-    requires keeps { keeps_of follower ≡ true }
+    requires keeps { keeps_of follower ≡ needs_payloads form }
     requires fine { (view follower).fault ≡ None }
-    ensures done { StoodBy (view follower) triggers states result (output_alone K.Sink out.old) (output_alone K.Sink out.new) }
+    ensures done { StoodBy form (view follower) triggers states result (output_alone K.Sink out.old) (output_alone K.Sink out.new) }
     ensures trail { trail_of result.trail ≡ [] }
     ensures write { result.status ≡ Status.WriteFault → Rose (K.faults out.old) (K.faults out.new) }
     ensures disk { result.status ≡ Status.DiskFault → Rose (D.faults triggers) (D.faults result.triggers) ⊎ Rose (D.faults states) (D.faults result.states) }
     ensures handed { HandsOnWritten K.Sink out.old out.new }
 {
-    let Ok(text) = followed_text(alloc, follower.acknowledged()) else {
+    let Ok(text) = followed_text(alloc, form, follower.acknowledged()) else {
         drop(follower);
         return ran_no_script(alloc, Status::NoMemory, triggers, states);
     };
@@ -76,15 +83,15 @@ fn make_of<K: Sink, D: Disk>(
         made,
         triggers,
         states,
-    } = stand_by(alloc, follower, triggers, states);
-    let status = say_followed(out, &text, made);
+    } = stand_by(alloc, form, follower, triggers, states);
+    let status = say_followed(out, &text, form, made);
     ran_no_script(alloc, status, triggers, states)
 }
 
 // Says that both stores were made, or answers why not.
-fn say_followed<K: Sink>(out: &mut K, text: &Text, made: Result<u64, Unmade>) -> Status
-    requires { IfOk made (λ count. text.now ≡ followed_text count) }
-    ensures said { SaysFollowed result made (output_alone K.Sink out.old) (output_alone K.Sink out.new) }
+fn say_followed<K: Sink>(out: &mut K, text: &Text, form: Form, made: Result<u64, Unmade>) -> Status
+    requires { IfOk made (λ count. text.now ≡ followed_text form count) }
+    ensures said { SaysFollowed form result made (output_alone K.Sink out.old) (output_alone K.Sink out.new) }
     ensures write { result ≡ Status.WriteFault → Rose (K.faults out.old) (K.faults out.new) }
     ensures handed { HandsOnWritten K.Sink out.old out.new }
 {
@@ -102,18 +109,32 @@ fn unmade_status(unmade: Unmade) -> Status
         Unmade::Exists => Status::Exists,
         Unmade::NotAStore { store } => Status::NotAStore { store },
         Unmade::Short { at } => Status::BadStream { at },
+        Unmade::NoRoom => Status::JournalFull {
+            need: SNAPSHOT_ROOM + 1,
+            room: SNAPSHOT_ROOM,
+        },
         Unmade::NoMemory => Status::NoMemory,
         Unmade::Fault => Status::DiskFault,
     }
 }
 
-fn followed_text(alloc: Global, count: u64) -> Result<Text, NoMemory>
-    ensures { IfOk result (λ text. text ≡ followed_text count) }
+fn followed_text(alloc: Global, form: Form, count: u64) -> Result<Text, NoMemory>
+    ensures { IfOk result (λ text. text ≡ followed_text form count) }
 {
     let mut buffer = Buffer::new();
     let mut text = String::new(alloc);
-    text.push_str("followed ")?;
+    text.push_str(done_word(form))?;
     text.push_str(buffer.format(count))?;
     text.push_str("\n")?;
     Ok(Text::from_string(text))
+}
+
+// What such a call did.
+fn done_word(form: Form) -> &'static str
+    ensures { result.now ≡ done_word form }
+{
+    match form {
+        Form::Entries => "followed ",
+        Form::Snapshot => "compacted ",
+    }
 }

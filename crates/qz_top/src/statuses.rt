@@ -61,21 +61,22 @@ pub enum Status {
     /// The first bad place of the store's bytes, as an offset. Nothing was read from the input or written; or it was
     /// found in a script's restart, as `NotAStore` is.
     Damaged { store: Store, at: u64 },
-    /// A step would be accepted, and its record needs more bytes than are left in the store.
+    /// A step would be accepted, and its record needs more bytes than are left in the store. `follow` and `compact`: the same of a record of
+    /// the stream. `compact`: the snapshot needs more bytes than a store has behind its first gate, so that `need` is one more than `room`.
     JournalFull { need: u64, room: u64 },
     /// `run` and `gen`: so many firings were made, which is all that the call may make, and a trigger that waits has a next
     /// time that isn't after the run's end.
     Budget { firings: u64 },
     /// Memory ran out.
     NoMemory,
-    /// `init`: both stores exist already. `follow`: one of them does. `gen`: the history of the trigger store isn't empty.
+    /// `init`: both stores exist already. `follow` and `compact`: one of them does. `gen`: the history of the trigger store isn't empty.
     Exists,
     /// `run` and `gen`: a transaction of one of the nodes was refused, since there would be this many rows or members.
     TooMany { count: u64 },
     /// `run` and `gen`: the trigger store is one of version 1 that wasn't upgraded. Nothing was done or written; `migrate`
     /// upgrades it.
     OldStore,
-    /// `follow`: the first bad place of the input's bytes, as an offset; or their number, where they end within the header. No store
+    /// `follow` and `compact`: the first bad place of the input's bytes, as an offset; or their number, where they end within the header. No store
     /// was made.
     BadStream { at: u64 },
 }

@@ -123,7 +123,7 @@ returns-in-Follow-clause-done g c =
 pub returns-in-Follow-clause-cause : goal.returns-in-Follow-clause-cause
 returns-in-Follow-clause-cause g c =
     let ran = c.follow.ensures in
-    caused_at _ _ _ _ _ (words_at _ _ c.in-Follow.is) (λ fault is. absurd (follow_words _ _ _ _ _ fault ran.done is))
+    caused_at _ _ _ _ _ (words_at _ _ c.in-Follow.is) (λ fault is. absurd (follow_words _ _ _ _ _ _ fault ran.done is))
     ran.read ran.write ran.disk
 
 pub returns-in-Follow-clause-jobs : goal.returns-in-Follow-clause-jobs
@@ -131,6 +131,23 @@ returns-in-Follow-clause-jobs g c = uses_at _ _ _ _ (words_at _ _ c.in-Follow.is
 
 pub returns-in-Follow-clause-handed : goal.returns-in-Follow-clause-handed
 returns-in-Follow-clause-handed g c = c.follow.ensures.handed
+
+pub returns-in-Compact-clause-done : goal.returns-in-Compact-clause-done
+returns-in-Compact-clause-done g c =
+    done_at _ _ _ _ _ _ _ _ _ (words_at _ _ c.in-Compact.is)
+    (record { ran = c.follow-in-Compact.ensures.done; not_asked = refl })
+
+pub returns-in-Compact-clause-cause : goal.returns-in-Compact-clause-cause
+returns-in-Compact-clause-cause g c =
+    let ran = c.follow-in-Compact.ensures in
+    caused_at _ _ _ _ _ (words_at _ _ c.in-Compact.is) (λ fault is. absurd (follow_words _ _ _ _ _ _ fault ran.done is))
+    ran.read ran.write ran.disk
+
+pub returns-in-Compact-clause-jobs : goal.returns-in-Compact-clause-jobs
+returns-in-Compact-clause-jobs g c = uses_at _ _ _ _ (words_at _ _ c.in-Compact.is) refl
+
+pub returns-in-Compact-clause-handed : goal.returns-in-Compact-clause-handed
+returns-in-Compact-clause-handed g c = c.follow-in-Compact.ensures.handed
 
 pub returns-in-Migrate-clause-jobs : goal.returns-in-Migrate-clause-jobs
 returns-in-Migrate-clause-jobs g c = uses_at _ _ _ _ (words_at _ _ c.in-Migrate.is) refl

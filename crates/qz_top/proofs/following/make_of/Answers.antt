@@ -5,7 +5,7 @@ use Rattle.qz_top.proofs.following.make_of.Goals as goal
 pub returns-in_default-clause-done : goal.returns-in_default-clause-done
 returns-in_default-clause-done g c =
     let end = c.ran_no_script.ensures in
-    starved (λ honest d. g.met.D.Disk.lawful honest d) c.args.triggers c.args.states c.ran_no_script.result (view c.args.follower) _ end.disks.0 end.disks.1 end.status
+    starved (λ honest d. g.met.D.Disk.lawful honest d) c.args.form c.args.triggers c.args.states c.ran_no_script.result (view c.args.follower) _ end.disks.0 end.disks.1 end.status
 
 pub returns-clause-done : goal.returns-clause-done
 returns-clause-done g c =
