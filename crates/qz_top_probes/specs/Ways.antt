@@ -39,6 +39,11 @@ abbrev pub AsksFollow : Result Wish WordFault → Type 0
 AsksFollow (Ok wish.Follow) = ⊤
 AsksFollow w = ⊥
 
+-- they ask for `compact`
+abbrev pub AsksCompact : Result Wish WordFault → Type 0
+AsksCompact (Ok wish.Compact) = ⊤
+AsksCompact w = ⊥
+
 -- they ask for `times`
 abbrev pub AsksTimes : Result Wish WordFault → Type 0
 AsksTimes (Ok (wish.Times after count)) = ⊤

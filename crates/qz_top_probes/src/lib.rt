@@ -2,6 +2,7 @@
 #![tactic(auto)]
 
 mod bad_words;
+mod compacting;
 mod documents;
 mod fire_times;
 mod following;
@@ -14,6 +15,7 @@ mod scripts;
 mod workloads;
 
 pub use bad_words::refuse;
+pub use compacting::compact;
 pub use documents::load;
 pub use fire_times::times;
 pub use following::follow;
