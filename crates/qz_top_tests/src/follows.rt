@@ -8,7 +8,7 @@ use qz_types::{List, Store};
 use std::alloc::{AllocError, Global};
 
 /// The bytes of a trigger store with six entries: AddJob, AddTrigger, Join, Acquire, Fire and Complete.
-const STREAM: &[u8] = b"QZ23\x02T\x00\x00\x00\x00\x00\x00\x00\x00\x00\x00\
+pub const STREAM: &[u8] = b"QZ23\x02T\x00\x00\x00\x00\x00\x00\x00\x00\x00\x00\
     \xa5\x00\x00\x00*\x02\x00\x00\x01\x8c\xc2Q\xf4\x00\x00\x00\x00\x00\x00\x00\x00\
     \x07DEFAULT\x00\x06report\x00\x02ok\x00\x00\x00\x00\x00\x00\
     \xa5\x00\x00\x00N\x02\x00\x00\x01\x8c\xc2Q\xf4\x00\x00\x00\x00\x00\x00\x02\x00\
@@ -35,8 +35,8 @@ fn given(alloc: Global, word: &str, input: &[u8]) -> Result<Given, AllocError> {
     })
 }
 
-// The disks after a call with this word on these, if it is as wanted.
-fn left<D: Disk>(
+/// The disks after a call with this word on these, if it is as wanted.
+pub fn left<D: Disk>(
     alloc: Global,
     disks: Option<(D, D)>,
     word: &str,
@@ -53,8 +53,8 @@ fn left<D: Disk>(
     called.disks(is_right)
 }
 
-// Whether it is as wanted.
-fn answers<D: Disk>(
+/// Whether it is as wanted.
+pub fn answers<D: Disk>(
     alloc: Global,
     disks: Option<(D, D)>,
     word: &str,
@@ -67,18 +67,24 @@ fn answers<D: Disk>(
     is_right
 }
 
+/// What both stores of it hold.
+pub const LISTED: Wanted<'static> = Wanted {
+    replies: "threshold 60000\nmember A 1\nstate A last 1704067200000 interval 15000\n",
+    ..DONE
+};
+
 const SIX: Wanted<'static> = Wanted {
     replies: "followed 6\n",
     ..DONE
 };
 
-const EXISTS: Wanted<'static> = Wanted {
+pub const EXISTS: Wanted<'static> = Wanted {
     replies: "",
     error: "qz: store exists\n",
     status: Status::Exists,
 };
 
-const DISK_FAULT: Wanted<'static> = Wanted {
+pub const DISK_FAULT: Wanted<'static> = Wanted {
     replies: "",
     error: "qz: disk fault\n",
     status: Status::DiskFault,
@@ -87,23 +93,19 @@ const DISK_FAULT: Wanted<'static> = Wanted {
 #[test]
 fn both_stores_are_made_of_a_stream(rt: HostRuntime) {
     let alloc = rt.alloc();
-    let listed = Wanted {
-        replies: "threshold 60000\nmember A 1\nstate A last 1704067200000 interval 15000\n",
-        ..DONE
-    };
     let five = Wanted {
         replies: "followed 5\n",
         ..DONE
     };
     let disks = left(alloc, new_disks(alloc), "follow", STREAM, &SIX);
-    let disks = left(alloc, disks, "list", &[], &listed);
+    let disks = left(alloc, disks, "list", &[], &LISTED);
     assert!(rt; answers(alloc, disks, "follow", STREAM, &EXISTS));
     // the last payload isn't whole, and no gate ends the stream
     assert!(rt; answers(alloc, new_disks(alloc), "follow", &STREAM[..297], &five));
 }
 
-// A bad stream, with this line on standard error.
-fn bad_stream(error: &'static str, at: u64) -> Wanted<'static> {
+/// A bad stream, with this line on standard error.
+pub fn bad_stream(error: &'static str, at: u64) -> Wanted<'static> {
     Wanted {
         replies: "",
         error,

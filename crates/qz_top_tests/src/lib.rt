@@ -4,6 +4,8 @@
 #[cfg(test)]
 mod calls;
 #[cfg(test)]
+mod compacts;
+#[cfg(test)]
 mod cuts;
 #[cfg(test)]
 mod error_texts;
