@@ -34,6 +34,7 @@ use Rattle.qz_top.specs.declared.statuses.Status.{Status}
 use Rattle.qz_top.specs.declared.statuses.Status.TheVariants as status
 use Rattle.qz_top.proofs.NodeRunLaws.{kept_on_the_way, left_at_end, rows_legal}
 use Rattle.qz_top.proofs.NodeRestLaws.{MayRest, rested_kept, rests_may}
+use Rattle.qz_top.proofs.StandingLaws.{stores_in_order, stores_one_at_a_time}
 use Rattle.qz_serve.specs.Courses.{EndsBy, OneIsClosed, TookCourse}
 use Rattle.qz_serve.specs.Declining.{AtLimit}
 use Rattle.qz_serve.specs.Ending.{EndedCall}
@@ -122,7 +123,9 @@ module _ {D : Type 0} {g : Ghosts D} (shows : ℤ → Type 0) (p : Serving) (job
       record {
         opened = state_of_both b;
         are_opened = opened.are_opened;
+        nothing_held = refl;
         found = opened.found;
+        no_earlier = opened.no_earlier;
         current = opened.current;
         worked_to = state_of_both t;
         cause = cause;
@@ -140,6 +143,8 @@ module _ {D : Type 0} {g : Ghosts D} (shows : ℤ → Type 0) (p : Serving) (job
         states_stay = refl;
         legal = (legal ended.rested, rows_legal (states_of t));
         schedules = schedules_kept ended.rested;
+        in_order = stores_in_order ended.rested (states_of t);
+        one_at_a_time = stores_one_at_a_time ended.rested (states_of t);
         triggers_end = disk_of ended.rested;
         states_end = states_disk_of (states_of t);
         disks = ended.disks;

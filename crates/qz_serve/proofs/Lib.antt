@@ -18,6 +18,7 @@ pub mod Looking
 pub mod Moving
 pub mod Onces
 pub mod Ready
+pub mod ServeHeadlines
 pub mod Stopping
 pub mod Told
 pub mod Watching

@@ -7,6 +7,7 @@ pub mod Ending
 pub mod Entries
 pub mod Finished
 pub mod Going
+pub mod Headlines
 pub mod Heard
 pub mod Keeping
 pub mod Knowing

@@ -1,5 +1,5 @@
 -- What a call of `serve` does, by its words.
-use Rattle.std.specs.Prelude.{⊤, ◌≡◌, ◌⊎◌, ℕ, ℤ, List, false, Option, Some, None, Result, Ok, Err, IfSome}
+use Rattle.std.specs.Prelude.{⊤, ◌≡◌, ◌⊎◌, ◌≤◌, ℕ, ℤ, List, [], false, Option, Some, None, Result, Ok, Err, IfSome}
 use Rattle.qz_civil.specs.Causes.{Rose}
 use Rattle.qz_disk.specs.declared.disk.Disk.{Ghosts}
 use Rattle.qz_io.specs.Outside.{Outside}
@@ -19,11 +19,13 @@ use Rattle.qz_run.specs.declared.commands.Declined.TheVariants as why
 use Rattle.qz_words.specs.declared.serves.Serving.{Serving}
 use Rattle.qz_words.specs.declared.wishes.WordFault.{WordFault}
 use Rattle.qz_stores.specs.Stores.{StoreState}
+use Rattle.qz_top.specs.Calls.{RunsOneAtATime}
 use Rattle.qz_top.specs.Found.{HoldWhole, IsFoundOn}
 use Rattle.qz_top.specs.Moments.{HasStates, HasTriggers}
 use Rattle.qz_top.specs.NodeRuns.{WentOn, IsKeptOnTheWay, IsToldAs, run_text}
 use Rattle.qz_top.specs.OpenStores.{HasNoStores}
 use Rattle.qz_top.specs.Resting.{RestsNodes}
+use Rattle.qz_top.specs.Standing.{IsInOrder}
 use Rattle.qz_top.specs.declared.ended.Ended.{Ended}
 use Rattle.qz_top.specs.declared.statuses.Status.{Status}
 use Rattle.qz_top.specs.declared.statuses.Status.TheVariants as status
@@ -52,7 +54,9 @@ pub record ServedOnDisk {D : Type 0} (g : Ghosts D) (shows : ℤ → Type 0) (p 
   -- what the bytes tell from the slot in use on was opened, and the trigger store isn't old
   pub opened : ClusterState
   pub are_opened : IsOpened opened.triggers × AreOpened opened.states
+  pub nothing_held : opened.held ≡ []
   pub found : g.honest → IsFoundOn g triggers states opened
+  pub no_earlier : (g.faults triggers ≤ opened.triggers.faults) × (g.faults states ≤ opened.states.faults)
   pub current : is_old (replay opened.triggers.history) ≡ false
   -- the nodes' work and how it ended
   pub worked_to : ClusterState
@@ -75,6 +79,9 @@ pub record ServedOnDisk {D : Type 0} (g : Ghosts D) (shows : ℤ → Type 0) (p 
   -- at the end both histories are legal, and triggers that weren't disturbed have fired for the first times of their schedules
   pub legal : IsLegal end.triggers.history × AreLegal end.states.history
   pub schedules : FollowsSchedules end.triggers.history
+  -- tables and rows are valid there, what was lost since the base was recovered once, and no job that excludes others had two executions at once
+  pub in_order : IsInOrder end
+  pub one_at_a_time : RunsOneAtATime end
   -- the disks come back, with the counts of faults that the stores had at the end
   pub triggers_end : D
   pub states_end : D

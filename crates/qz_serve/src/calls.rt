@@ -2,6 +2,7 @@
 ghost use Rattle.std.specs.Prelude.{◌≡◌, ◌≢◌, ◌⊎◌, ◌≤◌, ℕ, List, Option, map, true, false, Some, None, IfOk};
 ghost use mathlib.Core.List.{IsPrefix};
 ghost use Rattle.qz_civil.specs.Causes.{Rose};
+ghost use Rattle.qz_disk.specs.Disk.{IsLawful};
 ghost use Rattle.qz_io.specs.Around.{output_alone};
 ghost use Rattle.qz_trigger_store.specs.View.{view as triggers_view, keeps_of};
 ghost use Rattle.qz_top.specs.HandingOn.{HandsOnWritten};
@@ -14,6 +15,7 @@ ghost use Rattle.qz_serve.specs.Boards.{ShowsSoFar, plan, plan_of};
 ghost use Rattle.qz_serve.specs.Courses.{AreBothOpen};
 ghost use Rattle.qz_serve.specs.Ending.{EndedCall};
 ghost use Rattle.qz_serve.specs.Going.{triggers_of};
+ghost use Rattle.qz_serve.specs.Headlines.{HeadlineOfServe};
 ghost use Rattle.qz_serve.specs.Serves.{DidAsAsked, DidServe, DiskFailed, HasCause, ServedOnDisk, GaveUp, status_of};
 
 use crate::boards::open_board;
@@ -73,6 +75,8 @@ pub fn serve<
 ) -> Served<D>
     // What was done is what the words ask for: each of the cases is a definition of its own.
     ensures done { DidAsAsked D.Disk (C.shows clock.now) (serving_of words.now) (map (λ list. map means list.items) jobs.old.items) (map (λ list. map means list.items) jobs.new.items) triggers states result (output_alone K.Sink out.old) (output_alone K.Sink out.new) }
+    // The headline: one history of each store, which no crash breaks and in which no job runs twice at once.
+    ensures headline { HeadlineOfServe D.Disk (serving_of words.now) triggers states result (output_alone K.Sink out.old) (output_alone K.Sink out.new) }
     // Bad words are answered only where the words are refused, and a fault only where the object's count of faults rose.
     ensures cause { HasCause result.status (serving_of words.now) (Rose (K.faults out.old) (K.faults out.new)) (DiskFailed D.Disk triggers states result.disks) }
     // However the call ended, all that it wrote on `out` was handed on, or `out` failed.
@@ -81,9 +85,15 @@ pub fn serve<
     ensures reported { Reported E.Sink result.status err.old err.new }
 {
     let served = work(rt, alloc, words, out, triggers, states, clock, jobs, gate);
+    disks_are_lawful::<D>();
     report(served.status, err);
     served
 }
+
+// The law on disks, which isn't at hand by itself where threads may be begun. It does nothing: its contract says so.
+fn disks_are_lawful<D: Disk>()
+    ensures { D.honest → (disk : D) → IsLawful (D.state disk) }
+{}
 
 // The same, without the line on `err`.
 fn work<R: Threads + Wait + Sync, K: Sink, D: Disk + Send, C: SharedClock + Sync, G: Gate + Sync>(

@@ -1,8 +1,9 @@
 -- The headline of a call that did steps.
-use Rattle.std.proofs.Common.{◌≡◌, ◌⊎◌, inl, inr, ℕ, List, [], ◌∷◌, ◌++◌, take, drop, Option, Bool, false, refl, sym, ap, ◌∙◌, subst, arith, append_assoc, append-nil}
+use Rattle.std.proofs.Common.{◌≡◌, ◌⊎◌, inl, inr, ◌≤◌, ℕ, ℤ, List, [], ◌∷◌, ◌++◌, length, take, drop, Option, Bool, true, false, refl, sym, ap, ◌∙◌, subst, arith, append_assoc, append-nil}
 use Rattle.std.proofs.lemmas.List.{take-append-drop}
-use Rattle.std.proofs.KnownBytes.{Appends-trans}
+use Rattle.std.proofs.KnownBytes.{Appends-nil, Appends-trans}
 use Rattle.std.specs.Prelude.{⊤, Ok, Err, None}
+use Rattle.std.specs.List.{AllByRecursion}
 use Rattle.std.specs.Io.KnownBytes.{Appends}
 use Rattle.qz_disk.specs.declared.disk.Disk.{Ghosts}
 use Rattle.qz_document.specs.declared.documents.Document.{Document}
@@ -12,8 +13,11 @@ use Rattle.qz_io.proofs.TakenLaws.{AllByRecursion-append}
 use Rattle.qz_document.specs.Document.{document_meaning}
 use Rattle.qz_report.specs.Replies.{reply_text}
 use Rattle.qz_model.proofs.RowPoints.{All-both}
+use Rattle.qz_types.specs.declared.commands.Command.{Command}
 use Rattle.qz_steps.specs.declared.steps.StepReply.{StepReply}
+use Rattle.qz_trigger_store.specs.Bytes.{Whole}
 use Rattle.qz_trigger_store.specs.Opening.{IsOpened}
+use Rattle.qz_checkin.specs.Bytes.{Whole as WholeRows}
 use Rattle.qz_checkin.specs.Laws.{state_lawful}
 use Rattle.qz_checkin.specs.Opening.{IsOpened as AreOpened}
 use Rattle.qz_cluster.specs.Script.{TimedStep}
@@ -22,16 +26,16 @@ use Rattle.qz_open.specs.Runs.{IsStart, StepsDone}
 use Rattle.qz_open.proofs.Runs.{always_alone, always_spares}
 use Rattle.qz_top.specs.Calls.{begun, HasSoundStores, RecoversLosses, RanInMemory, RanOnDisk, LoadedOnDisk}
 use Rattle.qz_top.specs.Clients.{client_steps, given_command, DidSome}
-use Rattle.qz_top.specs.Found.{IsTold}
+use Rattle.qz_top.specs.Found.{IsTold, HoldWhole}
 use Rattle.qz_top.specs.Headline.{AlongHistories, Headline, HeadlineInMemory}
-use Rattle.qz_top.specs.HeadlineByWords.{LinesAsk, DocumentAsks}
+use Rattle.qz_top.specs.HeadlineByWords.{LinesAsk, AreFirst, DocumentAsks}
 use Rattle.qz_top.specs.LineOutcomes.{IsOwn, step_at, StepPart, StepDone}
 use Rattle.qz_top.specs.Lines.{steps_of}
-use Rattle.qz_top.specs.Loads.{HadNone, DidAll, DidDocument, Loads, no_input}
-use Rattle.qz_top.specs.Runs.{WrotePart}
+use Rattle.qz_top.specs.Loads.{CauseOfNone, HadNone, DidAll, DidFirst, DidDocument, Loaded, Loads, no_input}
+use Rattle.qz_top.specs.Runs.{IsRun, WrotePart}
 use Rattle.qz_top.specs.Standing.{IsInOrder}
 use Rattle.qz_top.specs.Statuses.{status_at, Finishes}
-use Rattle.qz_top.specs.Trails.{texts, RunState, RanSteps, new_cluster}
+use Rattle.qz_top.specs.Trails.{texts, last_of, RunState, RanSteps, new_cluster}
 use Rattle.qz_top.specs.declared.ended.Ended.{Ended}
 use Rattle.qz_top.specs.declared.line_handler.LineEnd.{LineEnd}
 use Rattle.qz_top.specs.declared.line_handler.LineEnd.TheVariants as ends

@@ -18,6 +18,7 @@ pub mod MigratingLaws
 pub mod MomentLaws
 pub mod NodeRestLaws
 pub mod NodeRunLaws
+pub mod OneAtATime
 pub mod OpenLaws
 pub mod OpenedLaws
 pub mod OutcomeLaws

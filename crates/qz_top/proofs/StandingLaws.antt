@@ -1,8 +1,10 @@
 -- How opened stores stand, and that what a crash leaves holds a whole list that begins as before.
-use Rattle.std.proofs.Common.{◌≡◌, inl, inr, ℕ, List, [], ◌∷◌, ◌++◌, true, false, refl, sym, subst, append_assoc, arith}
+use Rattle.std.proofs.Common.{◌≡◌, ◌⊎◌, inl, inr, ◌≤◌, ℕ, List, [], ◌∷◌, ◌++◌, true, false, refl, sym, ap, subst, ◌∙◌, append_assoc, arith}
 use Rattle.std.proofs.Math.Logic.{∥∥₁_elim, ∥∥₁_map}
+use Rattle.std.proofs.Props.{props}
 use Rattle.std.specs.Prelude.{Option}
 use Rattle.qz_disk.specs.declared.disk.Disk.{Ghosts}
+use Rattle.qz_disk.specs.Disk.{LeavesOnly}
 use Rattle.qz_disk.proofs.Moments.{weaker}
 use Rattle.qz_types.specs.Entries.{EntryData, StateEntryData}
 use Rattle.qz_types.specs.Tables.{SchedulerTables}
@@ -12,7 +14,7 @@ use Rattle.qz_model.specs.History.{History}
 use Rattle.qz_stores.specs.Bases.{HoldAll, records}
 use Rattle.qz_stores.proofs.Histories.{goes_on_in}
 use Rattle.qz_stores.proofs.Whole.{have_records}
-use Rattle.qz_trigger_store.specs.Bytes.{Whole, MayBe}
+use Rattle.qz_trigger_store.specs.Bytes.{Whole, IsWhole, MayBe}
 use Rattle.qz_trigger_store.specs.Entries.{TriggerState}
 use Rattle.qz_trigger_store.specs.Kinds.{trigger_kind}
 use Rattle.qz_trigger_store.specs.Laws.{trigger_lawful}
@@ -21,7 +23,7 @@ use Rattle.qz_trigger_store.specs.Proper.{each_proper}
 use Rattle.qz_trigger_store.specs.View.{view, base_of, found_of, added_of, version_of}
 use Rattle.qz_trigger_store.specs.declared.stores.TriggerStore.{TriggerStore}
 use Rattle.qz_trigger_store.proofs.Kept.{legal, base_valid, history_valid, payloads_enough}
-use Rattle.qz_checkin.specs.Bytes.{Whole as WholeRows, MayBe as RowsMayBe}
+use Rattle.qz_checkin.specs.Bytes.{Whole as WholeRows, IsWhole as IsWholeRows, MayBe as RowsMayBe}
 use Rattle.qz_checkin.specs.Entries.{StatesState}
 use Rattle.qz_checkin.specs.History.{StateHistory, replay_from}
 use Rattle.qz_checkin.specs.Kinds.{state_kind}
@@ -35,11 +37,13 @@ use Rattle.qz_checkin.proofs.Kept.{legal as states_legal}
 use Rattle.qz_cluster.specs.Steps.{ClusterState}
 use Rattle.qz_cluster.specs.View.{disk_of_triggers, disk_of_states}
 use Rattle.qz_run_stores.specs.Ways.{HasOnTheWay, HasRowsOnTheWay}
+use Rattle.qz_top.specs.Calls.{RunsOneAtATime}
 use Rattle.qz_top.specs.Moments.{HasTriggers, HasStates, HoldsOfOne, BeginsWithReads, EachIsKept}
 use Rattle.qz_top.specs.NodeRuns.{both, IsKept}
 use Rattle.qz_top.specs.Seen.{Shown, states_of}
 use Rattle.qz_top.specs.Standing.{longer, HoldLonger, HoldLongerRows, IsInOrder}
 use Rattle.qz_top.proofs.NodeRunLaws.{rows_legal}
+use Rattle.qz_top.proofs.OneAtATime.{one_at_a_time}
 
 -- A whole list recovered what it lost.
 whole_exact : (version : ℕ) (start : SchedulerTables) (es : List EntryData) (b : List ℕ) → HoldAll trigger_kind version start b es → ∥ AreExact start es ∥₁
@@ -111,6 +115,9 @@ module _ {D : Type 0} {g : Ghosts D} where
 
 -- Stores as they are.
 
+at_most_once : (m n : ℕ) → IsProp (m ≤ n)
+at_most_once m n = hlevel props
+
 never : {A : Type 0} → true ≡ false → A
 never is = absurd cc
 
@@ -140,6 +147,11 @@ module _ {D : Type 0} {g : Ghosts D} where
 
   pub store_recovers : (t : TriggerStore D g) → ∥ AreExact (base_of t) (found_of t ++ added_of t) ∥₁
   store_recovers t = ∥∥₁_map t.store.recorded (λ recorded. exact (base_of t) (found_of t ++ added_of t) (base_valid t) (each_proper (found_of t ++ added_of t) recorded) (legal t))
+
+  pub stores_one_at_a_time : (t : TriggerStore D g) (s : StateStore D g) → RunsOneAtATime (both t s)
+  stores_one_at_a_time t s first rest is key =
+      let entries : List EntryData = found_of t ++ added_of t in
+      ∥∥₁_elim t.store.recorded (at_most_once _ _) (λ recorded. one_at_a_time (base_of t) entries first rest (each_proper entries recorded) (base_valid t) is key)
 
   pub stores_in_order : (t : TriggerStore D g) (s : StateStore D g) → IsInOrder (both t s)
   stores_in_order t s = record { sound = (triggers_sound t, states_sound s); recovered = store_recovers t }

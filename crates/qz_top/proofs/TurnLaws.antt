@@ -1,18 +1,19 @@
 -- Calls one after another keep what the disks held.
-use Rattle.std.proofs.Common.{inl, inr, ℕ, List, [], ◌∷◌, sym, subst}
-use Rattle.std.proofs.Math.Logic.{∥∥₁_elim}
-use Rattle.std.specs.Prelude.{Result, Ok, Err}
+use Rattle.std.proofs.Common.{◌≡◌, ◌⊎◌, inl, inr, ℕ, List, [], ◌∷◌, refl, sym, subst, arith}
+use Rattle.std.proofs.Math.Logic.{∥∥₁_elim, ∥∥₁_map}
+use Rattle.std.specs.Prelude.{⊤, Result, Ok, Err}
 use Rattle.std.specs.List.{AllByRecursion}
 use Rattle.qz_disk.specs.declared.disk.Disk.{Ghosts}
-use Rattle.qz_disk.specs.Disk.{IsLawful, LeavesOnly}
+use Rattle.qz_disk.specs.Disk.{IsLawful, Only, LeavesOnly}
 use Rattle.qz_disk.proofs.Moments.{started, then_leaves}
+use Rattle.qz_io.specs.Outside.{Outside}
 use Rattle.qz_journal.specs.declared.layout.TheConstants.{TRIGGERS, STATES}
 use Rattle.qz_journal.proofs.Headers.{header_store}
 use Rattle.qz_stores.proofs.NewStores.{new_whole}
-use Rattle.qz_trigger_store.specs.Bytes.{Whole, list_of}
+use Rattle.qz_trigger_store.specs.Bytes.{Whole, list_of, IsWhole}
 use Rattle.qz_trigger_store.specs.Kinds.{trigger_kind}
 use Rattle.qz_trigger_store.specs.Laws.{trigger_lawful}
-use Rattle.qz_checkin.specs.Bytes.{Whole as WholeRows, list_of as rows_list_of}
+use Rattle.qz_checkin.specs.Bytes.{Whole as WholeRows, list_of as rows_list_of, IsWhole as IsWholeRows}
 use Rattle.qz_checkin.specs.Kinds.{state_kind}
 use Rattle.qz_checkin.specs.Laws.{state_lawful}
 use Rattle.qz_cluster.specs.Steps.{ClusterState}
@@ -25,6 +26,7 @@ use Rattle.qz_top.specs.InTurn.{Call, HasHeadline, BeginsWith, Keeps, Follows, I
 use Rattle.qz_top.specs.Making.{IsNew, KeepsStores}
 use Rattle.qz_top.specs.NodeRuns.{IsKept}
 use Rattle.qz_top.specs.Standing.{longer, HoldLonger, HoldLongerRows, OutlastsCrashes}
+use Rattle.qz_top.specs.declared.ended.Ended.{Ended}
 use Rattle.qz_top.proofs.StandingLaws.{longer_of, rows_longer_of, longer_still, rows_longer_still}
 
 module _ {D : Type 0} {g : Ghosts D} (honest : g.honest) (lawful : (d : D) → IsLawful (g.state d)) (w : Whole) (v : WholeRows) (c : Call g) (begins : BeginsWith w v c) where
@@ -62,7 +64,7 @@ module _ {D : Type 0} {g : Ghosts D} (honest : g.honest) (lawful : (d : D) → I
   held_whole : (held : HoldLonger w (g.state c.triggers).content) (rows : HoldLongerRows v (g.state c.states).content) → HoldWhole g c.triggers c.states (longer w held.more) (longer v rows.more)
   held_whole held rows = record { honest = honest; entries = held.held; rows = rows.held }
 
-  outlasting_keeps : (end : ClusterState) → OutlastsCrashes c.triggers c.states c.ended end → Keeps w v c
+  outlasting_keeps : (end : ClusterState) → OutlastsCrashes g c.triggers c.states c.ended.triggers c.ended.states end → Keeps w v c
   outlasting_keeps end outlasts = record {
     entries = λ b since. ∥∥₁_elim held_now squash₁ (λ held. ∥∥₁_elim rows_held_now squash₁ (λ rows. ∥∥₁_elim (outlasts.any_moment _ _ (held_whole held rows)) squash₁ (λ kept. entries_kept held kept.0 b since)));
     rows = λ b since. ∥∥₁_elim held_now squash₁ (λ held. ∥∥₁_elim rows_held_now squash₁ (λ rows. ∥∥₁_elim (outlasts.any_moment _ _ (held_whole held rows)) squash₁ (λ kept. rows_kept rows kept.1 b since)));

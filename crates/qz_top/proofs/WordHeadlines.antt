@@ -54,13 +54,13 @@ module _ {D : Type 0} {g : Ghosts D} (lawful : g.honest → (d : D) → IsLawful
   why_none store error is (inl fault) = inl (is ∙ ap (refusal_of store) fault)
   why_none store error is (inr none) = inr (is ∙ ap (refusal_of store) none)
 
-  opened_none : (old new : Outside) → NotOpened triggers states e old new → OpenedNone triggers states e
+  pub opened_none : (old new : Outside) → NotOpened triggers states e old new → OpenedNone triggers states e
   opened_none old new none = record {
     looked = record { triggers_stay = λ honest. (looked_at none.store none.error honest (none.reads honest)).0; states_stay = λ honest. (looked_at none.store none.error honest (none.reads honest)).1 };
     why = λ w v held. why_none none.store none.error none.status_is (none.why w v held);
   }
 
-  found_old : (old new : Outside) → FoundOld triggers states e old new → OnlyLooked triggers states e × (e.status ≡ status.OldStore)
+  pub found_old : (old new : Outside) → FoundOld triggers states e old new → OnlyLooked triggers states e × (e.status ≡ status.OldStore)
   found_old old new found = (record { triggers_stay = λ honest. (found.reads honest).0.any_moment; states_stay = λ honest. (found.reads honest).1.any_moment }, found.status_is)
 
   -- Each call.
@@ -81,12 +81,13 @@ module _ {D : Type 0} {g : Ghosts D} (lawful : g.honest → (d : D) → IsLawful
   list_words old new (inl ran) = record { triggers_stay = λ honest. (ran.reads honest).0.any_moment; states_stay = λ honest. (ran.reads honest).1.any_moment }
   list_words old new (inr none) = (opened_none old new none).looked
 
-  run_headline : (p : Plan) (jobs jobs' : List JobMeaning) (old new : Outside) → RanNodesOnDisk p jobs jobs' triggers states e old new → HeadlineOfWork triggers states e
+  run_headline : (p : Plan) (jobs jobs' : List JobMeaning) (old new : Outside) → RanNodesOnDisk p jobs jobs' triggers states e old new → HeadlineOfWork g triggers states e.triggers e.states
   run_headline p jobs jobs' old new ran = record {
     opened = ran.opened;
     were_opened = record { are_opened = ran.are_opened; nothing_held = ran.nothing_held; found = ran.found; no_earlier = ran.no_earlier };
     end = ran.end;
     end_in_order = record { sound = ran.sound; recovered = ran.recovered };
+    one_at_a_time = ran.one_at_a_time;
     outlasts = record {
       faults = ran.faults;
       at_end = ran.images;
@@ -96,17 +97,18 @@ module _ {D : Type 0} {g : Ghosts D} (lawful : g.honest → (d : D) → IsLawful
   }
 
   run_words : (p : Plan) (jobs jobs' : List JobMeaning) (old new : Outside) → RanNodes p jobs jobs' triggers states e old new
-      → HeadlineOfWork triggers states e ⊎ OpenedNone triggers states e ⊎ (OnlyLooked triggers states e × (e.status ≡ status.OldStore))
+      → HeadlineOfWork g triggers states e.triggers e.states ⊎ OpenedNone triggers states e ⊎ (OnlyLooked triggers states e × (e.status ≡ status.OldStore))
   run_words p jobs jobs' old new (inl (inl ran)) = inl (run_headline p jobs jobs' old new ran)
   run_words p jobs jobs' old new (inl (inr found)) = inr (inr (found_old old new found.0))
   run_words p jobs jobs' old new (inr none) = inr (inl (opened_none old new none.0))
 
-  gen_headline : (x : Workload) (jobs jobs' : List JobMeaning) (old new : Outside) → GeneratedOnDisk x jobs jobs' triggers states e old new → HeadlineOfWork triggers states e
+  gen_headline : (x : Workload) (jobs jobs' : List JobMeaning) (old new : Outside) → GeneratedOnDisk x jobs jobs' triggers states e old new → HeadlineOfWork g triggers states e.triggers e.states
   gen_headline x jobs jobs' old new ran = record {
     opened = ran.opened;
     were_opened = record { are_opened = ran.are_opened; nothing_held = ran.nothing_held; found = ran.found; no_earlier = ran.no_earlier };
     end = ran.end;
     end_in_order = record { sound = ran.sound; recovered = ran.recovered };
+    one_at_a_time = ran.one_at_a_time;
     outlasts = record {
       faults = ran.faults;
       at_end = ran.images;
@@ -115,7 +117,7 @@ module _ {D : Type 0} {g : Ghosts D} (lawful : g.honest → (d : D) → IsLawful
     on_the_way = ran.any_moment;
   }
 
-  gen_words : (x : Workload) (jobs jobs' : List JobMeaning) (old new : Outside) → Generates x jobs jobs' triggers states e old new → HeadlineOfWork triggers states e ⊎ OpenedNone triggers states e
+  gen_words : (x : Workload) (jobs jobs' : List JobMeaning) (old new : Outside) → Generates x jobs jobs' triggers states e old new → HeadlineOfWork g triggers states e.triggers e.states ⊎ OpenedNone triggers states e
   gen_words x jobs jobs' old new (inl ran) = inl (gen_headline x jobs jobs' old new ran)
   gen_words x jobs jobs' old new (inr none) = inr (opened_none old new none.0)
 

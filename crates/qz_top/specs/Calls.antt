@@ -1,7 +1,9 @@
 -- What the calls that run scripts did.
 use Rattle.std.specs.Prelude.{⊤, ◌≡◌, ◌⊎◌, ◌≤◌, ℕ, ℤ, true, false, Bool, List, [], ◌∷◌, ◌++◌, length, take}
-use Rattle.std.specs.List.{AllByRecursion}
+use Rattle.std.specs.List.{AllByRecursion, count_by}
 use Rattle.qz_steps.specs.declared.steps.StepReply.{StepReply}
+use Rattle.qz_types.specs.Entries.{EntryData}
+use Rattle.qz_types.specs.declared.keys.Key.{Key}
 use Rattle.qz_types.specs.declared.stores.Store.{Store}
 use Rattle.qz_disk.specs.declared.disk.Disk.{Ghosts}
 use Rattle.qz_io.specs.Outside.{Outside}
@@ -9,7 +11,8 @@ use Rattle.qz_laws.specs.Losses.{AreExact}
 use Rattle.qz_journal.specs.Through.{OnlyReads}
 use Rattle.qz_journal.specs.declared.errors.MountError.{MountError}
 use Rattle.qz_journal.specs.declared.errors.MountError.TheVariants as mount
-use Rattle.qz_model.specs.History.{replay}
+use Rattle.qz_model.specs.Executions.{is_exclusive_of}
+use Rattle.qz_model.specs.History.{replay, replay_from}
 use Rattle.qz_trigger_store.specs.Bytes.{Whole}
 use Rattle.qz_trigger_store.specs.Entries.{is_old}
 use Rattle.qz_trigger_store.specs.Opening.{IsOpened, IsSound}
@@ -45,6 +48,10 @@ begun is_own S = record { cluster = S; trail = S ∷ []; is_own = is_own }
 -- still stored, else none.
 abbrev pub RecoversLosses : ClusterState → Type 0
 RecoversLosses S = ∥ AreExact S.triggers.history.base S.triggers.history.entries ∥₁
+
+-- After each entry since the base, a job with `no_concurrent` has one execution at most that has begun and not ended.
+abbrev pub RunsOneAtATime : ClusterState → Type 0
+RunsOneAtATime S = (first rest : List EntryData) → S.triggers.history.entries ≡ first ++ rest → (key : Key) → count_by (is_exclusive_of key) (replay_from S.triggers.history.base first).fired ≤ 1
 
 -- A script on new stores in memory was run. Its replies are those of a plain scheduler that is new, empty and of version 2.
 -- Disks in memory are honest.

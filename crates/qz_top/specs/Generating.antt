@@ -27,7 +27,7 @@ use Rattle.qz_node.specs.Jobs.{JobMeaning}
 use Rattle.qz_run.specs.declared.commands.Plan.{Plan}
 use Rattle.qz_open.specs.Runs.{StepsDone}
 use Rattle.qz_schedule_law.specs.Following.{FollowsSchedules}
-use Rattle.qz_top.specs.Calls.{HasSoundStores, NotOpened, RecoversLosses, trail_of}
+use Rattle.qz_top.specs.Calls.{HasSoundStores, NotOpened, RecoversLosses, RunsOneAtATime, trail_of}
 use Rattle.qz_top.specs.Found.{count_of, IsFoundOn, HoldWhole}
 use Rattle.qz_top.specs.Moments.{HasTriggers, HasStates}
 use Rattle.qz_top.specs.NodeRuns.{IsToldAs, Worked, WritesRun, IsKeptOnTheWay}
@@ -174,6 +174,8 @@ pub record GeneratedOnDisk {D : Type 0} {g : Ghosts D} (w : Workload) (jobs jobs
   -- tables and rows are valid there, and what was lost since the base was recovered once
   pub sound : HasSoundStores end
   pub recovered : RecoversLosses end
+  -- and no job that excludes others had two executions at once
+  pub one_at_a_time : RunsOneAtATime end
   pub no_trail : trail_of e.trail ≡ []
   pub faults : (g.faults e.triggers ≡ end.triggers.faults) × (g.faults e.states ≡ end.states.faults)
   -- at the end a crash leaves the bytes of the last history of each store, or of it with the undecided entry

@@ -54,7 +54,7 @@ pub record Headline {D : Type 0} {g : Ghosts D} (Asks : List TimedStep → List 
   pub end_in_order : IsInOrder end
   -- Each crash: at any moment the whole lists of before with what was added; and from the moment on when a state was reached, the
   -- histories of that state, of a later one or of the one at the end.
-  pub outlasts : OutlastsCrashes triggers states e end
+  pub outlasts : OutlastsCrashes g triggers states e.triggers e.states end
   pub each_kept : (w : Whole) (v : WholeRows) → HoldWhole g triggers states w v → EachIsKept w v e.trail.on_disk.value.items end (g.state e.triggers) (g.state e.states)
 
 -- In memory, on new stores of version 2: all replies are a plain scheduler's, so none is a fault. A restart finds all there.

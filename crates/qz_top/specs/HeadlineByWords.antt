@@ -23,7 +23,7 @@ use Rattle.qz_standby.specs.declared.forms.Form.TheVariants as form
 use Rattle.qz_words.specs.declared.wishes.WordFault.{WordFault}
 use Rattle.qz_words.specs.declared.wishes.Wish.{Wish}
 use Rattle.qz_words.specs.declared.wishes.Wish.TheVariants as wish
-use Rattle.qz_top.specs.Calls.{trail_of}
+use Rattle.qz_top.specs.Calls.{trail_of, RunsOneAtATime}
 use Rattle.qz_top.specs.Clients.{client_steps}
 use Rattle.qz_top.specs.Following.{MadeBoth, HeadlineOfStandby}
 use Rattle.qz_top.specs.Found.{HoldWhole}
@@ -68,15 +68,18 @@ pub record DocumentAsks (s : Status) (old new : Outside) (steps : List TimedStep
   pub steps_are : steps ≡ client_steps done moments
   pub writes : WrotePart old.held new.held replies
 
--- Both stores were opened, and entries were added to them by no steps of a script: by nodes that work, or for them.
-pub record HeadlineOfWork {D : Type 0} {g : Ghosts D} (triggers states : D) (e : Ended D g) : Type 0 where
+-- Both stores were opened, and entries were added to them by no steps of a script: by nodes that work, or for them. The disks are
+-- `triggers'` and `states'` then.
+pub record HeadlineOfWork {D : Type 0} (g : Ghosts D) (triggers states triggers' states' : D) : Type 0 where
   pub opened : ClusterState
   pub were_opened : WereOpened g triggers states opened
   pub end : ClusterState
   pub end_in_order : IsInOrder end
-  pub outlasts : OutlastsCrashes triggers states e end
+  -- no job with `no_concurrent` had two executions at once, on whatever nodes
+  pub one_at_a_time : RunsOneAtATime end
+  pub outlasts : OutlastsCrashes g triggers states triggers' states' end
   -- in the middle of it a crash leaves the opened histories with the first of what was added
-  pub on_the_way : ∥ IsKeptOnTheWay g triggers states e.triggers e.states opened end ∥₁
+  pub on_the_way : ∥ IsKeptOnTheWay g triggers states triggers' states' opened end ∥₁
 
 -- The trigger store was opened, and upgraded if it was old. The premise is of its disk alone; the other one wasn't touched.
 pub record HeadlineOfUpgrade {D : Type 0} {g : Ghosts D} (triggers states : D) (e : Ended D g) : Type 0 where
@@ -110,9 +113,9 @@ HeadlineOf (Ok wish.Own) triggers states e old new =
     OnlyLooked triggers states e × (HeadlineInMemory (LinesAsk e.status old new) (trail_of e.trail) ⊎ (e.status ≡ status.NoMemory))
 HeadlineOf (Ok wish.Script) triggers states e old new = Headline (LinesAsk e.status old new) triggers states e ⊎ OpenedNone triggers states e
 HeadlineOf (Ok wish.Load) triggers states e old new = Headline (DocumentAsks e.status old new) triggers states e ⊎ OpenedNone triggers states e
-HeadlineOf (Ok (wish.Run nodes from until budget)) triggers states e old new =
-    HeadlineOfWork triggers states e ⊎ OpenedNone triggers states e ⊎ (OnlyLooked triggers states e × (e.status ≡ status.OldStore))
-HeadlineOf (Ok (wish.Gen seed jobs days)) triggers states e old new = HeadlineOfWork triggers states e ⊎ OpenedNone triggers states e
+HeadlineOf {g = g} (Ok (wish.Run nodes from until budget)) triggers states e old new =
+    HeadlineOfWork g triggers states e.triggers e.states ⊎ OpenedNone triggers states e ⊎ (OnlyLooked triggers states e × (e.status ≡ status.OldStore))
+HeadlineOf {g = g} (Ok (wish.Gen seed jobs days)) triggers states e old new = HeadlineOfWork g triggers states e.triggers e.states ⊎ OpenedNone triggers states e
 HeadlineOf (Ok wish.Migrate) triggers states e old new = HeadlineOfUpgrade triggers states e ⊎ OnlyLooked triggers states e
 HeadlineOf {g = g} (Ok wish.Init) triggers states e old new = KeepsStores g triggers e.triggers states e.states
 HeadlineOf (Ok wish.Follow) triggers states e old new = MakesStandby form.Entries triggers states e old.left new.left

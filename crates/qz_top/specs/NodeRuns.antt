@@ -37,7 +37,7 @@ use Rattle.qz_run_stores.specs.Logs.{has_row}
 use Rattle.qz_run_stores.specs.Ways.{HasOnTheWay, HasRowsOnTheWay}
 use Rattle.qz_cluster.specs.Steps.{ClusterState}
 use Rattle.qz_schedule_law.specs.Following.{FollowsSchedules}
-use Rattle.qz_top.specs.Calls.{FoundOld, HasSoundStores, NotOpened, RecoversLosses, trail_of}
+use Rattle.qz_top.specs.Calls.{FoundOld, HasSoundStores, NotOpened, RecoversLosses, RunsOneAtATime, trail_of}
 use Rattle.qz_top.specs.Found.{count_of, IsFoundOn, HoldWhole}
 use Rattle.qz_top.specs.Moments.{HasTriggers, HasStates}
 use Rattle.qz_top.specs.Resting.{RestsNodes}
@@ -180,6 +180,8 @@ pub record RanNodesOnDisk {D : Type 0} {g : Ghosts D} (p : Plan) (jobs jobs' : L
   -- tables and rows are valid there, and what was lost since the base was recovered once
   pub sound : HasSoundStores end
   pub recovered : RecoversLosses end
+  -- and no job that excludes others had two executions at once
+  pub one_at_a_time : RunsOneAtATime end
   pub no_trail : trail_of e.trail ≡ []
   pub faults : (g.faults e.triggers ≡ end.triggers.faults) × (g.faults e.states ≡ end.states.faults)
   -- at the end a crash leaves the bytes of the last history of each store, or of it with the undecided entry

@@ -16,7 +16,6 @@ use Rattle.qz_top.specs.Calls.{HasSoundStores, RecoversLosses}
 use Rattle.qz_top.specs.Found.{IsFoundOn, HoldWhole}
 use Rattle.qz_top.specs.Moments.{HasTriggers, HasStates}
 use Rattle.qz_top.specs.NodeRuns.{IsKept}
-use Rattle.qz_top.specs.declared.ended.Ended.{Ended}
 
 -- a list that begins with this one, in the same format version and from the same start
 abbrev pub longer : {S E : Type 0} → WholeList S E → List E → WholeList S E
@@ -59,14 +58,14 @@ pub record IsInOrder (S : ClusterState) : Type 0 where
   pub sound : HasSoundStores S
   pub recovered : RecoversLosses S
 
--- What a call leaves on the disks whose stores are in this state at its end. The premise of each crash is that the disks are honest
--- and held these whole lists when the call began.
-pub record OutlastsCrashes {D : Type 0} {g : Ghosts D} (triggers states : D) (e : Ended D g) (end : ClusterState) : Type 0 where
-  pub faults : (g.faults e.triggers ≡ end.triggers.faults) × (g.faults e.states ≡ end.states.faults)
+-- What a call leaves on its disks, `triggers'` and `states'`, whose stores are in this state at its end. The premise of each crash is
+-- that the disks are honest and held these whole lists when the call began.
+pub record OutlastsCrashes {D : Type 0} (g : Ghosts D) (triggers states triggers' states' : D) (end : ClusterState) : Type 0 where
+  pub faults : (g.faults triggers' ≡ end.triggers.faults) × (g.faults states' ≡ end.states.faults)
   -- at the end a crash leaves the bytes of each store's history, or of that with its undecided entry
   pub at_end : (w : Whole) (v : WholeRows) → HoldWhole g triggers states w v → (b : List ℕ)
-      → ((g.state e.triggers).IsImage b → HasTriggers w b end) × ((g.state e.states).IsImage b → HasStates v b end)
+      → ((g.state triggers').IsImage b → HasTriggers w b end) × ((g.state states').IsImage b → HasStates v b end)
   -- At any moment it leaves what it could have left before the call, until the stores are open; and then on each disk the whole list
   -- of before, with what was added to it until then.
   pub any_moment : (w : Whole) (v : WholeRows) → HoldWhole g triggers states w v
-      → ∥ IsKept g triggers e.triggers (HoldLonger w) × IsKept g states e.states (HoldLongerRows v) ∥₁
+      → ∥ IsKept g triggers triggers' (HoldLonger w) × IsKept g states states' (HoldLongerRows v) ∥₁

@@ -2,7 +2,7 @@ use Rattle.std.proofs.Common.{refl, sym, ap, ◌∙◌}
 use Rattle.qz_top.specs.NodeRuns.{both}
 use Rattle.qz_top.proofs.NodeRunLaws.{rows_legal, kept_on_the_way, left_at_end}
 use Rattle.qz_top.proofs.OpenedLaws.{rose_from_first}
-use Rattle.qz_top.proofs.StandingLaws.{stores_in_order}
+use Rattle.qz_top.proofs.StandingLaws.{stores_in_order, stores_one_at_a_time}
 use Rattle.qz_trigger_store.proofs.Kept.{legal, schedules_kept}
 use Rattle.qz_top.proofs.gen_on_disk.gen_opened.Goals as goal
 
@@ -30,6 +30,7 @@ returns-clause-done g c triggers states begins =
       schedules = schedules_kept left.triggers;
       sound = (stores_in_order left.triggers left.states).sound;
       recovered = (stores_in_order left.triggers left.states).recovered;
+      one_at_a_time = stores_one_at_a_time left.triggers left.states;
       no_trail = end.trail;
       faults = (ap g.D.Disk.faults (end.disks.0 ∙ disk), ap g.D.Disk.faults (end.disks.1 ∙ states_disk));
       images = λ w v held b.

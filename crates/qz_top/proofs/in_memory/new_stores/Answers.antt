@@ -1,12 +1,13 @@
-use Rattle.std.proofs.Common.{sym, subst, [], List, ℕ}
+use Rattle.std.proofs.Common.{◌≡◌, refl, sym, subst, [], List, ℕ}
+use Rattle.qz_disk.specs.declared.disk.Disk.{Ghosts}
 use Rattle.qz_journal.specs.Layout.{Holds}
 use Rattle.qz_journal.specs.declared.layout.TheConstants.{TRIGGERS, STATES}
 use Rattle.qz_cluster.specs.View.{view as cluster_view}
 use Rattle.qz_stores.proofs.NewStores.{new_whole, new_found, placed_new}
-use Rattle.qz_trigger_store.specs.Bytes.{Whole, list_of}
+use Rattle.qz_trigger_store.specs.Bytes.{Whole, list_of, IsWhole}
 use Rattle.qz_trigger_store.specs.Kinds.{trigger_kind}
 use Rattle.qz_trigger_store.specs.Laws.{trigger_lawful}
-use Rattle.qz_checkin.specs.Bytes.{Whole as WholeRows, list_of as rows_list_of}
+use Rattle.qz_checkin.specs.Bytes.{Whole as WholeRows, list_of as rows_list_of, IsWhole as IsWholeRows}
 use Rattle.qz_checkin.specs.Kinds.{state_kind}
 use Rattle.qz_checkin.specs.Laws.{state_lawful}
 use Rattle.qz_top.proofs.TrailLaws.{new_state}

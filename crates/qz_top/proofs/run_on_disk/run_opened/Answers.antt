@@ -3,7 +3,7 @@ use Rattle.qz_trigger_store.specs.View.{view, added_of}
 use Rattle.qz_top.specs.NodeRuns.{both}
 use Rattle.qz_top.proofs.NodeRunLaws.{rows_legal, told_text, kept_on_the_way, left_at_end, added_is, history_is}
 use Rattle.qz_top.proofs.NodeRestLaws.{rests_may, rests_write, rests_read, rested_kept, rested_disk_rose}
-use Rattle.qz_top.proofs.StandingLaws.{stores_in_order}
+use Rattle.qz_top.proofs.StandingLaws.{stores_in_order, stores_one_at_a_time}
 use Rattle.qz_trigger_store.proofs.Kept.{legal, schedules_kept}
 use Rattle.qz_top.proofs.run_on_disk.run_opened.Goals as goal
 
@@ -48,6 +48,7 @@ returns-clause-done g c first second opened =
       schedules = schedules_kept rested;
       sound = (stores_in_order rested left.states).sound;
       recovered = (stores_in_order rested left.states).recovered;
+      one_at_a_time = stores_one_at_a_time rested left.states;
       no_trail = end.trail;
       faults = (ap g.D.Disk.faults (end.disks.0 ∙ disk), ap g.D.Disk.faults (end.disks.1 ∙ states_disk));
       images = λ w v held b.
