@@ -4,6 +4,8 @@
 #[cfg(test)]
 mod cluster;
 #[cfg(test)]
+mod compacting;
+#[cfg(test)]
 mod cut_checkpoints;
 #[cfg(test)]
 mod disk;

@@ -12,6 +12,8 @@ mod error_texts;
 #[cfg(test)]
 mod follows;
 #[cfg(test)]
+mod full;
+#[cfg(test)]
 mod generated;
 #[cfg(test)]
 mod loads;
