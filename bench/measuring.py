@@ -22,13 +22,15 @@ def built():
         sys.exit("build it first: (cd crates/qz_sched && rt run)")
 
 
-def measured(words, folder, lines="", status=0):
-    """The figures of one call, which has to end with this status."""
-    with open(os.path.join(folder, "lines"), "w") as file:
-        file.write(lines)
+def measured(words, folder, lines="", status=0, given=None):
+    """The figures of one call, which has to end with this status. Its input are these lines, or the file `given`."""
+    if given is None:
+        given = os.path.join(folder, "lines")
+        with open(given, "w") as file:
+            file.write(lines)
     command = ["/usr/bin/time", "-q", "-f", "%U %S %e %M", "-o", "figures", PROGRAM, *words]
-    with open(os.path.join(folder, "lines")) as given, open(os.path.join(folder, "written"), "w") as written:
-        done = subprocess.run(command, cwd=folder, stdin=given, stdout=written, stderr=subprocess.PIPE)
+    with open(given, "rb") as source, open(os.path.join(folder, "written"), "w") as written:
+        done = subprocess.run(command, cwd=folder, stdin=source, stdout=written, stderr=subprocess.PIPE)
     if done.returncode != status:
         sys.exit(f"{' '.join(words)} ended with status {done.returncode}: {done.stderr.decode()}")
     with open(os.path.join(folder, "figures")) as figures:
