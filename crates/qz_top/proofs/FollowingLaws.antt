@@ -4,7 +4,7 @@ use Rattle.std.specs.Prelude.{⊤, Option, Some, None, Result, Ok, Err}
 use Rattle.std.specs.Io.KnownBytes.{Consumes, IsAtEnd}
 use Rattle.qz_disk.specs.declared.disk.Disk.{Ghosts}
 use Rattle.qz_disk.specs.Disk.{IsLawful}
-use Rattle.qz_io.specs.Outside.{Outside, only_output}
+use Rattle.qz_io.specs.Outside.{Outside}
 use Rattle.qz_types.specs.declared.stores.Store.{Store}
 use Rattle.qz_types.specs.declared.stores.Store.TheVariants as store
 use Rattle.qz_trigger_store.specs.Kinds.{trigger_kind}
@@ -13,7 +13,7 @@ use Rattle.qz_checkin.specs.Kinds.{state_kind}
 use Rattle.qz_stream.specs.Standing.{length_at, header_length_of}
 use Rattle.qz_stream.specs.declared.place.Place.{Place}
 use Rattle.qz_stream.specs.declared.place.Place.TheVariants as place
-use Rattle.qz_follow.specs.Following.{Following, IsEnded}
+use Rattle.qz_follow.specs.Following.{Following}
 use Rattle.qz_follow.specs.Payloads.{IsSeen}
 use Rattle.qz_follow.specs.declared.faults.FollowFault.{FollowFault}
 use Rattle.qz_follow.specs.declared.faults.FollowFault.TheVariants as fault

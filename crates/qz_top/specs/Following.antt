@@ -29,6 +29,7 @@ use Rattle.qz_top.specs.declared.ended.Ended.{Ended}
 use Rattle.qz_top.specs.declared.statuses.Status.{Status}
 use Rattle.qz_top.specs.declared.statuses.Status.TheVariants as status
 
+-- the status of a call whose stream has this fault
 abbrev pub fault_status : FollowFault → Status
 fault_status (fault.BadStream at) = status.BadStream at
 fault_status (fault.JournalFull need room) = status.JournalFull need room
@@ -49,10 +50,12 @@ unmade_status unmade.NoRoom = status.JournalFull 536870896 536870895
 unmade_status unmade.NoMemory = status.NoMemory
 unmade_status unmade.Fault = status.DiskFault
 
+-- what a call says that it did, by the form of the trigger store
 abbrev pub done_word : Form → List ℕ
 done_word form.Entries = codes "followed "
 done_word form.Snapshot = codes "compacted "
 
+-- and of how many entries
 abbrev pub followed_text : Form → ℕ → List ℕ
 followed_text form count = done_word form ++ decimal count ++ codes "\n"
 

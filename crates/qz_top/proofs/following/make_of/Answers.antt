@@ -1,4 +1,3 @@
-use Rattle.std.proofs.Common.{refl}
 use Rattle.qz_follow.specs.View.{view}
 use Rattle.qz_top.proofs.FollowingLaws.{starved}
 use Rattle.qz_top.proofs.following.make_of.Goals as goal
