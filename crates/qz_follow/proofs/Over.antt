@@ -40,7 +40,6 @@ module _ {H S E R : Type 0} (k : StoreKind H S E R) (fed more : List â„•) (v : â
       next = next_more fed more unfit.payload unfit.before unfit.next;
       sound = unfit.sound;
       at_is = unfit.at_is;
-      no_part = unfit.no_part;
       unfit = unfit.unfit;
     }),
     version_next fed more unfit.payload unfit.before told unfit.next is,

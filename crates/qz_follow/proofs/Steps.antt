@@ -1,5 +1,5 @@
 -- What a follower is after one payload more, or after bytes without one.
-use Rattle.std.proofs.Common.{◌≡◌, ◌≢◌, ◌⊎◌, ⊎_elim, inl, inr, ℕ, ◌+◌, ◌-◌, ◌≤◌, true, List, [], ◌∷◌, ◌++◌, length, get_or, refl, sym, ◌∙◌, ap, subst, arith, append-nil, length-append}
+use Rattle.std.proofs.Common.{◌≡◌, ◌≢◌, ◌⊎◌, ⊎_elim, inl, inr, ℕ, ◌+◌, ◌-◌, ◌≤◌, true, false, List, [], ◌∷◌, ◌++◌, length, get_or, refl, sym, ◌∙◌, ap, subst, arith, append-nil, length-append}
 use Rattle.std.specs.Prelude.{Option, Some, None}
 use Rattle.std.proofs.Math.Seq.{take-append_seam, get_or-append_right}
 use Rattle.std.proofs.lemmas.List.{take_all}
@@ -11,7 +11,7 @@ use Rattle.qz_stores.proofs.Whole.{records_append, one_record, no_record}
 use Rattle.qz_stores.specs.Bases.{records, RecordEntries}
 use Rattle.qz_stores.specs.Facts.{Encode-length}
 use Rattle.qz_stores.specs.Kinds.{StoreKind, IsLawful, IsAccepted}
-use Rattle.qz_stores.specs.Opening.{AreTaken as AreReplayed, IsUnfit}
+use Rattle.qz_stores.specs.Opening.{AreTaken as AreReplayed}
 use Rattle.qz_stores.specs.Replaying.{IsPassed, IsTaken}
 use Rattle.qz_stream.proofs.Once.{taken-after}
 use Rattle.qz_stream.proofs.Parts.{splits-long, drop-block}
@@ -22,7 +22,7 @@ use Rattle.qz_stream.specs.declared.place.Place.{Place}
 use Rattle.qz_stream.specs.declared.place.Place.TheVariants as place
 use Rattle.qz_follow.proofs.Rooms.{room_next}
 use Rattle.qz_follow.proofs.Versions.{version_new, version_later}
-use Rattle.qz_follow.specs.Payloads.{AreSound, HasNext, IsFault, Following, IsFine, IsStuck, StandsBy, IsFollowed, version_or_two, end_of_records}
+use Rattle.qz_follow.specs.Payloads.{BeginWithRecord, AreSound, IsUnfitAfter, HasNext, IsFault, Following, IsFine, IsStuck, StandsBy, IsFollowed, version_or_two, end_of_records}
 use Rattle.qz_follow.specs.Taking.{IsBegun, TakesRecord, IsUntaken, AddsBy, Adds}
 use Rattle.qz_follow.specs.declared.faults.FollowFault.{FollowFault}
 use Rattle.qz_follow.specs.declared.faults.FollowFault.TheVariants as fault
@@ -46,7 +46,7 @@ module _ {H S E R : Type 0} (k : StoreKind H S E R) (lawful : IsLawful k) where
 
   -- payloads without a record have no fault in any version
   pub sound_begun : (said : Option ℕ) (v w : ℕ) (ps : List (List ℕ)) (es : List E) → IsBegun said es v w → AreSound k v ps es → AreSound k w ps es
-  sound_begun said v w ps [] begun s = record { replayed = record { recorded = s.replayed.recorded; valid = s.replayed.valid; legal = lawful.legal_none (k.empty w) }; room = s.room }
+  sound_begun said v w ps [] begun s = record { first = s.first; replayed = record { recorded = s.replayed.recorded; valid = s.replayed.valid; legal = lawful.legal_none (k.empty w) }; room = s.room }
   sound_begun said v w ps (e ∷ es) begun s = subst (λ n. AreSound k n ps (e ∷ es)) (sym (begun.later (not_nil e es))) s
 
   -- the header is whole where a record was taken
@@ -78,6 +78,14 @@ module _ {H S E R : Type 0} (k : StoreKind H S E R) (lawful : IsLawful k) where
 
   records_more : (ps : List (List ℕ)) (p : List ℕ) (e : E) → k.IsRecordOf p e → records k (ps ++ p ∷ []) ≡ records k ps ++ p ∷ []
   records_more ps p e is = records_append k ps (p ∷ []) ∙ ap (λ (l : List (List ℕ)). records k ps ++ l) (one_record k p (lawful.records_apart p e is))
+
+  -- one payload more doesn't change with what they begin
+  begins_more : (ps : List (List ℕ)) (p : List ℕ) → (ps ≡ [] → k.is_part p ≡ false) → BeginWithRecord k ps → BeginWithRecord k (ps ++ p ∷ [])
+  begins_more [] p none first = none refl
+  begins_more (q ∷ ps) p none first = first
+
+  some_payload : (ps : List (List ℕ)) (es : List E) → RecordEntries k ps es → 1 ≤ length es → ps ≡ [] → ⊥
+  some_payload ps es recorded some none = omega (arith, some, counted ps es recorded, ap (λ (l : List (List ℕ)). length (records k l)) none)
 
   -- nothing was wrong so far
   fine_of : (fed : List ℕ) (f : Following E) → IsFollowed k fed f → f.fault ≡ None → IsFine k fed f
@@ -152,14 +160,15 @@ module _ {H S E R : Type 0} (k : StoreKind H S E R) (lawful : IsLawful k) where
       abbrev with : Option FollowFault → List E → ℕ → Following E
       with x es end = record { standing = g.standing; version = g.version; end = end; entries = es; fault = x }
 
-      passed_next : (T : S) (es : List E) (end : ℕ) → T ≡ k.replay_from (k.empty g.version) g.entries → IsPassed k (payload_of g.standing.tail) g.entries es → end ≡ g.end → IsFine k (fed ++ more) (with None es end)
-      passed_next T es end state passed same_end =
+      passed_next : (T : S) (es : List E) (end : ℕ) → T ≡ k.replay_from (k.empty g.version) g.entries → IsPassed k (payload_of g.standing.tail) g.entries es → 1 ≤ length g.entries → end ≡ g.end → IsFine k (fed ++ more) (with None es end)
+      passed_next T es end state passed some same_end =
           let same = records_passed fine.payloads (payload_of g.standing.tail) passed.0 in
           record {
             payloads = fine.payloads ++ payload_of g.standing.tail ∷ [];
             after = after_one;
             good = not_bad;
             sound = record {
+              first = begins_more fine.payloads (payload_of g.standing.tail) (λ none. absurd (some_payload fine.payloads g.entries sound.replayed.recorded some none)) sound.first;
               replayed = replayed_next (k.empty g.version) T fine.payloads (payload_of g.standing.tail) g.entries es state (inl passed) sound.replayed;
               room = subst (λ (l : List (List ℕ)). HaveRoom l 16 0) (sym same) sound.room;
             };
@@ -175,6 +184,7 @@ module _ {H S E R : Type 0} (k : StoreKind H S E R) (lawful : IsLawful k) where
             after = after_one;
             good = not_bad;
             sound = record {
+              first = begins_more fine.payloads p (λ none. lawful.records_apart p taken.taken.0 taken.taken.2) sound.first;
               replayed = replayed_next (k.empty g.version) T fine.payloads p g.entries es state (inr taken.taken) sound.replayed;
               room = subst (λ (l : List (List ℕ)). HaveRoom l 16 0) (sym longer)
                   (room_next (records k fine.payloads) p g.end (length g.entries) end_there (sym (counted fine.payloads g.entries sound.replayed.recorded)) taken.room);
@@ -190,8 +200,8 @@ module _ {H S E R : Type 0} (k : StoreKind H S E R) (lawful : IsLawful k) where
         next = next;
         sound = subst (λ (l : List E). AreSound k g.version fine.payloads l) (sym same) sound;
         at_is = why.0 ∙ gate_is;
-        no_part = why.1;
-        unfit = subst (λ (U : S). IsUnfit k U (payload_of g.standing.tail)) (state ∙ ap (k.replay_from (k.empty g.version)) (sym same)) why.2;
+        unfit = subst (λ (l : List E). IsUnfitAfter k (k.replay_from (k.empty g.version) l) (length l) (payload_of g.standing.tail)) (sym same)
+            (subst (λ (U : S). IsUnfitAfter k U (length g.entries) (payload_of g.standing.tail)) state why.1);
       })
       stuck_next (fault.JournalFull need room) T es end state why same = record {
         before = fine.payloads;
@@ -208,7 +218,7 @@ module _ {H S E R : Type 0} (k : StoreKind H S E R) (lawful : IsLawful k) where
           record { before = fine.payloads; payload = payload_of g.standing.tail; next = next; sound = subst (λ (l : List E). AreSound k g.version fine.payloads l) (sym same) sound }
 
       by_fault : (x : Option FollowFault) (T : S) (es : List E) (end : ℕ) → T ≡ k.replay_from (k.empty g.version) g.entries → AddsBy k T g (with x es end) x → StandsBy k x (fed ++ more) (with x es end)
-      by_fault None T es end state (inl passed) = passed_next T es end state passed.0 passed.1
+      by_fault None T es end state (inl passed) = passed_next T es end state passed.0 passed.1 passed.2
       by_fault None T es end state (inr taken) = record_next T es end state taken
       by_fault (Some x) T es end state why = record { first = stuck_next x T es end state why.0 why.1; headed = not_header }
 

@@ -1,5 +1,5 @@
 -- What a follower tells of the bytes that were fed.
-use Rattle.std.proofs.Common.{◌≡◌, ◌≢◌, ⊎_elim, inl, inr, ℕ, ◌<◌, ◌≤◌, false, List, [], ◌∷◌, ◌++◌, length, drop, refl, sym, ◌∙◌, ap, subst, arith, append_assoc, append-nil}
+use Rattle.std.proofs.Common.{◌≡◌, ◌≢◌, ⊎_elim, inl, inr, ℕ, ◌<◌, ◌≤◌, true, false, List, [], ◌∷◌, ◌++◌, length, drop, refl, sym, ◌∙◌, ap, subst, arith, append_assoc, append-nil}
 use Rattle.std.specs.Prelude.{Option, Some, None}
 use Rattle.std.specs.List.{AllZip}
 use Rattle.std.proofs.Math.Logic.{∥∥₁_elim}
@@ -9,6 +9,7 @@ use Rattle.qz_stores.proofs.Once.{none_unfit}
 use Rattle.qz_stores.proofs.Whole.{records_append, one_record, recorded_once}
 use Rattle.qz_stores.specs.Bases.{records, RecordEntries, HoldAll}
 use Rattle.qz_stores.specs.Bytes.{Encode}
+use Rattle.qz_stores.specs.Facts.{Encode-length}
 use Rattle.qz_stores.specs.Kinds.{StoreKind, IsLawful}
 use Rattle.qz_stream.proofs.Faults.{bad_told, end_told}
 use Rattle.qz_stream.proofs.Once.{splits-compared, no_block-less, no_splits-short, taken-after, taken-before, taken_once}
@@ -18,7 +19,7 @@ use Rattle.qz_stream.specs.Standing.{StandsAt, length_at, header_length_of}
 use Rattle.qz_stream.specs.declared.place.Place.{Place}
 use Rattle.qz_stream.specs.declared.place.Place.TheVariants as place
 use Rattle.qz_follow.proofs.Rooms.{full_not}
-use Rattle.qz_follow.specs.Payloads.{HasTaken, HasNext, IsFault, Following, IsFine, IsStuck, StandsBy, IsFollowed, IsSeen}
+use Rattle.qz_follow.specs.Payloads.{HasTaken, BeginWithRecord, AreSound, HasNext, IsFault, Following, IsFine, IsStuck, StandsBy, IsFollowed, IsSeen}
 use Rattle.qz_follow.specs.declared.faults.FollowFault.{FollowFault}
 use Rattle.qz_follow.specs.declared.faults.FollowFault.TheVariants as fault
 
@@ -123,14 +124,31 @@ module _ {H S E R : Type 0} (k : StoreKind H S E R) (lawful : IsLawful k) where
   pub first_taken : (fed : List ℕ) (f : Following E) (fs : List E) → IsFollowed k fed f → HasTaken k fed fs → (more : List E) × (fs ≡ f.entries ++ more)
   first_taken fed f fs is all = (drop (length f.entries) fs, front_by f.fault fed f fs is.stands all)
 
+  -- where there is no entry there is no payload, since the first is a record
+  none_before : (ps : List (List ℕ)) (es : List E) → RecordEntries k ps es → length es ≡ 0 → BeginWithRecord k ps → ps ≡ []
+  none_before [] es recorded none first = refl
+  none_before (p ∷ ps) es recorded none first =
+      absurd (omega (arith, none, Encode-length k (records k (p ∷ ps)) es recorded, ap length (records_with [] ps p first)))
+
+  -- and so no part of a snapshot is the first of all that have no fault
+  no_part-first : (v : ℕ) (all before more : List (List ℕ)) (es fs : List E) (p : List ℕ) → all ≡ before ++ p ∷ more → AreSound k v before es → AreSound k v all fs → length es ≡ 0 → k.is_part p ≡ true → ⊥
+  no_part-first v all before more es fs p are sound whole none part =
+      let begin : before ≡ [] = none_before before es sound.replayed.recorded none sound.first in
+      let first : k.is_part p ≡ false = subst (BeginWithRecord k) (are ∙ ap (λ (l : List (List ℕ)). l ++ p ∷ more) begin) whole.first in
+      let no : true ≡ false = sym part ∙ first in
+      cc
+
   -- Where the bytes have a fault, the follower has one.
   no_fault : (fed : List ℕ) (f : Following E) (es : List E) (x : FollowFault) → IsFine k fed f → IsFault k f.version fed es x → IsSeen x → ⊥
   no_fault fed f es (fault.BadStream at) here (inl bad) seen = here.good (bad_told fed here.payloads bad.before f.standing at here.after bad.bad).0
   no_fault fed f es (fault.BadStream at) here (inr unfit) seen =
       let found = next_begins fed unfit.before here.payloads unfit.payload unfit.next (taken-after fed here.payloads f.standing here.after here.good) in
-      let whole : records k here.payloads ≡ records k unfit.before ++ unfit.payload ∷ records k found.0 = ap (records k) found.1 ∙ records_with unfit.before found.0 unfit.payload unfit.no_part in
+      ⊎_elim (λ part. no_part-first f.version here.payloads unfit.before found.0 es f.entries unfit.payload found.1 unfit.sound here.sound part.1 part.0)
+      (λ other.
+      let whole : records k here.payloads ≡ records k unfit.before ++ unfit.payload ∷ records k found.0 = ap (records k) found.1 ∙ records_with unfit.before found.0 unfit.payload other.0 in
       none_unfit k lawful (k.empty f.version) (records k unfit.before) es f.entries unfit.payload (records k found.0) unfit.sound.replayed.recorded
-      (subst (λ (l : List (List ℕ)). Encode k l f.entries) whole here.sound.replayed.recorded) here.sound.replayed.legal unfit.unfit
+      (subst (λ (l : List (List ℕ)). Encode k l f.entries) whole here.sound.replayed.recorded) here.sound.replayed.legal other.1)
+      unfit.unfit
   no_fault fed f es (fault.JournalFull need room) here full seen =
       let found = next_begins fed full.before here.payloads full.payload full.next (taken-after fed here.payloads f.standing here.after here.good) in
       let whole : records k here.payloads ≡ records k full.before ++ full.payload ∷ records k found.0 =

@@ -1,5 +1,5 @@
 -- What the bytes of a store have that was taken, and what is wrong with them, whatever its kind is.
-use Rattle.std.specs.Prelude.{⊤, ◌≡◌, ◌≢◌, ◌⊎◌, ℕ, false, List, [], ◌∷◌, ◌++◌, length, Option, Some, None}
+use Rattle.std.specs.Prelude.{⊤, ◌≡◌, ◌≢◌, ◌⊎◌, ℕ, true, false, List, [], ◌∷◌, ◌++◌, length, Option, Some, None}
 use Rattle.qz_journal.specs.Commits.{IsFull, HaveRoom}
 use Rattle.qz_journal.specs.Layout.{end_of}
 use Rattle.qz_stores.specs.Bases.{records, RecordEntries}
@@ -13,7 +13,7 @@ use Rattle.qz_follow.specs.declared.faults.FollowFault.{FollowFault}
 use Rattle.qz_follow.specs.declared.faults.FollowFault.TheVariants as fault
 
 -- These are the entries of all whole record payloads that come before the first gate that isn't open. The parts of snapshots
--- are passed over.
+-- are left out.
 pub record HasTaken {H S E R : Type 0} (k : StoreKind H S E R) (bytes : List ℕ) (entries : List E) : Type 0 where
   pub payloads : List (List ℕ)
   pub whole : AreTaken bytes payloads
@@ -23,9 +23,15 @@ pub record HasTaken {H S E R : Type 0} (k : StoreKind H S E R) (bytes : List ℕ
 abbrev pub end_of_records : {H S E R : Type 0} → StoreKind H S E R → List (List ℕ) → ℕ
 end_of_records k payloads = end_of (records k payloads)
 
--- Payloads have no fault: they are parts of snapshots and records of these entries, a new store of this version accepts those
--- one by one, and a store has room for the records.
+-- They begin with no part of a snapshot. (One before the first record has a state that no record here leads to.)
+abbrev pub BeginWithRecord : {H S E R : Type 0} → StoreKind H S E R → List (List ℕ) → Type 0
+BeginWithRecord k [] = ⊤
+BeginWithRecord k (payload ∷ more) = k.is_part payload ≡ false
+
+-- Payloads have no fault: they are records of these entries and, after the first, parts of snapshots; a new store of this version
+-- accepts the entries one by one; and a store has room for the records.
 pub record AreSound {H S E R : Type 0} (k : StoreKind H S E R) (version : ℕ) (payloads : List (List ℕ)) (entries : List E) : Type 0 where
+  pub first : BeginWithRecord k payloads
   pub replayed : AreReplayed k (k.empty version) payloads entries
   pub room : HaveRoom (records k payloads) 16 0
 
@@ -42,15 +48,19 @@ pub record IsBadAt {H S E R : Type 0} (k : StoreKind H S E R) (version : ℕ) (b
   pub bad : IsBadPlace bytes before at
   pub sound : AreSound k version before entries
 
--- After payloads without a fault, at this gate, stands one that is no part of a snapshot, and no record that is accepted.
+-- The payload may not follow so many entries, which leave this state: it is a part of a snapshot before the first of them; or it is
+-- no part, and no record of an entry that is accepted.
+abbrev pub IsUnfitAfter : {H S E R : Type 0} → StoreKind H S E R → S → ℕ → List ℕ → Type 0
+IsUnfitAfter k T count payload = ((k.is_part payload ≡ true) × (count ≡ 0)) ⊎ ((k.is_part payload ≡ false) × IsUnfit k T payload)
+
+-- After payloads without a fault, at this gate, stands one that may not follow their entries.
 pub record IsUnfitAt {H S E R : Type 0} (k : StoreKind H S E R) (version : ℕ) (bytes : List ℕ) (entries : List E) (at : ℕ) : Type 0 where
   pub before : List (List ℕ)
   pub payload : List ℕ
   pub next : HasNext bytes before payload
   pub sound : AreSound k version before entries
   pub at_is : at ≡ end_of before
-  pub no_part : k.is_part payload ≡ false
-  pub unfit : IsUnfit k (k.replay_from (k.empty version) entries) payload
+  pub unfit : IsUnfitAfter k (k.replay_from (k.empty version) entries) (length entries) payload
 
 -- After payloads without a fault stands a record that is accepted, and a store has no room for it behind their records.
 pub record IsFullAt {H S E R : Type 0} (k : StoreKind H S E R) (version : ℕ) (bytes : List ℕ) (entries : List E) (need room : ℕ) : Type 0 where

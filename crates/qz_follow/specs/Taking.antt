@@ -1,11 +1,11 @@
 -- What one payload makes of a follower.
-use Rattle.std.specs.Prelude.{⊤, ◌≡◌, ◌≢◌, ◌⊎◌, ◌≤◌, ℕ, ◌+◌, false, List, [], length, Option, Some, None}
+use Rattle.std.specs.Prelude.{⊤, ◌≡◌, ◌≢◌, ◌⊎◌, ◌≤◌, ℕ, ◌+◌, List, [], length, Option, Some, None}
 use Rattle.qz_journal.specs.Commits.{IsFull, need_of, room_of}
 use Rattle.qz_stores.specs.Kinds.{StoreKind, IsAccepted}
 use Rattle.qz_stores.specs.Opening.{IsUnfit}
 use Rattle.qz_stores.specs.Replaying.{IsPassed, IsTaken}
 use Rattle.qz_stream.specs.Standing.{payload_of}
-use Rattle.qz_follow.specs.Payloads.{Following}
+use Rattle.qz_follow.specs.Payloads.{Following, IsUnfitAfter}
 use Rattle.qz_follow.specs.declared.faults.FollowFault.{FollowFault}
 use Rattle.qz_follow.specs.declared.faults.FollowFault.TheVariants as fault
 
@@ -21,13 +21,14 @@ pub record TakesRecord {H S E R : Type 0} (k : StoreKind H S E R) (T : S) (paylo
   pub room : need_of (length payload) ≤ room_of end (length old)
   pub end_is : new_end ≡ end + need_of (length payload)
 
--- A payload was taken: it is a part of a snapshot, and nothing changed; or it is a record.
+-- A payload was taken: it is a part of a snapshot after the first record, and nothing changed; or it is a record.
 abbrev pub Takes : {H S E R : Type 0} → StoreKind H S E R → S → List ℕ → List E → List E → ℕ → ℕ → Type 0
-Takes k T payload old new end new_end = (IsPassed k payload old new × (new_end ≡ end)) ⊎ TakesRecord k T payload old new end new_end
+Takes k T payload old new end new_end = (IsPassed k payload old new × (1 ≤ length old) × (new_end ≡ end)) ⊎ TakesRecord k T payload old new end new_end
 
--- Why the payload at this gate isn't taken: it is no record that is accepted; or it is, and has no room after so many records.
+-- Why the payload at this gate isn't taken: it may not follow so many entries; or it is a record that is accepted, and has no room
+-- after so many records.
 abbrev pub IsUntaken : {H S E R : Type 0} → StoreKind H S E R → S → List ℕ → ℕ → ℕ → ℕ → FollowFault → Type 0
-IsUntaken k T payload gate end count (fault.BadStream at) = (at ≡ gate) × (k.is_part payload ≡ false) × IsUnfit k T payload
+IsUntaken k T payload gate end count (fault.BadStream at) = (at ≡ gate) × IsUnfitAfter k T count payload
 IsUntaken {E = E} k T payload gate end count (fault.JournalFull need room) = (e : E) × k.IsRecordOf payload e × IsAccepted k T e × IsFull end count (length payload) need room
 IsUntaken k T payload gate end count fault.NoMemory = ⊤
 

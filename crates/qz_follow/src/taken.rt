@@ -88,6 +88,10 @@ impl Taken {
         ensures same { (self.new.version ≡ self.old.version) × (is_some self.new.kept ≡ is_some self.old.kept) }
     {
         if is_part(payload) {
+            // the tables of a snapshot before the first record aren't read, and would be lost
+            if self.count == 0 {
+                return Err(FollowFault::BadStream { at: gate });
+            }
             return Ok(());
         }
         let (entry, prepared) = decide(self.alloc, &mut self.tables, payload, gate)?;

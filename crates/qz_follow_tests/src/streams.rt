@@ -86,3 +86,29 @@ fn a_fault_stays(rt: HostRuntime) {
     };
     assert!(rt; seen == Some(want));
 }
+
+// A payload of one byte, the first of each piece of a snapshot.
+const PIECE: &[u8] = b"\xa5\x00\x00\x00\x01\xf1";
+
+#[test]
+fn a_snapshot_before_the_first_record_is_bad(rt: HostRuntime) {
+    let alloc = rt.alloc();
+    let bad = Err(FollowFault::BadStream { at: 16 });
+    let none = Seen {
+        answer: bad,
+        again: bad,
+        acknowledged: 0,
+        ended: false,
+        last_moment: 0,
+    };
+    let one = Seen {
+        answer: Ok(1),
+        again: Ok(1),
+        acknowledged: 1,
+        ended: false,
+        last_moment: 1704067200000,
+    };
+    assert!(rt; feed_all(alloc, &STORE[..16], 7, PIECE) == Some(none));
+    // behind a record it is passed over
+    assert!(rt; feed_all(alloc, &STORE[..63], 7, PIECE) == Some(one));
+}
