@@ -2,6 +2,8 @@
 use crate::calls::{DONE, Wanted, new_disks};
 use crate::follows::{DISK_FAULT, EXISTS, LISTED, STREAM, answers, bad_stream, left};
 use crate::stores::{failing, made};
+use qz_disk::Disk;
+use std::alloc::Global;
 
 const SIX: Wanted<'static> = Wanted {
     replies: "compacted 6\n",
@@ -46,6 +48,33 @@ fn a_stream_isnt_compacted(rt: HostRuntime) {
     assert!(rt; answers(alloc, new_disks(alloc), "compact", &STREAM[..5], &short));
     assert!(rt; answers(alloc, new_disks(alloc), "compact", b"QZ33\x02T", &letter));
     assert!(rt; answers(alloc, made(alloc), "compact", STREAM, &EXISTS));
+}
+
+// The bytes of the trigger store that `compact` makes.
+fn compacted(alloc: Global) -> Option<Vec<u8>> {
+    let (mut triggers, states) = left(alloc, new_disks(alloc), "compact", STREAM, &SIX)?;
+    drop(states);
+    let length = triggers.len().ok()?;
+    let mut bytes = vec![in alloc; 0; length as usize].ok()?;
+    triggers.read(0, &mut bytes).ok()?;
+    Some(bytes)
+}
+
+// Whether a call with this word refuses them at the first gate, and leaves both disks without a store.
+fn is_refused(alloc: Global, word: &str) -> bool {
+    let at_its_snapshot = bad_stream("qz: bad stream at 16\n", 16);
+    let Some(bytes) = compacted(alloc) else {
+        return false;
+    };
+    let disks = left(alloc, new_disks(alloc), word, &bytes, &at_its_snapshot);
+    answers(alloc, disks, "compact", STREAM, &SIX)
+}
+
+#[test]
+fn a_compacted_store_is_refused_as_a_stream(rt: HostRuntime) {
+    let alloc = rt.alloc();
+    assert!(rt; is_refused(alloc, "follow"));
+    assert!(rt; is_refused(alloc, "compact"));
 }
 
 #[test]
