@@ -16,7 +16,8 @@ pub const HELP: &str = "usage: qz_sched < LINES           a script on new stores
        qz_sched serve NODES UNTIL [LOOKS]
                                   nodes work on the stores of the current folder, each in
                                   threads of its own, until the system's clock shows UNTIL;
-                                  LOOKS lines of a status board show how that went on
+                                  LOOKS lines of a status board, and a last one, show how
+                                  that went on
        qz_sched gen SEED JOBS DAYS
                                   jobs and triggers from a number, run on new stores
        qz_sched times AFTER COUNT < LINES
