@@ -21,6 +21,7 @@ use qz_plain::{PlainStore, Prepared};
 use qz_snapshot::is_part;
 use qz_types::Entry;
 use std::alloc::Global;
+use std::mem;
 
 // Where the first gate of a store is.
 const FIRST_GATE: u64 = 16;
@@ -157,7 +158,8 @@ fn version_said(version: Option<u8>) -> u8
 fn renew(alloc: Global, tables: &mut PlainStore, version: u8)
     ensures { tables.new.tables ≡ empty version }
 {
-    *tables = PlainStore::new(alloc, version);
+    let old = mem::replace(tables, PlainStore::new(alloc, version));
+    drop(old);
 }
 
 // The copy of a record that is to be kept, and the place for it. The room in a store is looked at first.

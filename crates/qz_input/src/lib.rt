@@ -5,4 +5,4 @@ mod limits;
 mod whole;
 
 pub use limits::{DOCUMENT_LIMIT, document_limit_is};
-pub use whole::{ReadWholeError, read_whole};
+pub use whole::{ReadWholeError, block_of_whole_is, read_whole};

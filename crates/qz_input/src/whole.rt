@@ -11,6 +11,11 @@ use thiserror::Error;
 /// How many bytes one read asks for.
 const BLOCK: usize = 65536;
 
+/// A law: a whole input is read in blocks of so many bytes.
+pub fn block_of_whole_is()
+    ensures { BLOCK ≡ 65536 }
+{}
+
 /// Why an input wasn't read to its end.
 #[derive(Clone, Copy, PartialEq, Eq, Debug, Error)]
 pub enum ReadWholeError {

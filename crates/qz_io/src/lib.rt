@@ -20,6 +20,6 @@ pub use limits::{LINE_COUNT_LIMIT, LINE_LIMIT, limits_are};
 pub use memory::{MemSink, MemSource};
 pub use pieces::write_all;
 pub use qz_civil::Failed;
-pub use readers::{Found, LineReader};
+pub use readers::{Found, LineReader, block_of_lines_is};
 pub use system::{RealClock, StdSink, StdSource};
 pub use traits::{Clock, Sink, Source};

@@ -13,6 +13,11 @@ use std::marker::Model;
 /// The size of a reader's buffer in bytes. A read asks for at least half of it.
 const BLOCK: usize = 131072;
 
+/// A law: lines are read in blocks of so many bytes.
+pub fn block_of_lines_is()
+    ensures { BLOCK ≡ 131072 }
+{}
+
 /// What a line reader found next.
 #[derive(Clone, Copy, PartialEq, Eq, Debug)]
 pub enum Found {

@@ -60,7 +60,10 @@ fn asked_of(step: Step) -> Result<Asked, LineFault>
 {
     match step {
         Step::Client(command) => asked_of_command(command),
-        _ => Err(LineFault::NotHere),
+        other => {
+            drop(other);
+            Err(LineFault::NotHere)
+        }
     }
 }
 
@@ -74,6 +77,9 @@ fn asked_of_command(command: Command) -> Result<Asked, LineFault>
         Command::AddZone { zone } => Ok(Asked::AddZone { zone }),
         Command::AddCalendar { calendar, replace } => Ok(Asked::AddCalendar { calendar, replace }),
         Command::AddTrigger { spec, replace: _ } => Ok(Asked::AddTrigger { spec }),
-        _ => Err(LineFault::NotHere),
+        other => {
+            drop(other);
+            Err(LineFault::NotHere)
+        }
     }
 }

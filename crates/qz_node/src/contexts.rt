@@ -64,7 +64,10 @@ impl JobContext {
                     refires: 0,
                 })
             }
-            _ => None,
+            other => {
+                drop(other);
+                None
+            }
         }
     }
 

@@ -10,6 +10,6 @@ mod reading;
 
 pub use cutting::{PIECE_LIMIT, Pieces};
 pub use kinds::RowKind;
-pub use laws::rows_are_read_in_one_way;
+pub use laws::{piece_limit_is, rows_are_read_in_one_way};
 pub use payloads::{ReadError, read_pieces};
 pub use reading::{RecordOfRow, read_piece};

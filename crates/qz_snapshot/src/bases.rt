@@ -19,6 +19,7 @@ fn valid_tables(alloc: Global, parts: Parts) -> Result<Option<Tables>, NoMemory>
     ensures none { IfOk result (λ o. IfNone o (TablesValid parts → ⊥)) }
 {
     if !are_ordered(&parts) {
+        drop(parts);
         return Ok(None);
     }
     let tables = fill(alloc, parts)?;
@@ -30,11 +31,17 @@ fn kept_if_valid(alloc: Global, tables: Tables) -> Result<Option<Tables>, NoMemo
     ensures found { IfOk result (λ o. IfSome o (λ kept. (kept.tables ≡ tables.tables) × TablesValid tables.tables)) }
     ensures none { IfOk result (λ o. IfNone o (TablesValid tables.tables → ⊥)) }
 {
-    let is_valid = are_valid(alloc, &tables)?;
-    if !is_valid {
-        return Ok(None);
+    match are_valid(alloc, &tables) {
+        Ok(true) => Ok(Some(tables)),
+        Ok(false) => {
+            drop(tables);
+            Ok(None)
+        }
+        Err(error) => {
+            drop(tables);
+            Err(error)
+        }
     }
-    Ok(Some(tables))
 }
 
 // The bytes of each payload.

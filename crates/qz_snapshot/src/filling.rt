@@ -160,7 +160,11 @@ pub(crate) fn fill(alloc: Global, parts: Parts) -> Result<Tables, NoMemory>
 {
     let counts = count_rows(&parts);
     let mut tables = Tables::new(alloc, ANY_VERSION);
-    tables.reserve_each(&counts)?;
+    if let Err(error) = tables.reserve_each(&counts) {
+        drop(tables);
+        drop(parts);
+        return Err(error);
+    }
     let Parts {
         jobs,
         triggers,

@@ -61,6 +61,7 @@ fn put_numbers(out: &mut Vec<u8>, numbers: &Numbers) -> Result<(), AllocError>
 }
 
 // Puts those of them that are times.
+#[tactic(auto, using(qz_values::proofs::Signs::signs))]
 fn put_times(out: &mut Vec<u8>, numbers: &Numbers) -> Result<(), AllocError>
     ensures { OnOk result (out.new.items ≡ out.old.items ++ (integer w64 numbers.now.threshold ++ (integer w64 numbers.now.last_moment ++ integer w64 numbers.now.horizon))) }
 {

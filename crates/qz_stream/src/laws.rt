@@ -39,3 +39,8 @@ pub fn stores_are_taken()
     ensures holds { (bytes : List ℕ) (version : ℕ) (ps : List (List ℕ)) → Holds bytes version TRIGGERS ps → IsStoreBytes bytes version ps }
     ensures limit { (offset : ℕ) → room_of offset 0 ≡ MAX_BYTES - (offset + 1) }
 {}
+
+/// A stream has as many bytes as a store may have: 2^29.
+pub fn most_bytes_are()
+    ensures { MAX_BYTES ≡ 536870912 }
+{}

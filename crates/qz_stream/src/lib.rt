@@ -8,6 +8,8 @@ mod laws;
 mod place;
 mod stream;
 
-pub use laws::{payloads_are_those_of_the_bytes, places_are_told, stores_are_taken};
+pub use laws::{
+    most_bytes_are, payloads_are_those_of_the_bytes, places_are_told, stores_are_taken,
+};
 pub use place::{BadStream, Next, Place};
 pub use stream::Stream;

@@ -90,11 +90,10 @@ pub fn i64_at(bytes: &[u8]) -> Result<(i64, &[u8]), Fault>
 pub fn bool_at(bytes: &[u8]) -> Result<(bool, &[u8]), Fault>
     ensures { Gives (λ x. (x.0, x.1.now)) result (flag_at bytes.now) }
 {
-    let (byte, rest) = u8_at(bytes)?;
-    match byte {
-        0 => Ok((false, rest)),
-        1 => Ok((true, rest)),
-        _ => Err(Fault::at(bytes)),
+    match u8_at(bytes) {
+        Ok((byte, rest)) if byte < 2 => Ok((byte == 1, rest)),
+        Ok(_) => Err(Fault::at(bytes)),
+        Err(fault) => Err(fault),
     }
 }
 

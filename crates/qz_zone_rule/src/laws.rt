@@ -11,6 +11,7 @@ ghost use Rattle.qz_zone_rule.specs.Tables.{IsTable, offset, quarter, rule_table
 /// A quarter of an hour is 900000 ms, and the quarters of a table are those that begin up to `LAST`.
 pub fn quarters_are()
     ensures quarter { QUARTER ≡ pos 900000 }
+    ensures count { QUARTERS ≡ 8064576 }
     ensures all { (i : ℕ) → pos (quarter i) ≤ℤ LAST → i < QUARTERS }
     ensures known { (i : ℕ) → i < QUARTERS → pos (quarter i) ≤ℤ LAST }
 {}

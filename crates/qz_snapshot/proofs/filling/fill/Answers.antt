@@ -9,29 +9,29 @@ use Rattle.qz_snapshot.proofs.filling.fill.Goals as goal
 
 pub fill_jobs-requires : goal.fill_jobs-requires
 fill_jobs-requires c = record {
-  none = ap (λ (T : SchedulerTables). T.jobs) c.in_ok-reserve_each.ensures.tables
+  none = ap (λ (T : SchedulerTables). T.jobs) c.reserve_each.ensures.tables
       ∙ ap (λ (T : SchedulerTables). T.jobs) c.new-tables.ensures.tables;
   ascending = subst (λ (T : SchedulerTables). IsAscending key_cmp (λ r. r.key) T.jobs) (sym c.parts.view_is) c.requires.jobs;
-  room = omega (arith, ap (λ (T : SchedulerTables). length T.jobs) c.parts.view_is, ap (λ (r : RowCounts). r.jobs) c.count_rows-counts.ensures, c.in_ok-reserve_each.ensures.room.jobs);
+  room = omega (arith, ap (λ (T : SchedulerTables). length T.jobs) c.parts.view_is, ap (λ (r : RowCounts). r.jobs) c.count_rows-counts.ensures, c.in_default.ensures.room.jobs);
 }
 
 pub fill_triggers-requires : goal.fill_triggers-requires
 fill_triggers-requires c = record {
   none = ap (λ (T : SchedulerTables). T.triggers) c.fill_jobs.ensures.tables
-      ∙ ap (λ (T : SchedulerTables). T.triggers) c.in_ok-reserve_each.ensures.tables
+      ∙ ap (λ (T : SchedulerTables). T.triggers) c.reserve_each.ensures.tables
       ∙ ap (λ (T : SchedulerTables). T.triggers) c.new-tables.ensures.tables;
   ascending = subst (λ (T : SchedulerTables). IsAscending key_cmp (λ r. r.spec.key) T.triggers) (sym c.parts.view_is) c.requires.triggers;
-  room = omega (arith, ap (λ (T : SchedulerTables). length T.triggers) c.parts.view_is, ap (λ (r : RowCounts). r.triggers) c.count_rows-counts.ensures, c.in_ok-reserve_each.ensures.room.triggers, c.fill_jobs.ensures.spare.triggers);
+  room = omega (arith, ap (λ (T : SchedulerTables). length T.triggers) c.parts.view_is, ap (λ (r : RowCounts). r.triggers) c.count_rows-counts.ensures, c.in_default.ensures.room.triggers, c.fill_jobs.ensures.spare.triggers);
 }
 
 pub fill_calendars-requires : goal.fill_calendars-requires
 fill_calendars-requires c = record {
   none = ap (λ (T : SchedulerTables). T.calendars) c.fill_triggers.ensures.tables
       ∙ ap (λ (T : SchedulerTables). T.calendars) c.fill_jobs.ensures.tables
-      ∙ ap (λ (T : SchedulerTables). T.calendars) c.in_ok-reserve_each.ensures.tables
+      ∙ ap (λ (T : SchedulerTables). T.calendars) c.reserve_each.ensures.tables
       ∙ ap (λ (T : SchedulerTables). T.calendars) c.new-tables.ensures.tables;
   ascending = subst (λ (T : SchedulerTables). IsAscending text_cmp (λ r. r.name) T.calendars) (sym c.parts.view_is) c.requires.calendars;
-  room = omega (arith, ap (λ (T : SchedulerTables). length T.calendars) c.parts.view_is, ap (λ (r : RowCounts). r.calendars) c.count_rows-counts.ensures, c.in_ok-reserve_each.ensures.room.calendars, c.fill_jobs.ensures.spare.calendars, c.fill_triggers.ensures.spare.calendars);
+  room = omega (arith, ap (λ (T : SchedulerTables). length T.calendars) c.parts.view_is, ap (λ (r : RowCounts). r.calendars) c.count_rows-counts.ensures, c.in_default.ensures.room.calendars, c.fill_jobs.ensures.spare.calendars, c.fill_triggers.ensures.spare.calendars);
 }
 
 pub fill_zones-requires : goal.fill_zones-requires
@@ -39,10 +39,10 @@ fill_zones-requires c = record {
   none = ap (λ (T : SchedulerTables). T.zones) c.fill_calendars.ensures.tables
       ∙ ap (λ (T : SchedulerTables). T.zones) c.fill_triggers.ensures.tables
       ∙ ap (λ (T : SchedulerTables). T.zones) c.fill_jobs.ensures.tables
-      ∙ ap (λ (T : SchedulerTables). T.zones) c.in_ok-reserve_each.ensures.tables
+      ∙ ap (λ (T : SchedulerTables). T.zones) c.reserve_each.ensures.tables
       ∙ ap (λ (T : SchedulerTables). T.zones) c.new-tables.ensures.tables;
   ascending = subst (λ (T : SchedulerTables). IsAscending text_cmp (λ r. r.name) T.zones) (sym c.parts.view_is) c.requires.zones;
-  room = omega (arith, ap (λ (T : SchedulerTables). length T.zones) c.parts.view_is, ap (λ (r : RowCounts). r.zones) c.count_rows-counts.ensures, c.in_ok-reserve_each.ensures.room.zones, c.fill_jobs.ensures.spare.zones, c.fill_triggers.ensures.spare.zones, c.fill_calendars.ensures.spare.zones);
+  room = omega (arith, ap (λ (T : SchedulerTables). length T.zones) c.parts.view_is, ap (λ (r : RowCounts). r.zones) c.count_rows-counts.ensures, c.in_default.ensures.room.zones, c.fill_jobs.ensures.spare.zones, c.fill_triggers.ensures.spare.zones, c.fill_calendars.ensures.spare.zones);
 }
 
 pub fill_paused_groups-requires : goal.fill_paused_groups-requires
@@ -51,10 +51,10 @@ fill_paused_groups-requires c = record {
       ∙ ap (λ (T : SchedulerTables). T.paused_groups) c.fill_calendars.ensures.tables
       ∙ ap (λ (T : SchedulerTables). T.paused_groups) c.fill_triggers.ensures.tables
       ∙ ap (λ (T : SchedulerTables). T.paused_groups) c.fill_jobs.ensures.tables
-      ∙ ap (λ (T : SchedulerTables). T.paused_groups) c.in_ok-reserve_each.ensures.tables
+      ∙ ap (λ (T : SchedulerTables). T.paused_groups) c.reserve_each.ensures.tables
       ∙ ap (λ (T : SchedulerTables). T.paused_groups) c.new-tables.ensures.tables;
   ascending = subst (λ (T : SchedulerTables). IsAscending text_cmp (λ r. r) T.paused_groups) (sym c.parts.view_is) c.requires.paused_groups;
-  room = omega (arith, ap (λ (T : SchedulerTables). length T.paused_groups) c.parts.view_is, ap (λ (r : RowCounts). r.paused_groups) c.count_rows-counts.ensures, c.in_ok-reserve_each.ensures.room.paused_groups, c.fill_jobs.ensures.spare.paused_groups, c.fill_triggers.ensures.spare.paused_groups, c.fill_calendars.ensures.spare.paused_groups, c.fill_zones.ensures.spare.paused_groups);
+  room = omega (arith, ap (λ (T : SchedulerTables). length T.paused_groups) c.parts.view_is, ap (λ (r : RowCounts). r.paused_groups) c.count_rows-counts.ensures, c.in_default.ensures.room.paused_groups, c.fill_jobs.ensures.spare.paused_groups, c.fill_triggers.ensures.spare.paused_groups, c.fill_calendars.ensures.spare.paused_groups, c.fill_zones.ensures.spare.paused_groups);
 }
 
 pub fill_paused_job_groups-requires : goal.fill_paused_job_groups-requires
@@ -64,10 +64,10 @@ fill_paused_job_groups-requires c = record {
       ∙ ap (λ (T : SchedulerTables). T.paused_job_groups) c.fill_calendars.ensures.tables
       ∙ ap (λ (T : SchedulerTables). T.paused_job_groups) c.fill_triggers.ensures.tables
       ∙ ap (λ (T : SchedulerTables). T.paused_job_groups) c.fill_jobs.ensures.tables
-      ∙ ap (λ (T : SchedulerTables). T.paused_job_groups) c.in_ok-reserve_each.ensures.tables
+      ∙ ap (λ (T : SchedulerTables). T.paused_job_groups) c.reserve_each.ensures.tables
       ∙ ap (λ (T : SchedulerTables). T.paused_job_groups) c.new-tables.ensures.tables;
   ascending = subst (λ (T : SchedulerTables). IsAscending text_cmp (λ r. r) T.paused_job_groups) (sym c.parts.view_is) c.requires.paused_job_groups;
-  room = omega (arith, ap (λ (T : SchedulerTables). length T.paused_job_groups) c.parts.view_is, ap (λ (r : RowCounts). r.paused_job_groups) c.count_rows-counts.ensures, c.in_ok-reserve_each.ensures.room.paused_job_groups, c.fill_jobs.ensures.spare.paused_job_groups, c.fill_triggers.ensures.spare.paused_job_groups, c.fill_calendars.ensures.spare.paused_job_groups, c.fill_zones.ensures.spare.paused_job_groups, c.fill_paused_groups.ensures.spare.paused_job_groups);
+  room = omega (arith, ap (λ (T : SchedulerTables). length T.paused_job_groups) c.parts.view_is, ap (λ (r : RowCounts). r.paused_job_groups) c.count_rows-counts.ensures, c.in_default.ensures.room.paused_job_groups, c.fill_jobs.ensures.spare.paused_job_groups, c.fill_triggers.ensures.spare.paused_job_groups, c.fill_calendars.ensures.spare.paused_job_groups, c.fill_zones.ensures.spare.paused_job_groups, c.fill_paused_groups.ensures.spare.paused_job_groups);
 }
 
 pub fill_members-requires : goal.fill_members-requires
@@ -78,10 +78,10 @@ fill_members-requires c = record {
       ∙ ap (λ (T : SchedulerTables). T.members) c.fill_calendars.ensures.tables
       ∙ ap (λ (T : SchedulerTables). T.members) c.fill_triggers.ensures.tables
       ∙ ap (λ (T : SchedulerTables). T.members) c.fill_jobs.ensures.tables
-      ∙ ap (λ (T : SchedulerTables). T.members) c.in_ok-reserve_each.ensures.tables
+      ∙ ap (λ (T : SchedulerTables). T.members) c.reserve_each.ensures.tables
       ∙ ap (λ (T : SchedulerTables). T.members) c.new-tables.ensures.tables;
   ascending = subst (λ (T : SchedulerTables). IsAscending text_cmp (λ r. r.node) T.members) (sym c.parts.view_is) c.requires.members;
-  room = omega (arith, ap (λ (T : SchedulerTables). length T.members) c.parts.view_is, ap (λ (r : RowCounts). r.members) c.count_rows-counts.ensures, c.in_ok-reserve_each.ensures.room.members, c.fill_jobs.ensures.spare.members, c.fill_triggers.ensures.spare.members, c.fill_calendars.ensures.spare.members, c.fill_zones.ensures.spare.members, c.fill_paused_groups.ensures.spare.members, c.fill_paused_job_groups.ensures.spare.members);
+  room = omega (arith, ap (λ (T : SchedulerTables). length T.members) c.parts.view_is, ap (λ (r : RowCounts). r.members) c.count_rows-counts.ensures, c.in_default.ensures.room.members, c.fill_jobs.ensures.spare.members, c.fill_triggers.ensures.spare.members, c.fill_calendars.ensures.spare.members, c.fill_zones.ensures.spare.members, c.fill_paused_groups.ensures.spare.members, c.fill_paused_job_groups.ensures.spare.members);
 }
 
 pub fill_fired-requires : goal.fill_fired-requires
@@ -93,10 +93,10 @@ fill_fired-requires c = record {
       ∙ ap (λ (T : SchedulerTables). T.fired) c.fill_calendars.ensures.tables
       ∙ ap (λ (T : SchedulerTables). T.fired) c.fill_triggers.ensures.tables
       ∙ ap (λ (T : SchedulerTables). T.fired) c.fill_jobs.ensures.tables
-      ∙ ap (λ (T : SchedulerTables). T.fired) c.in_ok-reserve_each.ensures.tables
+      ∙ ap (λ (T : SchedulerTables). T.fired) c.reserve_each.ensures.tables
       ∙ ap (λ (T : SchedulerTables). T.fired) c.new-tables.ensures.tables;
   ascending = subst (λ (T : SchedulerTables). IsAscending nat_cmp (λ r. r.entry) T.fired) (sym c.parts.view_is) c.requires.fired;
-  room = omega (arith, ap (λ (T : SchedulerTables). length T.fired) c.parts.view_is, ap (λ (r : RowCounts). r.fired) c.count_rows-counts.ensures, c.in_ok-reserve_each.ensures.room.fired, c.fill_jobs.ensures.spare.fired, c.fill_triggers.ensures.spare.fired, c.fill_calendars.ensures.spare.fired, c.fill_zones.ensures.spare.fired, c.fill_paused_groups.ensures.spare.fired, c.fill_paused_job_groups.ensures.spare.fired, c.fill_members.ensures.spare.fired);
+  room = omega (arith, ap (λ (T : SchedulerTables). length T.fired) c.parts.view_is, ap (λ (r : RowCounts). r.fired) c.count_rows-counts.ensures, c.in_default.ensures.room.fired, c.fill_jobs.ensures.spare.fired, c.fill_triggers.ensures.spare.fired, c.fill_calendars.ensures.spare.fired, c.fill_zones.ensures.spare.fired, c.fill_paused_groups.ensures.spare.fired, c.fill_paused_job_groups.ensures.spare.fired, c.fill_members.ensures.spare.fired);
 }
 
 pub returns : goal.returns
