@@ -52,7 +52,7 @@ work on them. Standard error says what ended a call early:
   status 4  write fault                status 10  the stores exist already
   status 5  disk fault                 status 11  too many rows
   status 6  no store, or a damaged one status 12  an old store: see migrate
-                                       status 13  a bad stream
+  status 14 a node of serve was fenced status 13  a bad stream
 
 --help and --version, as the only word, print this text and the version.
 ";

@@ -11,7 +11,7 @@ use Rattle.qz_checkin.specs.Rows.{StateTables}
 use Rattle.qz_stores.specs.Stores.{EntryKind, StoreState}
 use Rattle.qz_shared.specs.Since.{further}
 use Rattle.qz_shared.specs.Calls.{Known}
-use Rattle.qz_rounds.specs.Looking.{HasCheckedIn, FindsLate, check_in_by}
+use Rattle.qz_rounds.specs.Looking.{HasCheckedIn, HasCheckedInAgain, FindsLate, check_in_by}
 use Rattle.qz_rounds.specs.Adding.{IsRecovery, IsOfRound, IsRoundEntry, AddsRounds}
 use Rattle.qz_rounds.specs.Rounds.{ChecksIn}
 use Rattle.qz_rounds.proofs.Lists.{prefix_trans, all_map}
@@ -38,6 +38,30 @@ has_checked_in kind listed opened lists at own seat x u v (inr c) = record {
   entries_are = seen_last kind listed lists opened (check_in_by at seat own) x u v c;
 }
 
+-- a second one stays, too
+pub checked_again_on : (first : List StateEntryData) (own : List ℕ) (before at : ℤ) (seen more : List StateEntryData) → IsPrefix seen more → HasCheckedInAgain first own before at seen → HasCheckedInAgain first own before at more
+checked_again_on first own before at seen more p h = record {
+  earlier = h.earlier;
+  seat = h.seat;
+  later = h.later ++ p.0;
+  checked_in = h.checked_in;
+  entries_are = sym p.1 ∙ ap (λ l. l ++ p.0) h.entries_are ∙ append_assoc h.earlier (check_in_by at h.seat own ∷ h.later) p.0;
+}
+
+-- It is the second one where another had been seen before.
+pub has_checked_in_again : {H : Type 0} (kind : EntryKind H StateEntryData ⊤) (listed : H → List StateEntryData) (opened : StoreState H StateEntryData)
+    (lists : (e : StateEntryData) (h : H) → listed (kind.with_entry e h) ≡ listed h ++ e ∷ [])
+    (before at : ℤ) (own : List ℕ) (seat : ℕ) (x : ⊤) (u v : Known StateEntryData) → HasCheckedIn (listed opened.history) own before u.seen
+    → ChecksIn kind listed opened (check_in_by at seat own) (Ok x) u v → HasCheckedInAgain (listed opened.history) own before at v.seen
+has_checked_in_again kind listed opened lists before at own seat x u v h (inl n) = absurd (let is = n.0 in cc)
+has_checked_in_again kind listed opened lists before at own seat x u v h (inr c) = record {
+  earlier = listed c.before.history;
+  seat = seat;
+  later = [];
+  checked_in = checked_on (listed opened.history) own before u.seen (listed c.before.history) c.begins h;
+  entries_are = c.seen_is ∙ ap listed c.submits.history ∙ lists (check_in_by at seat own) c.before.history;
+}
+
 module _ (shows : ℤ → Type 0) (leaves : List StateEntryData → StateTables → Type 0) (first : List StateEntryData) where
   -- More was seen: what was found stays found.
   pub finds_on : (own : List ℕ) (at : ℤ) (seen more : List StateEntryData) (found : EvidenceData) → IsPrefix seen more → FindsLate leaves first own at seen found → FindsLate leaves first own at more found
@@ -48,6 +72,9 @@ module _ (shows : ℤ → Type 0) (leaves : List StateEntryData → StateTables 
     checked_in = f.checked_in;
     rows = f.rows;
     found_is = f.found_is;
+    before = f.before;
+    again = f.again;
+    awake = f.awake;
   }
 
   pub recovery_on : (me : MemberData) (seen more : List StateEntryData) → IsPrefix seen more → (e : EntryData) → IsRecovery shows leaves first me seen e → IsRecovery shows leaves first me more e

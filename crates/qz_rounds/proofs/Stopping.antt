@@ -1,6 +1,6 @@
 -- Why a thread stops after a round, and what has been seen where it doesn't.
 use Rattle.std.proofs.Common.{◌≡◌, ℕ, ℤ, List, [], ◌∷◌, ◌++◌, Bool, true, false, ◌⊎◌, inl, inr, refl, sym, ap, ◌∙◌, subst}
-use Rattle.std.specs.Prelude.{⊤, Option, Some, None, Ok, Err, MatchBool, MatchOption, MatchResult}
+use Rattle.std.specs.Prelude.{⊤, Option, Some, None, IfSome, Ok, Err, MatchBool, MatchOption, MatchResult}
 use Rattle.std.specs.declared.result.Result.{Result}
 use Rattle.qz_types.specs.Rows.{EvidenceData, MemberData}
 use Rattle.qz_types.specs.Entries.{EntryData, StateEntryData}
@@ -16,15 +16,15 @@ use Rattle.qz_stores.specs.Stores.{EntryKind, StoreState}
 use Rattle.qz_checkin.specs.Rows.{StateTables}
 use Rattle.qz_shared.specs.Since.{history_at}
 use Rattle.qz_shared.specs.Calls.{Known, Called}
-use Rattle.qz_rounds.specs.Looking.{HasCheckedIn, FindsLate, late_in, check_in_by}
+use Rattle.qz_rounds.specs.Looking.{HasCheckedIn, HasCheckedInAgain, FindsLate, found_in, check_in_by}
 use Rattle.qz_rounds.specs.Adding.{IsRecovery, IsRoundEntry, AddsRounds}
 use Rattle.qz_rounds.specs.Declining.{declined_of, stopped_by, goes_on_after, IsCause, IsStopped}
 use Rattle.qz_rounds.specs.Recovering.{SubmitsNone, Forgets, Recovers, Decides, LooksAndRecovers, is_gone, told, unless_broken, recover_by, forget_by}
-use Rattle.qz_rounds.specs.Rounds.{ChecksIn, LooksOnce, MakesRound, without_reply}
+use Rattle.qz_rounds.specs.Rounds.{ChecksIn, LooksIfLater, MakesRound, without_reply}
 use Rattle.qz_rounds.proofs.Lists.{prefix_refl}
 use Rattle.qz_rounds.proofs.Seen.{sees_on, cause_of}
 use Rattle.qz_rounds.proofs.Lasting.{checked_on, has_checked_in, finds_on}
-use Rattle.qz_rounds.proofs.Keeping.{looks_keep, checks_keep}
+use Rattle.qz_rounds.proofs.Keeping.{checks_keep, finds, checked_in_on, has_checked_in_since, later_keep}
 
 error_of : (error : SubmitError) (why : Declined) (o : Option Declined) → declined_of error ≡ o → stopped_by o ≡ Err why → declined_of error ≡ Some why
 error_of error why None is stop = absurd cc
@@ -99,35 +99,46 @@ module _ {H G : Type 0} (kind : EntryKind H StateEntryData ⊤) (listed : H → 
       subst (λ k. Stops t k error) (sym f.1)
       (inl (r, record { found = found; actor = refl; command = refl; shown = shown; late = late }, cause_of trigger_kind trigger_listed trigger_lists trigger_opened r answer error s t (told_error answer error (sym f.0 ∙ err)) c))
 
-  decides_stops : (result : Result (Option Reply) SubmitError) (s t : Known EntryData) (u v : Known StateEntryData) (T : StateTables) (late : Option EvidenceData) (error : SubmitError)
-      → HasCheckedIn first me.node at u.seen → leaves u.seen T → late_in T at me.node ≡ late
+  -- the node checked in at the reading of the round before, and again at this one
+  abbrev CheckedIn : ℤ → List StateEntryData → Type 0
+  CheckedIn before seen = HasCheckedIn first me.node at seen × HasCheckedInAgain first me.node before at seen
+
+  decides_stops : (before : ℤ) (result : Result (Option Reply) SubmitError) (s t : Known EntryData) (u v : Known StateEntryData) (T : StateTables) (late : Option EvidenceData) (error : SubmitError)
+      → CheckedIn before u.seen → leaves u.seen T → found_in (Some before) T at me.node ≡ late
       → MatchOption late (SubmitsNone (Ok None) result s t u v) (λ found. Recovers kind listed opened trigger_kind trigger_listed trigger_opened (recover_by at trigger_seat me found.node) (forget_by at state_seat found.node found.last) result s t u v)
       → result ≡ Err error → Stops t v error
-  decides_stops result s t u v T None error checked rows is n err = let none = n.result_is in absurd cc
-  decides_stops result s t u v T (Some found) error checked rows is r err =
-      recovers_stops found (is_gone r.answer) r.answer result s t u v error (record { looked = u.seen; tables = T; begins = prefix_refl u.seen; checked_in = checked; rows = rows; found_is = is }) r.called r.follows err
+  decides_stops before result s t u v T None error checked rows is n err = let none = n.result_is in absurd cc
+  decides_stops before result s t u v T (Some found) error checked rows is r err =
+      recovers_stops found (is_gone r.answer) r.answer result s t u v error (finds kind listed opened trigger_kind trigger_listed trigger_opened lists trigger_lists shows leaves at shown me trigger_seat state_seat before u.seen T found checked rows is) r.called r.follows err
 
-  does_stop : (result : Result (Option Reply) SubmitError) (s t : Known EntryData) (u v : Known StateEntryData) (error : SubmitError) → HasCheckedIn first me.node at u.seen
-      → SubmitsNone (Err submit.NoMemory) result s t u v ⊎ Decides kind listed opened trigger_kind trigger_listed trigger_opened leaves at me trigger_seat state_seat result s t u v
+  does_stop : (before : ℤ) (result : Result (Option Reply) SubmitError) (s t : Known EntryData) (u v : Known StateEntryData) (error : SubmitError) → CheckedIn before u.seen
+      → SubmitsNone (Err submit.NoMemory) result s t u v ⊎ Decides kind listed opened trigger_kind trigger_listed trigger_opened leaves (Some before) at me trigger_seat state_seat result s t u v
       → result ≡ Err error → Stops t v error
-  does_stop result s t u v error checked (inl n) err = let none = n.result_is in starved error t v cc
-  does_stop result s t u v error checked (inr d) err = decides_stops result s t u v d.tables (late_in d.tables at me.node) error checked d.rows refl d.does err
+  does_stop before result s t u v error checked (inl n) err = let none = n.result_is in starved error t v cc
+  does_stop before result s t u v error checked (inr d) err = decides_stops before result s t u v d.tables (found_in (Some before) d.tables at me.node) error checked d.rows refl d.does err
 
-  looks_stop : (result : Result (Option Reply) SubmitError) (s t : Known EntryData) (u v : Known StateEntryData) (error : SubmitError) → HasCheckedIn first me.node at u.seen
-      → LooksAndRecovers kind listed opened trigger_kind trigger_listed trigger_opened leaves at me trigger_seat state_seat result s t u v → result ≡ Err error → Stops t v error
-  looks_stop result s t u v error checked l err = does_stop result s t l.looked v error (checked_on first me.node at u.seen l.looked.seen l.looks.begins checked) l.does err
+  looks_stop : (before : ℤ) (result : Result (Option Reply) SubmitError) (s t : Known EntryData) (u v : Known StateEntryData) (error : SubmitError) → CheckedIn before u.seen
+      → LooksAndRecovers kind listed opened trigger_kind trigger_listed trigger_opened leaves (Some before) at me trigger_seat state_seat result s t u v → result ≡ Err error → Stops t v error
+  looks_stop before result s t u v error checked l err =
+      does_stop before result s t l.looked v error (checked_in_on kind listed opened trigger_kind trigger_listed trigger_opened lists trigger_lists shows leaves at shown me trigger_seat state_seat before u.seen l.looked.seen l.looks.begins checked) l.does err
+
+  later_stops : (before : Option ℤ) (result : Result ⊤ SubmitError) (s t : Known EntryData) (u v : Known StateEntryData) (error : SubmitError) → IfSome before (λ b. CheckedIn b u.seen)
+      → LooksIfLater kind listed opened trigger_kind trigger_listed trigger_opened leaves before at me trigger_seat state_seat result s t u v → result ≡ Err error → Stops t v error
+  later_stops None result s t u v error checked l err = let none = l.0 in absurd cc
+  later_stops (Some before) result s t u v error checked l err = looks_stop before l.answer s t u v error checked l.looks (reply_error l.answer error (sym l.result_is ∙ err))
 
   checks_stop : (r : Result ⊤ SubmitError) (t : Known EntryData) (u v : Known StateEntryData) (error : SubmitError) → ChecksIn kind listed opened checking r u v → r ≡ Err error → Stops t v error
   checks_stop r t u v error (inl n) err = let none = n.0 in starved error t v cc
   checks_stop r t u v error (inr c) err = inr (checking, is_checking v.seen, cause_of kind listed lists opened checking r error u v err c)
 
-  goes_stop : (r result : Result ⊤ SubmitError) (s t : Known EntryData) (u k v : Known StateEntryData) (error : SubmitError) → ChecksIn kind listed opened checking r u k
+  goes_stop : (before : Option ℤ) (r result : Result ⊤ SubmitError) (s t : Known EntryData) (u k v : Known StateEntryData) (error : SubmitError) → IfSome before (λ b. HasCheckedIn first me.node b u.seen)
+      → ChecksIn kind listed opened checking r u k
       → MatchResult r
-      (λ _. LooksOnce kind listed opened trigger_kind trigger_listed trigger_opened leaves at me trigger_seat state_seat result s t k v)
+      (λ _. LooksIfLater kind listed opened trigger_kind trigger_listed trigger_opened leaves before at me trigger_seat state_seat result s t k v)
       (λ error. (result ≡ Err error) × (t ≡ s) × (v ≡ k))
       → result ≡ Err error → Stops t v error
-  goes_stop (Ok x) result s t u k v error c l err = looks_stop l.answer s t k v error (has_checked_in kind listed opened lists at me.node state_seat x u k c) l.looks (reply_error l.answer error (sym l.result_is ∙ err))
-  goes_stop (Err other) result s t u k v error c l err = subst (λ w. Stops t w error) (sym l.2) (checks_stop (Err other) t u k error c (sym l.0 ∙ err))
+  goes_stop before (Ok x) result s t u k v error h c l err = later_stops before result s t k v error (has_checked_in_since kind listed opened trigger_kind trigger_listed trigger_opened lists trigger_lists shows leaves at shown me trigger_seat state_seat before x u k h c) l err
+  goes_stop before (Err other) result s t u k v error h c l err = subst (λ w. Stops t w error) (sym l.2) (checks_stop (Err other) t u k error c (sym l.0 ∙ err))
 
   is_stopped : (error : SubmitError) (why : Declined) (t : Known EntryData) (v : Known StateEntryData) → declined_of error ≡ Some why → Stops t v error
       → IsStopped trigger_kind trigger_listed trigger_opened (IsRecovery shows leaves first me v.seen) t why ⊎ IsStopped kind listed opened (IsRoundEntry shows leaves first me.node v.seen) v why
@@ -135,12 +146,12 @@ module _ {H G : Type 0} (kind : EntryKind H StateEntryData ⊤) (listed : H → 
   is_stopped error why t v reason (inr s) = inr (record { entry = s.0; error = error; is_one = s.1; cause = s.2; reason = reason })
 
   -- A thread stops after a round only where an entry of it was declined.
-  pub round_stops : (result : Result ⊤ SubmitError) (why : Declined) (s t : Known EntryData) (u v : Known StateEntryData)
-      → MakesRound kind listed opened trigger_kind trigger_listed trigger_opened leaves at me trigger_seat state_seat result s t u v → goes_on_after result ≡ Err why
+  pub round_stops : (before : Option ℤ) (result : Result ⊤ SubmitError) (why : Declined) (s t : Known EntryData) (u v : Known StateEntryData) → IfSome before (λ b. HasCheckedIn first me.node b u.seen)
+      → MakesRound kind listed opened trigger_kind trigger_listed trigger_opened leaves before at me trigger_seat state_seat result s t u v → goes_on_after result ≡ Err why
       → IsStopped trigger_kind trigger_listed trigger_opened (IsRecovery shows leaves first me v.seen) t why ⊎ IsStopped kind listed opened (IsRoundEntry shows leaves first me.node v.seen) v why
-  round_stops result why s t u v m stop =
+  round_stops before result why s t u v h m stop =
       let err = stops_at result why stop in
-      is_stopped err.0 why t v err.2 (goes_stop m.answer result s t u m.checked_in v err.0 m.checks_in m.goes_on err.1)
+      is_stopped err.0 why t v err.2 (goes_stop before m.answer result s t u m.checked_in v err.0 h m.checks_in m.goes_on err.1)
 
   module _ (refused : (h : H) (e : StateEntryData) (node : List ℕ) (interval : ℤ) (refusal : Refusal) → e.command ≡ CheckIn node interval → kind.answer h e ≡ Err refusal → refusal ≡ RowsFull) where
     -- A thread doesn't go on where its check-in wasn't accepted.
@@ -155,19 +166,20 @@ module _ {H G : Type 0} (kind : EntryKind H StateEntryData ⊤) (listed : H → 
     unaccepted submit.NoMemory u k c on = cc
     unaccepted submit.Fault u k c on = cc
 
-    goes_end : (r result : Result ⊤ SubmitError) (s t : Known EntryData) (u k v : Known StateEntryData) → ChecksIn kind listed opened checking r u k
+    goes_end : (before : Option ℤ) (r result : Result ⊤ SubmitError) (s t : Known EntryData) (u k v : Known StateEntryData) → IfSome before (λ b. HasCheckedIn first me.node b u.seen)
+        → ChecksIn kind listed opened checking r u k
         → MatchResult r
-        (λ _. LooksOnce kind listed opened trigger_kind trigger_listed trigger_opened leaves at me trigger_seat state_seat result s t k v)
+        (λ _. LooksIfLater kind listed opened trigger_kind trigger_listed trigger_opened leaves before at me trigger_seat state_seat result s t k v)
         (λ error. (result ≡ Err error) × (t ≡ s) × (v ≡ k))
         → AddsRounds shows leaves first me s k → goes_on_after result ≡ Ok tt → HasCheckedIn first me.node at v.seen
-    goes_end (Ok x) result s t u k v c l a on =
+    goes_end before (Ok x) result s t u k v h c l a on =
         let checked = has_checked_in kind listed opened lists at me.node state_seat x u k c in
-        checked_on first me.node at k.seen v.seen (looks_keep kind listed opened trigger_kind trigger_listed trigger_opened lists trigger_lists shows leaves at shown me trigger_seat state_seat l.answer s t k v checked l.looks a).1 checked
-    goes_end (Err error) result s t u k v c l a on = absurd (unaccepted error u k c (sym (ap (λ r. goes_on_after {A = ⊤} r) l.0) ∙ on))
+        checked_on first me.node at k.seen v.seen (later_keep kind listed opened trigger_kind trigger_listed trigger_opened lists trigger_lists shows leaves at shown me trigger_seat state_seat before result s t k v (has_checked_in_since kind listed opened trigger_kind trigger_listed trigger_opened lists trigger_lists shows leaves at shown me trigger_seat state_seat before x u k h c) l a).1 checked
+    goes_end before (Err error) result s t u k v h c l a on = absurd (unaccepted error u k c (sym (ap (λ r. goes_on_after {A = ⊤} r) l.0) ∙ on))
 
     -- Where it goes on, its check-in has been seen.
-    pub round_checks : (result : Result ⊤ SubmitError) (s t : Known EntryData) (u v : Known StateEntryData)
-        → MakesRound kind listed opened trigger_kind trigger_listed trigger_opened leaves at me trigger_seat state_seat result s t u v
+    pub round_checks : (before : Option ℤ) (result : Result ⊤ SubmitError) (s t : Known EntryData) (u v : Known StateEntryData) → IfSome before (λ b. HasCheckedIn first me.node b u.seen)
+        → MakesRound kind listed opened trigger_kind trigger_listed trigger_opened leaves before at me trigger_seat state_seat result s t u v
         → AddsRounds shows leaves first me s u → goes_on_after result ≡ Ok tt → HasCheckedIn first me.node at v.seen
-    round_checks result s t u v m a on = goes_end m.answer result s t u m.checked_in v m.checks_in m.goes_on
+    round_checks before result s t u v h m a on = goes_end before m.answer result s t u m.checked_in v h m.checks_in m.goes_on
         (checks_keep kind listed opened trigger_kind trigger_listed trigger_opened lists trigger_lists shows leaves at shown me trigger_seat state_seat m.answer s u m.checked_in m.checks_in a) on

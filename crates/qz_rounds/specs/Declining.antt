@@ -16,6 +16,7 @@ use Rattle.qz_shared.specs.Since.{history_at, gate_at, payloads_at}
 abbrev pub declined_of : SubmitError → Option Declined
 declined_of (submit.Refused (refusal.TooMany count)) = Some (declined.TooMany count)
 declined_of (submit.Refused refusal.RowsFull) = Some (declined.TooMany STATE_LIMIT)
+declined_of (submit.Refused (refusal.Fenced live)) = Some declined.Fenced
 declined_of (submit.Refused other) = None
 declined_of (submit.JournalFull need room) = Some (declined.JournalFull need room)
 declined_of submit.NoMemory = Some declined.NoMemory

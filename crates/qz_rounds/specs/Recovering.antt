@@ -14,7 +14,7 @@ use Rattle.qz_types.specs.declared.states.StateCommand.TheVariants.{Forget}
 use Rattle.qz_stores.specs.Stores.{EntryKind, StoreState}
 use Rattle.qz_checkin.specs.Rows.{StateTables}
 use Rattle.qz_shared.specs.Calls.{Known, Called}
-use Rattle.qz_rounds.specs.Looking.{late_in}
+use Rattle.qz_rounds.specs.Looking.{found_in}
 
 -- the entry by which a member recovers a failed node, and the one by which that node's row is forgotten
 abbrev pub recover_by : ℤ → ℕ → MemberData → List ℕ → EntryData
@@ -66,17 +66,18 @@ module _ {H : Type 0} (kind : EntryKind H StateEntryData ⊤) (listed : H → Li
       pub called : Called trigger_kind trigger_listed trigger_opened e answer s t
       pub follows : MatchBool (is_gone answer) (Forgets forget (told answer) result u v) ((result ≡ told answer) × (v ≡ u))
 
-    -- A member that has looked does what the rows tell: it recovers the first node that is late to it.
-    pub record Decides (leaves : List StateEntryData → StateTables → Type 0) (at : ℤ) (me : MemberData) (trigger_seat state_seat : ℕ) (result : Result (Option Reply) SubmitError) (s t : Known EntryData) (u v : Known StateEntryData) : Type 0 where
+    -- A member that has looked does what the rows tell: it recovers the first node that is late to it. Where the look belongs to a
+    -- round, `before` is the reading of the round before.
+    pub record Decides (leaves : List StateEntryData → StateTables → Type 0) (before : Option ℤ) (at : ℤ) (me : MemberData) (trigger_seat state_seat : ℕ) (result : Result (Option Reply) SubmitError) (s t : Known EntryData) (u v : Known StateEntryData) : Type 0 where
       pub tables : StateTables
       pub rows : leaves u.seen tables
-      pub does : MatchOption (late_in tables at me.node)
+      pub does : MatchOption (found_in before tables at me.node)
           (SubmitsNone (Ok None) result s t u v)
           (λ found. Recovers (recover_by at trigger_seat me found.node) (forget_by at state_seat found.node found.last) result s t u v)
 
     -- A member looks once, at this reading, with a trigger seat and a state seat of these numbers. Then it does what the rows
     -- tell that the state seat has seen, unless memory is wanting. `leaves` says which rows a list of state entries leaves.
-    pub record LooksAndRecovers (leaves : List StateEntryData → StateTables → Type 0) (at : ℤ) (me : MemberData) (trigger_seat state_seat : ℕ) (result : Result (Option Reply) SubmitError) (s t : Known EntryData) (u v : Known StateEntryData) : Type 0 where
+    pub record LooksAndRecovers (leaves : List StateEntryData → StateTables → Type 0) (before : Option ℤ) (at : ℤ) (me : MemberData) (trigger_seat state_seat : ℕ) (result : Result (Option Reply) SubmitError) (s t : Known EntryData) (u v : Known StateEntryData) : Type 0 where
       pub looked : Known StateEntryData
       pub looks : Looks u looked
-      pub does : SubmitsNone (Err submit.NoMemory) result s t looked v ⊎ Decides leaves at me trigger_seat state_seat result s t looked v
+      pub does : SubmitsNone (Err submit.NoMemory) result s t looked v ⊎ Decides leaves before at me trigger_seat state_seat result s t looked v

@@ -12,6 +12,7 @@ pub fn declined(error: SubmitError) -> Option<Declined>
     match error {
         SubmitError::Refused(Refusal::TooMany { count }) => Some(Declined::TooMany { count }),
         SubmitError::Refused(Refusal::RowsFull) => Some(Declined::TooMany { count: STATE_LIMIT }),
+        SubmitError::Refused(Refusal::Fenced { live: _ }) => Some(Declined::Fenced),
         SubmitError::Refused(_) => None,
         SubmitError::JournalFull { need, room } => Some(Declined::JournalFull { need, room }),
         SubmitError::NoMemory => Some(Declined::NoMemory),

@@ -1,13 +1,14 @@
 //! A look for a node that is late, and its recovery.
-ghost use Rattle.std.specs.Prelude.{◌≡◌, ◌⊎◌, false, IsTrue, IfOk, Err};
+ghost use Rattle.std.specs.Prelude.{◌≡◌, ◌⊎◌, false, IsTrue, IfOk, Err, None};
 ghost use Rattle.qz_row_lock.specs.Seats.{IsOf, seen, ids, is_out, first_value};
 ghost use Rattle.qz_types.specs.Rows.{is_node};
 ghost use Rattle.qz_checkin.specs.Rows.{StateTables};
 ghost use Rattle.qz_shared.specs.Calls.{known};
-ghost use Rattle.qz_rounds.specs.Looking.{LeavesRows, late_in};
+ghost use Rattle.qz_rounds.specs.Looking.{LeavesRows, found_in, is_near};
 ghost use Rattle.qz_rounds.specs.Recovering.{recover_by, forget_by, Looks, Forgets, Recovers, SubmitsNone, LooksAndRecovers};
 
 use crate::{NodeStore, RoundStore};
+use qz_run::CHECK_IN_INTERVAL;
 use qz_shared::{StoreRow, StoreSeat, submit};
 use qz_types::{
     Actor, Command, Entry, Evidence, MemberRow, NoMemory, Refusal, Reply, StateCommand, StateEntry,
@@ -15,11 +16,33 @@ use qz_types::{
 };
 use std::sync::Wait;
 
+fn is_near(before: i64, at: i64) -> bool
+    ensures { result ≡ is_near before at }
+{
+    at.saturating_sub(before) <= CHECK_IN_INTERVAL
+}
+
+// The first node that is late at this reading. None where the look belongs to a round, and the round before is too long ago.
+fn find_late<T: RoundStore>(
+    store: &T,
+    before: Option<i64>,
+    at: i64,
+    own: &Text,
+) -> Result<Option<Evidence>, NoMemory>
+    ensures { IfOk result (λ found. found ≡ found_in before (T.tables store.now) at own.now) }
+{
+    match before {
+        Some(before) if !is_near(before, at) || !is_near(before, store.last_moment()) => Ok(None),
+        _ => store.failed(at, own),
+    }
+}
+
 // Looks for the first node that is late, at all that the state seat has then seen.
 fn look<T: RoundStore, R: Wait>(
     rt: &R,
     states: &StoreRow<T>,
     state: &mut StoreSeat<T>,
+    before: Option<i64>,
     at: i64,
     own: &Text,
 ) -> Result<Option<Evidence>, NoMemory>
@@ -29,10 +52,10 @@ fn look<T: RoundStore, R: Wait>(
     ensures home { is_out state.new ≡ false }
     ensures same { (state.new.number ≡ state.old.number) × (state.new.more ≡ state.old.more) × (state.new.parts ≡ state.old.parts) × (ids state.new ≡ ids state.old) }
     ensures looks { Looks (known state.old) (known state.new) }
-    ensures found { IfOk result (λ found. (tables : StateTables) × LeavesRows T.kind T.listed T.state T.tables (T.state (first_value states.now).opened.value) (seen state.new) tables × (found ≡ late_in tables at own.now)) }
+    ensures found { IfOk result (λ found. (tables : StateTables) × LeavesRows T.kind T.listed T.state T.tables (T.state (first_value states.now).opened.value) (seen state.new) tables × (found ≡ found_in before tables at own.now)) }
 {
     let held = states.take(rt, state);
-    let found = held.store().failed(at, own);
+    let found = find_late(held.store(), before, at, own);
     states.give(state, held);
     found
 }
@@ -127,6 +150,32 @@ fn recover<S: NodeStore, T: RoundStore, R: Wait>(
     }
 }
 
+// Looks once for a node that is late, and recovers the first one. Where that belongs to a round, `before` is the reading of the
+// round before.
+pub(crate) fn recover_since<S: NodeStore, T: RoundStore, R: Wait>(
+    rt: &R,
+    row: &StoreRow<S>,
+    states: &StoreRow<T>,
+    seat: &mut StoreSeat<S>,
+    state: &mut StoreSeat<T>,
+    before: Option<i64>,
+    at: i64,
+    me: &MemberRow,
+) -> Result<Option<Reply>, SubmitError>
+    requires of { IsOf row.now seat.old × IsOf states.now state.old }
+    requires home { (is_out seat.old ≡ false) × (is_out state.old ≡ false) }
+    ensures of { IsOf row.now seat.new × IsOf states.now state.new }
+    ensures home { (is_out seat.new ≡ false) × (is_out state.new ≡ false) }
+    ensures same { (seat.new.number ≡ seat.old.number) × (seat.new.more ≡ seat.old.more) × (seat.new.parts ≡ seat.old.parts) × (ids seat.new ≡ ids seat.old) }
+    ensures same_state { (state.new.number ≡ state.old.number) × (state.new.more ≡ state.old.more) × (state.new.parts ≡ state.old.parts) × (ids state.new ≡ ids state.old) }
+    ensures recovers { LooksAndRecovers T.kind T.listed (T.state (first_value states.now).opened.value) S.kind S.listed (S.state (first_value row.now).opened.value) (LeavesRows T.kind T.listed T.state T.tables (T.state (first_value states.now).opened.value)) before at me.now seat.old.number state.old.number result (known seat.old) (known seat.new) (known state.old) (known state.new) }
+{
+    match look(rt, states, state, before, at, &me.node)? {
+        None => Ok(None),
+        Some(found) => recover(rt, row, states, seat, state, at, me, found),
+    }
+}
+
 /// Looks once for a node that is late, and recovers the first one in the order of names. `at` is the reading of the
 /// clock, in ms since 1970-01-01T00:00:00Z, for the look and for the entries. It waits for one row at a time: for that
 /// of the states to look, for that of the triggers only where a node is late, and then for that of the states again, to
@@ -150,10 +199,7 @@ pub fn recover_one<S: NodeStore, T: RoundStore, R: Wait>(
     ensures home { (is_out seat.new ≡ false) × (is_out state.new ≡ false) }
     ensures same { (seat.new.number ≡ seat.old.number) × (seat.new.more ≡ seat.old.more) × (seat.new.parts ≡ seat.old.parts) × (ids seat.new ≡ ids seat.old) }
     ensures same_state { (state.new.number ≡ state.old.number) × (state.new.more ≡ state.old.more) × (state.new.parts ≡ state.old.parts) × (ids state.new ≡ ids state.old) }
-    ensures recovers { LooksAndRecovers T.kind T.listed (T.state (first_value states.now).opened.value) S.kind S.listed (S.state (first_value row.now).opened.value) (LeavesRows T.kind T.listed T.state T.tables (T.state (first_value states.now).opened.value)) at me.now seat.old.number state.old.number result (known seat.old) (known seat.new) (known state.old) (known state.new) }
+    ensures recovers { LooksAndRecovers T.kind T.listed (T.state (first_value states.now).opened.value) S.kind S.listed (S.state (first_value row.now).opened.value) (LeavesRows T.kind T.listed T.state T.tables (T.state (first_value states.now).opened.value)) None at me.now seat.old.number state.old.number result (known seat.old) (known seat.new) (known state.old) (known state.new) }
 {
-    match look(rt, states, state, at, &me.node)? {
-        None => Ok(None),
-        Some(found) => recover(rt, row, states, seat, state, at, me, found),
-    }
+    recover_since(rt, row, states, seat, state, None, at, me)
 }

@@ -1,14 +1,15 @@
 //! A node's check-in thread.
-ghost use Rattle.std.specs.Prelude.{◌≡◌, ◌⊎◌, ◌≤ℤ◌, ◌<ℤ◌, ℤ, true, false, IsTrue, IfOk, OnOk, IfErr};
+ghost use Rattle.std.specs.Prelude.{◌≡◌, ◌⊎◌, ◌≤ℤ◌, ◌<ℤ◌, ℤ, true, false, int_le, IsTrue, IfSome, IfOk, OnOk, IfErr};
 ghost use Rattle.qz_types.specs.Rows.{is_node};
 ghost use Rattle.qz_row_lock.specs.Seats.{IsOf, seen, ids, is_out, first_value};
 ghost use Rattle.qz_shared.specs.Calls.{known};
 ghost use Rattle.qz_rounds.specs.Looking.{LeavesRows, HasCheckedIn, check_in_by};
 ghost use Rattle.qz_rounds.specs.Adding.{IsRecovery, IsRoundEntry, AddsRounds};
 ghost use Rattle.qz_rounds.specs.Declining.{IsStopped, goes_on_after};
-ghost use Rattle.qz_rounds.specs.Rounds.{is_round_due, ChecksIn, MadeLastRound, MakesRound};
+ghost use Rattle.qz_rounds.specs.Rounds.{is_round_due, ChecksIn, LooksOnce, MadeLastRound, MakesRound, ReadOnce};
 
-use crate::{NodeStore, RoundStore, SharedClock, declined, recover_one};
+use crate::recovering::recover_since;
+use crate::{NodeStore, RoundStore, SharedClock, declined};
 use qz_run::{CHECK_IN_INTERVAL, Declined};
 use qz_shared::{StoreRow, StoreSeat, submit};
 use qz_types::{MemberRow, StateCommand, StateEntry, SubmitError, Text};
@@ -34,6 +35,7 @@ fn is_due(last: Option<i64>, at: i64, until: i64) -> bool
 fn is_over(at: i64, until: i64) -> bool
     ensures over { result ≡ true → until ≤ℤ at }
     ensures not_over { result ≡ false → at <ℤ until }
+    ensures value { result ≡ int_le until at }
 {
     at >= until
 }
@@ -73,13 +75,14 @@ fn check_in<T: RoundStore, R: Wait>(
     submit(rt, states, state, entry)
 }
 
-// One round: a check-in, and then a look for a late node.
-fn round<S: NodeStore, T: RoundStore, R: Wait>(
+// A look for a late node, after a check-in at the same reading. `before` is the reading of the round before.
+fn look_once<S: NodeStore, T: RoundStore, R: Wait>(
     rt: &R,
     row: &StoreRow<S>,
     states: &StoreRow<T>,
     seat: &mut StoreSeat<S>,
     state: &mut StoreSeat<T>,
+    before: i64,
     at: i64,
     me: &MemberRow,
 ) -> Result<(), SubmitError>
@@ -89,15 +92,40 @@ fn round<S: NodeStore, T: RoundStore, R: Wait>(
     ensures home { (is_out seat.new ≡ false) × (is_out state.new ≡ false) }
     ensures same { (seat.new.number ≡ seat.old.number) × (seat.new.more ≡ seat.old.more) × (seat.new.parts ≡ seat.old.parts) × (ids seat.new ≡ ids seat.old) }
     ensures same_state { (state.new.number ≡ state.old.number) × (state.new.more ≡ state.old.more) × (state.new.parts ≡ state.old.parts) × (ids state.new ≡ ids state.old) }
-    ensures makes { MakesRound T.kind T.listed (T.state (first_value states.now).opened.value) S.kind S.listed (S.state (first_value row.now).opened.value) (LeavesRows T.kind T.listed T.state T.tables (T.state (first_value states.now).opened.value)) at me.now seat.old.number state.old.number result (known seat.old) (known seat.new) (known state.old) (known state.new) }
+    ensures looks { LooksOnce T.kind T.listed (T.state (first_value states.now).opened.value) S.kind S.listed (S.state (first_value row.now).opened.value) (LeavesRows T.kind T.listed T.state T.tables (T.state (first_value states.now).opened.value)) before at me.now seat.old.number state.old.number result (known seat.old) (known seat.new) (known state.old) (known state.new) }
 {
-    check_in(rt, states, state, at, me)?;
-    match recover_one(rt, row, states, seat, state, at, me) {
+    match recover_since(rt, row, states, seat, state, Some(before), at, me) {
         Ok(reply) => {
             drop(reply);
             Ok(())
         }
         Err(error) => Err(error),
+    }
+}
+
+// One round: a check-in, and then a look for a late node, unless it is the first one. `before` is the reading of the round before.
+fn round<S: NodeStore, T: RoundStore, R: Wait>(
+    rt: &R,
+    row: &StoreRow<S>,
+    states: &StoreRow<T>,
+    seat: &mut StoreSeat<S>,
+    state: &mut StoreSeat<T>,
+    before: Option<i64>,
+    at: i64,
+    me: &MemberRow,
+) -> Result<(), SubmitError>
+    requires of { IsOf row.now seat.old × IsOf states.now state.old }
+    requires home { (is_out seat.old ≡ false) × (is_out state.old ≡ false) }
+    ensures of { IsOf row.now seat.new × IsOf states.now state.new }
+    ensures home { (is_out seat.new ≡ false) × (is_out state.new ≡ false) }
+    ensures same { (seat.new.number ≡ seat.old.number) × (seat.new.more ≡ seat.old.more) × (seat.new.parts ≡ seat.old.parts) × (ids seat.new ≡ ids seat.old) }
+    ensures same_state { (state.new.number ≡ state.old.number) × (state.new.more ≡ state.old.more) × (state.new.parts ≡ state.old.parts) × (ids state.new ≡ ids state.old) }
+    ensures makes { MakesRound T.kind T.listed (T.state (first_value states.now).opened.value) S.kind S.listed (S.state (first_value row.now).opened.value) (LeavesRows T.kind T.listed T.state T.tables (T.state (first_value states.now).opened.value)) before at me.now seat.old.number state.old.number result (known seat.old) (known seat.new) (known state.old) (known state.new) }
+{
+    check_in(rt, states, state, at, me)?;
+    match before {
+        None => Ok(()),
+        Some(before) => look_once(rt, row, states, seat, state, before, at, me),
     }
 }
 
@@ -114,7 +142,8 @@ fn go_on(answer: Result<(), SubmitError>) -> Result<(), Declined>
     }
 }
 
-// Reads the clock, and makes the round that is due at this reading. True where it was the last one.
+// Reads the clock, and makes the round that is due at this reading. True where it was the last one. `last` is the reading of the last
+// round.
 fn read_once<S: NodeStore, T: RoundStore, R: Wait, C: SharedClock>(
     rt: &R,
     row: &StoreRow<S>,
@@ -128,12 +157,15 @@ fn read_once<S: NodeStore, T: RoundStore, R: Wait, C: SharedClock>(
 ) -> Result<bool, Declined>
     requires of { IsOf row.now seat.old × IsOf states.now state.old }
     requires home { (is_out seat.old ≡ false) × (is_out state.old ≡ false) }
+    requires checked { IfSome last.old (λ before. HasCheckedIn (T.listed (T.state (first_value states.now).opened.value).history) me.now.node before (seen state.old)) }
     requires adds { AddsRounds (C.shows clock.now) (LeavesRows T.kind T.listed T.state T.tables (T.state (first_value states.now).opened.value)) (T.listed (T.state (first_value states.now).opened.value).history) me.now (known seat.old) (known state.old) }
     ensures of { IsOf row.now seat.new × IsOf states.now state.new }
     ensures home { (is_out seat.new ≡ false) × (is_out state.new ≡ false) }
     ensures same { (seat.new.number ≡ seat.old.number) × (seat.new.more ≡ seat.old.more) × (seat.new.parts ≡ seat.old.parts) × (ids seat.new ≡ ids seat.old) }
     ensures same_state { (state.new.number ≡ state.old.number) × (state.new.more ≡ state.old.more) × (state.new.parts ≡ state.old.parts) × (ids state.new ≡ ids state.old) }
     ensures adds { AddsRounds (C.shows clock.now) (LeavesRows T.kind T.listed T.state T.tables (T.state (first_value states.now).opened.value)) (T.listed (T.state (first_value states.now).opened.value).history) me.now (known seat.new) (known state.new) }
+    ensures checked { OnOk result (IfSome last.new (λ before. HasCheckedIn (T.listed (T.state (first_value states.now).opened.value).history) me.now.node before (seen state.new))) }
+    ensures read { IfOk result (λ ended. ReadOnce T.kind T.listed (T.state (first_value states.now).opened.value) S.kind S.listed (S.state (first_value row.now).opened.value) (C.shows clock.now) until (LeavesRows T.kind T.listed T.state T.tables (T.state (first_value states.now).opened.value)) me.now seat.old.number state.old.number last.old last.new ended (known seat.old) (known seat.new) (known state.old) (known state.new)) }
     ensures last { IfOk result (λ ended. ended ≡ true → MadeLastRound T.kind T.listed (T.state (first_value states.now).opened.value) S.kind S.listed (S.state (first_value row.now).opened.value) (C.shows clock.now) until (LeavesRows T.kind T.listed T.state T.tables (T.state (first_value states.now).opened.value)) me.now seat.old.number state.old.number (known seat.new) (known state.new)) }
     ensures ended { IfOk result (λ ended. ended ≡ true → (at : ℤ) × C.shows clock.now at × (until ≤ℤ at) × HasCheckedIn (T.listed (T.state (first_value states.now).opened.value).history) me.now.node at (seen state.new)) }
     ensures stopped { IfErr result (λ why.
@@ -144,8 +176,9 @@ fn read_once<S: NodeStore, T: RoundStore, R: Wait, C: SharedClock>(
     if !is_due(*last, at, until) {
         return Ok(false);
     }
+    let before = *last;
     *last = Some(at);
-    let answer = round(rt, row, states, seat, state, at, me);
+    let answer = round(rt, row, states, seat, state, before, at, me);
     match go_on(answer) {
         Ok(()) => Ok(is_over(at, until)),
         Err(why) => Err(why),
@@ -157,8 +190,12 @@ fn read_once<S: NodeStore, T: RoundStore, R: Wait, C: SharedClock>(
 /// past that of its last round. It rests 1000 ms between readings, and ends after the first round at a reading that isn't
 /// before that moment.
 ///
-/// It stops early where a store has too many rows or a full journal, where memory is wanting, and where a store is
-/// closed. Every other refusal ends nothing.
+/// A node that slept takes nobody for failed: after a suspended process, or a jump of the clock, the others had no time to check
+/// in either. So there is no look in the first round, and none where the reading, or the state store's last moment, lies more than
+/// 15000 ms past the reading of the round before.
+///
+/// It stops early where a store has too many rows or a full journal, where memory is wanting, where a store is closed, and where
+/// the member is fenced as it recovers another one. Every other refusal ends nothing.
 pub fn check_rounds<S: NodeStore, T: RoundStore, R: Wait, C: SharedClock>(
     rt: &R,
     row: &StoreRow<S>,

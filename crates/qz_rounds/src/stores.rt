@@ -42,6 +42,10 @@ pub trait RoundStore: RowStore<Entry = StateEntry, Reply = ()> {
     /// Its rows.
     ghost tables: { Self → StateTables };
 
+    /// The recorded moment of its last transaction, in ms since 1970-01-01T00:00:00Z; 0 before the first one.
+    fn last_moment(&self) -> i64
+        ensures { result ≡ (tables self.now).last_moment };
+
     /// Why the first node, in the order of names, is taken for failed that is late for the node `own` at this reading, in
     /// ms since 1970-01-01T00:00:00Z. None where no node is late.
     fn failed(&self, at: i64, own: &Text) -> Result<Option<Evidence>, NoMemory>

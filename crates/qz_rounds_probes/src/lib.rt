@@ -1,7 +1,7 @@
 //! Calls of a check-in thread, once more: edits of them show which wrong answers the contracts of these calls refuse.
 #![tactic(auto)]
 
-ghost use Rattle.std.specs.Prelude.{◌≡◌, ◌⊎◌, ◌≤ℤ◌, ℤ, false, OnOk, IfErr};
+ghost use Rattle.std.specs.Prelude.{◌≡◌, ◌⊎◌, ◌≤ℤ◌, ℤ, false, None, OnOk, IfErr};
 ghost use Rattle.qz_row_lock.specs.Seats.{IsOf, seen, ids, is_out, first_value};
 ghost use Rattle.qz_shared.specs.Calls.{known};
 ghost use Rattle.qz_rounds.specs.Looking.{LeavesRows, HasCheckedIn};
@@ -32,7 +32,7 @@ pub fn recover_one<S: NodeStore, T: RoundStore, R: Wait>(
     ensures home { (is_out seat.new ≡ false) × (is_out state.new ≡ false) }
     ensures same { (seat.new.number ≡ seat.old.number) × (seat.new.more ≡ seat.old.more) × (seat.new.parts ≡ seat.old.parts) × (ids seat.new ≡ ids seat.old) }
     ensures same_state { (state.new.number ≡ state.old.number) × (state.new.more ≡ state.old.more) × (state.new.parts ≡ state.old.parts) × (ids state.new ≡ ids state.old) }
-    ensures recovers { LooksAndRecovers T.kind T.listed (T.state (first_value states.now).opened.value) S.kind S.listed (S.state (first_value row.now).opened.value) (LeavesRows T.kind T.listed T.state T.tables (T.state (first_value states.now).opened.value)) at me.now seat.old.number state.old.number result (known seat.old) (known seat.new) (known state.old) (known state.new) }
+    ensures recovers { LooksAndRecovers T.kind T.listed (T.state (first_value states.now).opened.value) S.kind S.listed (S.state (first_value row.now).opened.value) (LeavesRows T.kind T.listed T.state T.tables (T.state (first_value states.now).opened.value)) None at me.now seat.old.number state.old.number result (known seat.old) (known seat.new) (known state.old) (known state.new) }
 {
     match qz_rounds::recover_one(rt, row, states, seat, state, at, me) {
         Ok(reply) => Ok(reply),

@@ -13,7 +13,7 @@ pub enum NodeCommand {
     Complete { entry: u64, code: Code },
 }
 
-/// Why a store didn't do what it was asked. A run ends at the first such answer.
+/// Why a store didn't do what it was asked. A node's work ends at the first such answer.
 #[derive(Clone, Copy, PartialEq, Eq, Debug)]
 pub enum Declined {
     /// It is refused: a limit would be passed, which is `count`.
@@ -23,6 +23,8 @@ pub enum Declined {
     /// The disk failed.
     Fault,
     NoMemory,
+    /// The node isn't a member under its epoch any more: another one recovered it. A run, which declares nobody failed, has no such answer.
+    Fenced,
 }
 
 /// What a run is to do. Moments are in ms since 1970-01-01T00:00:00Z, 0 to `LAST`.

@@ -17,12 +17,13 @@ use Rattle.qz_run.specs.declared.commands.NodeCommand.TheVariants as asks
 use Rattle.qz_run.specs.Stores.{IsTime, RowCommand, checks_in, forgets}
 
 -- The trigger store declines this entry: the transaction is refused; or it would be accepted, and its record finds no room; or
--- the disk has failed and the store is closed; or memory is wanted.
+-- the disk has failed and the store is closed; or memory is wanted. No node of a run is fenced.
 abbrev pub DeclinesEntry : TriggerState → EntryData → Declined → Type 0
 DeclinesEntry s e (declined.TooMany count) = trigger_entry.answer s.history e ≡ Err (refusal.TooMany count)
 DeclinesEntry s e (declined.JournalFull need room) = IsOk (trigger_entry.answer s.history e) × LacksRoom (length (record_of e)) need room s
 DeclinesEntry s e declined.Fault = s.is_open ≡ false
 DeclinesEntry s e declined.NoMemory = ⊤
+DeclinesEntry s e declined.Fenced = ⊥
 
 -- the transaction is refused because there are as many rows as there may be
 pub record HasNoRow (s : StatesState) (e : StateEntryData) (count : ℕ) : Type 0 where
@@ -35,6 +36,7 @@ DeclinesRow s e (declined.TooMany count) = HasNoRow s e count
 DeclinesRow s e (declined.JournalFull need room) = IsOk (of_states.answer s.history e) × LacksRoom (length (state_record_of e)) need room s
 DeclinesRow s e declined.Fault = s.is_open ≡ false
 DeclinesRow s e declined.NoMemory = ⊤
+DeclinesRow s e declined.Fenced = ⊥
 
 -- an entry that says this of a node's row
 abbrev pub IsRowEntry : List ℕ → ℤ → RowCommand → StateEntryData → Type 0

@@ -135,12 +135,14 @@ not_resting i is rests = let bad : idle.Misfires ≡ idle.Rest = sym is ∙ rest
 not_acquiring : (i : Idle) → i ≡ idle.Acquire → i ≡ idle.Rest → ⊥
 not_acquiring i is rests = let bad : idle.Acquire ≡ idle.Rest = sym is ∙ rests in cc
 
--- a command that ends no execution ends the thread where the node is fenced
-plain_ends : (command : Command) (x : Refusal) → IsPlain command → is_fenced x ≡ true → EndsThread command x
-plain_ends asks.Misfires x plain fenced = fenced
-plain_ends (asks.Acquire no_later window max) x plain fenced = fenced
-plain_ends (asks.Fire entry) x plain fenced = fenced
-plain_ends other x plain fenced = absurd plain
+-- a refusal that stops no thread isn't that of a node that is fenced
+free_refusal : (x : Refusal) → declined_of (submit.Refused x) ≡ None → is_fenced x ≡ false
+free_refusal (refusal.Fenced live) none = absurd (let bad = none in cc)
+free_refusal other none = refl
+
+free_or : (a b : Bool) → a ≡ false → b ≡ false → (a || b) ≡ false
+free_or true b is other = is
+free_or false b is other = other
 
 module _ {H : Type 0} (kind : EntryKind H EntryData Reply) (listed : H → List EntryData) (opened : StoreState H EntryData) (shows : ℤ → Type 0) (until : ℤ) (me : MemberData) (number : ℕ) where
   abbrev KnowsIt : TurnData → List EntryData → Type 0
@@ -153,28 +155,28 @@ module _ {H : Type 0} (kind : EntryKind H EntryData Reply) (listed : H → List 
   pub knows_new : (up_to : ℤ) (t : TurnData) (seen : List EntryData) → t ≡ new_turn up_to → KnowsIt t seen
   knows_new up_to t seen is = record {
     rests = λ q. absurd (not_resting t.idle (ap (λ (u : TurnData). u.idle) is) q);
-    fenced = λ q. absurd (let bad : false ≡ true = sym (ap (λ (u : TurnData). u.fenced) is) ∙ q in cc);
+    free = ap (λ (u : TurnData). u.fenced) is;
   }
 
   -- what it does next is as before
   pub knows_on : (t u : TurnData) (seen more : List EntryData) → IsPrefix seen more → u.idle ≡ t.idle → u.fenced ≡ t.fenced → KnowsIt t seen → KnowsIt u more
   knows_on t u seen more p idles fences k = record {
     rests = λ q. found_on kind listed opened IsOne seen more p (k.rests (sym idles ∙ q));
-    fenced = λ q. refused_on kind listed opened IsOne seen more p (k.fenced (sym fences ∙ q));
+    free = fences ∙ k.free;
   }
 
   -- it doesn't rest next
   knows_busy : (t u : TurnData) (seen more : List EntryData) → IsPrefix seen more → (u.idle ≡ idle.Rest → ⊥) → u.fenced ≡ t.fenced → KnowsIt t seen → KnowsIt u more
   knows_busy t u seen more p busy fences k = record {
     rests = λ q. absurd (busy q);
-    fenced = λ q. refused_on kind listed opened IsOne seen more p (k.fenced (sym fences ∙ q));
+    free = fences ∙ k.free;
   }
 
   -- it has rested
   pub knows_rested : (t u : TurnData) (at rest : ℤ) (seen : List EntryData) → wanted t at ≡ want.Rest rest → u ≡ record t { idle = idle.Misfires } → KnowsIt u seen
   knows_rested t u at rest seen is same = record {
     rests = λ q. absurd (not_resting u.idle (ap (λ (x : TurnData). x.idle) same) q);
-    fenced = λ q. absurd (let bad : false ≡ true = sym (ap (λ (x : TurnData). x.fenced) same ∙ rests_free t at rest is) ∙ q in cc);
+    free = ap (λ (x : TurnData). x.fenced) same ∙ rests_free t at rest is;
   }
 
   module _ (t : TurnData) (e : EntryData) (seen more : List EntryData) (p : IsPrefix seen more) (is_one : IsOne e) (k : KnowsIt t seen) where
@@ -185,7 +187,7 @@ module _ {H : Type 0} (kind : EntryKind H EntryData Reply) (listed : H → List 
     knows_taken : (taken : List Taken) → WasAccepted kind listed opened e (reply.Acquired taken) more → KnowsIt (learnt_taken t taken) more
     knows_taken [] accepted = record {
       rests = λ q. record { entry = e; is_one = is_one; accepted = accepted };
-      fenced = λ q. refused_on kind listed opened IsOne seen more p (k.fenced q);
+      free = k.free;
     }
     knows_taken (one ∷ others) accepted = knows_on t (learnt_taken t (one ∷ others)) seen more p refl refl k
 
@@ -198,28 +200,21 @@ module _ {H : Type 0} (kind : EntryKind H EntryData Reply) (listed : H → List 
     knows_reply (reply.Completed entry) accepted = knows_busy t (ended t) seen more p (λ q. not_resting idle.Misfires refl q) refl k
     knows_reply other accepted = knows_on t t seen more p refl refl k
 
-    refused_now : (x : Refusal) → kind.answer (history_at kind listed opened more) e ≡ Err x → EndsThread e.command x → WasRefused kind listed opened IsOne more
-    refused_now x refused ends = record { entry = e; is_one = is_one; refusal = x; before = more; refused_as = refused; ends = ends; begins = prefix_refl more }
-
-    fenced_now : (x : Refusal) → IsPlain e.command → kind.answer (history_at kind listed opened more) e ≡ Err x → (b : Bool) → is_fenced x ≡ b → (b || t.fenced) ≡ true → WasRefused kind listed opened IsOne more
-    fenced_now x plain refused true is q = refused_now x refused (plain_ends e.command x plain is)
-    fenced_now x plain refused false is q = refused_on kind listed opened IsOne seen more p (k.fenced q)
-
-    knows_refused_with : (x : Refusal) → IsPlain e.command → kind.answer (history_at kind listed opened more) e ≡ Err x → (o : Option Held) → KnowsIt (refused_with o (record t { fenced = is_fenced x || t.fenced })) more
-    knows_refused_with x plain refused o = by o where
+    knows_refused_with : (x : Refusal) → declined_of (submit.Refused x) ≡ None → (o : Option Held) → KnowsIt (refused_with o (record t { fenced = is_fenced x || t.fenced })) more
+    knows_refused_with x none o = by o where
       now : TurnData
       now = record t { fenced = is_fenced x || t.fenced }
 
       stays : KnowsIt now more
       stays = record {
         rests = λ q. found_on kind listed opened IsOne seen more p (k.rests q);
-        fenced = λ q. fenced_now x plain refused (is_fenced x) refl q;
+        free = free_or (is_fenced x) t.fenced (free_refusal x none) k.free;
       }
 
       ends : KnowsIt (ended now) more
       ends = record {
         rests = λ q. absurd (not_resting idle.Misfires refl q);
-        fenced = λ q. fenced_now x plain refused (is_fenced x) refl q;
+        free = free_or (is_fenced x) t.fenced (free_refusal x none) k.free;
       }
 
       chosen : (b : Bool) → KnowsIt (if b then ended now else now) more
@@ -230,12 +225,12 @@ module _ {H : Type 0} (kind : EntryKind H EntryData Reply) (listed : H → List 
       by None = stays
       by (Some held) = chosen (ends_at_refusal held.last)
 
-    -- after an error
-    pub knows_error : (error : SubmitError) (known : Known EntryData) → known.seen ≡ more → IsPlain e.command → IsCause kind listed opened e known error → KnowsIt (learnt_answer t (Err error)) more
-    knows_error (submit.Refused x) known same plain cause = knows_refused_with x plain (ap (λ l. kind.answer (history_at kind listed opened l) e) (sym same) ∙ cause) t.held
-    knows_error other known same plain cause = knows_on t t seen more p refl refl k
+    -- after an error at which it goes on
+    pub knows_error : (error : SubmitError) → declined_of error ≡ None → KnowsIt (learnt_answer t (Err error)) more
+    knows_error (submit.Refused x) none = knows_refused_with x none t.held
+    knows_error other none = knows_on t t seen more p refl refl k
 
-  -- A Complete was refused, and that is no limit.
+  -- A Complete was refused, and that is no limit and no fence.
   pub complete_refused : (e : EntryData) (entry : ℕ) (code : Code) (error : SubmitError) (known : Known EntryData) → e.command ≡ asks.Complete entry code → IsOne e → IsCause kind listed opened e known error → declined_of error ≡ None
       → CameToEnd kind listed opened shows until me number known.seen
   complete_refused e entry code (submit.Refused x) known is is_one cause none =
@@ -249,7 +244,7 @@ module _ {H : Type 0} (kind : EntryKind H EntryData Reply) (listed : H → List 
   pub came_to_end : (t : TurnData) (at : ℤ) (seen : List EntryData) → KnowsIt t seen → shows at → t.until ≡ until → wanted t at ≡ want.End → CameToEnd kind listed opened shows until me number seen
   came_to_end t at seen k shown up_to is = by (ends_why t at is) where
     by : (t.fenced ≡ true) ⊎ ((t.idle ≡ idle.Rest) × (int_le t.until at ≡ true)) → CameToEnd kind listed opened shows until me number seen
-    by (inl fenced) = inr (k.fenced fenced)
+    by (inl fenced) = absurd (let bad : false ≡ true = sym k.free ∙ fenced in cc)
     by (inr rests) = inl (record { reading = at; shown = shown; late = subst (λ (u : ℤ). u ≤ℤ at) up_to (by_now t.until at rests.1); rests = k.rests rests.0 })
 
 -- what an answer leaves of what a thread knows, where its number stays
@@ -263,11 +258,11 @@ module _ {H : Type 0} (kind : EntryKind H EntryData Reply) (listed : H → List 
       subst (λ n. KnowsEnd kind listed opened shows until me n u more) (sym number_is) (subst (λ (x : TurnData). KnowsEnd kind listed opened shows until me number x more) (sym is)
       (knows_reply kind listed opened shows until me number t (entry_by same me number command) seen more p (one_of at_is work shown) k r accepted))
 
-  pub knows_after_error : (error : SubmitError) (known : Known EntryData) → now ≡ number → same ≡ at → IsPrefix seen more → IsWork until command → shows at → KnowsEnd kind listed opened shows until me number t seen → known.seen ≡ more → IsPlain command
-      → IsCause kind listed opened (entry_by same me number command) known error → u ≡ learnt_answer t (Err error) → KnowsEnd kind listed opened shows until me now u more
-  knows_after_error error known number_is at_is p work shown k seen_is plain cause is =
+  pub knows_after_error : (error : SubmitError) → now ≡ number → same ≡ at → IsPrefix seen more → IsWork until command → shows at → KnowsEnd kind listed opened shows until me number t seen → declined_of error ≡ None
+      → u ≡ learnt_answer t (Err error) → KnowsEnd kind listed opened shows until me now u more
+  knows_after_error error number_is at_is p work shown k none is =
       subst (λ n. KnowsEnd kind listed opened shows until me n u more) (sym number_is) (subst (λ (x : TurnData). KnowsEnd kind listed opened shows until me number x more) (sym is)
-      (knows_error kind listed opened shows until me number t (entry_by same me number command) seen more p (one_of at_is work shown) k error known seen_is plain cause))
+      (knows_error kind listed opened shows until me number t (entry_by same me number command) seen more p (one_of at_is work shown) k error none))
 
   pub stops_after : (error : SubmitError) (known : Known EntryData) (w : Declined) → same ≡ at → IsWork until command → shows at → IsCause kind listed opened (entry_by same me number command) known error → declined_of error ≡ Some w
       → IsStopped kind listed opened (IsScheduled shows until me number) known w

@@ -172,6 +172,7 @@ by_fault (Some (why.TooMany count)) is = absurd (cc)
 by_fault (Some (why.JournalFull need room)) is = absurd (cc)
 by_fault (Some why.Fault) is = refl
 by_fault (Some why.NoMemory) is = absurd (cc)
+by_fault (Some why.Fenced) is = absurd (cc)
 
 told_fault : (told work : Status) → IsToldAs told work → told ≡ status.DiskFault → work ≡ status.DiskFault
 told_fault told work (inl same) is = sym same ∙ is

@@ -25,6 +25,7 @@ limit_map P Q f (why.TooMany count) p = f (why.TooMany count) p
 limit_map P Q f (why.JournalFull need room) p = f (why.JournalFull need room) p
 limit_map P Q f why.Fault p = tt
 limit_map P Q f why.NoMemory p = tt
+limit_map P Q f why.Fenced p = f why.Fenced p
 
 -- a refusal tells no full journal
 refused_full : (x : Refusal) (need room : ℕ) → declined_of (submit.Refused x) ≡ Some (why.JournalFull need room) → ⊥
@@ -43,17 +44,22 @@ module _ {H E R : Type 0} (kind : EntryKind H E R) where
   declines s e error why.Fault answered is = tt
   declines s e error why.NoMemory answered is = tt
   declines s e (submit.Refused x) (why.TooMany count) answered is = record { refusal = x; refused_as = answered; limit = is }
+  declines s e (submit.Refused x) why.Fenced answered is = record { refusal = x; refused_as = answered; limit = is }
   declines s e (submit.Refused x) (why.JournalFull need room) answered is = absurd (refused_full x need room is)
   declines s e (submit.JournalFull n r) (why.TooMany count) answered is = absurd (cc)
+  declines s e (submit.JournalFull n r) why.Fenced answered is = absurd (cc)
   declines s e (submit.JournalFull n r) (why.JournalFull need room) answered is =
       let needed : n ≡ need = cc in
       let left : r ≡ room = cc in
       subst (λ x. IsOk (kind.answer s.history e) × LacksRoom (kind.size e) x room s) needed (subst (λ x. IsOk (kind.answer s.history e) × LacksRoom (kind.size e) n x s) left answered)
   declines s e submit.NoMemory (why.TooMany count) answered is = absurd (cc)
+  declines s e submit.NoMemory why.Fenced answered is = absurd (cc)
   declines s e submit.NoMemory (why.JournalFull need room) answered is = absurd (cc)
   declines s e submit.Fault (why.TooMany count) answered is = absurd (cc)
+  declines s e submit.Fault why.Fenced answered is = absurd (cc)
   declines s e submit.Fault (why.JournalFull need room) answered is = absurd (cc)
   declines s e (submit.Closed at) (why.TooMany count) answered is = absurd (cc)
+  declines s e (submit.Closed at) why.Fenced answered is = absurd (cc)
   declines s e (submit.Closed at) (why.JournalFull need room) answered is = absurd (cc)
 
   with_more : (h : H) (xs ys : List E) → with_entries kind h (xs ++ ys) ≡ with_entries kind (with_entries kind h xs) ys

@@ -158,6 +158,7 @@ ends_short shows until names why.Fault S closed = closed refl
 ends_short shows until names (why.TooMany count) S closed = tt
 ends_short shows until names (why.JournalFull need room) S closed = tt
 ends_short shows until names why.NoMemory S closed = tt
+ends_short shows until names why.Fenced S closed = tt
 
 module _ {D : Type 0} {g : Ghosts D} (shows : ℤ → Type 0) (until : ℤ) (names : List (List ℕ)) (w : Declined) (s t : BothStores D g) where
   pub ends_moved : (ours : List (List ℕ)) → Moves shows ours (Err w) s t → EndsBy shows until names (Some w) (state_of_both t)

@@ -35,7 +35,7 @@ use Rattle.qz_serve.proofs.Stopping.{DeclinedThread, some_map}
 -- The same with what is known more weakly of the rows that entries leave.
 module _ (leaves weaker : List StateEntryData → StateTables → Type 0) (weaken : (es : List StateEntryData) (T : StateTables) → leaves es T → weaker es T) where
   late_so : (first : List StateEntryData) (own : List ℕ) (at : ℤ) (seen : List StateEntryData) (found : EvidenceData) → FindsLate leaves first own at seen found → FindsLate weaker first own at seen found
-  late_so first own at seen found late = record { looked = late.looked; tables = late.tables; begins = late.begins; checked_in = late.checked_in; rows = weaken late.looked late.tables late.rows; found_is = late.found_is }
+  late_so first own at seen found late = record { looked = late.looked; tables = late.tables; begins = late.begins; checked_in = late.checked_in; rows = weaken late.looked late.tables late.rows; found_is = late.found_is; before = late.before; again = late.again; awake = late.awake }
 
   module _ (shows : ℤ → Type 0) (first seen : List StateEntryData) where
     pub recovery_so : (me : MemberData) (e : EntryData) → IsRecovery shows leaves first me seen e → IsRecovery shows weaker first me seen e

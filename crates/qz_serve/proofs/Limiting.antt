@@ -14,7 +14,7 @@ use Rattle.qz_run.specs.declared.commands.Declined.{Declined}
 use Rattle.qz_trigger_store.specs.Entries.{trigger_entry}
 use Rattle.qz_shared.specs.Since.{further, IsSince}
 use Rattle.qz_rounds.specs.Adding.{IsOfRound, IsRecovery}
-use Rattle.qz_rounds.specs.Looking.{FindsLate, HasCheckedIn, check_in_by}
+use Rattle.qz_rounds.specs.Looking.{FindsLate, HasCheckedIn, HasCheckedInAgain, check_in_by}
 use Rattle.qz_serve.specs.Courses.{Leaves, row_entries_of}
 use Rattle.qz_serve.specs.Declining.{AtLimit, Declines, DeclinedOnTheWay, HasGrown}
 use Rattle.qz_serve.specs.Entries.{IsScheduled}
@@ -76,6 +76,9 @@ module _ (b s : StatesState) (grown : HasGrown of_states (λ h. h.entries) b s) 
         ∙ ap (λ l. l ++ check_in_by at c.seat own ∷ c.later) (append_assoc b.history.entries (further (λ h. h.entries) b s.history.entries) c.before);
   }
 
+  again_before : (own : List ℕ) (before at : ℤ) (es : List StateEntryData) → HasCheckedInAgain s.history.entries own before at es → HasCheckedInAgain b.history.entries own before at es
+  again_before own before at es c = record { earlier = c.earlier; seat = c.seat; later = c.later; checked_in = checked_before own before c.earlier c.checked_in; entries_are = c.entries_are }
+
   has_first : (own : List ℕ) (at : ℤ) (es : List StateEntryData) → HasCheckedIn s.history.entries own at es → IsPrefix s.history.entries es
   has_first own at es c = (c.before ++ check_in_by at c.seat own ∷ c.later, sym (append_assoc s.history.entries c.before (check_in_by at c.seat own ∷ c.later)) ∙ sym c.entries_are)
 
@@ -87,6 +90,9 @@ module _ (b s : StatesState) (grown : HasGrown of_states (λ h. h.entries) b s) 
     checked_in = checked_before own at late.looked late.checked_in;
     rows = leaves_before late.looked late.tables (has_first own at late.looked late.checked_in) late.rows;
     found_is = late.found_is;
+    before = late.before;
+    again = again_before own late.before at late.looked late.again;
+    awake = late.awake;
   }
 
   module _ (shows : ℤ → Type 0) (seen : List StateEntryData) where

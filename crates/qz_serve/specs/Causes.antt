@@ -9,6 +9,7 @@ rank why.Fault = 0
 rank (why.JournalFull need room) = 1
 rank why.NoMemory = 2
 rank (why.TooMany count) = 3
+rank why.Fenced = 4
 
 -- Of two causes the one of least exit number, and the first where these are the same.
 abbrev pub least_cause : Option Declined → Option Declined → Option Declined

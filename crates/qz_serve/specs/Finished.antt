@@ -1,5 +1,5 @@
 -- How the threads of nodes come to their end, where no store made them stop early.
-use Rattle.std.specs.Prelude.{⊤, ◌≡◌, ◌⊎◌, ◌≤ℤ◌, ℕ, ℤ, true, List, [], ◌∷◌, ◌++◌, Option, Some, None, Ok, Err}
+use Rattle.std.specs.Prelude.{⊤, ◌≡◌, ◌⊎◌, ◌≤ℤ◌, ℕ, ℤ, true, false, List, [], ◌∷◌, ◌++◌, Option, Some, None, Ok, Err}
 use Rattle.std.specs.List.{AllByRecursion}
 use mathlib.Core.List.{IsPrefix}
 use Rattle.qz_types.specs.Entries.{EntryData, StateEntryData}
@@ -10,7 +10,7 @@ use Rattle.qz_types.specs.declared.errors.SubmitError.TheVariants as submit
 use Rattle.qz_types.specs.declared.replies.Refusal.{Refusal}
 use Rattle.qz_types.specs.declared.replies.Reply.{Reply}
 use Rattle.qz_types.specs.declared.replies.Reply.TheVariants as reply
-use Rattle.qz_node.specs.Turns.{TurnData, is_fenced}
+use Rattle.qz_node.specs.Turns.{TurnData}
 use Rattle.qz_node.specs.declared.turns.Idle.TheVariants as idle
 use Rattle.qz_row_lock.specs.declared.logged.Logged.{Ghosts}
 use Rattle.qz_row_lock.specs.declared.row.RowLock.{RowLock}
@@ -26,10 +26,10 @@ use Rattle.qz_shared.specs.declared.stores.RowStore.{Ghosts as StoreGhosts}
 use Rattle.qz_stores.specs.Stores.{EntryKind, StoreState}
 use Rattle.qz_serve.specs.Entries.{IsScheduled}
 
--- This refusal ends a scheduler thread, and is no limit of the store: that of a Complete, or that the node is fenced.
+-- This refusal ends a scheduler thread, and isn't told as a cause: that of a Complete, where it is no limit and the node isn't fenced.
 abbrev pub EndsThread : Command → Refusal → Type 0
 EndsThread (asks.Complete entry code) refusal = declined_of (submit.Refused refusal) ≡ None
-EndsThread other refusal = is_fenced refusal ≡ true
+EndsThread other refusal = ⊥
 
 module _ {H : Type 0} (kind : EntryKind H EntryData Reply) (listed : H → List EntryData) (opened : StoreState H EntryData) where
   -- The store accepted an entry with this reply, which has been seen.
@@ -54,11 +54,11 @@ module _ {H : Type 0} (kind : EntryKind H EntryData Reply) (listed : H → List 
     pub ends : EndsThread entry.command refusal
     pub begins : IsPrefix before seen
 
-  -- What a scheduler thread that works up to a moment knows of its end between two steps: where it rests, it found nothing due; where
-  -- it is fenced, it was refused so.
+  -- What a scheduler thread that works up to a moment knows of its end between two steps: where it rests, it found nothing due; and
+  -- it isn't fenced.
   pub record KnowsEnd (shows : ℤ → Type 0) (until : ℤ) (me : MemberData) (number : ℕ) (turn : TurnData) (seen : List EntryData) : Type 0 where
     pub rests : turn.idle ≡ idle.Rest → FoundNothing (IsScheduled shows until me number) seen
-    pub fenced : turn.fenced ≡ true → WasRefused (IsScheduled shows until me number) seen
+    pub free : turn.fenced ≡ false
 
   -- It rested at a reading that the clock shows and that isn't before this moment.
   pub record RestedLate (shows : ℤ → Type 0) (until : ℤ) (me : MemberData) (number : ℕ) (seen : List EntryData) : Type 0 where
@@ -67,7 +67,7 @@ module _ {H : Type 0} (kind : EntryKind H EntryData Reply) (listed : H → List 
     pub late : until ≤ℤ reading
     pub rests : FoundNothing (IsScheduled shows until me number) seen
 
-  -- It came to its end: it rested that late, or was refused so that it ends.
+  -- It came to its end: it rested that late, or a Complete was refused so that it ends.
   abbrev pub CameToEnd : (ℤ → Type 0) → ℤ → MemberData → ℕ → List EntryData → Type 0
   CameToEnd shows until me number seen = RestedLate shows until me number seen ⊎ WasRefused (IsScheduled shows until me number) seen
 

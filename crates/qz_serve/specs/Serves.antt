@@ -43,6 +43,7 @@ status_of (Some (why.TooMany count)) = status.TooMany count
 status_of (Some (why.JournalFull need room)) = status.JournalFull need room
 status_of (Some why.Fault) = status.DiskFault
 status_of (Some why.NoMemory) = status.NoMemory
+status_of (Some why.Fenced) = status.Fenced
 
 -- Of each entry it is known whether the store's disk has it, unless the disk's count of faults rose since it was so.
 abbrev pub IsDecided : {H E : Type 0} → ℕ → StoreState H E → Type 0

@@ -265,5 +265,6 @@ fn status_of(cause: Option<Declined>) -> Status
         Some(Declined::JournalFull { need, room }) => Status::JournalFull { need, room },
         Some(Declined::Fault) => Status::DiskFault,
         Some(Declined::NoMemory) => Status::NoMemory,
+        Some(Declined::Fenced) => Status::Fenced,
     }
 }

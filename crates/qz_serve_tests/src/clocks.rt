@@ -87,3 +87,53 @@ impl SharedClock for CountingClock {
 
     fn rest<R: Wait>(&self, _rt: &R, _millis: u32) {}
 }
+
+/// How often a rest of a `RestsClock` looks at nothing, so that it takes some time.
+const SPINS: u64 = 100_000;
+
+/// Begins at 0, and goes on by as much as each rest asks for. It counts the rests, and notes the longest one.
+#[derive(Drop)]
+pub struct RestsClock {
+    at: AtomicI64,
+    rests: AtomicU64,
+    longest: AtomicU64,
+}
+
+impl RestsClock {
+    pub fn new() -> RestsClock {
+        RestsClock {
+            at: AtomicI64::new(0),
+            rests: AtomicU64::new(0),
+            longest: AtomicU64::new(0),
+        }
+    }
+
+    /// How many rests there were.
+    pub fn rests(&self) -> u64 {
+        self.rests.load(Ordering::SeqCst)
+    }
+
+    /// How long the longest one was, in ms.
+    pub fn longest(&self) -> u64 {
+        self.longest.load(Ordering::SeqCst)
+    }
+}
+
+impl SharedClock for RestsClock {
+    ghost use Rattle.std.specs.Prelude.{⊤};
+
+    ghost shows = { λ clock at. ⊤ };
+
+    fn now(&self) -> i64 {
+        self.at.load(Ordering::SeqCst)
+    }
+
+    fn rest<R: Wait>(&self, _rt: &R, millis: u32) {
+        for _ in 0..SPINS {
+            let _ = self.rests();
+        }
+        self.at.fetch_add(i64::from(millis), Ordering::SeqCst);
+        self.rests.fetch_add(1, Ordering::SeqCst);
+        self.longest.fetch_max(u64::from(millis), Ordering::SeqCst);
+    }
+}

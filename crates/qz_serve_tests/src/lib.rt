@@ -10,4 +10,6 @@ mod disks;
 #[cfg(test)]
 mod gates;
 #[cfg(test)]
+mod rounds;
+#[cfg(test)]
 mod serving;

@@ -71,6 +71,10 @@ impl<D: Disk> RoundStore for SharedStates<D> {
 
     ghost tables = { λ s. replay_states (view s.store).history };
 
+    fn last_moment(&self) -> i64 {
+        self.store.last_moment()
+    }
+
     fn failed(&self, at: i64, own: &Text) -> Result<Option<Evidence>, NoMemory> {
         self.store.failed(at, own)
     }

@@ -55,6 +55,7 @@ caused_at status.NoMemory v w old new same words read write disk = tt
 caused_at status.Exists v w old new same words read write disk = tt
 caused_at (status.Budget firings) v w old new same words read write disk = tt
 caused_at (status.TooMany count) v w old new same words read write disk = tt
+caused_at status.Fenced v w old new same words read write disk = tt
 caused_at status.OldStore v w old new same words read write disk = tt
 caused_at (status.BadStream at) v w old new same words read write disk = tt
 

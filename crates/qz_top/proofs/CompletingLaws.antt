@@ -122,6 +122,7 @@ script_done told (status.Damaged st at) before after old new lines readings repl
 script_done told status.Exists before after old new lines readings replies run is none bytes left good = absurd run.called
 script_done told (status.Budget firings) before after old new lines readings replies run is none bytes left good = absurd run.called
 script_done told (status.TooMany count) before after old new lines readings replies run is none bytes left good = absurd run.called
+script_done told status.Fenced before after old new lines readings replies run is none bytes left good = absurd run.called
 script_done told status.OldStore before after old new lines readings replies run is none bytes left good = absurd run.called
 script_done told (status.BadStream at) before after old new lines readings replies run is none bytes left good = absurd run.called
 
@@ -149,6 +150,7 @@ done_or_full (status.Damaged st at) is = absurd is
 done_or_full status.Exists is = absurd is
 done_or_full (status.Budget firings) is = absurd is
 done_or_full (status.TooMany count) is = absurd is
+done_or_full status.Fenced is = absurd is
 done_or_full status.OldStore is = absurd is
 done_or_full (status.BadStream at) is = absurd is
 
@@ -158,6 +160,7 @@ full_by_nodes status.NoMemory is = tt
 full_by_nodes (status.JournalFull need room) is = tt
 full_by_nodes (status.Budget firings) is = tt
 full_by_nodes (status.TooMany count) is = tt
+full_by_nodes status.Fenced is = absurd is
 full_by_nodes status.OldStore is = tt
 full_by_nodes (status.BadStream at) is = absurd is
 full_by_nodes (status.BadWords fault) is = absurd is
@@ -175,6 +178,7 @@ nodes_by_generator status.NoMemory is = tt
 nodes_by_generator (status.JournalFull need room) is = tt
 nodes_by_generator (status.Budget firings) is = tt
 nodes_by_generator (status.TooMany count) is = tt
+nodes_by_generator status.Fenced is = absurd is
 nodes_by_generator status.OldStore is = tt
 nodes_by_generator (status.BadStream at) is = absurd is
 nodes_by_generator status.Exists is = tt
@@ -217,6 +221,7 @@ finished_done (status.Damaged st at) closed old new faults faults_now finishes n
 finished_done status.Exists closed old new faults faults_now finishes none = absurd finishes
 finished_done (status.Budget firings) closed old new faults faults_now finishes none = absurd finishes
 finished_done (status.TooMany count) closed old new faults faults_now finishes none = absurd finishes
+finished_done status.Fenced closed old new faults faults_now finishes none = absurd finishes
 finished_done status.OldStore closed old new faults faults_now finishes none = absurd finishes
 finished_done (status.BadStream at) closed old new faults faults_now finishes none = absurd finishes
 
@@ -237,6 +242,7 @@ none_done (status.Damaged st at) before after old new had none bytes left docume
 none_done status.Exists before after old new had none bytes left document good = absurd had.cause
 none_done (status.Budget firings) before after old new had none bytes left document good = absurd had.cause
 none_done (status.TooMany count) before after old new had none bytes left document good = absurd had.cause
+none_done status.Fenced before after old new had none bytes left document good = absurd had.cause
 none_done status.OldStore before after old new had none bytes left document good = absurd had.cause
 none_done (status.BadStream at) before after old new had none bytes left document good = absurd had.cause
 
@@ -265,6 +271,7 @@ listed_done (status.Damaged st at) text old new wrote none = absurd wrote
 listed_done status.Exists text old new wrote none = absurd wrote
 listed_done (status.Budget firings) text old new wrote none = absurd wrote
 listed_done (status.TooMany count) text old new wrote none = absurd wrote
+listed_done status.Fenced text old new wrote none = absurd wrote
 listed_done status.OldStore text old new wrote none = absurd wrote
 listed_done (status.BadStream at) text old new wrote none = absurd wrote
 
@@ -282,6 +289,7 @@ upgraded_done (status.Damaged st place) at opened end old new upgrades none = ab
 upgraded_done status.Exists at opened end old new upgrades none = absurd upgrades
 upgraded_done (status.Budget firings) at opened end old new upgrades none = absurd upgrades
 upgraded_done (status.TooMany count) at opened end old new upgrades none = absurd upgrades
+upgraded_done status.Fenced at opened end old new upgrades none = absurd upgrades
 upgraded_done status.OldStore at opened end old new upgrades none = absurd upgrades
 upgraded_done (status.BadStream place) at opened end old new upgrades none = absurd upgrades
 
@@ -330,6 +338,7 @@ ended_told : (p : Plan) (s : Status) (end : ClusterState) (x : WorkState) → En
 ended_told p status.Ok end x ended = tt
 ended_told p (status.Budget firings) end x ended = tt
 ended_told p (status.TooMany count) end x ended = tt
+ended_told p status.Fenced end x ended = absurd ended
 ended_told p (status.JournalFull need room) end x ended = tt
 ended_told p status.DiskFault end x ended = tt
 ended_told p status.NoMemory end x ended = tt
@@ -354,6 +363,7 @@ rested_done status.Ok s a b is (inr (inl fault)) none = absurd (none.disk fault.
 rested_done status.Ok s a b is (inr (inr starved)) none = subst IsDoneByNodes (sym starved.0) tt
 rested_done (status.Budget firings) s a b is rests none = subst IsDoneByNodes (sym rests.0) tt
 rested_done (status.TooMany count) s a b is rests none = subst IsDoneByNodes (sym rests.0) tt
+rested_done status.Fenced s a b is rests none = absurd is
 rested_done (status.JournalFull need room) s a b is rests none = subst IsDoneByNodes (sym rests.0) tt
 rested_done status.NoMemory s a b is rests none = subst IsDoneByNodes (sym rests.0) tt
 rested_done status.DiskFault s a b is rests none = absurd (none.disk rests.0)
@@ -411,6 +421,7 @@ module _ {D : Type 0} (g : Ghosts D) (honest : g.honest) (t t' u u' : D) (trigge
   init_done status.NoMemory made none = absurd made
   init_done (status.Budget firings) made none = absurd made
   init_done (status.TooMany count) made none = absurd made
+  init_done status.Fenced made none = absurd made
   init_done status.OldStore made none = absurd made
   init_done (status.BadStream at) made none = absurd made
 

@@ -260,6 +260,7 @@ module _ {D K C : Type 0} (g : Ghosts D) (k : sink.Ghosts K) (c : clock.Ghosts C
   IsRun-whole status.Exists i j a b after out m n lines rests finishes = absurd finishes
   IsRun-whole (status.Budget firings) i j a b after out m n lines rests finishes = absurd finishes
   IsRun-whole (status.TooMany count) i j a b after out m n lines rests finishes = absurd finishes
+  IsRun-whole status.Fenced i j a b after out m n lines rests finishes = absurd finishes
   IsRun-whole status.OldStore i j a b after out m n lines rests finishes = absurd finishes
   IsRun-whole (status.BadStream at) i j a b after out m n lines rests finishes = absurd finishes
 
@@ -299,5 +300,6 @@ finish_called status.NoMemory closed old new m n finishes = tt
 finish_called status.Exists closed old new m n finishes = absurd finishes
 finish_called (status.Budget firings) closed old new m n finishes = absurd finishes
 finish_called (status.TooMany count) closed old new m n finishes = absurd finishes
+finish_called status.Fenced closed old new m n finishes = absurd finishes
 finish_called status.OldStore closed old new m n finishes = absurd finishes
 finish_called (status.BadStream at) closed old new m n finishes = absurd finishes

@@ -181,6 +181,7 @@ finishes_none (status.JournalFull need room) closed old new faults faults_now fi
 finishes_none status.Exists closed old new faults faults_now finishes = absurd finishes
 finishes_none (status.Budget firings) closed old new faults faults_now finishes = absurd finishes
 finishes_none (status.TooMany count) closed old new faults faults_now finishes = absurd finishes
+finishes_none status.Fenced closed old new faults faults_now finishes = absurd finishes
 finishes_none status.OldStore closed old new faults faults_now finishes = absurd finishes
 finishes_none (status.BadStream at) closed old new faults faults_now finishes = absurd finishes
 

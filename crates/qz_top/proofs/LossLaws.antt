@@ -157,6 +157,7 @@ end_keeps honest status.DiskFault left lines more last after end = rested_histor
 end_keeps honest status.Exists left lines more last after end = same_history last after end
 end_keeps honest (status.Budget firings) left lines more last after end = same_history last after end
 end_keeps honest (status.TooMany count) left lines more last after end = same_history last after end
+end_keeps honest status.Fenced left lines more last after end = same_history last after end
 end_keeps honest status.OldStore left lines more last after end = same_history last after end
 end_keeps honest (status.BadStream at) left lines more last after end = same_history last after end
 

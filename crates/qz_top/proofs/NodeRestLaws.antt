@@ -53,6 +53,7 @@ rests_may (status.JournalFull need room) r s t rests = inl rests.1
 rests_may status.NoMemory r s t rests = inl rests.1
 rests_may status.Exists r s t rests = inl rests.1
 rests_may (status.TooMany count) r s t rests = inl rests.1
+rests_may status.Fenced r s t rests = inl rests.1
 rests_may status.OldStore r s t rests = inl rests.1
 rests_may (status.BadStream at) r s t rests = inl rests.1
 
@@ -73,6 +74,7 @@ rests_status (status.JournalFull need room) r s t rests = inl rests.0
 rests_status status.NoMemory r s t rests = inl rests.0
 rests_status status.Exists r s t rests = inl rests.0
 rests_status (status.TooMany count) r s t rests = inl rests.0
+rests_status status.Fenced r s t rests = inl rests.0
 rests_status status.OldStore r s t rests = inl rests.0
 rests_status (status.BadStream at) r s t rests = inl rests.0
 
@@ -91,6 +93,7 @@ rests_none (status.JournalFull need room) s = (refl, refl)
 rests_none status.NoMemory s = (refl, refl)
 rests_none status.Exists s = (refl, refl)
 rests_none (status.TooMany count) s = (refl, refl)
+rests_none status.Fenced s = (refl, refl)
 rests_none status.OldStore s = (refl, refl)
 rests_none (status.BadStream at) s = (refl, refl)
 

@@ -79,6 +79,11 @@ saw_after n k begun end added rows counted rows_counted went =
 
 -- How it ended.
 
+-- no node of a run is fenced
+never_fenced : (p : Plan) (E : ClusterState) (s : RunState) → WasStopped p declined.Fenced E s → ⊥
+never_fenced p E s (inl one) = one.declined
+never_fenced p E s (inr one) = one.declined.1.1
+
 ends_by : (p : Plan) (end : Result Bool Declined) (E : ClusterState) (s : RunState) → IfOk end (λ spent. Ends p spent s) → IfErr end (λ why. WasStopped p why E s) → EndsWork p (status_of p end) E s
 ends_by p (Ok false) E s ends stopped = ends
 ends_by p (Ok true) E s ends stopped = (refl, ends)
@@ -86,6 +91,7 @@ ends_by p (Err (declined.TooMany count)) E s ends stopped = stopped
 ends_by p (Err (declined.JournalFull need room)) E s ends stopped = stopped
 ends_by p (Err declined.Fault) E s ends stopped = stopped
 ends_by p (Err declined.NoMemory) E s ends stopped = stopped
+ends_by p (Err declined.Fenced) E s ends stopped = absurd (never_fenced p E s stopped)
 
 called_by : (p : Plan) (end : Result Bool Declined) (log : List Event) (jobs jobs' : List JobMeaning) → OnOk end (Ran log jobs jobs') → OnErr end (RanOrMore log jobs jobs')
     → CalledJobs (status_of p end) log jobs jobs'
@@ -95,6 +101,7 @@ called_by p (Err (declined.TooMany count)) log jobs jobs' ran more = more
 called_by p (Err (declined.JournalFull need room)) log jobs jobs' ran more = more
 called_by p (Err declined.Fault) log jobs jobs' ran more = more
 called_by p (Err declined.NoMemory) log jobs jobs' ran more = more
+called_by p (Err declined.Fenced) log jobs jobs' ran more = more
 
 module _ {D : Type 0} {g : Ghosts D} where
   went_from : (b t : TriggerStore D g) (c u : StateStore D g) (went : TriggersWent b t) (rows : StatesWent c u) → WentOn (both b c) (both t u) went.added rows.added

@@ -86,6 +86,7 @@ end_sound honest status.DiskFault left lines more last after end not_own sound =
 end_sound honest status.Exists left lines more last after end not_own sound = same_run_sound last after end sound
 end_sound honest (status.Budget firings) left lines more last after end not_own sound = same_run_sound last after end sound
 end_sound honest (status.TooMany count) left lines more last after end not_own sound = same_run_sound last after end sound
+end_sound honest status.Fenced left lines more last after end not_own sound = same_run_sound last after end sound
 end_sound honest status.OldStore left lines more last after end not_own sound = same_run_sound last after end sound
 end_sound honest (status.BadStream at) left lines more last after end not_own sound = same_run_sound last after end sound
 
@@ -109,6 +110,7 @@ end_trail honest status.DiskFault left lines more last after end = rested_trail 
 end_trail honest status.Exists left lines more last after end = ap (λ (r : RunState). r.trail) end
 end_trail honest (status.Budget firings) left lines more last after end = ap (λ (r : RunState). r.trail) end
 end_trail honest (status.TooMany count) left lines more last after end = ap (λ (r : RunState). r.trail) end
+end_trail honest status.Fenced left lines more last after end = ap (λ (r : RunState). r.trail) end
 end_trail honest status.OldStore left lines more last after end = ap (λ (r : RunState). r.trail) end
 end_trail honest (status.BadStream at) left lines more last after end = ap (λ (r : RunState). r.trail) end
 

@@ -46,6 +46,7 @@ module _ (last after : RunState) where
   rests_may status.Exists rests = absurd rests
   rests_may (status.Budget firings) rests = absurd rests
   rests_may (status.TooMany count) rests = absurd rests
+  rests_may status.Fenced rests = absurd rests
   rests_may status.OldStore rests = absurd rests
   rests_may (status.BadStream at) rests = absurd rests
 
@@ -114,6 +115,7 @@ module _ (last after : RunState) where
     rests_open status.Exists finishes other rested = absurd finishes
     rests_open (status.Budget firings) finishes other rested = absurd finishes
     rests_open (status.TooMany count) finishes other rested = absurd finishes
+    rests_open status.Fenced finishes other rested = absurd finishes
     rests_open status.OldStore finishes other rested = absurd finishes
     rests_open (status.BadStream at) finishes other rested = absurd finishes
 
@@ -131,6 +133,7 @@ module _ (last after : RunState) where
     rests_closed status.Exists finishes other may = absurd finishes
     rests_closed (status.Budget firings) finishes other may = absurd finishes
     rests_closed (status.TooMany count) finishes other may = absurd finishes
+    rests_closed status.Fenced finishes other may = absurd finishes
     rests_closed status.OldStore finishes other may = absurd finishes
     rests_closed (status.BadStream at) finishes other may = absurd finishes
 

@@ -158,6 +158,7 @@ writes_kept (status.JournalFull need room) x y z replies wrote kept = wrote_noth
 writes_kept (status.Budget firings) x y z replies wrote kept = wrote_nothing x y z _ wrote kept
 writes_kept status.Exists x y z replies wrote kept = wrote_nothing x y z _ wrote kept
 writes_kept (status.TooMany count) x y z replies wrote kept = wrote_nothing x y z _ wrote kept
+writes_kept status.Fenced x y z replies wrote kept = wrote_nothing x y z _ wrote kept
 writes_kept status.OldStore x y z replies wrote kept = wrote_nothing x y z _ wrote kept
 writes_kept (status.BadStream at) x y z replies wrote kept = wrote_nothing x y z _ wrote kept
 

@@ -53,6 +53,7 @@ pub wrote_all : (s : Status) (text : List ℕ) (old new : Outside) → IsOfNodes
 wrote_all status.Ok text old new is appends handed = (appends, handed)
 wrote_all (status.Budget firings) text old new is appends handed = (appends, handed)
 wrote_all (status.TooMany count) text old new is appends handed = (appends, handed)
+wrote_all status.Fenced text old new is appends handed = (appends, handed)
 wrote_all (status.JournalFull need room) text old new is appends handed = (appends, handed)
 wrote_all status.DiskFault text old new is appends handed = (appends, handed)
 wrote_all status.NoMemory text old new is appends handed = (length text, omega arith, subst (λ (l : List ℕ). Appends old.held new.held l) (sym (take-length text)) appends)

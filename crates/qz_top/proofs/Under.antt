@@ -70,6 +70,7 @@ module _ (P Q : Type 0) (tells : P → ∥ Q ∥₁) where
   end_under status.Exists left lines more last after end = end
   end_under (status.Budget firings) left lines more last after end = end
   end_under (status.TooMany count) left lines more last after end = end
+  end_under status.Fenced left lines more last after end = end
   end_under status.OldStore left lines more last after end = end
   end_under (status.BadStream at) left lines more last after end = end
 

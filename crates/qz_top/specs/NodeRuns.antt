@@ -110,12 +110,14 @@ status_of p (Err (declined.TooMany count)) = status.TooMany count
 status_of p (Err (declined.JournalFull need room)) = status.JournalFull need room
 status_of p (Err declined.Fault) = status.DiskFault
 status_of p (Err declined.NoMemory) = status.NoMemory
+status_of p (Err declined.Fenced) = status.Fenced
 
 -- how the nodes' work may end
 abbrev pub IsOfNodes : Status → Type 0
 IsOfNodes status.Ok = ⊤
 IsOfNodes (status.Budget firings) = ⊤
 IsOfNodes (status.TooMany count) = ⊤
+IsOfNodes status.Fenced = ⊤
 IsOfNodes (status.JournalFull need room) = ⊤
 IsOfNodes status.DiskFault = ⊤
 IsOfNodes status.NoMemory = ⊤

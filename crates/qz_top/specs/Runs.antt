@@ -57,6 +57,7 @@ Reads status.NoMemory left left_now lines = ReadFirst left lines
 Reads status.Exists left left_now lines = ⊥
 Reads (status.Budget firings) left left_now lines = ⊥
 Reads (status.TooMany count) left left_now lines = ⊥
+Reads status.Fenced left left_now lines = ⊥
 Reads status.OldStore left left_now lines = ⊥
 Reads (status.BadStream at) left left_now lines = ⊥
 
@@ -137,6 +138,7 @@ IsOfScript (status.BadWords fault) = ⊥
 IsOfScript status.Exists = ⊥
 IsOfScript (status.Budget firings) = ⊥
 IsOfScript (status.TooMany count) = ⊥
+IsOfScript status.Fenced = ⊥
 IsOfScript status.OldStore = ⊥
 IsOfScript (status.BadStream at) = ⊥
 IsOfScript s = ⊤

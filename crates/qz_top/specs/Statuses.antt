@@ -36,6 +36,7 @@ exit_number status.Exists = 10
 exit_number (status.TooMany count) = 11
 exit_number status.OldStore = 12
 exit_number (status.BadStream at) = 13
+exit_number status.Fenced = 14
 
 abbrev pub kind_text : BadKind → List ℕ
 kind_text TooLong = codes "too long"
@@ -72,6 +73,7 @@ error_text status.Exists = codes "qz: store exists\n"
 error_text (status.TooMany count) = codes "qz: too many " ++ decimal count ++ codes "\n"
 error_text status.OldStore = codes "qz: old store\n"
 error_text (status.BadStream at) = codes "qz: bad stream at " ++ decimal at ++ codes "\n"
+error_text status.Fenced = codes "qz: fenced\n"
 
 -- how a script ends whose next step was cut short so
 abbrev pub cut_status : StepEnd → Status

@@ -48,6 +48,7 @@ fn write_error<E: Sink>(status: Status, err: &mut E) -> Result<(), Failed>
         Status::TooMany { count } => write_too_many(count, err),
         Status::OldStore => write_all(err, b"qz: old store\n"),
         Status::BadStream { at } => write_bad_stream(at, err),
+        Status::Fenced => write_all(err, b"qz: fenced\n"),
     }
 }
 

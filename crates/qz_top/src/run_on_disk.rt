@@ -126,5 +126,6 @@ fn status_of(end: Result<bool, Declined>, plan: &Plan) -> Status
         Err(Declined::JournalFull { need, room }) => Status::JournalFull { need, room },
         Err(Declined::Fault) => Status::DiskFault,
         Err(Declined::NoMemory) => Status::NoMemory,
+        Err(Declined::Fenced) => Status::Fenced,
     }
 }

@@ -79,6 +79,9 @@ pub enum Status {
     /// `follow` and `compact`: the first bad place of the input's bytes, as an offset; or their number, where they end within the header. No store
     /// was made.
     BadStream { at: u64 },
+    /// `serve`: one of its nodes was recovered by another one while it worked, so that what it asked next was refused. What its
+    /// executions did may have been done once more.
+    Fenced,
 }
 
 impl Status {
@@ -102,6 +105,7 @@ impl Status {
             Status::TooMany { count: _ } => 11,
             Status::OldStore => 12,
             Status::BadStream { at: _ } => 13,
+            Status::Fenced => 14,
         }
     }
 }

@@ -13,11 +13,12 @@ fn rank(cause: &Declined) -> u32
         Declined::JournalFull { .. } => 1,
         Declined::NoMemory => 2,
         Declined::TooMany { .. } => 3,
+        Declined::Fenced => 4,
     }
 }
 
-/// Of two threads' causes the one of least exit number: a fault before a full journal, that before want of memory, and that
-/// before a limit.
+/// Of two threads' causes the one of least exit number: a fault before a full journal, that before want of memory, that
+/// before a limit, and that before a fence.
 pub(super) fn least_cause(one: Option<Declined>, other: Option<Declined>) -> Option<Declined>
     ensures { result ≡ least_cause one other }
 {

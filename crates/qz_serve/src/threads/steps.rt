@@ -34,7 +34,7 @@ fn note(context: &mut Option<JobContext>, reply: Reply)
             }
         }
         Reply::Completed { entry: _ } => *context = None,
-        _ => {}
+        other => drop(other),
     }
 }
 

@@ -36,8 +36,8 @@ returns-in-None-clause-knows g c =
     let f = c.ask.ensures in
     let s = c.args.seat.now in
     let t = c.ask.new.seat in
-    knows_after_error k.kind k.listed (k.state (first_value c.args.row.now).opened.value) (g.C.SharedClock.shows c.args.clock.now) c.args.turn.now.until c.args.me.now s.number t.number c.args.turn.now c.ask.new.turn c.args.at _ c.args.command (seen s) (seen t)
-    c.in-Err.error (known t) f.same.number (search rules) f.begins (is_work c.args.turn.now c.args.at c.args.command c.requires.wanted) c.requires.shown c.requires.knows refl c.requires.plain c.in-Err.ensures.cause (search rules)
+    knows_after_error k.kind k.listed (k.state (first_value c.args.row.now).opened.value) (g.C.SharedClock.shows c.args.clock.now) c.args.turn.now.until c.args.me.now s.number t.number c.args.turn.now c.ask.new.turn c.args.at c.args.at c.args.command (seen s) (seen t)
+    c.in-Err.error f.same.number (search rules) f.begins (is_work c.args.turn.now c.args.at c.args.command c.requires.wanted) c.requires.shown c.requires.knows (sym c.declined.ensures ∙ c.in-None.is) (search rules)
 
 pub note-requires : goal.note-requires
 note-requires g c = record { within = may_follow c.args.command c.args.context.now c.in-Ok.reply c.requires.plain c.in-Ok.ensures.fits }
