@@ -1,24 +1,13 @@
-//! Tests of the crates of fire times: dates and zones, cron texts, the four kinds, and misfires.
+//! Tests of the crates of fire times, of what no worked row can show: dates and zones, cron texts with their places, zone rules, and values
+//! that no line has.
 #![tactic(auto)]
 
 #[cfg(test)]
-mod calendars;
+mod beyond;
 #[cfg(test)]
 mod civil;
 #[cfg(test)]
-mod cron;
-#[cfg(test)]
 mod cron_text;
-#[cfg(test)]
-mod daily;
-#[cfg(test)]
-mod interval;
-#[cfg(test)]
-mod misfires;
-#[cfg(test)]
-mod planned;
-#[cfg(test)]
-mod simple;
 #[cfg(test)]
 mod zone_rules;
 #[cfg(test)]

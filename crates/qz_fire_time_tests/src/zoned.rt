@@ -1,10 +1,9 @@
-//! Tables of tests with the loops over them, and what they give: zones, moments and spans, which a call takes only where
-//! they are in range.
+//! Tables of tests with the loops over them, and what they give: zones, and moments, which a call takes only where they are in range.
 ghost use Rattle.std.specs.Prelude.{◌≡◌, negsuc};
 ghost use Rattle.qz_civil.specs.declared.limits.TheConstants.{LAST};
-ghost use Rattle.qz_civil.specs.Timings.{is_every, is_span, is_within};
+ghost use Rattle.qz_civil.specs.Timings.{is_within};
 
-use qz_civil::{LAST, LONGEST, List, Stretch, Times, Zone};
+use qz_civil::{LAST, List, Stretch, Times, Zone};
 use std::alloc::{AllocError, Global};
 use std::fmt::Debug;
 use std::process::Abort;
@@ -31,22 +30,8 @@ pub fn zone_of(alloc: Global, stretches: &[Begin]) -> Result<Zone, Fail> {
     Ok(Zone::table(list_of(alloc, stretches)?)?)
 }
 
-/// Whether a time may be a start, an end or a span.
-pub fn is_span(ms: i64) -> bool
-    ensures { result ≡ is_span ms }
-{
-    0 <= ms && ms <= LONGEST
-}
-
-/// Whether a trigger may fire each so many units.
-pub fn is_every(every: u32) -> bool
-    ensures { result ≡ is_every every }
-{
-    1 <= every && every <= 2147483647
-}
-
 /// Whether `next` may be asked what comes after it.
-pub fn is_moment(after: i64) -> bool
+fn is_moment(after: i64) -> bool
     ensures { result ≡ is_within (negsuc 0) LAST after }
 {
     -1 <= after && after <= LAST
@@ -61,13 +46,6 @@ pub fn is_next<T: Times>(trigger: &T, after: i64, wanted: Option<i64>) -> bool {
 pub fn check<R: Row>(rt: &impl Abort, zone: &Zone, rows: &[R]) {
     for row in rows.iter() {
         assert!(rt; row.holds(zone), "at {row:?}");
-    }
-}
-
-/// The rows of each table hold in UTC.
-pub fn check_in_utc<R: Row>(rt: &impl Abort, tables: &[&[R]]) {
-    for rows in tables.iter() {
-        check(rt, &Zone::utc(), rows);
     }
 }
 

@@ -1,11 +1,11 @@
-//! Worked examples, and each call once.
+//! Sources, sinks and clocks: inputs that come in small pieces, devices that fail, and those of the system, each once.
 ghost use Rattle.std.specs.Prelude.{Some};
 
-use crate::rows::{Row, check};
 use qz_civil::{Failed, List, beside};
+use qz_input::{DOCUMENT_LIMIT, read_whole};
 use qz_io::{
-    Clock, FaultSink, FaultSource, Found, LINE_LIMIT, LineReader, ListClock, MemSink, MemSource,
-    RealClock, Sink, Source, StdSink, StdSource, write_all,
+    Clock, FaultSink, FaultSource, Found, LineReader, ListClock, MemSink, MemSource, RealClock,
+    Sink, Source, StdSink, StdSource, write_all,
 };
 use std::alloc::{AllocError, Global};
 
@@ -57,81 +57,9 @@ fn tells<S: Source>(alloc: Global, source: &mut S, want: &[u8]) -> Result<bool, 
     Ok(out.as_slice() == want)
 }
 
-// What a source has, and what a reader hands out of it.
-type LineRow = (&'static [u8], &'static [u8]);
-
-impl Row for LineRow {
-    fn holds(&self, alloc: Global) -> Result<bool, AllocError> {
-        let &(bytes, want) = self;
-        let mut source = MemSource::new(list(alloc, bytes)?);
-        tells(alloc, &mut source, want)
-    }
-}
-
-const LINES: &[LineRow] = &[
-    (b"", b"."),
-    (b"\n", b"[]."),
-    (b"a\n\nb", b"[a][]<b>."),
-    (b"a\nb\n", b"[a][b]."),
-    (b"\n\nab", b"[][]<ab>."),
-    (b"a\r\n b\n", b"[a\r][ b]."),
-];
-
-#[test]
-fn lines_of_a_source(rt: HostRuntime) -> Result<(), AllocError> {
-    check(&rt, rt.alloc(), LINES)
-}
-
-// The length of the line that the reader hands out next, if it does.
-fn length<S: Source>(reader: &mut LineReader, source: &mut S) -> Option<usize> {
-    match reader.next(source) {
-        Ok(Found::Line | Found::LastLine) => Some(reader.line().len()),
-        _ => None,
-    }
-}
-
-// The lengths of the first two lines of a source.
-fn lengths_of<S: Source>(alloc: Global, source: &mut S) -> Result<[Option<usize>; 2], AllocError> {
-    let reader = LineReader::new(alloc).map_err(|_| AllocError);
-    let mut reader = reader?;
-    let first = length(&mut reader, source);
-    Ok([first, length(&mut reader, source)])
-}
-
-// So many bytes, and what stands behind them.
-fn long_source(alloc: Global, many: usize, behind: &[u8]) -> Result<MemSource, AllocError> {
-    let mut items = vec![in alloc; b'x'; many]?;
-    items.extend_from_slice(behind)?;
-    Ok(MemSource::new(List::from_vec(items)))
-}
-
-// So many bytes, what stands behind them, and the lengths of the first two lines.
-type LongRow = (usize, &'static [u8], [Option<usize>; 2]);
-
-impl Row for LongRow {
-    fn holds(&self, alloc: Global) -> Result<bool, AllocError> {
-        let &(many, behind, want) = self;
-        let mut source = long_source(alloc, many, behind)?;
-        Ok(lengths_of(alloc, &mut source)? == want)
-    }
-}
-
-const LONG_LINES: &[LongRow] = &[
-    (LINE_LIMIT, b"", [Some(LINE_LIMIT), None]),
-    (LINE_LIMIT, b"\nab\n", [Some(LINE_LIMIT), Some(2)]),
-    (LINE_LIMIT + 1, b"", [None, None]),
-    (LINE_LIMIT + 1, b"\nab\n", [None, None]),
-    (3 * LINE_LIMIT, b"\n", [None, None]),
-];
-
-#[test]
-fn lines_beyond_the_limit_are_too_long(rt: HostRuntime) -> Result<(), AllocError> {
-    check(&rt, rt.alloc(), LONG_LINES)
-}
-
 /// A source that gives at most three bytes at a time.
 #[derive(Drop)]
-pub(crate) struct Slow {
+struct Slow {
     inner: MemSource,
 }
 
@@ -146,48 +74,30 @@ impl Source for Slow {
     }
 }
 
-pub(crate) fn slow_source(alloc: Global, bytes: &[u8]) -> Result<Slow, AllocError> {
+fn slow_source(alloc: Global, bytes: &[u8]) -> Result<Slow, AllocError> {
     let inner = MemSource::new(list(alloc, bytes)?);
     Ok(Slow { inner })
 }
 
-#[test]
-fn lines_come_whole_from_small_pieces(rt: HostRuntime) -> Result<(), AllocError> {
-    let mut source = slow_source(rt.alloc(), b"abcdefg\nhi\n\njklm")?;
-    assert!(rt; tells(rt.alloc(), &mut source, b"[abcdefg][hi][]<jklm>.")?);
-    Ok(())
+// Whether a reader hands lines out whole that come in small pieces.
+fn lines_come_whole(alloc: Global) -> Result<bool, AllocError> {
+    let mut source = slow_source(alloc, b"abcdefg\nhi\n\njklm")?;
+    tells(alloc, &mut source, b"[abcdefg][hi][]<jklm>.")
 }
 
-// So many lines of 4999 bytes.
-fn block_source(alloc: Global, count: u8) -> Result<MemSource, AllocError> {
-    let block = vec![in alloc; b'x'; 4999]?;
-    let mut bytes = Vec::new(alloc);
-    for _ in 0..count {
-        bytes.extend_from_slice(&block)?;
-        bytes.push(b'\n')?;
+// Whether a whole input is read so.
+fn all_comes_whole(alloc: Global) -> Result<bool, AllocError> {
+    let mut source = slow_source(alloc, b"abcdefg\nhi")?;
+    match read_whole(alloc, &mut source, DOCUMENT_LIMIT) {
+        Ok(bytes) => Ok(bytes.as_slice() == b"abcdefg\nhi".as_slice()),
+        Err(_) => Ok(false),
     }
-    Ok(MemSource::new(List::from_vec(bytes)))
-}
-
-// How many lines of 4999 bytes come first.
-fn count_blocks<S: Source>(reader: &mut LineReader, source: &mut S) -> u8 {
-    for at in 0..250u8 {
-        let seen = reader.next(source);
-        if seen != Ok(Found::Line) || reader.line().len() != 4999 {
-            return at;
-        }
-    }
-    250
 }
 
 #[test]
-fn lines_come_whole_across_blocks(rt: HostRuntime) -> Result<(), AllocError> {
-    let source = block_source(rt.alloc(), 200)?;
-    let reader = LineReader::new(rt.alloc()).map_err(|_| AllocError);
-    let (mut source, mut reader) = beside(source, reader)?;
-    assert!(rt; count_blocks(&mut reader, &mut source) == 200);
-    assert!(rt; reader.next(&mut source) == Ok(Found::End));
-    Ok(())
+fn inputs_come_whole_from_small_pieces(rt: HostRuntime) {
+    assert!(rt; lines_come_whole(rt.alloc()) == Ok(true));
+    assert!(rt; all_comes_whole(rt.alloc()) == Ok(true));
 }
 
 // The plan of failures in which these calls fail.
@@ -212,9 +122,8 @@ fn fault_tells(
 }
 
 #[test]
-fn a_fault_loses_nothing(rt: HostRuntime) -> Result<(), AllocError> {
-    assert!(rt; fault_tells(rt.alloc(), b"a\nb", &[2, 3], b"[a]??<b>.")?);
-    Ok(())
+fn a_fault_loses_nothing(rt: HostRuntime) {
+    assert!(rt; fault_tells(rt.alloc(), b"a\nb", &[2, 3], b"[a]??<b>.") == Ok(true));
 }
 
 // Whether two writes and a flush go through, and the flush alone hands both on.
@@ -240,34 +149,31 @@ fn failing<K: Sink>(sink: &mut K) -> [bool; 4] {
 }
 
 // Whether the second write and the second flush fail, and the sink has the first.
-fn loses_the_second(sink: &mut FaultSink) -> bool {
-    let failed = failing(sink);
-    failed == [false, true, false, true]
-        && sink.bytes() == b"ab".as_slice()
-        && sink.handed() == b"ab".as_slice()
+fn loses_the_second(alloc: Global) -> Result<bool, AllocError> {
+    let mut sink = FaultSink::new(alloc, calls(alloc, &[2, 4])?);
+    let failed = failing(&mut sink);
+    let held = sink.bytes() == b"ab".as_slice() && sink.handed() == b"ab".as_slice();
+    drop(sink);
+    Ok(held && failed == [false, true, false, true])
 }
 
 #[test]
-fn a_write_that_fails(rt: HostRuntime) -> Result<(), AllocError> {
-    let failing = calls(rt.alloc(), &[2, 4])?;
-    assert!(rt; loses_the_second(&mut FaultSink::new(rt.alloc(), failing)));
-    Ok(())
+fn a_write_that_fails(rt: HostRuntime) {
+    assert!(rt; loses_the_second(rt.alloc()) == Ok(true));
 }
 
-// The first three readings of the clock.
-fn readings(clock: &mut ListClock) -> [i64; 3] {
-    [clock.now(), clock.now(), clock.now()]
-}
-
-fn list_clock(alloc: Global, times: &[i64]) -> Result<ListClock, AllocError> {
-    Ok(ListClock::new(List::from_vec(Vec::from_slice(alloc, times)?)))
+// The first three readings of a clock with this list.
+fn readings(alloc: Global, times: &[i64]) -> Result<[i64; 3], AllocError> {
+    let mut clock = ListClock::new(List::from_vec(Vec::from_slice(alloc, times)?));
+    let read = [clock.now(), clock.now(), clock.now()];
+    drop(clock);
+    Ok(read)
 }
 
 #[test]
-fn readings_of_a_list(rt: HostRuntime) -> Result<(), AllocError> {
-    assert!(rt; readings(&mut list_clock(rt.alloc(), &[])?) == [0, 0, 0]);
-    assert!(rt; readings(&mut list_clock(rt.alloc(), &[7, -5])?) == [7, -5, -5]);
-    Ok(())
+fn readings_of_a_list(rt: HostRuntime) {
+    assert!(rt; readings(rt.alloc(), &[]) == Ok([0, 0, 0]));
+    assert!(rt; readings(rt.alloc(), &[7, -5]) == Ok([7, -5, -5]));
 }
 
 // Whether it takes a line and a flush.

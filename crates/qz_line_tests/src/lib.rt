@@ -1,27 +1,14 @@
-//! Tests of the crates of input and output, and of the node core: sources and sinks, words, lines, texts and the word `times`;
-//! a node's turns and the execution of jobs;
-//! lists, histories and what the generator makes.
+//! Tests of what no worked row can show of the crates of input and output, and of the node core: streams that fail or come in pieces,
+//! what is wrong with words, texts that no call writes, a node's turns and the execution of jobs.
 #![tactic(auto)]
 
 #[cfg(test)]
-mod documents;
-#[cfg(test)]
-mod generator;
-#[cfg(test)]
-mod histories;
-#[cfg(test)]
 mod io;
-#[cfg(test)]
-mod job_json;
-#[cfg(test)]
-mod listing;
 #[cfg(test)]
 mod node;
 #[cfg(test)]
-mod report;
-#[cfg(test)]
 mod rows;
 #[cfg(test)]
-mod times;
+mod texts;
 #[cfg(test)]
 mod words;

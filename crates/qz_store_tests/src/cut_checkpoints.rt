@@ -1,20 +1,13 @@
 //! Checkpoints that are cut off.
-use crate::entries::{T0, acquire, add_job, add_trigger, complete, fire, join};
-use crate::snapshots::{new_disk, takes};
+use crate::entries::{ACQUIRE, ADD_JOB, ADD_TRIGGER, COMPLETE, FIRE, JOIN, takes};
+use crate::snapshots::new_disk;
 use qz_disk::{CutDisk, Disk, MemDisk};
 use qz_journal::TRIGGERS;
 use qz_trigger_store::{Keep, SubmitError, TriggerStore};
 use std::alloc::Global;
 
-// Whether six entries are accepted, which leave a member alone.
-fn takes_six<D: Disk>(alloc: Global, store: &mut TriggerStore<D>) -> bool {
-    takes(store, add_job(alloc, T0))
-        && takes(store, add_trigger(alloc, T0))
-        && takes(store, join(alloc, T0))
-        && takes(store, acquire(alloc, T0))
-        && takes(store, fire(alloc, T0, 1))
-        && takes(store, complete(alloc, T0, 1))
-}
+/// Six entries that leave a member alone.
+const SIX: &[&[u8]] = &[ADD_JOB, ADD_TRIGGER, JOIN, ACQUIRE, FIRE, COMPLETE];
 
 // Whether so many snapshots are made.
 fn is_marked<D: Disk>(store: &mut TriggerStore<D>, snapshots: u32) -> bool {
@@ -30,9 +23,14 @@ fn is_marked<D: Disk>(store: &mut TriggerStore<D>, snapshots: u32) -> bool {
 fn with_six(alloc: Global, snapshots: u32) -> Option<MemDisk> {
     match TriggerStore::mount(alloc, new_disk(alloc, TRIGGERS)?, Keep::Tables) {
         Ok(mut store) => {
-            let is_right = takes_six(alloc, &mut store) && is_marked(&mut store, snapshots);
+            let is_right = takes(alloc, &mut store, SIX) && is_marked(&mut store, snapshots);
             let disk = store.into_disk();
-            if is_right { Some(disk) } else { None }
+            if is_right {
+                Some(disk)
+            } else {
+                drop(disk);
+                None
+            }
         }
         Err(error) => {
             drop(error);
@@ -79,16 +77,12 @@ fn is_kept(alloc: Global, snapshots: u32, calls: u64) -> Option<bool> {
 fn a_checkpoint_that_is_cut_off_loses_nothing(rt: HostRuntime) {
     // An opening makes four calls. A first checkpoint makes 12. The third one has to close a slot before it
     // sets that, and makes 14.
-    for calls in 0..12 {
-        assert!(rt;
-            is_kept(rt.alloc(), 0, 4 + calls) == Some(true),
-            "after {calls} calls"
-        );
-    }
-    for calls in 0..14 {
-        assert!(rt;
-            is_kept(rt.alloc(), 2, 4 + calls) == Some(true),
-            "after {calls} calls"
-        );
+    for (snapshots, many) in [(0, 12), (2, 14)] {
+        for calls in 0..many {
+            assert!(rt;
+                is_kept(rt.alloc(), snapshots, 4 + calls) == Some(true),
+                "after {calls} calls behind {snapshots} snapshots"
+            );
+        }
     }
 }

@@ -1,5 +1,4 @@
 //! Worked examples of crashes, and the disks that fail by a rule.
-use crate::rows::{Row, check};
 use qz_civil::{List, beside};
 use qz_disk::{Call, CutDisk, Disk, FaultDisk, MemDisk};
 use std::alloc::{AllocError, Global};
@@ -70,12 +69,12 @@ fn restarts_as<D: Disk>(alloc: Global, disk: &mut D, at: u64, bytes: &[u8], want
 // Bytes, and whether they come up, if they are chosen: `abc` is synced, and then `XY` written at 2.
 type Image = (&'static [u8], bool);
 
-impl Row for Image {
-    fn holds(&self, alloc: Global) -> Result<bool, AllocError> {
-        let &(bytes, is_image) = self;
-        let mut disk = disk_with_images(alloc, b"abc", &[bytes])?;
-        Ok(restarts_as(alloc, &mut disk, 2, b"XY", bytes) == is_image)
-    }
+// Whether they come up.
+fn comes_up(alloc: Global, bytes: &[u8]) -> Result<bool, AllocError> {
+    let mut disk = disk_with_images(alloc, b"abc", &[bytes])?;
+    let comes_up = restarts_as(alloc, &mut disk, 2, b"XY", bytes);
+    drop(disk);
+    Ok(comes_up)
 }
 
 const IMAGES: &[Image] = &[
@@ -91,24 +90,26 @@ const IMAGES: &[Image] = &[
 ];
 
 #[test]
-fn a_crash_tears_only_what_was_written(rt: HostRuntime) -> Result<(), AllocError> {
-    check(&rt, rt.alloc(), IMAGES)
+fn a_crash_tears_only_what_was_written(rt: HostRuntime) {
+    for &(bytes, is_image) in IMAGES {
+        assert!(rt; comes_up(rt.alloc(), bytes) == Ok(is_image), "at {bytes:?}");
+    }
 }
 
 // The second takes none: what was synced by the first can't become shorter or other.
-fn takes_two_of_four_images<D: Disk>(alloc: Global, disk: &mut D) -> bool {
-    restarts_as(alloc, disk, 0, b"XY", b"a")
-        && restarts_as(alloc, disk, 0, b"c", b"b")
-        && restarts_as(alloc, disk, 0, b"d", b"d")
+fn takes_two_of_four_images(alloc: Global) -> Result<bool, AllocError> {
+    let mut disk = disk_with_images(alloc, b"", &[b"no image", b"a", b"", b"b"])?;
+    let is_right = restarts_as(alloc, &mut disk, 0, b"XY", b"a")
+        && restarts_as(alloc, &mut disk, 0, b"c", b"b")
+        && restarts_as(alloc, &mut disk, 0, b"d", b"d")
+        && disk.starved() == 0;
+    drop(disk);
+    Ok(is_right)
 }
 
 #[test]
-fn each_restart_takes_the_next_image(rt: HostRuntime) -> Result<(), AllocError> {
-    let mut disk = disk_with_images(rt.alloc(), b"", &[b"no image", b"a", b"", b"b"])?;
-    let is_right = takes_two_of_four_images(rt.alloc(), &mut disk) && disk.starved() == 0;
-    drop(disk);
-    assert!(rt; is_right);
-    Ok(())
+fn each_restart_takes_the_next_image(rt: HostRuntime) {
+    assert!(rt; takes_two_of_four_images(rt.alloc()) == Ok(true));
 }
 
 // Whether these are a write of `X` at 1, a sync, and a reading of three bytes.
@@ -125,48 +126,54 @@ fn are_those_of_a_change(calls: &[Call]) -> bool {
     }
 }
 
-fn records_its_calls(alloc: Global, mut disk: MemDisk) -> bool {
-    let done = put(&mut disk, 1, b"X") && disk.sync().is_ok();
-    let held = holds(alloc, &mut disk, b"aXc");
-    done && held && are_those_of_a_change(disk.calls())
+fn records_its_calls(alloc: Global) -> Result<bool, AllocError> {
+    let mut disk = disk_with(alloc, b"abc")?;
+    let is_right = put(&mut disk, 1, b"X")
+        && disk.sync().is_ok()
+        && holds(alloc, &mut disk, b"aXc")
+        && are_those_of_a_change(disk.calls());
+    drop(disk);
+    Ok(is_right)
 }
 
 #[test]
-fn a_disk_in_memory_records_its_calls(rt: HostRuntime) -> Result<(), AllocError> {
-    let disk = disk_with(rt.alloc(), b"abc")?;
-    assert!(rt; records_its_calls(rt.alloc(), disk));
-    Ok(())
+fn a_disk_in_memory_records_its_calls(rt: HostRuntime) {
+    assert!(rt; records_its_calls(rt.alloc()) == Ok(true));
 }
 
 // Whether the disk fails behind a write, and a restart ends that.
-fn is_cut_up_to_a_restart<D: Disk>(alloc: Global, mut disk: D) -> bool {
-    let written = put(&mut disk, 0, b"X");
-    let cut = disk.sync().is_err() && disk.len().is_err();
-    written && cut && disk.restart().is_ok() && holds(alloc, &mut disk, b"Xbc")
+fn is_cut_up_to_a_restart(alloc: Global) -> Result<bool, AllocError> {
+    let mut disk = CutDisk::new(disk_with(alloc, b"abc")?, 2);
+    let is_right = put(&mut disk, 0, b"X")
+        && disk.sync().is_err()
+        && disk.len().is_err()
+        && disk.restart().is_ok()
+        && holds(alloc, &mut disk, b"Xbc");
+    drop(disk);
+    Ok(is_right)
 }
 
 #[test]
-fn a_cut_ends_with_a_restart(rt: HostRuntime) -> Result<(), AllocError> {
-    let disk = CutDisk::new(disk_with(rt.alloc(), b"abc")?, 2);
-    assert!(rt; is_cut_up_to_a_restart(rt.alloc(), disk));
-    Ok(())
+fn a_cut_ends_with_a_restart(rt: HostRuntime) {
+    assert!(rt; is_cut_up_to_a_restart(rt.alloc()) == Ok(true));
 }
 
-// Which of five calls fail.
-fn failing<D: Disk>(mut disk: D) -> [bool; 5] {
-    [
+// Which of five calls fail, where the second and the fourth are listed.
+fn failing(alloc: Global) -> Result<[bool; 5], AllocError> {
+    let listed = List::from_vec(Vec::from_slice(alloc, &[2, 4])?);
+    let mut disk = FaultDisk::new(MemDisk::new(alloc), listed);
+    let failing = [
         disk.sync().is_err(),
         disk.sync().is_err(),
         disk.sync().is_err(),
         disk.sync().is_err(),
         disk.sync().is_err(),
-    ]
+    ];
+    drop(disk);
+    Ok(failing)
 }
 
 #[test]
-fn the_listed_calls_fail(rt: HostRuntime) -> Result<(), AllocError> {
-    let listed = List::from_vec(Vec::from_slice(rt.alloc(), &[2, 4])?);
-    let disk = FaultDisk::new(MemDisk::new(rt.alloc()), listed);
-    assert!(rt; failing(disk) == [false, true, false, true, false]);
-    Ok(())
+fn the_listed_calls_fail(rt: HostRuntime) {
+    assert!(rt; failing(rt.alloc()) == Ok([false, true, false, true, false]));
 }

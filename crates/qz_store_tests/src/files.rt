@@ -1,7 +1,6 @@
 //! A disk over an open file: in memory, where calls come short, are interrupted or fail, and one file of the system.
 use crate::disk::{disk_with_images, holds, put};
-use crate::rows::{Row, check};
-use qz_civil::{List, Text};
+use qz_civil::{List, Text, beside};
 use qz_disk::{Disk, FaultDisk, FileDisk, MemDisk, ShortHandle, SystemFile};
 use std::alloc::{AllocError, Global};
 use std::{env, fs, process};
@@ -25,18 +24,19 @@ fn failing_disk(alloc: Global, failing: &[u64]) -> Result<FaultDisk<MemDisk>, Al
     Ok(FaultDisk::new(disk_with_images(alloc, b"abc", &[b"abc"])?, listed))
 }
 
-fn keeps_a_write<D: Disk>(alloc: Global, mut disk: D) -> bool {
-    let kept = put(&mut disk, 2, b"XYZW") && disk.sync().is_ok() && disk.restart().is_ok();
-    kept && holds(alloc, &mut disk, b"abXYZW")
-}
-
-impl Row for Transfer {
-    fn holds(&self, alloc: Global) -> Result<bool, AllocError> {
-        let &(most, interruptions, failing, is_kept) = self;
-        let interrupted = first_numbers(alloc, interruptions)?;
-        let handle = ShortHandle::new(failing_disk(alloc, failing)?, most.max(1), interrupted);
-        Ok(keeps_a_write(alloc, FileDisk::new(handle)) == is_kept)
-    }
+fn keeps_a_write(alloc: Global, row: &Transfer) -> Result<bool, AllocError> {
+    let &(most, interruptions, failing, _) = row;
+    let (interrupted, disk) = beside(
+        first_numbers(alloc, interruptions)?,
+        failing_disk(alloc, failing),
+    )?;
+    let mut disk = FileDisk::new(ShortHandle::new(disk, most.max(1), interrupted));
+    let is_kept = put(&mut disk, 2, b"XYZW")
+        && disk.sync().is_ok()
+        && disk.restart().is_ok()
+        && holds(alloc, &mut disk, b"abXYZW");
+    drop(disk);
+    Ok(is_kept)
 }
 
 // The calls of the disk are the length, as many writes as it takes, a sync, a restart, the length, and the reads.
@@ -55,8 +55,16 @@ const TRANSFERS: &[Transfer] = &[
 ];
 
 #[test]
-fn transfers_go_on_until_all_is_done(rt: HostRuntime) -> Result<(), AllocError> {
-    check(&rt, rt.alloc(), TRANSFERS)
+fn transfers_go_on_until_all_is_done(rt: HostRuntime) {
+    for row in TRANSFERS {
+        assert!(rt;
+            keeps_a_write(rt.alloc(), row) == Ok(row.3),
+            "at {}, {}, {:?}",
+            row.0,
+            row.1,
+            row.2
+        );
+    }
 }
 
 // A file's name in the folder for such.

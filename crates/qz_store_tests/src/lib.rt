@@ -1,8 +1,7 @@
-//! Tests of the crates of the store: transactions, disks, both stores and the cluster.
+//! Tests of the crates of stores, of what no worked row can show: disks that fail or lose what wasn't synced, restarts, snapshots that are
+//! cut off, and calls below the program.
 #![tactic(auto)]
 
-#[cfg(test)]
-mod cluster;
 #[cfg(test)]
 mod compacting;
 #[cfg(test)]
@@ -14,24 +13,8 @@ mod entries;
 #[cfg(test)]
 mod files;
 #[cfg(test)]
-mod job_groups;
-#[cfg(test)]
-mod model;
-#[cfg(test)]
-mod old_stores;
-#[cfg(test)]
-mod recovery;
-#[cfg(test)]
-mod refusals;
-#[cfg(test)]
 mod restarts;
-#[cfg(test)]
-mod rows;
 #[cfg(test)]
 mod snapshots;
 #[cfg(test)]
 mod states;
-#[cfg(test)]
-mod trigger_store;
-#[cfg(test)]
-mod upgrades;

@@ -1,52 +1,26 @@
-//! Worked examples: a store that opens at a snapshot and goes on there, and a checkpoint of a cluster.
-use crate::entries::{T0, acquire, add_job, add_trigger, fire, join};
+//! A store that opens at a snapshot and goes on there, and a checkpoint of a cluster.
+use crate::entries::{ACQUIRE, ADD_JOB, ADD_TRIGGER, Came, FIRE, JOIN, submit, takes};
 use qz_cluster::{Checked, Cluster};
 use qz_disk::{Disk, MemDisk};
 use qz_journal::{STATES, TRIGGERS, create};
 use qz_trigger_store::{Keep, TriggerStore};
-use qz_types::Entry;
-use std::alloc::{AllocError, Global};
+use std::alloc::Global;
 
-// A disk with a new store of this kind.
+/// A disk with a new store of this kind.
 pub(super) fn new_disk(alloc: Global, kind: u8) -> Option<MemDisk> {
     let mut disk = MemDisk::new(alloc);
     let made = create(&mut disk, kind);
-    if made.is_ok() { Some(disk) } else { None }
-}
-
-// Whether an entry is accepted.
-pub(super) fn takes<D: Disk>(
-    store: &mut TriggerStore<D>,
-    entry: Result<Entry, AllocError>,
-) -> bool {
-    let Ok(entry) = entry else {
-        return false;
-    };
-    match store.submit(entry) {
-        Ok(reply) => {
-            drop(reply);
-            true
-        }
-        Err(error) => {
-            drop(error);
-            false
-        }
+    if made.is_ok() {
+        Some(disk)
+    } else {
+        drop(disk);
+        None
     }
 }
 
 // Whether a snapshot is made, after which no entry is to be replayed.
 fn is_marked<D: Disk>(store: &mut TriggerStore<D>) -> bool {
     store.checkpoint().ok() == Some(true) && store.behind() == 0
-}
-
-// Whether three entries are accepted, and two after a snapshot.
-fn takes_five<D: Disk>(alloc: Global, store: &mut TriggerStore<D>) -> bool {
-    takes(store, add_job(alloc, T0))
-        && takes(store, add_trigger(alloc, T0))
-        && takes(store, join(alloc, T0))
-        && is_marked(store)
-        && takes(store, acquire(alloc, T0))
-        && takes(store, fire(alloc, T0 + 1, 1))
 }
 
 // Whether there are five entries, of which this many are listed, and two came after the snapshot.
@@ -58,7 +32,10 @@ fn has_two_after<D: Disk>(store: &TriggerStore<D>, listed: u64) -> bool {
 fn with_snapshot<D: Disk>(alloc: Global, disk: D) -> Option<D> {
     match TriggerStore::mount(alloc, disk, Keep::Tables) {
         Ok(mut store) => {
-            let is_right = takes_five(alloc, &mut store) && has_two_after(&store, 5);
+            let taken = takes(alloc, &mut store, &[ADD_JOB, ADD_TRIGGER, JOIN])
+                && is_marked(&mut store)
+                && takes(alloc, &mut store, &[ACQUIRE, FIRE]);
+            let is_right = taken && has_two_after(&store, 5);
             let disk = store.into_disk();
             if is_right { Some(disk) } else { None }
         }
@@ -74,7 +51,7 @@ fn opens_there<D: Disk>(alloc: Global, disk: D) -> bool {
     match TriggerStore::mount(alloc, disk, Keep::Tables) {
         Ok(mut store) => {
             let opened = has_two_after(&store, 2);
-            let has_job = !takes(&mut store, add_job(alloc, T0 + 2));
+            let has_job = submit(alloc, &mut store, ADD_JOB) == Came::Refused;
             let marked = is_marked(&mut store) && store.history_len() == 5;
             drop(store);
             opened && has_job && marked

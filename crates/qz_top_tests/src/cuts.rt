@@ -1,12 +1,11 @@
 //! A script whose trigger disk is cut in the middle of a recovery.
-use crate::calls::{DONE, Wanted, answers};
-use crate::stores::made;
+use crate::calls::{DONE, Wanted, answers, made};
 use qz_disk::{CutDisk, MemDisk};
 use std::alloc::Global;
 
 /// B executes two jobs, of which one requests recovery, and stops. A recovers it, which the disk cuts off. After a restart A
 /// joins and checks in, and recovers it once more.
-const CUT_OFF: &str = r#"{"do":"add_job","job":{"name":"r","class":"ok","requests_recovery":true}}
+const CUT_OFF: &[u8] = br#"{"do":"add_job","job":{"name":"r","class":"ok","requests_recovery":true}}
 {"do":"add_job","job":{"name":"n","class":"ok"}}
 {"do":"add_trigger","trigger":{"name":"tr","job":"r","kind":"simple","start":1704067200000,"priority":5}}
 {"do":"add_trigger","trigger":{"name":"tn","job":"n","kind":"simple","start":1704067200000,"priority":6}}

@@ -98,18 +98,17 @@ fn all_print<E: Display>(alloc: Global, rows: &[(E, &str)]) -> bool {
     true
 }
 
-#[test]
-fn errors_print_their_texts(rt: HostRuntime) {
-    let alloc = rt.alloc();
-    assert!(rt; prints(alloc, &Failed, "the device failed"));
-    assert!(rt; prints(alloc, &FULL, FULL_TEXT));
-    assert!(rt; all_print(alloc, &CREATE));
-    assert!(rt; all_print(alloc, &MOUNT));
-    assert!(rt; all_print(alloc, &APPEND));
-    assert!(rt; all_print(alloc, &STEP));
-    assert!(rt; all_print(alloc, &READ));
-    assert!(rt; all_print(alloc, &WHOLE));
-    assert!(rt; all_print(alloc, &LINE));
+// Whether the errors of lines, records and inputs print their texts, and those of a journal.
+fn errors_print(alloc: Global) -> bool {
+    prints(alloc, &Failed, "the device failed")
+        && prints(alloc, &FULL, FULL_TEXT)
+        && all_print(alloc, &CREATE)
+        && all_print(alloc, &MOUNT)
+        && all_print(alloc, &APPEND)
+        && all_print(alloc, &STEP)
+        && all_print(alloc, &READ)
+        && all_print(alloc, &WHOLE)
+        && all_print(alloc, &LINE)
 }
 
 // Whether the errors of a store print their texts.
@@ -131,6 +130,6 @@ fn store_errors_print(alloc: Global) -> bool {
 }
 
 #[test]
-fn errors_of_a_store_print_their_texts(rt: HostRuntime) {
-    assert!(rt; store_errors_print(rt.alloc()));
+fn errors_print_their_texts(rt: HostRuntime) {
+    assert!(rt; errors_print(rt.alloc()) && store_errors_print(rt.alloc()));
 }

@@ -1,37 +1,16 @@
-//! Tests of the top call.
+//! Tests of the top call where a device fails, and of what else no worked row can show: a job that asks again and again, and the texts of
+//! errors.
 #![tactic(auto)]
 
 #[cfg(test)]
 mod calls;
 #[cfg(test)]
-mod compacts;
-#[cfg(test)]
 mod cuts;
+#[cfg(test)]
+mod disks;
 #[cfg(test)]
 mod error_texts;
 #[cfg(test)]
-mod follows;
+mod jobs;
 #[cfg(test)]
-mod full;
-#[cfg(test)]
-mod generated;
-#[cfg(test)]
-mod loads;
-#[cfg(test)]
-mod nodes;
-#[cfg(test)]
-mod run_ends;
-#[cfg(test)]
-mod runs;
-#[cfg(test)]
-mod scripts;
-#[cfg(test)]
-mod spoiled;
-#[cfg(test)]
-mod stores;
-#[cfg(test)]
-mod top;
-#[cfg(test)]
-mod versions;
-#[cfg(test)]
-mod weeks;
+mod streams;
