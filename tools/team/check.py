@@ -6,10 +6,11 @@ from dataclasses import dataclass
 from kemtrua.names import RECOVERIES, Key
 from team import plan
 from team.evidence import Execution, Heard, History, Said
-from team.trouble import Done
+from team.trouble import Done, Troubles
 
 SLACK = 5000  # ms that a slow machine may add to what takes a known time
-DIES_WITHIN = 2000  # ms, less than what the longest commands take
+ENDS_WITHIN = 60000  # ms in which a node that was stopped ends what it lost
+BESIDE = 500  # ms at either end of a time in which something holds
 
 
 @dataclass
@@ -19,11 +20,13 @@ class Run:
     size: plan.Size
     document: dict
     troubles: list[Done]
+    made: Troubles  # with what came of them
     history: History
     commands: list[Said]
     heard: Heard
     left: list[str]  # the lines of `list` at the end
     statuses: dict[str, int | None]  # of the nodes and the hub, at the end
+    ended: int  # when all was over
 
     def key_of(self, entry: int) -> Key | None:
         known = self.heard.acquired.get(entry)
@@ -36,6 +39,9 @@ class Run:
         if said is None and key is not None and key.group == RECOVERIES:
             return self.job_of(int(key.name.rpartition("_")[2]))
         return said or next((it["job"] for it in self.document["triggers"] if key == Key("DEFAULT", it["name"])), None)
+
+    def stubborn(self) -> list[str]:
+        return [f"{plan.STUBBORN.name}-{number}" for number in range(plan.STUBBORN_JOBS)]
 
     def lost(self) -> list[Execution]:
         return [it for it in self.history.executions.values() if it.lost is not None and it.completed is None]
@@ -80,11 +86,8 @@ def commands_follow(run: Run) -> Iterator[str]:
 def exclusive(run: Run) -> Iterator[str]:
     """no exclusive job ran twice at once, unless a node that was stopped was recovered meanwhile"""
     for said in run.commands:
-        if said.word == "overlap":
-            holder = run.history.executions.get(int(said.holder))
-            excused = holder is not None and holder.lost is not None and holder.lost <= said.at + SLACK and was_stopped(run, holder)
-            if not excused:
-                yield f"entry {said.entry} of {said.job} ran beside entry {said.holder}"
+        if said.word == "overlap" and not any(goes_on(run, it, said) for it in run.lost()):
+            yield f"entry {said.entry} of {said.job} ran beside entry {said.holder}"
     spans: dict[str, list[Execution]] = {}
     for execution in run.history.executions.values():
         job = run.job_of(execution.entry)
@@ -97,18 +100,26 @@ def exclusive(run: Run) -> Iterator[str]:
                 yield f"entries {one.entry} and {other.entry} of {job} go on at once in the store"
 
 
-def was_stopped(run: Run, execution: Execution) -> bool:
-    return any(it.what == "stop" and it.who == execution.node and it.begun <= execution.lost + SLACK for it in run.troubles)
+def goes_on(run: Run, lost: Execution, said: Said) -> bool:
+    """Whether a lost execution of the same job may be the one beside which a command ran: its node was stopped, and then had to end it."""
+    if run.job_of(lost.entry) != said.job or lost.entry == said.entry or lost.lost is None or lost.lost > said.at + SLACK:
+        return False
+    return any(it.what == "stop" and it.who == lost.node and it.begun <= lost.lost + SLACK and said.at <= it.ended + ENDS_WITHIN for it in run.troubles)
 
 
 def commands_die_with_their_node(run: Run) -> Iterator[str]:
-    """the commands of a killed node ended with it"""
-    for trouble in (it for it in run.troubles if it.what == "kill" and it.who != plan.HUB):
-        for said in run.commands:
-            execution = run.history.executions.get(said.entry)
-            was_open = execution is not None and execution.node == trouble.who and execution.fired <= trouble.begun
-            if said.word == "end" and was_open and said.at > trouble.begun + DIES_WITHIN:
-                yield f"entry {said.entry} went on for {said.at - trouble.begun} ms after {trouble.who} was killed"
+    """the commands of a killed node ended with it, also workers that ignore SIGTERM, and operators got in all the time"""
+    yield from run.made.wrong
+
+
+def timeouts_end_all(run: Run) -> Iterator[str]:
+    """executions whose workers ignore SIGTERM, or have a session of their own, ran into their time-out and were completed"""
+    completed = [it for it in run.history.executions.values() if it.completed is not None and run.job_of(it.entry) in run.stubborn()]
+    if not completed:
+        yield "no such execution was completed: nothing was tried"
+    for execution in completed:
+        if (execution.completed or 0) - execution.fired < 1000 * plan.TIMEOUT:
+            yield f"entry {execution.entry} was completed before its time-out"
 
 
 def recovered_once(run: Run) -> Iterator[str]:
@@ -135,19 +146,51 @@ def nothing_lost(run: Run) -> Iterator[str]:
             yield f"the completion of entry {entry} was acknowledged, and isn't there"
 
 
-def only_the_dead_recovered(run: Run) -> Iterator[str]:
-    """no node was taken for failed that hadn't been killed or stopped"""
-    patience = round(1000 * (run.size.stopped + 3 * run.size.check_in + 2 * 7.5)) + SLACK
+def the_living_stay(run: Run) -> Iterator[str]:
+    """no node was recovered that had a check-in answered within its interval and 7.5 seconds"""
+    patience = round(1000 * (run.size.check_in + 7.5))
     for moment, node, by_another in run.history.losses:
-        whys = [it for it in run.troubles if it.who == node and it.begun <= moment <= it.begun + patience + (it.ended - it.begun)]
-        if not whys:
-            yield f"{node} was {'recovered' if by_another else 'joined anew'} at {moment}, and nothing had been done to it"
+        late = [it for it in run.heard.check_ins.get(node, ()) if moment - patience < it.begun and it.answered <= moment]
+        if by_another and late:
+            yield f"{node} was recovered at {moment}, and its check-in of {late[-1].begun} had been answered"
+
+
+def clocks_are_borne(run: Run) -> Iterator[str]:
+    """nothing was recorded while the hub's clock was a year ahead, a node an hour ahead wasn't let in, and others worked by the hub's clock"""
+    for trouble in (it for it in run.troubles if it.what == "year"):
+        for moment in run.history.moments:
+            if trouble.begun + BESIDE < moment < trouble.set_back - BESIDE:
+                yield f"something was recorded at {moment}, {moment - trouble.begun} ms after the hub's clock had jumped"
+    ahead = [moment for moment in run.history.moments if moment > run.ended + SLACK]
+    if ahead:
+        yield f"{len(ahead)} transactions lie ahead of the clock"
+    if plan.OUTSIDE in run.history.nodes or "isn't let in" not in run.heard.texts[plan.OUTSIDE]:
+        yield f"{plan.OUTSIDE} was let in, or didn't say that it isn't"
+    for node in plan.AHEAD:
+        if node != plan.OUTSIDE and not any(it.node == node for it in run.history.executions.values()):
+            yield f"{node} executed nothing"
+
+
+def greed_is_bounded(run: Run) -> Iterator[str]:
+    """a node that hoards got as much as it may, and silent connections kept nobody out"""
+    if not 0 < run.made.hoarded <= plan.HOARDS or not run.made.refused:
+        yield f"{plan.HOARDER} had {run.made.hoarded} entries in its hands at once; {run.made.refused} acquires were refused"
+    if run.made.silent != run.size.silent:
+        yield f"only {run.made.silent} silent connections could be made"
+
+
+def half_open_ones_give_way(run: Run) -> Iterator[str]:
+    """a node whose connection was half open came back under its epoch"""
+    if not run.made.half_open:
+        yield "no connection was left half open: nothing was tried"
+    if "hasn't been seen to break" not in run.heard.texts[plan.HUB]:
+        yield "the hub let no connection take the place of a half-open one"
 
 
 def hub_kills_survived(run: Run) -> Iterator[str]:
     """executions that went on while the hub was away were completed"""
     tried = 0
-    for trouble in (it for it in run.troubles if it.who == plan.HUB):
+    for trouble in (it for it in run.troubles if it.who == plan.HUB and it.what in ("kill", "stop")):
         for execution in run.history.executions.values():
             over = execution.fired < trouble.begun and (execution.end or 0) > trouble.ended
             harmed = any(it.who == execution.node and it.begun <= (execution.end or 0) and it.ended + 1000 * 30 >= execution.fired for it in run.troubles)
@@ -177,8 +220,9 @@ def something_was_lost(run: Run) -> Iterator[str]:
         yield "no node was recovered by another"
 
 
-CHECKS: list[Callable[[Run], Iterator[str]]] = [all_fired, not_before_time, commands_follow, exclusive, commands_die_with_their_node, recovered_once,
-                                                nothing_lost, only_the_dead_recovered, hub_kills_survived, all_is_done, something_was_lost]
+CHECKS: list[Callable[[Run], Iterator[str]]] = [
+    all_fired, not_before_time, commands_follow, exclusive, commands_die_with_their_node, timeouts_end_all, recovered_once, nothing_lost, the_living_stay,
+    clocks_are_borne, greed_is_bounded, half_open_ones_give_way, hub_kills_survived, all_is_done, something_was_lost]
 
 
 def failures_of(run: Run) -> int:

@@ -2,6 +2,7 @@
 import os
 import re
 from dataclasses import dataclass, field
+from datetime import datetime
 
 from kemtrua import journal
 from kemtrua.names import Key
@@ -32,6 +33,8 @@ class History:
 
     executions: dict[int, Execution] = field(default_factory=dict)
     losses: list[tuple[int, str, bool]] = field(default_factory=list)
+    moments: list[int] = field(default_factory=list)
+    nodes: set[str] = field(default_factory=set)  # that ever joined
     count: int = 0
 
 
@@ -41,6 +44,7 @@ def history_of(store: str) -> History:
     for entry in journal.entries_of(os.path.join(store, "qz-triggers.store")):
         moment = max(moment, entry.at)
         found.count += 1
+        found.moments.append(entry.at)
         if entry.word in ("join", "recover"):
             gone = entry.node if entry.word == "join" else entry.failed
             if gone in members:
@@ -48,6 +52,7 @@ def history_of(store: str) -> History:
                 members.pop(gone)
         if entry.word == "join":
             epoch += 1
+            found.nodes.add(entry.node)
             members[entry.node] = epoch
         elif entry.word == "leave":
             members.pop(entry.node, None)
@@ -92,6 +97,14 @@ def commands_of(folder: str) -> list[Said]:
     return sorted(found, key=lambda said: said.at)
 
 
+@dataclass(frozen=True)
+class CheckIn:
+    """A check-in of a node, when it was sent and when it was answered, in ms."""
+
+    begun: int
+    answered: int
+
+
 @dataclass
 class Heard:
     """What the store acknowledged to nodes, by their logs: the trigger and time of each entry number, and what began and ended."""
@@ -99,12 +112,18 @@ class Heard:
     acquired: dict[int, tuple[Key, int]] = field(default_factory=dict)
     fired: set[int] = field(default_factory=set)
     completed: set[int] = field(default_factory=set)
+    check_ins: dict[str, list[CheckIn]] = field(default_factory=dict)
+    texts: dict[str, str] = field(default_factory=dict)  # the log of each, as it is
 
 
 def nodes_of(folder: str) -> Heard:
     found = Heard()
+    for who in (*plan.NODES, plan.OUTSIDE, plan.HUB):
+        with open(os.path.join(folder, f"{who}.log"), errors="replace") as file:
+            found.texts[who] = file.read()
     for node in plan.NODES:
-        for line in open(os.path.join(folder, f"{node}.log"), errors="replace"):
+        begun = None
+        for line in found.texts[node].splitlines():
             if said := re.search(r" entry (\d+) acquired (\S+) for (\d+)", line):
                 found.acquired[int(said[1])] = (Key.of_word(said[2]), int(said[3]))
             elif said := re.search(r" entry (\d+) fired (\S+) of job \S+ class \S+ for (\d+)", line):
@@ -112,4 +131,14 @@ def nodes_of(folder: str) -> Heard:
                 found.fired.add(int(said[1]))
             elif said := re.search(r" entry (\d+) completed with (\w+): Completed", line):
                 found.completed.add(int(said[1]))
+            elif line.endswith(" DEBUG checking in"):
+                begun = moment_of(line)
+            elif line.endswith(" DEBUG checked in") and begun is not None:
+                found.check_ins.setdefault(node, []).append(CheckIn(begun, moment_of(line)))
+                begun = None
     return found
+
+
+def moment_of(line: str) -> int:
+    """The moment at which a line of a log was written."""
+    return round(datetime.strptime(line[:23], "%Y-%m-%d %H:%M:%S,%f").timestamp() * 1000)

@@ -4,6 +4,14 @@ from dataclasses import dataclass
 
 NODES = ("north", "east", "west")
 HUB = "hub"
+HOARDER, HOARDS = "hoard", 5  # a node that takes all that it gets, and how much the hub lets it have
+OUTSIDE = "fast"  # a node whose clock is so wrong that it isn't let in
+PROXIED = "east"  # the node that reaches the hub through a proxy
+
+# By how many ms each one's clock is ahead, and how far it may be for the node to be let in, in seconds.
+AHEAD = {"north": -3000, "west": -70_000, OUTSIDE: 3_600_000}
+CLOCK_LIMITS = {"west": 3600}
+YEAR = 365 * 86_400_000  # ms
 
 
 @dataclass(frozen=True)
@@ -12,15 +20,20 @@ class Size:
 
     triggers: int
     firings: int  # of each trigger
+    stubborn: int  # firings of each job whose workers don't end by themselves
     interval: float
     troubles: int
     stopped: float  # how long a node is stopped
+    hangs: float  # how long the hub is stopped
     check_in: float
-    deadline: float  # from the start to the last firing's end
+    silent: int  # connections that say nothing
 
 
-SHORT = Size(triggers=12, firings=10, interval=5.0, troubles=6, stopped=12.0, check_in=1.0, deadline=140.0)
-FULL = Size(triggers=50, firings=20, interval=10.0, troubles=16, stopped=60.0, check_in=2.0, deadline=900.0)
+SHORT = Size(triggers=12, firings=10, stubborn=3, interval=5.0, troubles=6, stopped=12.0, hangs=12.0, check_in=1.0, silent=2000)
+FULL = Size(triggers=50, firings=20, stubborn=14, interval=10.0, troubles=16, stopped=60.0, hangs=40.0, check_in=2.0, silent=2000)
+STANDS_STILL = 240.0  # seconds without a change at the store, after which nothing more is waited for
+
+TIMEOUT = 1.5  # seconds of the class `stubborn`
 
 
 @dataclass(frozen=True)
@@ -39,21 +52,27 @@ KINDS = (
     JobKind("free-silent", "free", False, False, 3.5),
     JobKind("flaky-asks", "flaky", False, True, 0.8),
 )
+STUBBORN = JobKind("stubborn-asks", "stubborn", True, True, TIMEOUT)
+STUBBORN_JOBS, STUBBORN_INTERVAL = 2, 14.0  # such jobs, and seconds between two firings of each: SIGKILL comes 10 seconds after the time-out
 
 
 @dataclass(frozen=True)
 class Trouble:
-    """At this time (seconds from the start) this process is killed or stopped, and comes back after so many seconds."""
+    """At this time (seconds from the start) something is done to this process, and undone after so many seconds.
+
+    `kill` and `stop` are for the hub and nodes, `half-open` for the node behind the proxy, `year` for the hub's clock, `silent` for connections
+    to the hub, and `hoard` for the node that hoards.
+    """
 
     at: float
-    what: str  # kill or stop
+    what: str
     who: str
     away: float
 
 
 def kind_of(job: str) -> JobKind:
     """The kind of a job, whose name is its kind's and a number."""
-    return next(kind for kind in KINDS if job.rpartition("-")[0] == kind.name)
+    return next(kind for kind in (*KINDS, STUBBORN) if job.rpartition("-")[0] == kind.name)
 
 
 def document_of(size: Size, start: int) -> dict:
@@ -67,6 +86,11 @@ def document_of(size: Size, start: int) -> dict:
         begin = start + round(1000 * size.interval * number / size.triggers)
         triggers.append({"name": f"t{number}", "job": name, "kind": "simple", "start": begin, "interval": round(1000 * size.interval),
                          "count": size.firings - 1, "misfire": -1})
+    for number in range(STUBBORN_JOBS):
+        name = f"{STUBBORN.name}-{number}"
+        jobs[name] = {"name": name, "class": STUBBORN.klass, "durable": True, "no_concurrent": True, "requests_recovery": True, "data": str(TIMEOUT)}
+        triggers.append({"name": name, "job": name, "kind": "simple", "start": start + 3000 * (number + 1), "interval": round(1000 * STUBBORN_INTERVAL),
+                         "count": size.stubborn - 1, "misfire": -1})
     return {"jobs": list(jobs.values()), "triggers": triggers}
 
 
@@ -84,7 +108,7 @@ def troubles_of(size: Size, chance: random.Random) -> list[Trouble]:
         at = span * (number + 0.6 + 0.4 * chance.random()) / (size.troubles + 0.5)
         if who == HUB:
             at = max(at, free[HUB])
-            away = late if what == "stop" else chance.uniform(0.3, 3.0)
+            away = max(late, size.hangs) if what == "stop" else chance.uniform(0.3, 3.0)
         else:
             at = max(at, min(free[node] for node in NODES), free[HUB])
             who = chance.choice([node for node in NODES if free[node] <= at])
@@ -93,4 +117,13 @@ def troubles_of(size: Size, chance: random.Random) -> list[Trouble]:
             free[HUB] = max(free[HUB], at + late + 1.0) if away >= late else free[HUB]
         free[who] = at + away + 2.0
         found.append(Trouble(at, what, who, away))
+    return found + others_of(size, span)
+
+
+def others_of(size: Size, span: float) -> list[Trouble]:
+    """What is done beside the kills and stops: each twice, the hub's clock once."""
+    found = [Trouble(span * 0.45, "year", HUB, 4.0)]
+    for part in (0.05, 0.6):
+        found += [Trouble(span * part, "silent", HUB, span * 0.2), Trouble(span * (part + 0.1), "half-open", PROXIED, span * 0.2),
+                  Trouble(span * (part + 0.15), "hoard", HOARDER, 6.0)]
     return found

@@ -6,11 +6,11 @@ _kemtrua_options() {
 
 _kemtrua() {
     local word=${COMP_WORDS[COMP_CWORD]} before=${COMP_WORDS[COMP_CWORD - 1]} command="" place
-    local commands="add add-job add-trigger add-zone check list show pause resume now delete"
-    local top="--hub --folder --program --certificate --key --authority --help --version"
+    local commands="add add-job add-trigger add-calendar add-zone check list nodes show pause resume reset now delete threshold recover forget clock from-quartz"
+    local top="--hub --folder --program --within --certificate --key --authority --help --version"
     for ((place = 1; place < COMP_CWORD; place++)); do
         case ${COMP_WORDS[place]} in
-            --hub | --folder | --program | --certificate | --key | --authority) ((place++)) ;;
+            --hub | --folder | --program | --within | --certificate | --key | --authority) ((place++)) ;;
             -*) ;;
             *) command=${COMP_WORDS[place]}; break ;;
         esac
@@ -26,10 +26,19 @@ _kemtrua() {
             if [[ $word == -* ]]; then _kemtrua_options "--replace --help" "$word"; else COMPREPLY=($(compgen -f -- "$word")); fi ;;
         add-job) _kemtrua_options "--data --durable --exclusive --recover --replace --help" "$word" ;;
         add-trigger) _kemtrua_options "--cron --every --at --count --zone --start --end --calendar --priority --misfire --replace --help" "$word" ;;
+        add-calendar) _kemtrua_options "weekly monthly annual holiday daily cron --inverted --base --zone --replace --help" "$word" ;;
         add-zone) [[ -r /usr/share/zoneinfo/tzdata.zi ]] && _kemtrua_options "$(awk '$1 == "Z" { print $2 }' /usr/share/zoneinfo/tzdata.zi)" "$word" ;;
-        list) _kemtrua_options "all jobs triggers nodes running --raw --help" "$word" ;;
-        show) [[ $before == show ]] && _kemtrua_options "job trigger entry next" "$word" ;;
-        pause | resume) [[ $before == "$command" ]] && _kemtrua_options "trigger group" "$word" ;;
+        list) _kemtrua_options "all jobs triggers nodes running --raw --json --help" "$word" ;;
+        nodes) _kemtrua_options "--json --help" "$word" ;;
+        show) if [[ $before == show ]]; then _kemtrua_options "job trigger entry next" "$word"; else _kemtrua_options "--json --help" "$word"; fi ;;
+        from-quartz)
+            if [[ $word == -* ]]; then
+                _kemtrua_options "--postgres --csv --scheduler --prefix --psql --zone --start --exclusive --into --overwrite --help" "$word"
+            else
+                COMPREPLY=($([[ $before == from-quartz ]] && compgen -W "xml tables" -- "$word") $(compgen -f -- "$word"))
+            fi ;;
+        pause | resume) [[ $before == "$command" ]] && _kemtrua_options "trigger group job-group" "$word" ;;
+        clock) _kemtrua_options "accept --help" "$word" ;;
         delete) [[ $before == delete ]] && _kemtrua_options "job trigger calendar zone" "$word" ;;
     esac
 }
@@ -37,7 +46,7 @@ _kemtrua() {
 _kemtrua_hub() {
     local word=${COMP_WORDS[COMP_CWORD]}
     if [[ $word == -* ]]; then
-        _kemtrua_options "--listen --make --program --operator --certificate --key --authority --log --help --version" "$word"
+        _kemtrua_options "--listen --listen-nodes --nodes-group --make --program --operator --node --certificate --key --authority --revoked --log --help --version" "$word"
     else
         COMPREPLY=($(compgen -f -- "$word"))
     fi

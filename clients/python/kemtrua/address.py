@@ -4,16 +4,19 @@ from __future__ import annotations
 import errno
 import fcntl
 import os
+import shutil
 import socket
 import ssl
 import stat
+from collections.abc import Callable, Mapping
 from dataclasses import dataclass
-from typing import IO
+from typing import IO, Any
 
 from .errors import BadSettings
 
 DEFAULT = "unix:/run/kemtrua/hub.sock"
 LONGEST_PATH = 107  # bytes: Linux's own limit
+TCP_USER_TIMEOUT = 18  # Linux's number of that option
 
 
 @dataclass(frozen=True)
@@ -44,37 +47,45 @@ class Address:
 
 @dataclass(frozen=True)
 class Tls:
-    """Files in PEM: one's own certificate and key, and the authority whose certificates are trusted."""
+    """Files in PEM: one's own certificate and key, the authority whose certificates are trusted, and maybe a list of those that it revoked."""
 
     certificate: str
     key: str
     authority: str
+    revoked: str | None = None
 
     def context(self, *, server: bool) -> ssl.SSLContext:
+        """What these files say at this moment."""
         context = ssl.SSLContext(ssl.PROTOCOL_TLS_SERVER if server else ssl.PROTOCOL_TLS_CLIENT)
         context.minimum_version = ssl.TLSVersion.TLSv1_2
         context.verify_mode = ssl.CERT_REQUIRED
-        for name, load in (("authority", lambda: context.load_verify_locations(self.authority)),
-                           ("certificate", lambda: context.load_cert_chain(self.certificate, self.key))):
-            try:
-                load()
-            except (OSError, ssl.SSLError) as error:
-                files = self.authority if name == "authority" else f"{self.certificate} or {self.key}"
-                raise BadSettings(f"the {name} can't be read ({files}): {error}") from None
+        _load("authority", self.authority, lambda: context.load_verify_locations(self.authority))
+        _load("certificate", f"{self.certificate} or {self.key}", lambda: context.load_cert_chain(self.certificate, self.key))
+        if self.revoked is not None:
+            revoked = self.revoked
+            _load("revocation list", revoked, lambda: context.load_verify_locations(revoked))
+            context.verify_flags |= ssl.VerifyFlags.VERIFY_CRL_CHECK_LEAF
         return context
 
 
-def common_name(certificate: dict[str, object]) -> str:
+def _load(what: str, files: str, load: Callable[[], None]) -> None:
+    try:
+        load()
+    except (OSError, ssl.SSLError) as error:
+        raise BadSettings(f"the {what} can't be read ({files}): {error}") from None
+
+
+def common_name(certificate: Mapping[str, Any]) -> str:
     """The common name of a peer's certificate, or the empty text."""
-    for part in certificate.get("subject", ()):  # type: ignore[attr-defined]
+    for part in certificate.get("subject", ()):
         for name, value in part:
             if name == "commonName":
                 return str(value)
     return ""
 
 
-def listen_at(path: str) -> tuple[socket.socket, IO[str]]:
-    """A Unix socket at this path, for the owner and the group, and the lock that keeps others off it while it is open.
+def listen_at(path: str, group: str | None = None) -> tuple[socket.socket, IO[str]]:
+    """A Unix socket at this path, for the owner and the group (its own, or this one), and the lock that keeps others off it while it is open.
 
     A socket that a killed hub left is removed. One that somebody listens at isn't, nor is a file of another kind.
     """
@@ -91,12 +102,17 @@ def listen_at(path: str) -> tuple[socket.socket, IO[str]]:
             made.bind(path)
         finally:
             os.umask(before)
+        if group is not None:
+            shutil.chown(path, group=group)
     except BlockingIOError:
         lock.close()
         raise BadSettings(f"another hub listens at {path}: end it first, or choose another address") from None
     except OSError as error:
         lock.close()
         raise BadSettings(f"no socket can be made at {path}: {error.strerror}") from None
+    except LookupError:
+        lock.close()
+        raise BadSettings(f"there is no group {group!r} for the socket at {path}") from None
     except BadSettings:
         lock.close()
         raise
@@ -128,7 +144,7 @@ def keep_alive(sock: socket.socket | None) -> None:
         return
     for level, option, value in ((socket.SOL_SOCKET, socket.SO_KEEPALIVE, 1), (socket.IPPROTO_TCP, socket.TCP_KEEPIDLE, 15),
                                  (socket.IPPROTO_TCP, socket.TCP_KEEPINTVL, 5), (socket.IPPROTO_TCP, socket.TCP_KEEPCNT, 3),
-                                 (socket.IPPROTO_TCP, socket.TCP_USER_TIMEOUT, 30000), (socket.IPPROTO_TCP, socket.TCP_NODELAY, 1)):
+                                 (socket.IPPROTO_TCP, TCP_USER_TIMEOUT, 30000), (socket.IPPROTO_TCP, socket.TCP_NODELAY, 1)):
         try:
             sock.setsockopt(level, option, value)
         except OSError:

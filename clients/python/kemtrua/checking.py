@@ -3,6 +3,7 @@ from __future__ import annotations
 
 import json
 from collections.abc import Iterator
+from itertools import islice
 
 from . import forms, values
 from .errors import BadLine
@@ -11,6 +12,7 @@ from .values import Problem
 LINE_LIMIT = 65536
 DOCUMENT_LIMIT = 16777216
 DEPTH_LIMIT = 127
+TOLD = 20  # problems of a line that are told at most
 
 Line = dict[str, object]
 
@@ -38,12 +40,23 @@ def depth_of(value: object) -> int:
     return 1 + max(map(depth_of, inner), default=0)
 
 
+_DECODER = json.JSONDecoder(parse_float=_real, parse_constant=_constant)
+_MINUS_ZERO_DECODER = json.JSONDecoder(parse_int=_whole, parse_float=_real, parse_constant=_constant)  # (which is slower)
+_ENCODER = json.JSONEncoder(separators=(",", ":"))
+
+
+def _is_deep(data: bytes, value: object) -> bool:
+    return data.count(b"[") + data.count(b"{") > DEPTH_LIMIT and depth_of(value) > DEPTH_LIMIT
+
+
 def value_of(data: bytes) -> object:
     """The JSON value of these bytes. Raises BadLine where they are none."""
     try:
-        value = json.loads(data.decode(), parse_int=_whole, parse_float=_real, parse_constant=_constant)
-        json.dumps(value, ensure_ascii=False).encode()  # (half of a surrogate pair is no text)
-        if depth_of(value) > DEPTH_LIMIT:
+        text = data.decode()
+        value: object = (_MINUS_ZERO_DECODER if "-0" in text else _DECODER).decode(text)
+        if "\\u" in text:
+            json.dumps(value, ensure_ascii=False).encode()  # (half of a surrogate pair is no text)
+        if _is_deep(data, value):
             raise ValueError(f"arrays and objects nest deeper than {DEPTH_LIMIT}")
     except UnicodeEncodeError:
         raise BadLine([Problem("", "not JSON: a text has half of a surrogate pair")]) from None
@@ -68,12 +81,18 @@ def problems_of(line: object) -> Iterator[Problem]:
         yield from forms.LINES[line["do"]]({key: value for key, value in line.items() if key != "do"}, "")
 
 
-def check_line(line: Line) -> bytes:
-    """The bytes of a line that is a step, with its line feed. Raises BadLine where it is none."""
-    wrong = list(problems_of(line))
+def check(line: object) -> Line:
+    """The line, if it is a step. Raises BadLine with the first problems where it is none."""
+    wrong = list(islice(problems_of(line), TOLD + 1))
     if wrong:
-        raise BadLine(wrong)
-    data = json.dumps(line, separators=(",", ":")).encode()
+        raise BadLine([*wrong[:TOLD], *(["and more"] if len(wrong) > TOLD else [])])
+    assert isinstance(line, dict)
+    return line
+
+
+def bytes_of(line: Line) -> bytes:
+    """The bytes of a line, with its line feed. Raises BadLine where it is too long."""
+    data = _ENCODER.encode(line).encode()
     if len(data) > LINE_LIMIT:
         data = json.dumps(line, separators=(",", ":"), ensure_ascii=False).encode()
     if len(data) > LINE_LIMIT:
@@ -81,16 +100,16 @@ def check_line(line: Line) -> bytes:
     return data + b"\n"
 
 
+def check_line(line: Line) -> bytes:
+    """The bytes of a line that is a step, with its line feed. Raises BadLine where it is none."""
+    return bytes_of(check(line))
+
+
 def read_line(data: bytes) -> Line:
     """The line of these bytes, which have no line feed. Raises BadLine where they are no step."""
     if len(data) > LINE_LIMIT:
         raise BadLine([Problem("", f"the line has {len(data)} bytes; allowed are {LINE_LIMIT}")])
-    line = value_of(data)
-    wrong = list(problems_of(line))
-    if wrong:
-        raise BadLine(wrong)
-    assert isinstance(line, dict)
-    return line
+    return check(value_of(data))
 
 
 def check_document(value: object) -> Iterator[Problem]:

@@ -16,6 +16,11 @@ def now() -> int:
     return time.time_ns() // 1_000_000
 
 
+def ahead_of_uptime() -> float:
+    """By how many seconds the system's clock is ahead of the boot clock. It changes only where somebody sets the system's clock."""
+    return now() / 1000 - uptime()
+
+
 def uptime() -> float:
     """Seconds since the machine started, sleep included. It never jumps, whatever is done to the system's clock."""
     return time.clock_gettime(time.CLOCK_BOOTTIME)

@@ -2,45 +2,52 @@
 from __future__ import annotations
 
 import asyncio
-import json
 import ssl
 import threading
 from collections import deque
 from collections.abc import Callable
 from concurrent import futures
-from typing import Any
 
 from .address import Address, Tls, keep_alive
-from .checking import LINE_LIMIT, Line, check_line
-from .errors import BadSettings, NotTrusted, Unanswered, Unreachable
+from .checking import LINE_LIMIT, Line, bytes_of, check_line
+from .errors import BadReply, BadSettings, KemtruaError, NotTrusted, Unanswered, Unreachable
 from .names import unescape
 from .replies import read
-from .scheduler import Asks
+from .scheduler import Scheduler
 
-CONNECT_WITHIN = 10.0  # seconds
+CONNECT_WITHIN = 5.0  # seconds
+ANSWER_WITHIN = 20.0  # seconds for a line, if nothing else is said
+LIST_WITHIN = 300.0  # seconds for a list
+PROTOCOL = 1  # of the hub's own lines
+LONGEST_REPLY = 16 * LINE_LIMIT  # bytes
+
+Answered = futures.Future[list[str]]
 
 
-class Connection(Asks):
-    """Asks a hub. Safe for threads. A connection that broke stays so: each further question raises Unreachable."""
+class Connection(Scheduler):
+    """Asks a hub. Safe for threads. A connection that broke stays so: each further question raises Unreachable.
 
-    def __init__(self, address: Address, tls: Tls | None = None):
-        self.address = address
+    A hub that doesn't answer within so many seconds counts as gone: the connection breaks, since nobody could tell later which reply
+    belongs to which line.
+    """
+
+    def __init__(self, address: Address, tls: Tls | None = None, answer_within: float = ANSWER_WITHIN):
+        self.address, self.answer_within = address, answer_within
         if not address.path and tls is None:
             raise BadSettings(f"{address} wants TLS: name a certificate, a key and an authority")
         self._context = tls.context(server=False) if tls and not address.path else None
-        self._waiting: deque[tuple[asyncio.Future[str], list[str]]] = deque()
+        self._waiting: deque[tuple[Answered, list[str]]] = deque()
         self._watchers: list[Callable[[], None]] = []
         self._why: Unreachable | None = None
         self._heard = False
-        self._reading: asyncio.Task[None] | None = None
-        self._loop = asyncio.new_event_loop()
-        self._thread = threading.Thread(target=self._loop.run_forever, name="hub", daemon=True)
-        self._thread.start()
+        self._writer: asyncio.StreamWriter | None = None
         try:
-            self._call(self._connect())
-        except BaseException:
-            self.close()
-            raise
+            self._loop = asyncio.new_event_loop()
+            self._thread = threading.Thread(target=self._run, name="hub", daemon=True)
+            self._thread.start()
+        except (OSError, RuntimeError) as error:  # (no descriptor, or no thread)
+            raise Unreachable(f"no connection to {address} can be made: {error}") from None
+        self._open()
 
     def __enter__(self) -> Connection:
         return self
@@ -49,65 +56,114 @@ class Connection(Asks):
         self.close()
 
     @property
-    def is_broken(self) -> bool:
+    def is_broken(self) -> bool:  # type: ignore[override]
         return self._why is not None
 
     def answer(self, line: Line) -> str:
-        return self._ask(check_line(line))[0]
+        return self._ask(check_line(line), self.answer_within)[0]
 
     def peers(self) -> list[str]:
-        return [unescape(word) for word in self._own(b'{"do":"members"}\n')[0].split()[1:]]
+        return [unescape(word) for word in self._own({"do": "members"})[0].split()[1:]]
 
     def entries_of(self, node: str) -> list[int]:
-        return [int(word) for word in self._own(json.dumps({"do": "held", "node": node}).encode() + b"\n")[0].split()[1:]]
+        return [int(word) for word in self._own({"do": "held", "node": node})[0].split()[1:]]
 
     def listed(self) -> list[str]:
         """The lines of `list`."""
-        return self._own(b'{"do":"list"}\n')[1:]
+        return self._own({"do": "list"}, LIST_WITHIN)[1:]
+
+    def clock(self) -> int:
+        return self._clock({"do": "clock"})
+
+    def accept_clock(self) -> int:
+        """Has the hub go on by its clock as it is, and gives what that shows."""
+        return self._clock({"do": "clock", "accept": True})
+
+    def hello(self) -> str:
+        """The version of the hub. Raises HubRefused where it doesn't speak this client's protocol."""
+        return self._own({"do": "hello", "protocol": PROTOCOL})[0].split()[2]
+
+    def answer_raw(self, data: bytes) -> str:
+        """The reply to bytes that may be no line."""
+        return self._ask(data + b"\n", self.answer_within)[0]
 
     def watch(self, call: Callable[[], None]) -> None:
         self._watchers.append(call)
-        self._own(b'{"do":"watch"}\n')
+        self._own({"do": "watch"})
+
+    def cut(self) -> None:
+        self._in_loop(lambda: self._break(Unreachable(f"the connection to {self.address} was given up")))
 
     def close(self) -> None:
-        if self._thread.is_alive() and not self._loop.is_closed():
-            self._loop.call_soon_threadsafe(self._shut)
-            if threading.current_thread() is not self._thread:
-                self._thread.join()
-                self._loop.close()
+        self._in_loop(lambda: self._break(Unreachable(f"the connection to {self.address} was closed")))
+        self._in_loop(self._loop.stop)
+        if threading.current_thread() is not self._thread:
+            self._thread.join()
 
-    def _own(self, data: bytes) -> list[str]:
+    # -- the questions, in the threads of those who ask
+
+    def _own(self, line: Line, within: float | None = None) -> list[str]:
         """The reply to a line of the hub's own. Raises HubRefused."""
-        said = self._ask(data)
-        if said[0].startswith("hub "):
+        said = self._ask(bytes_of(line), within or self.answer_within)
+        if said[0].split(" ", 1)[0] not in ("members", "held", "list", "clock", "hello", "ok"):
             read(said[0])
+            raise BadReply(f"{said[0][:200]!r} was answered to {line['do']}")
         return said
 
-    def _call(self, work: Any) -> Any:
-        """The result of a coroutine in the connection's own thread."""
+    def _clock(self, line: Line) -> int:
+        return int(self._own(line)[0].split()[1])
+
+    def _ask(self, data: bytes, within: float) -> list[str]:
+        answered: Answered = futures.Future()
+        if not self._in_loop(lambda: self._send(data, answered)):
+            raise self._why or Unreachable(f"the connection to {self.address} is closed")
         try:
-            answered = asyncio.run_coroutine_threadsafe(work, self._loop)
-        except RuntimeError:  # (the loop is closed)
-            work.close()
-            raise self._why or Unreachable(f"the connection to {self.address} is closed") from None
-        while True:
-            try:
-                return answered.result(1.0)
-            except futures.TimeoutError:
-                if not answered.done() and not self._thread.is_alive():
-                    raise Unanswered(f"the connection to {self.address} was closed") from None
+            return answered.result(within)
+        except futures.TimeoutError:
+            why = f"no answer from the hub at {self.address} within {within:g} seconds"
+            self._in_loop(lambda: self._break(Unreachable(why)))
+            raise Unanswered(why) from None
 
-    def _ask(self, data: bytes) -> list[str]:
-        said: list[str] = self._call(self._send(data))
-        return said
+    def _in_loop(self, call: Callable[[], None]) -> bool:
+        """Has the connection's own thread do this. False where that has ended."""
+        try:
+            self._loop.call_soon_threadsafe(call)
+        except RuntimeError:
+            return False
+        return self._thread.is_alive()
+
+    def _open(self) -> None:
+        opened = asyncio.run_coroutine_threadsafe(self._connect(), self._loop)
+        try:
+            opened.result(CONNECT_WITHIN + 5)
+        except BaseException as error:
+            opened.cancel()
+            self.close()
+            if isinstance(error, (KemtruaError, KeyboardInterrupt)):
+                raise
+            raise Unreachable(f"no connection to {self.address} can be made: {error or type(error).__name__}") from None
+
+    # -- in the connection's own thread
+
+    def _run(self) -> None:
+        try:
+            self._loop.run_forever()
+            left = asyncio.all_tasks(self._loop)
+            for task in left:
+                task.cancel()
+            if left:
+                self._loop.run_until_complete(asyncio.wait(left))
+        finally:
+            self._loop.close()
+            self._break(Unreachable(f"the connection to {self.address} is closed"))
 
     async def _connect(self) -> None:
         try:
             if self.address.path:
-                opening = asyncio.open_unix_connection(self.address.path, limit=LINE_LIMIT * 16)
+                opening = asyncio.open_unix_connection(self.address.path, limit=LONGEST_REPLY)
             else:
-                opening = asyncio.open_connection(self.address.host, self.address.port, ssl=self._context, limit=LINE_LIMIT * 16)
-            reader, self._writer = await asyncio.wait_for(opening, CONNECT_WITHIN)
+                opening = asyncio.open_connection(self.address.host, self.address.port, ssl=self._context, limit=LONGEST_REPLY)
+            reader, writer = await asyncio.wait_for(opening, CONNECT_WITHIN)
         except ssl.SSLCertVerificationError as error:
             raise NotTrusted(f"the certificate of the hub at {self.address} isn't trusted: {error.verify_message}") from None
         except ssl.SSLError as error:
@@ -116,17 +172,16 @@ class Connection(Asks):
             raise Unreachable(f"no answer from {self.address} within {CONNECT_WITHIN:.0f} seconds") from None
         except OSError as error:
             raise Unreachable(f"no hub answers at {self.address}: {error.strerror or error}") from None
+        self._writer = writer
         self._reading = self._loop.create_task(self._read(reader))
-        keep_alive(self._writer.get_extra_info("socket"))
+        keep_alive(writer.get_extra_info("socket"))
 
-    async def _send(self, data: bytes) -> list[str]:
-        if self._why is not None:
-            raise self._why
-        answered: asyncio.Future[str] = self._loop.create_future()
-        more: list[str] = []
-        self._waiting.append((answered, more))
+    def _send(self, data: bytes, answered: Answered) -> None:
+        if self._why is not None or self._writer is None:
+            answered.set_exception(self._why or Unreachable(f"the connection to {self.address} isn't open"))
+            return
+        self._waiting.append((answered, []))
         self._writer.write(data)
-        return [await answered, *more]
 
     async def _read(self, reader: asyncio.StreamReader) -> None:
         why = "the hub closed it"
@@ -135,7 +190,9 @@ class Connection(Asks):
                 await self._take(data[:-1].decode(), reader)
         except asyncio.IncompleteReadError:
             pass
-        except (OSError, ValueError) as error:
+        except asyncio.LimitOverrunError:
+            why = f"a reply has more than {LONGEST_REPLY} bytes"
+        except (OSError, ValueError, IndexError) as error:
             why = getattr(error, "reason", None) or getattr(error, "strerror", None) or str(error)
         if self._context is not None and not self._heard:
             # (a TLS 1.3 server refuses a certificate only once the client has begun to talk)
@@ -154,33 +211,16 @@ class Connection(Asks):
             for _ in range(int(reply.split()[1])):
                 more.append((await reader.readuntil(b"\n"))[:-1].decode())
         if not answered.done():
-            answered.set_result(reply)
+            answered.set_result([reply, *more])
 
     def _break(self, why: Unreachable) -> None:
         if self._why is None:
             self._why = why
-            for answered, _ in self._waiting:
-                if not answered.done():
-                    answered.set_exception(why if isinstance(why, NotTrusted) else Unanswered(str(why)))
             for watcher in self._watchers:
                 watcher()
-        self._writer.close()
-
-    def _shut(self) -> None:
-        self._loop.create_task(self._end())
-
-    async def _end(self) -> None:
-        """Closes the connection, lets those who wait for answers know, and stops the loop."""
-        try:
-            if self._reading is not None:
-                self._break(Unreachable(f"the connection to {self.address} was closed"))
-                self._reading.cancel()
-            others = asyncio.all_tasks() - {asyncio.current_task()}
-            if others:
-                await asyncio.wait(others, timeout=2)
-            if self._reading is not None:
-                await asyncio.wait_for(self._writer.wait_closed(), 2)
-        except (OSError, TimeoutError, asyncio.CancelledError):
-            pass
-        finally:
-            self._loop.stop()
+        while self._waiting:
+            answered, _ = self._waiting.popleft()
+            if not answered.done():
+                answered.set_exception(self._why if isinstance(self._why, NotTrusted) else Unanswered(str(self._why)))
+        if self._writer is not None and not self._writer.transport.is_closing():
+            self._writer.transport.abort()

@@ -132,12 +132,29 @@ class NotTrusted(Unreachable):
     """One of the two sides of a TLS connection doesn't trust the other's certificate."""
 
 
+class BadReply(KemtruaError):
+    """Something was answered that the line can't be answered with."""
+
+
 class HubRefused(KemtruaError):
-    """The hub didn't hand the line on. `word` says why: bad-line, name-taken, not-yours, not-here, wait, no-right, failed, ended."""
+    """The hub didn't hand the line on. `word` says why: see the words of a hub."""
 
     def __init__(self, word: str, text: str):
         super().__init__(text)
         self.word = word
+
+    @property
+    def passes(self) -> bool:
+        """Whether the same line may be sent again later: the hub ends, or waits for somebody to look at its clock."""
+        return self.word in ("ended", "clock")
+
+
+class ClockWrong(KemtruaError):
+    """This machine's clock parts from the hub's by more than what is allowed."""
+
+
+class NotBegun(KemtruaError):
+    """An execution couldn't begin for a reason that may pass, as want of descriptors, memory or processes. Nothing of it has run."""
 
 
 class BadSettings(KemtruaError):

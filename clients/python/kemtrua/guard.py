@@ -39,14 +39,14 @@ class Guard:
         self._process.wait()
 
 
-def with_token(token: str) -> list[int]:
-    """The processes whose environment has this token."""
-    wanted, found = f"{VARIABLE}={token}".encode(), []
+def with_token(token: str, *more: str) -> list[int]:
+    """The processes whose environment has this token, and these further variables."""
+    wanted, found = {it.encode() for it in (f"{VARIABLE}={token}", *more)}, []
     for name in os.listdir("/proc"):
         if name.isdigit() and int(name) != os.getpid():
             try:
                 with open(f"/proc/{name}/environ", "rb") as file:
-                    if wanted in file.read().split(b"\0"):
+                    if wanted <= set(file.read().split(b"\0")):
                         found.append(int(name))
             except OSError:
                 continue  # (it has just ended, or is another user's)

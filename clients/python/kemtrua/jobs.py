@@ -5,6 +5,7 @@ import threading
 from collections.abc import Callable, Mapping
 from dataclasses import dataclass, field
 from enum import Enum
+from typing import Protocol
 
 from .names import RECOVERIES, Key
 from .rows import EntryRow
@@ -50,6 +51,13 @@ class Stop:
         call()
 
 
+class Place(Protocol):
+    """What a node has ready for one execution, so that want of it shows before the execution has begun."""
+
+    def close(self) -> None:
+        """Gives it back, where nothing began in it."""
+
+
 @dataclass(frozen=True)
 class Context:
     """What a job learns of its execution. Moments are in ms since 1970-01-01T00:00:00Z."""
@@ -65,11 +73,16 @@ class Context:
     fired: int
     refires: int = 0
     stop: Stop = field(default_factory=Stop, compare=False)
+    places: list[Place] = field(default_factory=list, compare=False, repr=False)  # what the node has ready for a command, once
 
     @property
     def recovering(self) -> bool:
         """Whether this makes up for an execution that was lost with its node."""
         return self.trigger.group == RECOVERIES
+
+    def take_place(self) -> Place | None:
+        """What the node prepared for this execution, if nobody took it."""
+        return self.places.pop() if self.places else None
 
     @classmethod
     def of_row(cls, row: EntryRow) -> Context:

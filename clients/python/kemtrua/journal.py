@@ -3,6 +3,7 @@ from __future__ import annotations
 
 import os
 import struct
+import time
 from collections.abc import Iterator
 from dataclasses import dataclass
 
@@ -10,6 +11,7 @@ HEADER = 16
 OPEN = 0xA5
 BYTES_LIMIT = 2**29
 COUNT_LIMIT = 2**23
+SLICE = 1000  # payloads that are read at once
 VERSIONS = (1, 2)
 SNAPSHOTS = (0xF0, 0xF1)  # first bytes of payloads that are no transactions
 
@@ -93,11 +95,19 @@ class Meter:
     def __init__(self, path: str | os.PathLike[str]):
         self.path, self._gate, self._count = path, HEADER, 0
 
+    @property
     def share(self) -> float:
-        """From 0 to 1: of its bytes, or of its transactions if that is more. 0 where it can't be read."""
-        try:
-            for payload in payloads_of(self.path, self._gate):
-                self._gate, self._count = self._gate + 5 + len(payload), self._count + 1
-        except (NotRead, OSError):
-            return 0.0
+        """From 0 to 1: of its bytes, or of its transactions if that is more, as far as it was read."""
         return max(self._gate / BYTES_LIMIT, self._count / COUNT_LIMIT)
+
+    def read(self) -> Iterator[float]:
+        """Reads on to the end, by slices, and says after each how many seconds it took. What can't be read is left out."""
+        begun = time.monotonic()
+        try:
+            for number, payload in enumerate(payloads_of(self.path, self._gate), 1):
+                self._gate, self._count = self._gate + 5 + len(payload), self._count + 1
+                if number % SLICE == 0:
+                    yield time.monotonic() - begun
+                    begun = time.monotonic()
+        except (NotRead, OSError):
+            return

@@ -20,6 +20,7 @@ class Ledger:
         self.held: dict[str, int] = {}  # the epochs that nodes hold in this call
         self.intervals: dict[str, int] = {}  # of each node that has checked in, in ms
         self.owners: dict[int, str] = {}  # the node of each entry number
+        self._entries: dict[str, set[int]] = {}  # those of each node
         for line in listed:
             row = rows.row_of(line)
             if isinstance(row, rows.MemberRow):
@@ -27,23 +28,37 @@ class Ledger:
             elif isinstance(row, rows.CheckInRow):
                 self.intervals[row.node] = row.interval
             elif isinstance(row, rows.EntryRow):
-                self.owners[row.entry] = row.node
+                self._own(row.entry, row.node)
 
     def entries_of(self, node: str) -> list[int]:
-        return sorted(entry for entry, owner in self.owners.items() if owner == node)
+        return sorted(self._entries.get(node, ()))
+
+    def count_of(self, node: str) -> int:
+        return len(self._entries.get(node, ()))
 
     def peers(self) -> list[str]:
         return sorted({*self.members, *self.intervals})
 
     def learn(self, line: Line, reply: str) -> None:
-        word, *words = reply.split()
-        learner = getattr(self, f"_{line['do']}", None)
+        learner = self._LEARNERS.get(str(line["do"]))
         if learner is not None:
-            learner(line, word, words)
+            word, *words = reply.split()
+            learner(self, line, word, words)
+
+    def _own(self, entry: int, node: str) -> None:
+        self.owners[entry] = node
+        self._entries.setdefault(node, set()).add(entry)
+
+    def _free(self, line: Line) -> None:
+        entry = int(line["entry"])  # type: ignore[call-overload]
+        node = self.owners.pop(entry, None)
+        if node is not None:
+            self._entries[node].discard(entry)
 
     def _drop(self, node: str) -> None:
         self.members.pop(node, None)
-        self.owners = {entry: owner for entry, owner in self.owners.items() if owner != node}
+        for entry in self._entries.pop(node, set()):
+            del self.owners[entry]
 
     def _check_in(self, line: Line, word: str, words: list[str]) -> None:
         if word in ("ok", "joined"):
@@ -71,19 +86,20 @@ class Ledger:
 
     def _acquire(self, line: Line, word: str, words: list[str]) -> None:
         if word == "acquired" and words != ["none"]:
-            self.owners.update({int(entry): str(line["node"]) for entry in words[0::3]})
+            for entry in words[0::3]:
+                self._own(int(entry), str(line["node"]))
 
     def _release(self, line: Line, word: str, words: list[str]) -> None:
         if word == "ok":
-            self.owners.pop(int(line["entry"]), None)  # type: ignore[call-overload]
+            self._free(line)
 
     def _fire(self, line: Line, word: str, words: list[str]) -> None:
         if word == "refused" and words[0] == "15":
-            self.owners.pop(int(line["entry"]), None)  # type: ignore[call-overload]
+            self._free(line)
 
     def _complete(self, line: Line, word: str, words: list[str]) -> None:
         if word == "completed" or word == "refused" and words[0] == "15":
-            self.owners.pop(int(line["entry"]), None)  # type: ignore[call-overload]
+            self._free(line)
 
     def _recover(self, line: Line, word: str, words: list[str]) -> None:
         if word == "recovered":
@@ -96,4 +112,5 @@ class Ledger:
     def _restart(self, line: Line, word: str, words: list[str]) -> None:
         self.held.clear()
 
-
+    _LEARNERS = {"check_in": _check_in, "join": _join, "resume": _resume, "leave": _leave, "stop": _stop, "acquire": _acquire, "release": _release,
+                 "fire": _fire, "complete": _complete, "recover": _recover, "forget": _forget, "restart": _restart}

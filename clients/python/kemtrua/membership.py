@@ -1,23 +1,27 @@
 """A node's membership of the cluster, kept over broken connections and new starts of the hub."""
 from __future__ import annotations
 
-import logging
 import math
 import random
 import threading
-import time
 from collections.abc import Callable
+from typing import TypeVar
 
-from . import clock
-from .connection import Connection
-from .errors import HubRefused, NotJoined, NotTrusted, Refused, StoreClosed, StoreFault, Unanswered, Unreachable
-from .replies import Joined, Reply
+from . import clock, logs
+from .errors import ClockWrong, HubRefused, KemtruaError, NotJoined, NotTrusted, Refused, StoreClosed, StoreFault, Unanswered, Unreachable
+from .hubclock import HubClock
+from .replies import Joined
 from .scheduler import Scheduler
+from .store import Store
 
-log = logging.getLogger("kemtrua.node")
+log = logs.logger("kemtrua.node")
 
 LONGEST_REST = 2.0  # seconds between two tries to reach the hub
+CLOCK_REST = 5.0  # seconds until the own clock is compared again, where it was wrong
 SAY_AGAIN = 60.0  # seconds between two lines of the log that say that it isn't there
+
+Answer = TypeVar("Answer")
+Question = Callable[[Scheduler], Answer]
 
 
 class Fenced(Exception):
@@ -35,11 +39,13 @@ class Membership:
     whenever an answer was lost. Where the epoch is gone, Fenced is raised; `join` gives the node a new one.
     """
 
-    def __init__(self, name: str, interval: int, connect: Callable[[], Scheduler], wake: Callable[[], None]):
+    def __init__(self, name: str, interval: int, connect: Callable[[], Scheduler], wake: Callable[[], None], clock_limit: int = 5000):
         self.name, self.interval = name, interval
         self._connect, self._wake = connect, wake
         self._lock = threading.RLock()
         self._scheduler: Scheduler | None = None
+        self._said: dict[str, float] = {}
+        self.clock = HubClock(clock_limit)
         self.epoch = 0
         self.generation = 0
         self.is_fenced = False
@@ -53,95 +59,105 @@ class Membership:
     @property
     def is_cut_off(self) -> bool:
         """Whether the hub is away."""
-        return bool(getattr(self._scheduler, "is_broken", False))
+        return self._scheduler is not None and self._scheduler.is_broken
+
+    def give_up(self) -> None:
+        """Nobody waits for the hub any more, nor for an answer that it owes."""
+        self.given_up.set()
+        if self._scheduler is not None:
+            self._scheduler.cut()
 
     def join(self) -> Joined:
-        """Joins, under a new epoch, once a hub is there. Raises HubRefused where the name is taken, and NotTrusted."""
+        """Joins, under a new epoch, once a hub is there and the clock is right. Raises HubRefused where the name is taken, and NotTrusted."""
         with self._lock:
-            if self._scheduler is None:
-                self._reach(trusts_later=False)
+            trusts_later = self._scheduler is not None
             while True:
                 try:
-                    reply = self.scheduler.ask("join", node=self.name, interval=self.interval)
+                    self._reach(trusts_later)
+                    self.clock.measure(self.scheduler)
+                    self.clock.check()
+                    reply = self.scheduler.join(self.name, self.interval)
                     break
-                except (Unanswered, Unreachable):
-                    self._reach()
-            assert isinstance(reply, Joined)
+                except ClockWrong as error:
+                    self._say(str(error))
+                    self._rest(CLOCK_REST)
+                except HubRefused as error:
+                    if not error.passes:
+                        raise
+                    self._say(str(error))
+                    self._rest(1.0)
+                except (Unanswered, Unreachable) as error:
+                    if isinstance(error, NotTrusted) and not trusts_later:
+                        raise
+                    self._rest(0.1)
             self.epoch, self.generation, self.is_fenced = reply.epoch, self.generation + 1, False
             return reply
 
-    def ask(self, do: str, **members: object) -> Reply:
-        """The reply to a line in the node's name.
+    def ask(self, question: Question[Answer]) -> Answer:
+        """The answer to a step in the node's name.
 
-        Raises Unanswered where the answer was lost, once the node is back: then the step was done or not. Raises Fenced.
+        Raises Unanswered where it was lost, once the node is back: then the step was done or not. Raises Fenced.
         """
-        scheduler, generation, resumes = self.scheduler, self.generation, False
+        scheduler, generation = self.scheduler, self.generation
         if self.is_fenced:
             raise Fenced
         try:
-            return scheduler.ask(do, node=self.name, **members)
+            return question(scheduler)
         except Refused as refused:
             if refused.number == 1:
                 self.is_fenced = True
                 raise Fenced from None
             raise
-        except NotJoined as error:
-            lost: Exception = error
-            resumes = True
-        except (Unanswered, Unreachable) as error:
-            lost = error
-        except (StoreFault, StoreClosed, HubRefused) as error:
-            if isinstance(error, HubRefused) and error.word == "not-yours":
-                # (another thread has made this connection, and hasn't resumed on it yet)
-                self._come_back(generation, resumes=True)
-                raise Unanswered(str(error)) from None
-            if not isinstance(scheduler, Connection) or isinstance(error, HubRefused) and error.word != "ended":
-                raise
-            time.sleep(0.5)  # (the hub is about to end)
-            lost = error
-        self._come_back(generation, resumes)
-        raise Unanswered(str(lost))
+        except (NotJoined, Unanswered, Unreachable, StoreFault, StoreClosed, HubRefused) as error:
+            self._bear(error, generation)
+            raise Unanswered(str(error)) from None
 
-    def sure(self, do: str, **members: object) -> Reply:
+    def sure(self, question: Question[Answer]) -> Answer:
         """The same for a step that may be done twice: it is asked until it is answered."""
         while True:
             try:
-                return self.ask(do, **members)
+                return self.ask(question)
             except Unanswered:
                 continue
 
-    def look(self, do: str, **members: object) -> Reply:
-        """The reply to a line that asks."""
+    def look(self, question: Question[Answer]) -> Answer:
+        """The answer to what changes nothing."""
         while True:
             generation = self.generation
             try:
-                return self.scheduler.ask(do, **members)
-            except (Unanswered, Unreachable):
-                self._come_back(generation)
+                return question(self.scheduler)
+            except (Unanswered, Unreachable, StoreFault, StoreClosed, HubRefused) as error:
+                self._bear(error, generation)
 
     def entries(self) -> list[int]:
         """What the store says that the node has in its hands."""
-        while True:
-            generation = self.generation
-            try:
-                return self.scheduler.entries_of(self.name)
-            except (Unanswered, Unreachable):
-                self._come_back(generation)
+        return self.look(lambda it: it.entries_of(self.name))
 
     def peers(self) -> list[str]:
-        while True:
-            generation = self.generation
-            try:
-                return [peer for peer in self.scheduler.peers() if peer != self.name]
-            except (Unanswered, Unreachable):
-                self._come_back(generation)
+        return [peer for peer in self.look(lambda it: it.peers()) if peer != self.name]
+
+    def _bear(self, error: KemtruaError, generation: int) -> None:
+        """What is done about an answer that wasn't given: the node comes back, or waits. What no waiting helps against is raised."""
+        if isinstance(self._scheduler, Store) and isinstance(error, (StoreFault, StoreClosed)):
+            raise error
+        if isinstance(error, (StoreFault, StoreClosed)) or isinstance(error, HubRefused) and error.passes:
+            self._say(str(error))
+            self._rest(0.5)
+            self._come_back(generation)
+        elif isinstance(error, HubRefused) and error.word != "not-yours":
+            raise error
+        else:
+            # (after `not-yours` another thread has made this connection, and hasn't resumed on it yet)
+            self._come_back(generation, resumes=isinstance(error, (NotJoined, HubRefused)))
 
     def _use(self, scheduler: Scheduler) -> None:
         scheduler.watch(self._wake)
         self._scheduler = scheduler
 
     def _come_back(self, generation: int, resumes: bool = False) -> None:
-        """Reaches the hub again if it is gone, and resumes, unless another thread did since then."""
+        """Reaches the hub again if it is gone, and resumes, unless another thread did since then. Raises GivenUp where the node ends."""
+        if self.given_up.is_set():
+            raise GivenUp
         with self._lock:
             if self.generation != generation:
                 return
@@ -154,7 +170,8 @@ class Membership:
     def _resume(self) -> bool:
         """Whether the node holds its epoch again. Raises Fenced where it is gone."""
         try:
-            self.scheduler.ask("resume", node=self.name, epoch=self.epoch)
+            self.clock.measure(self.scheduler)
+            self.scheduler.resume(self.name, self.epoch)
             log.info("back, under epoch %d", self.epoch)
             return True
         except Refused as refused:
@@ -163,7 +180,7 @@ class Membership:
             self.is_fenced = True
             raise Fenced from None
         except HubRefused as error:
-            log.warning("%s", error)
+            self._say(str(error))
             self._rest(1.0)
         except (Unanswered, Unreachable, StoreFault, StoreClosed):
             self._rest(0.2)
@@ -171,21 +188,31 @@ class Membership:
 
     def _reach(self, trusts_later: bool = True) -> None:
         """Makes a new connection if there is none, however long it takes. Raises GivenUp where the node ends."""
-        rest, said = 0.1, -math.inf
+        rest = 0.1
         while self._scheduler is None or self.is_cut_off:
+            if self.given_up.is_set():
+                raise GivenUp
             try:
-                if isinstance(self._scheduler, Connection):
+                if self._scheduler is not None:
                     self._scheduler.close()
                 self._use(self._connect())
+            except HubRefused as error:
+                self._say(str(error))
+                self._rest(1.0)
             except (Unreachable, Unanswered) as error:
                 if isinstance(error, NotTrusted) and not trusts_later:
                     raise
-                if clock.uptime() - said >= SAY_AGAIN:
-                    log.warning("%s; trying again, and what runs goes on", error)
-                    said = clock.uptime()
+                self._say(f"{error}; trying again, and what runs goes on")
                 self._rest(rest * random.uniform(0.5, 1.0))
                 rest = min(rest * 2, LONGEST_REST)
 
     def _rest(self, seconds: float) -> None:
         if self.given_up.wait(seconds):
             raise GivenUp
+
+    def _say(self, text: str) -> None:
+        """Logs a warning, and the same one not again for a minute."""
+        present = clock.uptime()
+        if present - self._said.get(text, -math.inf) >= SAY_AGAIN:
+            self._said = {known: said for known, said in self._said.items() if present - said < SAY_AGAIN} | {text: present}
+            log.warning("%s", text)

@@ -1,30 +1,34 @@
 """A node: it acquires what is due, and begins it at its time."""
 from __future__ import annotations
 
-import logging
 import random
 import threading
 from collections.abc import Callable, Mapping
 from dataclasses import dataclass
 
-from . import clock
+from . import clock, logs
 from .checkins import CheckIns
-from .errors import Refused, Unanswered
+from .deadlines import Deadlines
+from .errors import HubRefused, NotBegun, Refused, Unanswered
 from .executions import Executions
-from .jobs import Code, Context, Job, jobs_of
+from .jobs import Code, Context, Job, Place, jobs_of
 from .membership import Fenced, GivenUp, Membership
 from .names import Key
-from .replies import Acquired, Fired, Misfired, Next
 from .rows import EntryRow
 from .scheduler import Scheduler
 
-log = logging.getLogger("kemtrua.node")
+log = logs.logger("kemtrua.node")
 
 LATE = 1000  # ms: what is later than this may be misfired, so misfires come before the next acquire
 SLICE = 5.0  # seconds: the clock is read again at least this often, since it may jump
 ASK_AGAIN = 30.0  # seconds: show_next is asked again at least this often
 REST = 0.25  # seconds until the next acquire, where nothing could be acquired though something is due
-LEAVE_WITHIN = 10.0  # seconds that the hub has to come back for a node that leaves
+WANT_REST = 5.0  # seconds until the next acquire, where nothing could begin for want of descriptors, memory or processes
+ENDS_WITHIN = 15.0  # seconds that what is ended has: SIGKILL comes after 10 of them
+REFUSED_REST = 5.0  # seconds until the next acquire, where the store or the hub refused one
+LEAVE_WITHIN = 10.0  # seconds that the hub has to answer a node that leaves, once nothing runs any more
+LEAVE_AT_LEAST = 2.0  # seconds of them, where finish_within is shorter
+LOOK_AT_END = 0.25  # seconds between two looks at how far the end is
 
 
 @dataclass(frozen=True)
@@ -44,18 +48,25 @@ class Node:
     """One scheduler loop and one check-in loop, by the system's clock.
 
     `connect` gives who is asked: a new `Connection` to a hub at each call, or a `Store`. `jobs` has a job, or a function of a `Context`, for each
-    class. `check_in` is in ms, and `finish_within` in seconds: what still runs so long after a stop is ended, and left for others to recover.
+    class. `check_in` and `clock_limit` are in ms: where this machine's clock is further from the hub's, the node isn't let in. `finish_within` is
+    in seconds: what still runs so long after a stop is ended, and left for others to recover.
+    `prepare` makes ready what an execution needs, before it begins; where it raises NotBegun, the node gives back what it acquired.
     """
 
     def __init__(self, name: str, connect: Callable[[], Scheduler], jobs: Mapping[str, Job | Callable[[Context], Code | None]], *,
-                 check_in: int = 15000, work: Work = Work(), finish_within: float | None = None):
+                 check_in: int = 15000, work: Work = Work(), finish_within: float | None = None, clock_limit: int = 5000,
+                 prepare: Callable[[], Place] | None = None):
         self.name, self.work = name, work
+        self._prepare = prepare
         self._finish_within = finish_within
+        self._stopped = self._idle = 0.0  # the uptimes of the stop, and since when nothing runs
         self._changed, self._woken = threading.Condition(), False
         self._stopping, self._hurried = threading.Event(), threading.Event()
-        self._members = Membership(name, check_in, connect, self.wake)
+        self._members = Membership(name, check_in, connect, self.wake, clock_limit)
+        self._clock = self._members.clock
+        self._deadlines = Deadlines(self._fail)
         self._executions = Executions(jobs_of(jobs), self._members, work.workers, self.wake, self._fail)
-        self._check_ins = CheckIns(self._members, check_in, self.wake, self._executions.end_cut_off)
+        self._check_ins = CheckIns(self._members, check_in, self._deadlines, self.wake, self._executions.end_cut_off)
         self._acquired: dict[int, tuple[int, Key]] = {}  # by entry number: when to fire it, and its trigger
         self._rests_until = 0.0  # nothing is acquired before this uptime
         self._has_joined, self._seen = False, 0  # (the generation of the membership that was looked at last)
@@ -82,7 +93,10 @@ class Node:
         """Has the node finish what runs, and leave. At the second call it ends what runs, and leaves that for others to recover."""
         if self._stopping.is_set() or not self._has_joined:
             self._hurried.set()
-            self._members.given_up.set()
+            self._members.give_up()
+        else:
+            self._stopped = self._idle = clock.uptime()
+            self._deadlines.set("end", 0.0, self._look_at_end)
         self._stopping.set()
         self._executions.finish()
         self.wake()
@@ -113,9 +127,23 @@ class Node:
     def _end_all(self) -> None:
         self._stopping.set()
         self._hurried.set()
-        self._members.given_up.set()
+        self._members.give_up()
         self._executions.abandon()
         self.wake()
+
+    def _look_at_end(self) -> None:
+        """After a stop: ends what runs too long, and a wait for a hub that doesn't answer."""
+        present = clock.uptime()
+        if self._runs():
+            self._idle = present
+        most = LEAVE_WITHIN if self._finish_within is None else max(LEAVE_AT_LEAST, min(self._finish_within, LEAVE_WITHIN))
+        if self._runs() and self._finish_within is not None and present >= self._stopped + self._finish_within:
+            log.error("%d executions are ended, and left for others to recover", self._runs())
+            self._end_all()
+        elif present >= self._idle + most:
+            self._members.give_up()
+        else:
+            self._deadlines.set("end", LOOK_AT_END, self._look_at_end)
 
     # -- the scheduler loop
 
@@ -165,8 +193,11 @@ class Node:
 
     def _row_of(self, entry: int) -> EntryRow | None:
         """What the store has under this entry number, if it is this node's."""
-        row = self._members.look("show_entry", entry=entry)
-        return row if isinstance(row, EntryRow) and (row.node, row.epoch) == (self.name, self._members.epoch) else None
+        try:
+            row = self._members.look(lambda it: it.show_entry(entry))
+        except HubRefused:
+            return None  # (it is another node's by now)
+        return row if row is not None and (row.node, row.epoch) == (self.name, self._members.epoch) else None
 
     def _free(self) -> int:
         return self.work.workers - len(self._acquired) - len(self._executions)
@@ -180,35 +211,46 @@ class Node:
         return woken
 
     def _is_near(self, due: int | None) -> bool:
-        return due is not None and due <= clock.now() + self.work.ahead
+        return due is not None and due <= self._clock.now() + self.work.ahead
 
     def _next(self) -> int | None:
-        reply = self._members.look("show_next")
-        assert isinstance(reply, Next)
-        return reply.time
+        return self._members.look(lambda it: it.show_next())
 
     def _sleep(self, due: int | None) -> None:
         """Sleeps until something is to be fired or acquired, or a message comes."""
-        lefts = [SLICE, *((time - clock.now()) / 1000 for time, _ in self._acquired.values())]
+        present = self._clock.now()
+        lefts = [SLICE, *((time - present) / 1000 for time, _ in self._acquired.values())]
         if due is not None and self._free() > 0:
             # (not all nodes at one moment, so that the later ones find it taken)
             begins = due - self.work.ahead + random.randrange(self.work.ahead // 4 + 1)
-            lefts.append(max(self._rests_until - clock.uptime(), (begins - clock.now()) / 1000))
+            lefts.append(max(self._rests_until - clock.uptime(), (begins - present) / 1000))
         with self._changed:
             if not self._woken and min(lefts) > 0:
                 self._changed.wait(min(lefts))
 
     def _take(self, due: int) -> None:
         """Acquires what is due. Misfires come first where it is late, or where nothing can be acquired."""
-        if clock.now() - due > LATE:
-            self._handle_misfires()
-        if not self._acquire() and not self._handle_misfires() and self._next() == due:
-            self._rests_until = clock.uptime() + REST
+        try:
+            if self._clock.now() - due > LATE:
+                self._handle_misfires()
+            if not self._acquire() and not self._handle_misfires() and self._next() == due:
+                self._rest(REST)
+        except Refused as refused:
+            log.error("nothing is acquired for %g seconds: %s", REFUSED_REST, refused)
+            self._rest(REFUSED_REST)
+        except HubRefused as error:
+            if error.word != "too-many":
+                raise
+            log.warning("nothing is acquired for %g seconds: %s", REFUSED_REST, error)
+            self._rest(REFUSED_REST)
+
+    def _rest(self, seconds: float) -> None:
+        """Nothing is acquired for so long."""
+        self._rests_until = clock.uptime() + seconds
 
     def _acquire(self) -> bool:
-        limit, most = max(clock.now() + self.work.ahead, 0), min(self.work.batch, self._free(), 64)
-        reply = self._members.ask("acquire", no_later=limit, window=self.work.window, max=most)
-        assert isinstance(reply, Acquired)
+        limit, most = max(self._clock.now() + self.work.ahead, 0), min(self.work.batch, self._free(), 64)
+        reply = self._members.ask(lambda it: it.acquire(self.name, limit, self.work.window, most))
         for one in reply.triggers:
             log.info("entry %d acquired %s for %s", one.entry, one.trigger, one.time)
             self._acquired[one.entry] = (one.time, one.trigger)
@@ -218,8 +260,7 @@ class Node:
         """Whether something was misfired."""
         found = False
         while True:
-            reply = self._members.sure("misfires")
-            assert isinstance(reply, Misfired)
+            reply = self._members.sure(lambda it: it.misfires(self.name))
             for key, time in reply.triggers:
                 log.warning("%s was misfired; its next time is %s", key, time)
             if not reply.triggers:
@@ -228,28 +269,51 @@ class Node:
 
     def _fire_due(self) -> None:
         for entry, (time, trigger) in sorted(self._acquired.items(), key=lambda it: it[1][0]):
-            if time > clock.now():
+            if time > self._clock.now():
                 return
             self._fire(entry, trigger)
 
     def _fire(self, entry: int, trigger: Key) -> None:
         try:
-            reply = self._members.ask("fire", entry=entry)
+            place = self._prepare() if self._prepare is not None else None
+        except NotBegun as error:
+            log.error("entry %d is given back: %s", entry, error)
+            self._release(entry)
+            self._rest(WANT_REST)
+            return
+        try:
+            place = self._fire_in(entry, trigger, place)
+        finally:
+            if place is not None:
+                place.close()
+
+    def _fire_in(self, entry: int, trigger: Key, place: Place | None) -> Place | None:
+        """Fires, and begins the execution in this place, which it gives back where nothing began in it."""
+        try:
+            self._members.ask(lambda it: it.fire(self.name, entry))
         except Refused as refused:
             if refused.number == 19:
                 # (the store's clock is late against this one)
-                self._acquired[entry] = (max(int(refused.fields[1]), clock.now() + 50), trigger)
-                return
+                self._acquired[entry] = (max(int(refused.fields[1]), self._clock.now() + 50), trigger)
+                return place
             log.info("entry %d isn't fired: %s", entry, refused)
             self._acquired.pop(entry, None)
             if refused.number == 17:
                 self._seen = -1  # (it has begun: the answer to that was lost)
-            return
-        assert isinstance(reply, Fired)
+            return place
         self._acquired.pop(entry, None)
         row = self._row_of(entry)
-        if row is not None:
-            self._executions.begin(row)
+        if row is None:
+            return place
+        self._executions.begin(row, place)
+        return None
+
+    def _release(self, entry: int) -> None:
+        self._acquired.pop(entry, None)
+        try:
+            self._members.sure(lambda it: it.release(self.name, entry))
+        except Refused as refused:
+            log.info("entry %d isn't released: %s", entry, refused)
 
     # -- the end
 
@@ -257,36 +321,33 @@ class Node:
         """Gives back what hasn't begun, and waits for what runs."""
         for entry in list(self._acquired) if not self._members.is_cut_off else ():
             try:
-                self._members.sure("release", entry=entry)
-            except (Refused, Fenced) as error:
-                log.info("entry %d isn't released: %s", entry, error)
-            self._acquired.pop(entry, None)
-        if self._executions:
-            log.info("waiting for %d executions", len(self._executions))
-        until = None if self._finish_within is None else clock.uptime() + self._finish_within
-        while self._executions and not self._hurried.is_set() and (until is None or clock.uptime() < until):
+                self._release(entry)
+            except Fenced:
+                pass  # (it waits again already)
+        if self._runs():
+            log.info("waiting for %d executions", self._runs())
+        while self._runs() and not self._hurried.is_set():
             if self._members.is_fenced:
                 self._executions.drop()
             with self._changed:
                 self._changed.wait(0.2)
 
+    def _runs(self) -> int:
+        return len(self._executions) - self._executions.left_open
+
     def _leave(self, looking: threading.Thread) -> None:
         """Ends the check-ins, and leaves."""
-        if self._executions:
-            log.error("%d executions are ended, and left for others to recover", len(self._executions))
+        if self._runs():
+            log.error("%d executions are ended, and left for others to recover", self._runs())
             self._end_all()
-        self._executions.wait()
-        patience = threading.Timer(LEAVE_WITHIN, self._members.given_up.set)
-        patience.daemon = True
-        patience.start()
+        self._executions.wait(ENDS_WITHIN)
         self._check_ins.end()
-        looking.join()
+        looking.join(LEAVE_WITHIN)
         try:
-            self._members.sure("leave")
-            log.info("%s left", self.name)
+            if not self._executions:
+                self._members.sure(lambda it: it.leave(self.name))
+                log.info("%s left", self.name)
         except (Refused, Fenced, GivenUp) as error:
             log.warning("%s couldn't leave: %s", self.name, error or "the hub isn't there, or it was taken for failed")
-        patience.cancel()
-        close = getattr(self._members.scheduler, "close", None)
-        if close is not None:
-            close()
+        self._deadlines.cancel("end")
+        self._members.scheduler.close()

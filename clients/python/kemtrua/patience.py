@@ -9,22 +9,22 @@ JUMP = 2.0  # seconds by which the system's clock may part from the time that we
 
 
 class Patience:
-    """A node isn't late for what kept the hub itself: its start, a sleep, or a jump of the system's clock.
+    """A node isn't late for what kept the hub itself: its start, a sleep, a store that stalled, or a jump of the system's clock.
 
     From each of these on, a node has its check-in interval and 7.5 seconds to check in again.
     """
 
     def __init__(self) -> None:
         self._since = self._ticked = clock.uptime()
-        self._ahead = self._ahead_now()
+        self._ahead = clock.ahead_of_uptime()
 
-    @staticmethod
-    def _ahead_now() -> float:
-        return clock.now() / 1000 - clock.uptime()
+    def begin_anew(self) -> None:
+        """Something kept the hub from answering."""
+        self._since = clock.uptime()
 
     def tick(self) -> bool:
         """To be called once or twice a second. Says whether the hub slept or the clock jumped since the last call."""
-        present, ahead = clock.uptime(), self._ahead_now()
+        present, ahead = clock.uptime(), clock.ahead_of_uptime()
         disturbed = present - self._ticked > STALL or abs(ahead - self._ahead) > JUMP
         self._ticked, self._ahead = present, ahead
         if disturbed:

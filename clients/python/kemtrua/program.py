@@ -2,15 +2,15 @@
 from __future__ import annotations
 
 import fcntl
-import logging
 import os
 import subprocess
 import time
 
+from . import logs
 from .errors import CannotRun, ProgramEnded, StoreLocked
 
 STORE_FILES = ("qz-triggers.store", "qz-states.store")
-log = logging.getLogger("kemtrua.store")
+log = logs.logger("kemtrua.store")
 
 DISK_FAULT = 5  # the exit status
 
@@ -29,32 +29,51 @@ class Program:
                                              stderr=subprocess.PIPE, bufsize=0, start_new_session=True)
         except OSError as error:
             raise cannot_run(program, folder, error) from error
-        self._out = os.fdopen(os.dup(self._process.stdout.fileno()), "rb")  # type: ignore[union-attr]
+        assert self._process.stdin is not None and self._process.stdout is not None and self._process.stderr is not None
+        self._in, self._out, self._said = self._process.stdin, self._process.stdout, self._process.stderr
+        self.input, self.output = self._in.fileno(), self._out.fileno()  # for those who don't wait for each answer
+        self._read = b""
 
     def ask(self, line: bytes) -> str:
         """The reply to a line. Raises Gone where the program ended before it."""
         try:
-            self._process.stdin.write(line)  # type: ignore[union-attr]
-            reply = self._out.readline()
+            self._in.write(line)
+            while b"\n" not in self._read:
+                more = os.read(self.output, 65536)
+                if not more:
+                    raise Gone
+                self._read += more
         except OSError:
             raise Gone from None
-        if not reply.endswith(b"\n"):
-            raise Gone
-        return reply[:-1].decode()
+        reply, _, self._read = self._read.partition(b"\n")
+        return reply.decode()
 
     def end(self) -> tuple[int, str]:
         """Ends the input, waits, and gives the exit status (negative: the signal) and what was said on standard error."""
-        self._process.stdin.close()  # type: ignore[union-attr]
-        said = self._process.stderr.read().decode(errors="replace").strip()  # type: ignore[union-attr]
+        self._in.close()
+        said = self._said.read().decode(errors="replace").strip()
         self._out.close()
-        self._process.stdout.close()  # type: ignore[union-attr]
         status = self._process.wait()
-        self._process.stderr.close()  # type: ignore[union-attr]
+        self._said.close()
         return status, said
+
+    def kill(self) -> None:
+        """Ends it at once. Whoever waits for an answer finds it gone."""
+        self._process.kill()
 
     @property
     def pid(self) -> int:
         return self._process.pid
+
+
+def opened(program: str, folder: str) -> Program:
+    """A program that has opened the store, and says so by an answer."""
+    running = Program(program, folder)
+    try:
+        running.ask(b'{"do":"show_next"}\n')
+    except Gone:
+        raise ended(folder, *running.end()) from None
+    return running
 
 
 def cannot_run(program: str, folder: str, error: OSError) -> CannotRun:

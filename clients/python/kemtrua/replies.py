@@ -1,10 +1,11 @@
 """Replies of the scheduler as small classes, and those that aren't what was asked as exceptions."""
 from __future__ import annotations
 
+from collections.abc import Callable
 from dataclasses import dataclass
 
 from . import rows
-from .errors import HubRefused, NotJoined, Refused, StoreClosed, StoreFault, Unanswered
+from .errors import BadReply, HubRefused, NotJoined, Refused, StoreClosed, StoreFault, Unanswered
 from .names import Key
 
 
@@ -117,11 +118,13 @@ def _shown(word: str, words: list[str]) -> Shown:
         return Next(rows.number_or_none(words[0]))
     if words == ["none"]:
         return Nothing(word)
-    return {"job": rows.job_of, "trigger": rows.trigger_of, "entry": rows.entry_of}[word](words)
+    if word == "job":
+        return rows.job_of(words)
+    return rows.trigger_of(words) if word == "trigger" else rows.entry_of(words)
 
 
-_READERS = {
-    "ok": lambda words: Done(int(words[1]) if words else None),
+_READERS: dict[str, Callable[[list[str]], Reply]] = {
+    "ok": lambda words: Done(int(words[1]) if words[:1] == ["next"] else None),
     "deleted": lambda words: Deleted(int(words[0])),
     "triggered": lambda words: Triggered(Key.of_word(words[0]), int(words[1])),
     "joined": lambda words: Joined(int(words[0]), int(words[2]), int(words[4])),
@@ -136,8 +139,16 @@ _READERS = {
 
 
 def read(text: str) -> Reply:
-    """The reply of this line. Raises Refused, NotJoined, StoreFault, StoreClosed or HubRefused where it says so."""
-    word, *words = text.split()
+    """The reply of this line. Raises Refused, NotJoined, StoreFault, StoreClosed, HubRefused or Unanswered where it says so, and BadReply
+    where it is none."""
+    word, *words = text.split() or [""]
+    try:
+        return _read(word, words)
+    except (ValueError, IndexError, KeyError):
+        raise BadReply(f"no reply: {text[:200]!r}") from None
+
+
+def _read(word: str, words: list[str]) -> Reply:
     if word == "refused":
         raise Refused(int(words[0]), words[1:])
     if word == "stopped":

@@ -88,9 +88,9 @@ Row = JobRow | TriggerRow | EntryRow | MemberRow | CheckInRow | OtherRow
 
 def job_of(words: list[str]) -> JobRow:
     """`KEY CLASS durable B no_concurrent B requests_recovery B`, and maybe `data DATA`."""
-    flags = [words[place] == "1" for place in (3, 5, 7)]
+    durable, no_concurrent, requests_recovery = (words[place] == "1" for place in (3, 5, 7))
     data = unescape(words[9]) if len(words) > 9 else None
-    return JobRow(Key.of_word(words[0]), unescape(words[1]), *flags, data=data)
+    return JobRow(Key.of_word(words[0]), unescape(words[1]), durable, no_concurrent, requests_recovery, data)
 
 
 def trigger_of(words: list[str]) -> TriggerRow:

@@ -16,6 +16,9 @@ from .jobs import Code, Retry
 from .node import Work
 
 
+FORMAT = 1  # of settings files
+
+
 @dataclass(frozen=True)
 class CommandClass:
     command: Command
@@ -35,6 +38,7 @@ class NodeSettings:
     check_in: int
     work: Work
     finish_within: float | None
+    clock_limit: int
     classes: Mapping[str, CommandClass]
 
 
@@ -72,6 +76,9 @@ def read_node(path: str, name: str | None = None) -> NodeSettings:
         raise BadSettings(f"{path} can't be read: {error.strerror}") from None
     except (tomllib.TOMLDecodeError, UnicodeDecodeError) as error:
         raise BadSettings(f"{path} is no TOML: {error}") from None
+    form = top.take("format", int, FORMAT)
+    if form != FORMAT:
+        raise BadSettings(f"{path}: format = {form}; this client knows {FORMAT}")
     node = Table(f"{path}: [node]", top.take("node", dict, {}))
     tls = tls_of(f"{path}: [tls]", top.take("tls", dict))
     classes = {klass: _class_of(f'{path}: [class."{klass}"]', values) for klass, values in top.take("class", dict, {}).items()}
@@ -82,7 +89,8 @@ def read_node(path: str, name: str | None = None) -> NodeSettings:
     finish = node.take("finish_within", (int, float), None, 0)
     work = Work(node.take("workers", int, 10, 1), node.take("batch", int, 1, 1), node.take("window", int, 0, 0), node.take("ahead", int, 1000, 0))
     found = NodeSettings(name or node.take("name", str, socket.gethostname()), None if store else Address.parse(address or DEFAULT), store,
-                         node.take("program", str, "qz_sched"), tls, node.take("check_in", int, 15000, 1000), work, finish, classes)
+                         node.take("program", str, "qz_sched"), tls, node.take("check_in", int, 15000, 1000), work, finish,
+                         round(1000 * node.take("clock_limit", (int, float), 5.0, 0)), classes)
     node.take("name", str)
     node.end()
     if not 1 <= len(found.name.encode()) <= 120:
@@ -94,11 +102,11 @@ def tls_of(where: str, values: Any) -> Tls | None:
     if values is None:
         return None
     table = Table(where, values)
-    files = [table.take(name, str) for name in ("certificate", "key", "authority")]
+    certificate, key, authority, revoked = (table.take(name, str) for name in ("certificate", "key", "authority", "revoked"))
     table.end()
-    if None in files:
+    if None in (certificate, key, authority):
         raise BadSettings(f"{where}: certificate, key and authority belong together")
-    return Tls(*files)
+    return Tls(certificate, key, authority, revoked)
 
 
 def _code(where: str, value: Any) -> Code:

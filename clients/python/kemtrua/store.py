@@ -1,21 +1,23 @@
 """A store on this machine, held open by one call of `qz_sched script`."""
 from __future__ import annotations
 
-import logging
 import os
 import threading
+import time
 from collections.abc import Callable
 
+from . import clock, logs
 from .checking import Line, check_line
 from .errors import BadLine, KemtruaError, ProgramEnded, Unanswered
 from .ledger import Ledger
-from .program import Gone, Program, call, ended, make_store, wait_until_free
-from .scheduler import Asks
+from .program import Gone, Program, call, make_store, opened, wait_until_free
+from .scheduler import Scheduler
 
-log = logging.getLogger("kemtrua.store")
+log = logs.logger("kemtrua.store")
 
 LINES_OF_A_CALL = 1_000_000  # a script has at most 1048576 lines
 REOPENED = {2, 3, 4, 9}  # exit statuses after which the store is opened again; after a signal it is, too
+HANGS = 2.0  # seconds without an answer, after which whoever gives up may kill the program
 QUICK_ENDS = 3  # so many in a row without a reply between them, and it isn't tried again
 
 # Steps after which something may be due sooner.
@@ -23,7 +25,7 @@ WAKING = frozenset("add_trigger add_calendar resume_trigger reset_trigger resume
                    "misfires leave recover".split())
 
 
-class Store(Asks):
+class Store(Scheduler):
     """Keeps one `qz_sched script` open on a folder: one line out, one reply in. Safe for threads.
 
     Where the program ends for a reason that passes (a signal, want of memory, the lines that one call takes), the store is
@@ -38,6 +40,7 @@ class Store(Asks):
         self._running: Program | None = None
         self._broken: KemtruaError | None = None
         self._lines = self._ends = 0
+        self._asked: float | None = None  # the uptime at which the question was asked that isn't answered
         self.ledger = Ledger()
         if make:
             make_store(program, self.folder)
@@ -66,6 +69,9 @@ class Store(Asks):
         with self._lock:
             return self.ledger.entries_of(node)
 
+    def clock(self) -> int:
+        return time.time_ns() // 1_000_000  # (the program reads the machine's clock itself)
+
     def watch(self, call: Callable[[], None]) -> None:
         self._watchers.append(call)
 
@@ -78,6 +84,13 @@ class Store(Asks):
                 status, said = running.end()
                 log.info("qz_sched ended with status %d %s", status, said)
 
+    def cut(self) -> None:
+        """Kills a program that hasn't answered for a while. What was acknowledged is in the store."""
+        running, asked = self._running, self._asked
+        if running is not None and asked is not None and clock.uptime() - asked > HANGS:
+            log.error("the store gives no answer: its program is killed")
+            running.kill()
+
     def _answer(self, line: Line, data: bytes) -> str:
         if self._broken is not None:
             raise self._broken
@@ -85,10 +98,12 @@ class Store(Asks):
             self._open_again()
         assert self._running is not None
         try:
-            self._lines += 1
+            self._lines, self._asked = self._lines + 1, clock.uptime()
             reply = self._running.ask(data)
         except Gone:
             raise self._ended() from None
+        finally:
+            self._asked = None
         self._ends = 0
         self.ledger.learn(line, reply)
         return reply
@@ -122,7 +137,7 @@ class Store(Asks):
         try:
             wait_until_free(self.folder, self._wait)
             self.ledger = Ledger(call(self.program, self.folder, "list").splitlines())
-            self._running, self._lines = self._opened(), 0
+            self._running, self._lines = opened(self.program, self.folder), 0
         except KemtruaError as error:
             self._broken = error
             raise
@@ -130,12 +145,3 @@ class Store(Asks):
             if self.ledger.members.get(node) == epoch:
                 line: Line = {"do": "resume", "node": node, "epoch": epoch}
                 self._answer(line, check_line(line))
-
-    def _opened(self) -> Program:
-        """A program that has opened the store, and says so by an answer."""
-        program = Program(self.program, self.folder)
-        try:
-            program.ask(check_line({"do": "show_next"}))
-        except Gone:
-            raise ended(self.folder, *program.end()) from None
-        return program

@@ -11,6 +11,7 @@ from . import cron
 MOST_TIME = 2**53
 END_OF_TIME = 7258118399999
 DAY_MS = 86400000
+LONGEST_PLACE = 300  # characters of a place that are told
 
 
 @dataclass(frozen=True)
@@ -21,14 +22,15 @@ class Problem:
     text: str
 
     def __str__(self) -> str:
-        return f"{self.place}: {self.text}" if self.place else self.text
+        place = self.place if len(self.place) <= LONGEST_PLACE else self.place[:LONGEST_PLACE] + ".."
+        return f"{place}: {self.text}" if place else self.text
 
 
 Check = Callable[[object, str], Iterator[Problem]]
 
 
 def shown(value: object) -> str:
-    text = repr(value) if not isinstance(value, bool) and value is not None else {True: "true", False: "false", None: "null"}[value]  # type: ignore[index]
+    text = str(value).lower() if isinstance(value, bool) else "null" if value is None else repr(value)
     return text if len(text) <= 60 else text[:57] + ".."
 
 
@@ -106,8 +108,11 @@ def items(item: Check, low: int, high: int, what: str) -> Check:
         if not isinstance(value, list):
             yield Problem(place, f"{shown(value)} is no list; allowed is a list of {what}")
             return
-        wrong = [problem for number, one in enumerate(value) for problem in item(one, f"{place}[{number}]")]
-        yield from wrong
+        wrong = False
+        for number, one in enumerate(value):
+            for problem in item(one, f"{place}[{number}]"):
+                wrong = True
+                yield problem
         if not wrong and not low <= len({repr(one) for one in value}) <= high:
             yield Problem(place, f"it has {len(value)} items; allowed are {low} to {high} {what}")
 
@@ -170,15 +175,25 @@ class Form:
         if not isinstance(value, dict):
             yield Problem(place, f"{shown(value)} is no object; it has the members {self.members()}")
             return
-        dot = f"{place}." if place else ""
-        wrong = [Problem(dot + key, f"there is no such member; allowed are {self.members()}") for key in value if key not in self.needed and key not in self.free]
-        wrong += [Problem(dot + key, "it is missing") for key in self.needed if key not in value]
-        for key, check in {**self.needed, **self.free}.items():
-            if key in value:
-                wrong += check(value[key], dot + key)
-        yield from wrong
+        dot, wrong = f"{place}." if place else "", False
+        for problem in self._problems(value, dot):
+            wrong = True
+            yield problem
         if not wrong:
             yield from self.together(value, dot)
+
+    def _problems(self, value: dict[str, object], dot: str) -> Iterator[Problem]:
+        for key in value:
+            if key not in self.needed and key not in self.free:
+                yield Problem(dot + key, f"there is no such member; allowed are {self.members()}")
+        for key, check in self.needed.items():
+            if key in value:
+                yield from check(value[key], dot + key)
+            else:
+                yield Problem(dot + key, "it is missing")
+        for key, check in self.free.items():
+            if key in value:
+                yield from check(value[key], dot + key)
 
     def members(self) -> str:
         return ", ".join([*self.needed, *(f"{key} (may be absent)" for key in self.free)]) or "none"

@@ -32,7 +32,7 @@ def now() -> int:
     return time.time_ns() // 1_000_000
 
 
-def wait_until(holds: Callable[[], object], seconds: float = 20.0) -> None:
+def wait_until(holds: Callable[[], object], seconds: float = 60.0) -> None:
     until = time.monotonic() + seconds
     while not holds():
         if time.monotonic() > until:
@@ -56,30 +56,65 @@ class WithFolder(unittest.TestCase):
         self.addCleanup(store.close)
         return store
 
-    def hub(self, *words: str, make: bool = True, listen: str = "", fault: str = "") -> HubProcess:
-        hub = HubProcess(self.folder, listen or f"unix:{self.folder}/hub.sock", *(["--make"] if make else []), *words, fault=fault)
+    def hub(self, *words: str, make: bool = True, listen: str = "", fault: str = "", ahead: str = "") -> HubProcess:
+        hub = HubProcess(self.folder, listen or f"unix:{self.folder}/hub.sock", *(["--make"] if make else []), *words, fault=fault, ahead=ahead)
         self.addCleanup(hub.kill)
         return hub
+
+
+# A command whose clock is ahead of the machine's by the ms that a file has at each moment.
+WITH_A_CLOCK = """
+import sys
+from kemtrua import clock
+real, path = clock.now, sys.argv.pop(1)
+def ahead():
+    with open(path) as file:
+        return real() + int(file.read() or 0)
+clock.now = ahead
+from kemtrua.cli import {module}
+sys.exit({module}.main())
+"""
+
+
+def command(module: str, ahead: str = "") -> list[str]:
+    """The words that run a command of the client, maybe by a clock of its own."""
+    return [sys.executable, "-c", WITH_A_CLOCK.format(module=module), ahead] if ahead else [sys.executable, "-m", f"kemtrua.cli.{module}"]
 
 
 class HubProcess:
     """A hub as a process of its own."""
 
-    def __init__(self, folder: str, listen: str, *words: str, tls: Tls | None = None, fault: str = ""):
-        self.listen, self.tls = listen, tls
-        self.process = subprocess.Popen([sys.executable, "-m", "kemtrua.cli.hub", folder, "--program", PROGRAM, "--listen", listen, *words],
-                                        env={**ENVIRONMENT, "STAND_IN": fault}, stderr=subprocess.PIPE, text=True)
+    def __init__(self, folder: str, listen: str, *words: str, tls: Tls | None = None, fault: str = "", ahead: str = ""):
+        self.listen, self.tls, self.folder = listen, tls, folder
+        self.log = tempfile.NamedTemporaryFile("r", prefix="kemtrua-log-")
+        with open(self.log.name, "w") as log:
+            self.process = subprocess.Popen([*command("hub", ahead), folder, "--program", PROGRAM, "--listen", listen, *words],
+                                            env={**ENVIRONMENT, "STAND_IN": fault}, stderr=log)
+
+    def said(self) -> str:
+        """Its log so far."""
+        with open(self.log.name) as file:
+            return file.read()
+
+    @property
+    def program(self) -> int:
+        """The process that holds the store."""
+        return int(subprocess.run(["pgrep", "-P", str(self.process.pid)], capture_output=True, text=True).stdout.split()[0])
 
     @property
     def address(self) -> Address:
         return Address.parse(self.listen)
 
-    def connect(self, tls: Tls | None = None) -> Connection:
+    def connect_at(self, listen: str) -> Connection:
+        """A connection to another address of the hub."""
+        return self.connect(address=Address.parse(listen))
+
+    def connect(self, tls: Tls | None = None, address: Address | None = None) -> Connection:
         """A connection, once the hub listens."""
-        until = time.monotonic() + 20
+        until = time.monotonic() + 60
         while True:
             try:
-                return Connection(self.address, tls or self.tls)
+                return Connection(address or self.address, tls or self.tls)
             except KemtruaError:
                 if time.monotonic() > until or self.process.poll() is not None:
                     raise
@@ -89,12 +124,9 @@ class HubProcess:
         if self.process.poll() is None:
             self.process.kill()
         self.process.wait()
-        if self.process.stderr is not None:
-            self.process.stderr.close()
 
     def ended(self, number: int | None = signal.SIGTERM) -> tuple[int, str]:
         """Its exit status and its log, once it ended, after a signal if one is given."""
         if number is not None:
             self.process.send_signal(number)
-        _, said = self.process.communicate(timeout=60)
-        return self.process.returncode, said
+        return self.process.wait(60), self.said()

@@ -1,8 +1,8 @@
 #!/usr/bin/env python3
 """A small stand-in for `qz_sched`, for tests of the client without the proved program: `init`, `list` and `script`.
 
-It knows jobs, simple triggers, members, executions, check-ins and the lines that ask, each in its plain case. Calendars, zones, cron texts and groups
-it doesn't know. It keeps the trigger store's journal in its real form as far as `kemtrua.journal` reads it, and its
+It knows jobs, simple triggers, members, executions, check-ins and the lines that ask, each in its plain case. Of calendars it knows the names, and of groups
+those of jobs. Zones, cron texts and groups of triggers it doesn't know. It keeps the trigger store's journal in its real form as far as `kemtrua.journal` reads it, and its
 tables past the end of the state store's. The variable STAND_IN names faults to make: `fault:N` answers `fault` to the Nth transaction and `closed`
 then, `full:N` ends with status 7 there, and `die:N` ends without an answer, once the transaction is done.
 """
@@ -26,8 +26,9 @@ TRIGGERS, STATES = "qz-triggers.store", "qz-states.store"
 STATES_HEADER = b"QZ23\x01S" + bytes(11)
 CODES = ("NOOP", "RE_EXECUTE_JOB", "SET_TRIGGER_COMPLETE", "DELETE_TRIGGER", "SET_ALL_JOB_TRIGGERS_COMPLETE", "SET_TRIGGER_ERROR",
          "SET_ALL_JOB_TRIGGERS_ERROR")
-COMMANDS = {"add_job": 0, "delete_job": 1, "add_trigger": 2, "delete_trigger": 3, "pause_trigger": 4, "resume_trigger": 5, "trigger_now": 0x0C,
-            "join": 0x0E, "leave": 0x0F, "acquire": 0x10, "release": 0x11, "fire": 0x12, "complete": 0x13, "misfires": 0x14, "recover": 0x15}
+COMMANDS = {"add_job": 0, "delete_job": 1, "add_trigger": 2, "delete_trigger": 3, "pause_trigger": 4, "resume_trigger": 5, "add_calendar": 8, "trigger_now": 0x0C, "threshold": 0x0D,
+            "join": 0x0E, "leave": 0x0F, "acquire": 0x10, "release": 0x11, "fire": 0x12, "complete": 0x13, "misfires": 0x14, "recover": 0x15,
+            "reset_trigger": 0x17, "pause_job_group": 0x18, "resume_job_group": 0x19}
 
 
 class Refusal(Exception):
@@ -73,6 +74,8 @@ class Row:
 class Tables:
     jobs: dict[Key, Job] = field(default_factory=dict)
     triggers: dict[Key, Trigger] = field(default_factory=dict)
+    threshold: int = 60000
+    calendars: set[str] = field(default_factory=set)
     members: dict[str, int] = field(default_factory=dict)
     rows: dict[int, Row] = field(default_factory=dict)
     states: dict[str, tuple[int, int]] = field(default_factory=dict)
@@ -163,6 +166,32 @@ class Script:
     def resume_trigger(self, line, now):
         _, trigger = self.trigger_of(line)
         trigger.state = {"PAUSED": "WAITING", "PAUSED_BLOCKED": "BLOCKED"}.get(trigger.state, trigger.state)
+        return "ok"
+
+    def reset_trigger(self, line, now):
+        _, trigger = self.trigger_of(line)
+        if trigger.state != "ERROR":
+            raise Refusal("29")
+        trigger.state = "WAITING"
+        return "ok"
+
+    def pause_job_group(self, line, now, states=("WAITING", "PAUSED")):
+        for trigger in self.tables.triggers.values():
+            if trigger.job.group == line["group"] and trigger.state == states[0]:
+                trigger.state = states[1]
+        return "ok"
+
+    def resume_job_group(self, line, now):
+        return self.pause_job_group(line, now, ("PAUSED", "WAITING"))
+
+    def threshold(self, line, now):
+        self.tables.threshold = line["ms"]
+        return "ok"
+
+    def add_calendar(self, line, now):
+        if line["calendar"]["name"] in self.tables.calendars and not line.get("replace"):
+            raise Refusal("9")
+        self.tables.calendars.add(line["calendar"]["name"])
         return "ok"
 
     def trigger_now(self, line, now):
@@ -359,7 +388,8 @@ def entry_words(entry, row):
 
 
 def listed(tables):
-    yield "threshold 60000"
+    yield f"threshold {tables.threshold}"
+    yield from (f"calendar {escape(name)}" for name in sorted(tables.calendars))
     yield from (job_line(key, job) for key, job in sorted(tables.jobs.items()))
     yield from (trigger_line(key, trigger) for key, trigger in sorted(tables.triggers.items()))
     yield from (f"member {escape(node)} {epoch}" for node, epoch in sorted(tables.members.items()))

@@ -1,11 +1,14 @@
 """The command `kemtrua`, over a store of one's own."""
 import contextlib
 import io
+import json
 import os
+import time
 import unittest
 
+from kemtrua import Store
 from kemtrua.cli import client
-from tests.helpers import IS_STAND_IN, PROGRAM, WithFolder
+from tests.helpers import IS_STAND_IN, PROGRAM, WithFolder, now, once
 
 
 class Client(WithFolder):
@@ -74,6 +77,66 @@ class Client(WithFolder):
         self.call("add-job", "j", "c")
         self.assertIn("ok, next", self.call("add-trigger", "t", "j", "--cron", "0 0 2 * * ?", "--zone", "Europe/Berlin"))
         self.assertIn("zone Europe%2FBerlin", self.call("list"))
+
+    def test_rows_as_json(self) -> None:
+        self.call("add-job", "g/backup", "command", "--data", "x y", "--durable")
+        self.call("add-trigger", "nightly", "g/backup", "--at", "4000000000000")
+        (job,) = json.loads(self.call("list", "jobs", "--json"))
+        self.assertEqual((job["row"], job["name"], job["group"], job["class"], job["durable"]), ("job", "backup", "g", "command", True))
+        (trigger,) = json.loads(self.call("list", "triggers", "--json"))
+        self.assertEqual((trigger["name"], trigger["group"], trigger["job"], trigger["job_group"], trigger["next"], trigger["prev"]),
+                         ("nightly", "DEFAULT", "backup", "g", 4000000000000, None))
+        self.assertEqual(json.loads(self.call("nodes", "--json")), [])
+        self.assertEqual({it["row"] for it in json.loads(self.call("list", "--json"))}, {"job", "trigger", "threshold"})
+        (shown,) = json.loads(self.call("show", "job", "g/backup", "--json"))
+        self.assertEqual(shown["data"], "x y")
+        self.assertEqual(json.loads(self.call("show", "trigger", "none", "--json", status=1)), [])
+        self.assertEqual(json.loads(self.call("show", "next", "--json")), [{"row": "next", "next": 4000000000000}])
+
+    def test_groups_of_jobs(self) -> None:
+        self.call("add-job", "g/backup", "command")
+        self.call("add-trigger", "nightly", "g/backup", "--at", "4000000000000")
+        self.call("pause", "job-group", "g")
+        self.assertIn("PAUSED", self.call("list", "triggers"))
+        self.call("resume", "job-group", "g")
+        self.assertIn("WAITING", self.call("list", "triggers"))
+
+    def test_calendars(self) -> None:
+        for words in (["weekends", "weekly", "SAT", "sun"], ["ends", "monthly", "1", "31"], ["feasts", "annual", "12-25", "1-1"], ["days", "holiday", "2026-12-25"],
+                      ["office", "daily", "08:00", "18:00:30", "--inverted"]):
+            self.assertEqual(self.call("add-calendar", *words), "ok\n", words)
+        self.assertIn("refused 9", self.call("add-calendar", "weekends", "weekly", status=1))
+        self.call("add-calendar", "weekends", "weekly", "--replace")
+        for words, said in ((["x", "weekly", "someday"], "days of the week"), (["x", "daily", "8"], "two times of day"), (["x", "monthly", "32"], "31"),
+                            (["x", "annual", "1"], "is no day"), (["x", "cron", "a", "b"], "one cron text"), (["x", "weekly", "--inverted"], "daily")):
+            self.assertIn(said, self.call("add-calendar", *words, status=1), words)
+
+    def test_thresholds_and_resets(self) -> None:
+        self.assertEqual(self.call("threshold", "5m"), "ok\n")
+        self.assertIn("threshold 300000", self.call("list"))
+        self.call("add-job", "j", "c", "--durable")
+        self.call("add-trigger", "t", "j", "--at", "now", "--misfire", "-1")
+        self.assertIn("refused 29", self.call("reset", "t", status=1))
+        with Store(self.folder, PROGRAM) as store:
+            store.join("A", 1000)
+            entry = store.acquire("A", now()).triggers[0].entry
+            store.fire("A", entry)
+            store.add_trigger(once("u", start=4000000000000))
+            store.complete("A", entry, "SET_ALL_JOB_TRIGGERS_ERROR")
+        self.assertIn("ERROR", self.call("list", "triggers"))
+        self.assertEqual(self.call("reset", "u"), "ok\n")
+        self.assertRegex(self.call("list", "triggers"), r"u +j +WAITING")
+
+    def test_nodes_that_are_gone(self) -> None:
+        with Store(self.folder, PROGRAM) as store:
+            store.join("A", 1)
+        time.sleep(0.1)
+        self.assertIn("refused 21", self.call("recover", "A", status=1))
+        time.sleep(8)
+        self.assertRegex(self.call("nodes"), r"A +1 +late")
+        self.assertIn("0 executions were lost", self.call("recover", "A"))
+        self.assertEqual(self.call("forget", "A"), "ok\n")
+        self.assertNotIn("A ", self.call("nodes"))
 
     def test_help(self) -> None:
         for words in (["--help"], ["add-trigger", "--help"], ["--version"]):

@@ -17,7 +17,7 @@ class Lines(WithFolder):
                 one.ask("acquire", node="A", no_later=now())
             self.assertEqual(raised.exception.word, "not-yours")
             self.assertIsInstance(one.ask("join", node="A"), Joined)
-            for line, word in (({"do": "join", "node": "A"}, "name-taken"), ({"do": "resume", "node": "A", "epoch": 1}, "name-taken")):
+            for line, word in (({"do": "join", "node": "A"}, "name-taken"), ({"do": "resume", "node": "A", "epoch": 2}, "name-taken")):
                 with self.assertRaises(errors.HubRefused) as raised:
                     other.ask(**line)
                 self.assertEqual(raised.exception.word, word)

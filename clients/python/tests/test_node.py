@@ -7,9 +7,17 @@ import threading
 import time
 import unittest
 from collections.abc import Callable
+from unittest import mock
 
-from kemtrua import Code, Connection, Context, Job, Node, Retry, Store, Work
+from kemtrua import Code, Connection, Context, Job, Node, Retry, Store, Work, errors, executions
+from kemtrua import node as nodes
+from kemtrua.journal import entries_of
 from tests.helpers import ENVIRONMENT, WithFolder, job, now, once, wait_until
+
+
+class NoPlace:
+    def close(self) -> None:
+        pass
 
 
 class Running(WithFolder):
@@ -109,6 +117,60 @@ class Running(WithFolder):
         thread.join(10)
         self.assertFalse(thread.is_alive())
 
+    def test_what_cannot_begin_is_given_back_before_it_fires(self) -> None:
+        """Before, a node without a free descriptor fired, and set all triggers of the job to ERROR."""
+        store, seen, tries = self.store(), [], []
+
+        def prepare() -> NoPlace:
+            tries.append(store.entries_of("A"))
+            if len(tries) == 1:
+                raise errors.NotBegun("no execution can begin: Too many open files")
+            return NoPlace()
+
+        store.ask("add_job", job=job())
+        store.ask("add_trigger", trigger=once())
+        with mock.patch.object(nodes, "WANT_REST", 0.5):
+            self.node(store, {"ok": lambda context: seen.append(context.entry)}, prepare=prepare)
+            wait_until(lambda: seen)
+        self.assertEqual(seen, [2])  # (entry 1 was released)
+        words = [entry.word for entry in entries_of(f"{self.folder}/qz-triggers.store")]
+        self.assertEqual([word for word in words if word in ("acquire", "release", "fire")], ["acquire", "release", "acquire", "fire"])
+
+    def test_what_cannot_begin_after_it_fired_is_tried_again(self) -> None:
+        """It never counts as a failed execution, nor as one of its retries."""
+        store, seen = self.store(), []
+
+        def begins_late(context: Context) -> Code:
+            seen.append(context.refires)
+            if len(seen) < 4:
+                raise errors.NotBegun("a new process: Resource temporarily unavailable")
+            return Code.NOOP
+
+        store.ask("add_job", job=job(durable=True))
+        store.ask("add_trigger", trigger=once(interval=10**9, count=5))
+        with mock.patch.object(executions, "FIRST_REST", 0.05):
+            self.node(store, {"ok": Job(begins_late, Retry(1, 0.0, Code.SET_TRIGGER_ERROR))})
+            wait_until(lambda: len(seen) == 4 and store.entries_of("A") == [])
+        self.assertEqual(seen, [0, 0, 0, 0])
+        self.assertEqual(store.ask("show_trigger", name="t").state, "WAITING")
+
+    def test_what_never_begins_is_left_for_others_where_the_node_ends(self) -> None:
+        store, tried = self.store(), threading.Event()
+
+        def never(context: Context) -> None:
+            tried.set()
+            raise errors.NotBegun("/mnt/nfs: No such file or directory")
+
+        store.ask("add_job", job=job(requests_recovery=True))
+        store.ask("add_trigger", trigger=once())
+        node, thread = self.node(store, {"ok": never})
+        self.assertTrue(tried.wait(10))
+        node.stop()
+        thread.join(20)
+        self.assertFalse(thread.is_alive())
+        self.assertEqual(store.entries_of("A"), [1])  # (it stays open, so another node recovers it)
+        self.assertIn("A", store.ledger.members)
+
     def test_misfired_triggers_are_moved(self) -> None:
         store, seen = self.store(), []
         store.ask("add_job", job=job())
@@ -138,7 +200,7 @@ class Processes(WithFolder):
         return node
 
     def ended(self, node: subprocess.Popen[str]) -> tuple[int, str]:
-        _, said = node.communicate(timeout=30)
+        _, said = node.communicate(timeout=100)
         return node.returncode, said
 
     def fire(self, one: Connection, **more: object) -> None:
@@ -153,7 +215,7 @@ class Processes(WithFolder):
             wait_until(lambda: os.path.exists(f"{self.folder}/begun"))
             self.start("B", path)
             first.kill()
-            wait_until(lambda: "B 1" in self.text("begun"), 40)
+            wait_until(lambda: "B 1" in self.text("begun"))
             wait_until(lambda: one.peers() == ["B"])
             self.assertFalse(os.path.exists(f"{self.folder}/ended"))
             found = subprocess.run(["pgrep", "-f", f"sleep 60; echo .* {self.folder}"], capture_output=True, text=True).stdout
@@ -168,7 +230,7 @@ class Processes(WithFolder):
             self.start("B", path)
             wait_until(lambda: "B" in one.peers())
             first.send_signal(signal.SIGSTOP)
-            wait_until(lambda: "1" in self.text("begun"), 40)
+            wait_until(lambda: "1" in self.text("begun"))
             first.send_signal(signal.SIGCONT)
             wait_until(lambda: "member A 3" in one.listed())
             first.terminate()

@@ -4,6 +4,7 @@ import signal
 import subprocess
 import threading
 import unittest
+from unittest import mock
 
 from kemtrua import errors, store as stores
 from kemtrua.journal import Meter, entries_of
@@ -90,11 +91,41 @@ class Stores(WithFolder):
     def test_how_full_it_is(self) -> None:
         store = self.store()
         meter = Meter(os.path.join(self.folder, "qz-triggers.store"))
-        empty = meter.share()
         store.ask("add_job", job=job(data="x" * 4000))
-        self.assertLess(empty, meter.share())
-        self.assertEqual(meter.share(), Meter(meter.path).share())
-        self.assertEqual(Meter("/nowhere").share(), 0.0)
+        list(meter.read())
+        one = meter.share
+        store.ask("add_job", job=job("k", data="x" * 4000))
+        list(meter.read())
+        self.assertGreater(meter.share, one)
+        other = Meter(meter.path)
+        list(other.read())
+        self.assertEqual(meter.share, other.share)
+        self.assertEqual(list(Meter("/nowhere").read()), [])
+
+    def test_a_large_journal_is_looked_at_by_slices(self) -> None:
+        """Before, the first look at millions of payloads slowed the hub's answers for seconds."""
+        path = f"{self.folder}/large"
+        with open(path, "wb") as file:
+            file.write(b"QZ23\x02T" + bytes(10) + (b"\xa5" + (50).to_bytes(4, "big") + b"\xf0" + bytes(49)) * 3500 + b"\0")
+        meter, shares = Meter(path), []
+        for seconds in meter.read():
+            self.assertGreaterEqual(seconds, 0)
+            shares.append(meter.share)
+        self.assertEqual(len(shares), 3)
+        self.assertEqual(shares, sorted(set(shares)))
+        self.assertAlmostEqual(meter.share, 3500 / 2**23, delta=1e-3)
+
+    def test_a_program_that_hangs_can_be_given_up(self) -> None:
+        store = self.store()
+        assert store._running is not None
+        os.kill(store._running.pid, signal.SIGSTOP)
+        store.cut()  # (nobody waits, so nothing is killed)
+        self.addCleanup(lambda: store._running and os.kill(store._running.pid, signal.SIGCONT))
+        with mock.patch.object(stores, "HANGS", 0.2):
+            threading.Timer(0.6, store.cut).start()
+            with self.assertRaises(errors.Unanswered):
+                store.show_next()
+        self.assertIsNone(store.show_next())
 
     def test_many_threads(self) -> None:
         store = self.store()

@@ -3,17 +3,27 @@ from __future__ import annotations
 
 import signal
 import sys
+import threading
+import time
 from collections.abc import Callable
+from functools import partial
 
-from ..connection import Connection
+from .. import logs
+from ..address import Tls
+from ..certificates import DAY, warn_of
+from ..connection import ANSWER_WITHIN, Connection
 from ..errors import BadSettings
 from ..guard import Guard
 from ..node import Node
 from ..notify import notify
+from ..patience import MARGIN
+from ..running import Place
 from ..scheduler import Scheduler
 from ..settings import NodeSettings, read_node
 from ..store import Store
 from . import common
+
+log = logs.logger("kemtrua.node")
 
 DESCRIPTION = """\
 Runs what is due. A settings file maps classes of jobs to commands; see "Run it for a team".
@@ -29,16 +39,31 @@ def connector(settings: NodeSettings) -> Callable[[], Scheduler]:
         store = Store(settings.store, settings.program)
         return lambda: store
     address = settings.address
-    assert address is not None
+    if address is None:
+        raise BadSettings("a node has a hub or a store of its own")
     if not address.path and settings.tls is None:
         raise BadSettings(f"{address} wants TLS: the settings have no table [tls]")
-    return lambda: Connection(address, settings.tls)
+    within = min(ANSWER_WITHIN, (settings.check_in + MARGIN) / 1000)
+    return partial(Connection, address, settings.tls, within)
+
+
+def warn_each_day(tls: Tls) -> None:
+    """Says each day where a certificate ends soon."""
+    while True:
+        try:
+            warn_of(tls)
+        except BadSettings as error:
+            log.error("%s", error)
+        time.sleep(DAY)
 
 
 def run(settings: NodeSettings) -> None:
+    if settings.tls is not None:
+        threading.Thread(target=warn_each_day, args=(settings.tls,), name="certificates", daemon=True).start()
     guard = Guard()
     jobs = {name: it.command.job(guard, it.retry, it.ends_when_cut_off) for name, it in settings.classes.items()}
-    node = Node(settings.name, connector(settings), jobs, check_in=settings.check_in, work=settings.work, finish_within=settings.finish_within)
+    node = Node(settings.name, connector(settings), jobs, check_in=settings.check_in, work=settings.work, finish_within=settings.finish_within,
+                clock_limit=settings.clock_limit, prepare=Place if jobs else None)
     for number in (signal.SIGTERM, signal.SIGINT):
         signal.signal(number, lambda *_: node.stop())
     notify("READY=1")

@@ -4,8 +4,7 @@ from __future__ import annotations
 from collections.abc import Iterable, Sequence
 
 from .. import clock, replies, rows
-from ..ledger import DEFAULT_INTERVAL
-from ..patience import MARGIN
+from .objects import Object
 
 
 def table(head: Sequence[str], body: Iterable[Sequence[object]]) -> str:
@@ -30,18 +29,17 @@ def triggers(found: Iterable[rows.TriggerRow]) -> str:
                  [[plain(row.key), plain(row.job), row.state, clock.local(row.next), clock.local(row.prev), row.times, row.kind] for row in found])
 
 
-def nodes(found: Sequence[rows.Row]) -> str:
-    members = {row.node: row.epoch for row in found if isinstance(row, rows.MemberRow)}
-    seen = {row.node: row for row in found if isinstance(row, rows.CheckInRow)}
-    busy = [row.node for row in found if isinstance(row, rows.EntryRow) and row.executes]
-    lines = []
-    for node in sorted({*members, *seen}):
-        row = seen.get(node)
-        late = row is not None and row.last + row.interval + MARGIN < clock.now()
-        state = ("late" if late else "lives") if node in members else "gone"
-        interval = (row.interval if row else DEFAULT_INTERVAL) // 1000
-        lines.append([node, members.get(node, "-"), state, clock.local(row.last if row else None), f"{interval} s", busy.count(node)])
+def nodes(found: Iterable[Object]) -> str:
+    lines = [[it["node"], "-" if it["epoch"] is None else it["epoch"], it["state"], local_of(it["last"]), f"{span_of(it['interval'])} s", it["runs"]] for it in found]
     return table(["NODE", "EPOCH", "STATE", "LAST CHECK-IN", "EACH", "RUNS"], lines)
+
+
+def local_of(moment: object) -> str:
+    return clock.local(moment if isinstance(moment, int) else None)
+
+
+def span_of(ms: object) -> int:
+    return ms // 1000 if isinstance(ms, int) else 0
 
 
 def entries(found: Iterable[rows.EntryRow]) -> str:
@@ -53,22 +51,22 @@ def others(found: Iterable[rows.OtherRow]) -> str:
     return "\n".join(" ".join([row.word, *row.rest]) for row in found)
 
 
-def shown(reply: object) -> str:
+def next_(time: int | None) -> str:
+    return f"next {clock.local(time)} ({time})" if time is not None else "nothing waits"
+
+
+def shown(row: rows.JobRow | rows.TriggerRow | rows.EntryRow) -> str:
     """A row that was asked for, member by member."""
-    if isinstance(reply, replies.Next):
-        return f"next {clock.local(reply.time)} ({reply.time})" if reply.time is not None else "nothing waits"
-    if isinstance(reply, replies.Nothing):
-        return f"no such {reply.what}"
     times = {"next", "prev", "start", "scheduled", "at"}
     lines = []
-    for name, value in vars(reply).items():
+    for name, value in vars(row).items():
         if value is not None:
-            text = f"{clock.local(value)} ({value})" if name in times and value is not None else value
+            text = f"{clock.local(value)} ({value})" if name in times else value
             lines.append(f"{'class' if name == 'klass' else name:18} {text}")
     return "\n".join(lines)
 
 
-def answer(reply: object) -> str:
+def answer(reply: replies.Reply) -> str:
     """What came of a step."""
     if isinstance(reply, replies.Done):
         return "ok" if reply.next is None else f"ok, next {clock.local(reply.next)}"

@@ -1,0 +1,313 @@
+"""What a line means for the hub: its own lines, who may say which of the program's, and what a reply means for a connection."""
+from __future__ import annotations
+
+import asyncio
+from collections.abc import Awaitable, Callable
+
+from .. import __version__, clock, forms, logs, names
+from ..checking import Line, check, value_of
+from ..errors import BadLine, HubRefused, KemtruaError, ProgramEnded, Unanswered
+from ..ledger import DEFAULT_INTERVAL
+from ..patience import Patience
+from .asking import Asking
+from .listing import Listing
+from .rights import Rights
+from .speakers import Speakers
+from .timekeeping import Timekeeping
+from .visitor import Slot, Visitor
+
+log = logs.logger("kemtrua.hub")
+
+PROTOCOL = 1
+OWN_LINES: dict[str, frozenset[str]] = {  # of the hub, with the members that they may have
+    "hello": frozenset({"protocol"}), "clock": frozenset({"accept"}), "members": frozenset(), "held": frozenset({"node"}), "list": frozenset(),
+    "watch": frozenset()}
+KEPT_FROM_CONNECTIONS = {"restart": "it would take every node's epoch", "stop": "the hub sends it when a connection breaks"}
+OPERATORS_LINES = frozenset({*forms.CLIENT_LINES, "show_job", "show_trigger"})
+CHANGING = ("join", "resume", "leave")  # after them the connection speaks for another node
+
+
+class Lines:
+    """Answers the lines of all connections."""
+
+    def __init__(self, asking: Asking, rights: Rights, failed: Callable[[KemtruaError], None]):
+        self._asking, self._rights, self._failed = asking, rights, failed
+        self._listing = Listing(asking.folder, asking.program)
+        self._tasks: set[asyncio.Task[None]] = set()
+        self._touched: set[Visitor] = set()
+        self._told: str | None = None  # the doubt that was logged last
+        self.speakers = Speakers()
+        self.patience = Patience()
+        self.timekeeping = Timekeeping()
+
+    def said(self, visitor: Visitor, data: bytes) -> None:
+        slot = visitor.slot()
+        try:
+            self._look(visitor, slot, value_of(data))
+        except KemtruaError as error:
+            self._answer(visitor, slot, error)
+
+    def gone(self, visitor: Visitor) -> None:
+        """A connection broke: its node may have died. Its epoch and its executions stay, until it resumes or is recovered."""
+        node, visitor.node = visitor.node, None
+        self.speakers.drop_all(visitor)
+        if node is not None:
+            log.warning("the connection of %s broke", node)
+            self._do(self._stop(node))
+
+    def flush(self) -> None:
+        """Sends what is answered, and looks at the lines that waited for it."""
+        while self._touched:
+            visitor = self._touched.pop()
+            visitor.flush()
+            visitor.pump()
+
+    def doubt(self) -> KemtruaError | None:
+        """Why the program isn't asked, where the hub's clock may be wrong."""
+        if self.timekeeping.look():
+            return None
+        doubt = f"{self.timekeeping.doubt}: nothing is asked of the store until somebody looks at it and says `kemtrua clock accept`"
+        if doubt != self._told:
+            self._told = doubt
+            log.error("%s", doubt)
+        return HubRefused("clock", doubt)
+
+    async def end(self) -> None:
+        for task in self._tasks:
+            task.cancel()
+        await asyncio.gather(*self._tasks, return_exceptions=True)
+
+    # -- answers
+
+    def _answer(self, visitor: Visitor, slot: Slot, said: str | KemtruaError) -> None:
+        visitor.answer(slot, said if isinstance(said, str) else self._words(said))
+        self._touched.add(visitor)
+
+    def _words(self, error: KemtruaError) -> str:
+        """One line, whatever names are in it."""
+        if isinstance(error, HubRefused):
+            word = error.word
+        elif isinstance(error, (BadLine, Unanswered)):
+            word = "bad-line" if isinstance(error, BadLine) else "unanswered"
+        else:
+            self._failed(error)
+            word = "ended"
+        return " ".join(["hub", word, *str(error).split()])
+
+    def _do(self, work: Awaitable[None]) -> None:
+        task = asyncio.ensure_future(work)
+        self._tasks.add(task)
+        task.add_done_callback(self._tasks.discard)
+
+    def _later(self, visitor: Visitor, slot: Slot, work: Awaitable[str | bytes]) -> None:
+        """Answers with what comes of this. The connection's next line waits for it."""
+        visitor.is_busy = True
+
+        async def answer() -> None:
+            try:
+                visitor.answer(slot, await work)
+            except KemtruaError as error:
+                visitor.answer(slot, self._words(error))
+            visitor.is_busy = False
+            self._touched.add(visitor)
+            self.flush()
+
+        self._do(answer())
+
+    # -- lines
+
+    def _look(self, visitor: Visitor, slot: Slot, line: object) -> None:
+        if not isinstance(line, dict) or not isinstance(line.get("do"), str):
+            check(line)  # (which says what is wrong)
+            return
+        do = line["do"]
+        if do in OWN_LINES:
+            self._own_line(visitor, slot, line)
+            return
+        if do in KEPT_FROM_CONNECTIONS:
+            raise HubRefused("not-here", f"{do} isn't for connections: {KEPT_FROM_CONNECTIONS[do]}")
+        if do not in forms.LINES:
+            raise HubRefused("not-here", f"{do[:40]!r} is no line that this hub knows")
+        if "at" in line:
+            raise HubRefused("bad-line", "at: the hub reads the clock itself, so that no connection can set the store's moment")
+        if do in OPERATORS_LINES:
+            self._rights.may_operate(visitor.who)
+        elif "node" in line and do != "resume":
+            self._may_speak(visitor, str(line["node"]), begins=do == "join")
+        self._hand_on(visitor, slot, check(line))
+
+    def _hand_on(self, visitor: Visitor, slot: Slot, line: Line) -> None:
+        do = line["do"]
+        if (doubt := self.doubt()) is not None:
+            raise doubt
+        if do == "resume":
+            self._later(visitor, slot, self._resume(visitor, line))
+            return
+        if do == "acquire":
+            line = self._within_limit(visitor, line)
+        elif do == "check_in" and not self._rights.is_operator(visitor.who):
+            self.speakers.may_check_in(str(line["node"]), int(line.get("interval", DEFAULT_INTERVAL)))  # type: ignore[call-overload]
+        elif do == "recover":
+            self._may_recover(str(line["failed"]))
+        elif do == "show_next":
+            visitor.asleep, visitor.next_known = True, None  # (what changes from here on wakes it)
+        if do in CHANGING:
+            visitor.is_busy = True
+
+        def take(said: str | KemtruaError) -> None:
+            if do in CHANGING:
+                visitor.is_busy = False
+            elif do == "acquire":
+                visitor.acquiring -= int(line["max"])  # type: ignore[call-overload]
+            self._answer(visitor, slot, self._noted(visitor, line, said) if isinstance(said, str) else said)
+
+        self._asking.ask(visitor.turn, line, take)
+
+    def _noted(self, visitor: Visitor, line: Line, reply: str) -> str | KemtruaError:
+        """What a reply means for the connection, and what of it is answered."""
+        do = line["do"]
+        if do == "show_next":
+            if visitor.next_known is None and reply != "next none":
+                visitor.next_known = int(reply.split()[1])
+        elif do == "join":
+            self._joined(visitor, str(line["node"]), reply)
+        elif do == "leave" and reply == "ok":
+            log.info("%s leaves", visitor)
+            self.speakers.drop(str(line["node"]), visitor)
+            visitor.node = None
+        elif do == "recover" and reply.startswith("recovered"):
+            log.warning("%s takes %s for failed: %s", visitor, line["failed"], reply)
+        elif do == "show_entry" and not self._may_see(visitor, reply):
+            return HubRefused("no-right", f"entry {line['entry']} is another node's")
+        if reply == "fault":
+            self._failed(ProgramEnded(5, "a disk failed in a step"))
+        return reply
+
+    def _joined(self, visitor: Visitor, node: str, reply: str) -> None:
+        if reply.startswith("joined") and not visitor.is_gone:
+            visitor.node = node
+            log.info("%s: join %s", visitor, reply)
+        elif visitor.node is None:
+            self.speakers.drop(node, visitor)
+            if reply.startswith("joined"):
+                self._do(self._stop(node))
+
+    async def _resume(self, visitor: Visitor, line: Line) -> str:
+        """Lets a connection speak for its node again, also in place of one that hasn't been seen to break."""
+        node, epoch = str(line["node"]), line["epoch"]
+        other = self.speakers.of(node)
+        is_right = self._asking.ledger.members.get(node) == epoch
+        if other is not None and other is not visitor and other.who == visitor.who and is_right:
+            log.warning("%s comes back on a new connection; the former one, which hasn't been seen to break, is closed", node)
+            other.node = None
+            self.speakers.drop(node, other)
+            other.abort()
+        self._may_speak(visitor, node, begins=True)
+        try:
+            if node in self._asking.ledger.held and visitor.node is None:
+                await self._asking.own({"do": "stop", "node": node})
+            reply = await self._asking.own(line)
+        except KemtruaError:
+            if visitor.node is None:
+                self.speakers.drop(node, visitor)
+            raise
+        holds = reply == "ok" or is_right and self._asking.ledger.held.get(node) == epoch
+        if holds and not visitor.is_gone and self.speakers.of(node) is visitor:
+            visitor.node = node
+            log.info("%s: resume %s %s", visitor, epoch, reply)
+            return "ok" if visitor.node else reply
+        if visitor.node is None:
+            self.speakers.drop(node, visitor)
+            if reply == "ok" and not self.speakers.has(node):
+                await self._stop(node)
+        return reply
+
+    async def _stop(self, node: str) -> None:
+        """The program is to hold the node's epoch no longer. Where it can't be asked, the node's next resume does so."""
+        try:
+            if node in self._asking.ledger.held and not self.speakers.has(node):
+                await self._asking.own({"do": "stop", "node": node})
+        except KemtruaError as error:
+            log.warning("%s", error)
+
+    # -- who may
+
+    def _may_speak(self, visitor: Visitor, node: str, begins: bool) -> None:
+        """Raises where the connection can't speak for this node."""
+        if visitor.node not in (None, node):
+            raise HubRefused("not-yours", f"this connection speaks for {visitor.node!r}, and not for {node!r}")
+        if visitor.node is None and not begins:
+            raise HubRefused("not-yours", f"this connection hasn't joined as {node!r}: send join or resume first")
+        if begins:
+            self._rights.may_be(visitor.who, node)
+            self.speakers.take(node, visitor)
+
+    def _may_see(self, visitor: Visitor, reply: str) -> bool:
+        words = reply.split(" ", 3)
+        return len(words) < 4 or self._rights.is_operator(visitor.who) or names.unescape(words[2]) == visitor.node
+
+    def _may_recover(self, failed: str) -> None:
+        left = self.patience.left_for(self._asking.ledger.intervals.get(failed, DEFAULT_INTERVAL))
+        if left > 0:
+            raise HubRefused("wait", f"until {clock.now() + left}: since the hub began, slept or waited for the disk, {failed!r} hasn't had the time to check in")
+
+    def _within_limit(self, visitor: Visitor, line: Line) -> Line:
+        """The acquire, for no more than the node may have in its hands. Raises where it has as many already."""
+        node = str(line["node"])
+        most, wanted = self._rights.most(visitor.who, node), int(line.get("max", 1))  # type: ignore[call-overload]
+        if most is not None:
+            room = most - self._asking.ledger.count_of(node) - visitor.acquiring
+            if room <= 0:
+                raise HubRefused("too-many", f"{node!r} has {most} entries in its hands, and may have no more")
+            wanted = min(wanted, room)
+        visitor.acquiring += wanted
+        return {**line, "max": wanted}
+
+    # -- the hub's own lines
+
+    def _own_line(self, visitor: Visitor, slot: Slot, line: Line) -> None:
+        do = str(line["do"])
+        unknown = set(line) - {"do"} - OWN_LINES[do]
+        if unknown or do == "held" and not isinstance(line.get("node"), str):
+            allowed = ", ".join(OWN_LINES[do]) or "no member"
+            raise HubRefused("bad-line", f"{do} has {allowed} beside do")
+        if do == "watch":
+            visitor.watches = True
+            self._answer(visitor, slot, "ok")
+        elif do == "hello":
+            self._answer(visitor, slot, self._hello(line))
+        elif do == "clock":
+            self._answer(visitor, slot, self._clock(visitor, line))
+        elif do == "list":
+            self._rights.may_operate(visitor.who)
+            visitor.alone(lambda: self._later(visitor, slot, self._list()))
+        else:
+            if do == "held" and not self._rights.is_operator(visitor.who) and line["node"] != visitor.node:
+                raise HubRefused("no-right", f"what {line['node']!r} has in its hands is for itself and for operators")
+            visitor.alone(lambda: self._answer(visitor, slot, self._known(line)))
+
+    def _hello(self, line: Line) -> str:
+        if line.get("protocol", PROTOCOL) != PROTOCOL:
+            raise HubRefused("not-here", f"protocol {str(line['protocol'])[:40]}: this hub speaks {PROTOCOL}")
+        return f"hello {PROTOCOL} {__version__}"
+
+    def _clock(self, visitor: Visitor, line: Line) -> str:
+        if line.get("accept", False) is not False:
+            self._rights.may_operate(visitor.who)
+            log.warning("%s accepts the hub's clock as it is: %s", visitor, clock.local(clock.now()))
+            self.timekeeping.accept()
+            self.patience.begin_anew()
+        elif (doubt := self.doubt()) is not None:
+            raise doubt
+        return f"clock {clock.now()}"
+
+    def _known(self, line: Line) -> str:
+        ledger = self._asking.ledger
+        if line["do"] == "members":
+            return " ".join(["members", *map(names.escape, ledger.peers())])
+        return " ".join(["held", *map(str, ledger.entries_of(str(line["node"])))])
+
+    async def _list(self) -> bytes:
+        rows = (await self._listing.rows()).rstrip(b"\n")
+        count = rows.count(b"\n") + 1 if rows else 0
+        return b"list %d" % count + (b"\n" + rows if rows else b"")

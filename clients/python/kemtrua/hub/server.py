@@ -1,0 +1,222 @@
+"""The hub: one process, which holds the store and answers the lines of many connections."""
+from __future__ import annotations
+
+import asyncio
+import signal
+import socket
+import ssl
+from collections.abc import Coroutine, Sequence
+from dataclasses import dataclass
+from typing import Any
+
+from .. import clock, logs, rows
+from ..address import Address, Tls, common_name
+from ..certificates import warn_of
+from ..errors import BadSettings, KemtruaError
+from ..notify import notify
+from .asking import Asking, Events
+from .entrance import OF_ONE, Entrance
+from .lines import Lines
+from .rights import Door, Grant, Identity, Rights
+from .room import look_at_room
+from .timekeeping import moment_of
+from .visitor import Visitor
+
+log = logs.logger("kemtrua.hub")
+
+TICK = 0.5  # seconds
+DAY = 86400.0
+LATEST = 0.2  # seconds that an answer has to go out, before a hub whose store failed ends
+
+
+@dataclass(frozen=True)
+class HubSettings:
+    """Where a hub's store is, where it listens, and who may do what.
+
+    Whoever may open a socket of `addresses` operates; at one of `node_addresses`, which belongs to `nodes_group`, connections are nodes alone.
+    """
+
+    folder: str
+    program: str = "qz_sched"
+    make: bool = False
+    addresses: Sequence[Address] = ()
+    node_addresses: Sequence[Address] = ()
+    nodes_group: str | None = None
+    tls: Tls | None = None
+    operators: Sequence[str] = ()
+    nodes: Sequence[Grant] = ()
+
+
+class Hub:
+    """Serves a store until SIGTERM or SIGINT. At SIGHUP it reads its certificates again."""
+
+    def __init__(self, settings: HubSettings):
+        self.settings = settings
+        if any(not address.path for address in settings.addresses) and settings.tls is None:
+            raise BadSettings("a hub listens over TCP only with TLS: give it a certificate, a key and an authority")
+        if any(not address.path for address in settings.node_addresses):
+            raise BadSettings("over TCP a certificate says what somebody is: --listen-nodes is for Unix sockets")
+        self._context: ssl.SSLContext | None = settings.tls.context(server=True) if settings.tls else None
+        events = Events(self._woken, self._fail, self._stalled, lambda: self.lines.flush(), lambda node: self.lines.speakers.has(node),
+                        lambda: self.lines.doubt())
+        self._asking = Asking(settings.folder, settings.program, events)
+        self.lines = Lines(self._asking, Rights(settings.operators, settings.nodes), self._fail)
+        self._entrance = Entrance(self._visitor, self._tls_context)
+        self._visitors: dict[Visitor, None] = {}  # in the order in which they came
+        self._tasks: set[asyncio.Task[None]] = set()
+        self._is_waking = False
+        self.failure: KemtruaError | None = None
+
+    def run(self) -> None:
+        """Serves to the end. Raises what ended the store, if it ended."""
+        asyncio.run(self._run())
+        if self.failure is not None:
+            raise self.failure
+
+    async def _run(self) -> None:
+        self._loop, self._ended = asyncio.get_running_loop(), asyncio.Event()
+        if self.settings.make:
+            self._asking.make()
+        await self._asking.open()
+        try:
+            await self._serve()
+        finally:
+            await self._end()
+
+    async def _serve(self) -> None:
+        await self._compare_clock()
+        for door, addresses in ((Door.OPERATORS, self.settings.addresses), (Door.NODES, self.settings.node_addresses)):
+            for address in addresses:
+                self._entrance.listen(address, door, self.settings.nodes_group if door is Door.NODES else None)
+        for number in (signal.SIGTERM, signal.SIGINT):
+            self._loop.add_signal_handler(number, self._ended.set)
+        self._loop.add_signal_handler(signal.SIGHUP, self._read_certificates)
+        self._start(self._tick())
+        self._start(self._look_at_certificates())
+        self._start(look_at_room(self.settings.folder))
+        log.info("listening at %s", ", ".join(map(str, self._entrance.listening)))
+        notify("READY=1")
+        await self._ended.wait()
+
+    async def _compare_clock(self) -> None:
+        """Whether the clock and the store's latest moment are of about the same time."""
+        self.lines.timekeeping.begin(await asyncio.to_thread(moment_of, map(rows.row_of, self._asking.take_listed())))
+        self.lines.doubt()  # (which says so)
+
+    async def _end(self) -> None:
+        notify("STOPPING=1")
+        log.info("ending; %d connections are closed", len(self._visitors))
+        self._entrance.close()
+        await self.lines.end()
+        for visitor in list(self._visitors):
+            visitor.close()
+        for task in list(self._tasks):
+            task.cancel()
+        await asyncio.gather(*self._tasks, return_exceptions=True)
+        await self._asking.close()
+        for visitor in list(self._visitors):
+            visitor.abort()
+        self._entrance.remove()
+
+    def _start(self, work: Coroutine[Any, Any, None]) -> None:
+        task = self._loop.create_task(work)
+        self._tasks.add(task)
+        task.add_done_callback(self._tasks.discard)
+
+    # -- connections
+
+    def _visitor(self, door: Door, sock: socket.socket) -> Visitor:
+        return Visitor(self, door, sock)
+
+    def met(self, visitor: Visitor) -> bool:
+        if visitor.door is Door.TLS:
+            visitor.who = Identity(Door.TLS, common_name(visitor.certificate))
+            visitor.ends = ssl.cert_time_to_seconds(str(visitor.certificate["notAfter"]))
+            same = [it for it in self._visitors if it.who == visitor.who]
+            if len(same) >= OF_ONE:
+                idle = next((it for it in same if it.node is None), None)
+                log.warning("%s has %d connections; %s", visitor.who, len(same), "the first that speaks for no node is closed" if idle else "no further one gets in")
+                if idle is None:
+                    return False
+                idle.abort()
+        else:
+            visitor.who = Identity(visitor.door, visitor.peer_user())
+        self._visitors[visitor] = None
+        self._entrance.count[visitor.door] += 1
+        return not self._ended.is_set()
+
+    def said(self, visitor: Visitor, data: bytes) -> None:
+        self.lines.said(visitor, data)
+
+    def gone(self, visitor: Visitor) -> None:
+        if visitor in self._visitors:
+            del self._visitors[visitor]
+            self._entrance.count[visitor.door] -= 1
+        if not self._ended.is_set():
+            self.lines.gone(visitor)
+
+    # -- what happens at the store
+
+    def _fail(self, error: KemtruaError) -> None:
+        if self.failure is None and not self._ended.is_set():
+            log.error("%s", error)
+            self.failure = error
+            self._loop.call_later(LATEST, self._ended.set)
+
+    def _stalled(self, seconds: float) -> None:
+        log.warning("the store gave no answer for %.1f seconds: no node is taken for failed before it could check in", seconds)
+        self.lines.patience.begin_anew()
+
+    def _woken(self) -> None:
+        """Something may be due sooner than those know who sleep."""
+        if not self._is_waking and any(visitor.watches and visitor.asleep for visitor in self._visitors):
+            self._is_waking = True
+            self._start(self._wake())
+
+    async def _wake(self) -> None:
+        try:
+            reply = await self._asking.own({"do": "show_next"})
+        except KemtruaError:
+            return  # (whoever asked gets the error)
+        finally:
+            self._is_waking = False
+        _, time = reply.split() if reply.startswith("next") else ("next", "none")
+        for visitor in list(self._visitors) if time != "none" else ():
+            visitor.wake(int(time))
+
+    # -- what happens as time goes by
+
+    async def _tick(self) -> None:
+        while True:
+            await asyncio.sleep(TICK)
+            if self.lines.patience.tick():
+                log.warning("the hub slept, or the system's clock jumped: no node is taken for failed before it could check in")
+            self.lines.doubt()
+            for visitor in [it for it in self._visitors if it.ends is not None and it.ends <= clock.now() / 1000]:
+                log.warning("%s is sent away: its certificate has ended", visitor)
+                visitor.abort()
+
+    async def _look_at_certificates(self) -> None:
+        while self.settings.tls is not None:
+            warn_of(self.settings.tls)
+            await asyncio.sleep(DAY)
+
+    def _tls_context(self) -> ssl.SSLContext:
+        assert self._context is not None
+        return self._context
+
+    def _read_certificates(self) -> None:
+        """Takes the files as they are now, and closes what came in by the former ones: whoever is still trusted comes back at once."""
+        if self.settings.tls is None:
+            return
+        try:
+            self._context = self.settings.tls.context(server=True)
+            warn_of(self.settings.tls)
+        except BadSettings as error:
+            log.error("the former certificates go on: %s", error)
+            return
+        over_tls = [visitor for visitor in self._visitors if visitor.door is Door.TLS]
+        log.info("the certificates were read again; %d connections over TLS are closed, and come back", len(over_tls))
+        for visitor in over_tls:
+            visitor.abort()
+
