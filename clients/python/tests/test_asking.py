@@ -4,12 +4,14 @@ from __future__ import annotations
 import asyncio
 import os
 import signal
+import threading
 import unittest
 from unittest import mock
 
 from kemtrua.errors import KemtruaError, ProgramEnded, Unanswered
 from kemtrua.hub import asking
 from kemtrua.hub.asking import Asking, Events, Turn
+from kemtrua.hub.listing import Listing
 from tests.helpers import IS_STAND_IN, PROGRAM, WithFolder, job
 
 Taken = list[str | KemtruaError]
@@ -93,6 +95,26 @@ class Askings(WithFolder):
         self.run_(work)
         self.assertLessEqual(order.index("check-in"), asking.BOUND)
         self.assertLess(max(place for place, who in enumerate(order) if who == "modest"), 20)
+
+    def test_lines_are_answered_while_a_list_is_copied(self) -> None:
+        """Before, the store's files were copied in the thread of the lines, and everybody waited for it."""
+        copies, may_end, copy = threading.Event(), threading.Event(), Listing._copy_to
+
+        def slow(listing: Listing, folder: str) -> None:
+            copies.set()
+            may_end.wait(60)
+            copy(listing, folder)
+
+        async def work(one: Asking) -> None:
+            rows = asyncio.create_task(Listing(self.folder, PROGRAM).rows())
+            await self.until(copies.is_set)
+            self.assertEqual(await one.own({"do": "show_next"}), "next none")
+            self.assertFalse(rows.done())
+            may_end.set()
+            self.assertNotIn(b"DEFAULT/", await rows)
+
+        with mock.patch.object(Listing, "_copy_to", slow):
+            self.run_(work)
 
     def test_a_program_that_is_killed_leaves_nothing_in_doubt_but_what_it_had(self) -> None:
         taken: Taken = []

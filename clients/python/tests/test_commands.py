@@ -12,6 +12,8 @@ from kemtrua.guard import Guard, with_token
 from kemtrua.settings import read_node
 from tests.helpers import WithFolder, wait_until
 
+EXAMPLE = os.path.join(os.path.dirname(os.path.dirname(__file__)), "node.toml")
+
 
 def context(data: str = "") -> Context:
     return Context("A", 7, 12, Key("RECOVERING_JOBS", "recover_B_3"), Key("g", "j"), "ok", data, 5, 6)
@@ -115,6 +117,14 @@ class Settings(WithFolder):
             self.assertIn(word, str(raised.exception))
         with self.assertRaises(BadSettings):
             read_node("/nowhere/node.toml")
+
+    def test_the_job_of_the_example_takes_its_data_for_text(self) -> None:
+        """Without quotes, a shell would split the data, and put file names in place of a star."""
+        backup = read_node(EXAMPLE).classes["backup"].command
+        data = "a  *  $(id) 'b'"
+        with self.assertLogs("kemtrua.job", logging.INFO) as logs:
+            self.assertEqual(backup.execute(context(data)), Code.NOOP)
+        self.assertIn(f"backing up {data}", "\n".join(logs.output))
 
     def test_the_format_of_the_file(self) -> None:
         self.assertEqual(self.read('format = 1\n[node]\nname = "A"\n').name, "A")
