@@ -2,6 +2,7 @@
 from __future__ import annotations
 
 import os
+import shutil
 import signal
 import subprocess
 import sys
@@ -40,13 +41,22 @@ def wait_until(holds: Callable[[], object], seconds: float = 60.0) -> None:
         time.sleep(0.02)
 
 
+def remove(folder: str) -> None:
+    """Removes a folder, where a program whose hub was killed may still write its last lines."""
+
+    def gone() -> bool:
+        shutil.rmtree(folder, ignore_errors=True)
+        return not os.path.exists(folder)
+
+    wait_until(gone)
+
+
 class WithFolder(unittest.TestCase):
     """A test with a folder of its own."""
 
     def setUp(self) -> None:
-        made = tempfile.TemporaryDirectory(prefix="kemtrua-")
-        self.addCleanup(made.cleanup)
-        self.folder = made.name
+        self.folder = tempfile.mkdtemp(prefix="kemtrua-")
+        self.addCleanup(remove, self.folder)
 
     def store(self, fault: str = "") -> Store:
         """A new store in the folder. `fault` is one that the stand-in is to make."""
