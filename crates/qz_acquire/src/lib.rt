@@ -11,7 +11,7 @@ ghost use Rattle.qz_types.specs.Outcomes.{accepted, refused, IsAccepted, IsError
 ghost use Rattle.qz_model.specs.Invariant.{TablesValid};
 ghost use Rattle.qz_model.specs.Transaction.{transaction};
 ghost use Rattle.qz_apply.specs.Memory.{takes_memory};
-ghost use Rattle.qz_acquire.specs.Commands.{is_acquiring};
+ghost use Rattle.qz_types.specs.Groups.{IsOfClaim};
 ghost use Rattle.qz_acquire.specs.Prepared.{committed, CanCommit, Prepares};
 
 mod acquiring;
@@ -34,7 +34,7 @@ use releasing::{give_back, prepare_release, release_refused};
 
 /// Why the command is refused, if it is.
 pub fn refusal(tables: &Tables, entry: &Entry) -> Option<Refusal>
-    requires { IsTrue (is_acquiring entry.now.command) }
+    requires { IsOfClaim entry.now.command }
     ensures { MatchOption result (IsAccepted (transaction tables.now.tables entry.now)) (λ x. transaction tables.now.tables entry.now ≡ refused x) }
 {
     let moment = recorded_moment(tables, entry.at);
@@ -67,7 +67,7 @@ pub fn refusal(tables: &Tables, entry: &Entry) -> Option<Refusal>
 /// only where the transaction would be accepted, and never for a Release.
 #[tactic(auto, using(crate::proofs::Facts::moment_of, crate::proofs::Preparing::prepared), unfolding(qz_types::specs::Entries::is_entry))]
 pub fn prepare(tables: &mut Tables, entry: &Entry) -> Result<Change, StepRefused>
-    requires command { IsTrue (is_acquiring entry.now.command) }
+    requires command { IsOfClaim entry.now.command }
     requires valid { ∥ TablesValid tables.old.tables ∥₁ }
     requires entry { IsTrue (is_entry entry.now) }
     ensures ok { IfOk result (Prepares tables.new entry.now) }

@@ -8,7 +8,7 @@ ghost use Rattle.qz_types.specs.Entries.{is_entry};
 ghost use Rattle.qz_types.specs.Outcomes.{accepted, refused, IsAccepted, IsErrorOf};
 ghost use Rattle.qz_model.specs.Invariant.{TablesValid};
 ghost use Rattle.qz_model.specs.Transaction.{transaction};
-ghost use Rattle.qz_complete.specs.Commands.{is_completing};
+ghost use Rattle.qz_types.specs.Groups.{IsOfEnd};
 ghost use Rattle.qz_complete.specs.Prepared.{Prepares};
 
 mod changes;
@@ -23,7 +23,7 @@ use qz_types::{Actor, Command, Entry, Refusal, Reply, StepRefused};
 /// Why the command is refused, if it is.
 #[tactic(auto, using(crate::proofs::Completions::at_complete))]
 pub fn refusal(tables: &Tables, entry: &Entry) -> Option<Refusal>
-    requires { IsTrue (is_completing entry.now.command) }
+    requires { IsOfEnd entry.now.command }
     ensures { MatchOption result (IsAccepted (transaction tables.now.tables entry.now)) (λ x. transaction tables.now.tables entry.now ≡ refused x) }
 {
     match &entry.command {
@@ -40,7 +40,7 @@ pub fn refusal(tables: &Tables, entry: &Entry) -> Option<Refusal>
 
 /// Decides the command's transaction. It copies nothing, so memory is never wanted.
 pub fn prepare(tables: &Tables, entry: &Entry) -> Result<Change, StepRefused>
-    requires { IsTrue (is_completing entry.now.command) }
+    requires { IsOfEnd entry.now.command }
     ensures ok { IfOk result (Prepares tables.now.tables entry.now) }
     ensures cause { IfErr result (IsErrorOf (transaction tables.now.tables entry.now)) }
     ensures memory { result ≡ Err StepRefused.NoMemory → ⊥ }

@@ -23,7 +23,7 @@ use Rattle.qz_model.specs.Triggers.{add_trigger_refusal, unknown_trigger, manual
 use Rattle.qz_model.specs.Transaction.{as_node, by_command, transaction}
 use Rattle.qz_model.specs.Upgrading.{upgrade_refusal}
 use Rattle.qz_tables.specs.Contents.{TablesData}
-use Rattle.qz_schedule.specs.Commands.{is_scheduling}
+use Rattle.qz_types.specs.Groups.{IsOfSchedule}
 use Rattle.qz_schedule.specs.Preparing.{change_for, Prepares as schedule_prepares}
 use Rattle.qz_schedule.specs.declared.changes.Change.{Change as ScheduleChange}
 use Rattle.qz_acquire.specs.Prepared.{committed, Prepares as acquire_prepares}
@@ -42,7 +42,7 @@ copies-unless copy (Some r) o is = tt
 
 -- Commands of clients.
 
-by_change : (T : SchedulerTables) (m : ℤ) (actor : Actor) (c : Command) → IsTrue (is_scheduling c) → CopiesReply (triggered m (change_for T m c)) (by_command T m actor c)
+by_change : (T : SchedulerTables) (m : ℤ) (actor : Actor) (c : Command) → IsOfSchedule c → CopiesReply (triggered m (change_for T m c)) (by_command T m actor c)
 by_change T m actor (AddJob job replace) is = copies-unless None (add_job_refusal T job replace) _ refl
 by_change T m actor (AddTrigger spec replace) is = copies-unless None (add_trigger_refusal T spec replace) _ refl
 by_change T m actor (DeleteJob key) is = copies-unless None (unknown_job (job_of key T.jobs)) _ refl

@@ -6,6 +6,3 @@ pub mod Bounds
 pub mod Edited
 pub mod Seen
 pub mod Below
-pub mod Threads
-pub mod Unlinks
-pub mod Columns

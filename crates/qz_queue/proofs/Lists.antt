@@ -48,16 +48,3 @@ module _ {X : Type 0} (R : X → X → Type 0) where
   pub later_if : (r : Bool) (a b : List X) → (r ≡ true → EachLater R a) → (r ≡ false → EachLater R b) → EachLater R (if r then a else b)
   later_if true a b p q = p refl
   later_if false a b p q = q refl
-
--- The slot is in the list, by recursion. The standard library's `Contains` says the same by places.
-abbrev pub IsIn : List ℕ → ℕ → Type 0
-IsIn [] slot = ⊥
-IsIn (x ∷ xs) slot = (x ≡ slot) ⊎ IsIn xs slot
-
-pub in_from : (xs : List ℕ) (slot : ℕ) → Contains xs slot → IsIn xs slot
-in_from xs slot c = by_place xs c.0 c.1 c.2
-  where
-    by_place : (ys : List ℕ) (k : ℕ) → k < length ys → get_or ys k slot ≡ slot → IsIn ys slot
-    by_place [] k p e = absurd (omega arith)
-    by_place (y ∷ ys) zero p e = inl e
-    by_place (y ∷ ys) (suc k) p e = inr (by_place ys k (omega arith) e)

@@ -4,5 +4,4 @@ pub mod Heap
 pub mod Sift
 pub mod Queue
 pub mod Numbers
-pub mod Chains
 pub mod Walk

@@ -1,7 +1,5 @@
-//! Tests of the due queue and of chains.
+//! Tests of the due queue.
 #![tactic(auto)]
 
-#[cfg(test)]
-mod chains;
 #[cfg(test)]
 mod queue;

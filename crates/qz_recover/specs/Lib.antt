@@ -1,4 +1,3 @@
-pub mod Commands
 pub mod Prepared
 pub mod Recovering
 pub mod Rows

@@ -10,7 +10,7 @@ ghost use Rattle.qz_types.specs.Outcomes.{accepted, refused, IsAccepted, IsError
 ghost use Rattle.qz_model.specs.Invariant.{TablesValid};
 ghost use Rattle.qz_model.specs.Transaction.{transaction};
 ghost use Rattle.qz_apply.specs.Memory.{takes_memory};
-ghost use Rattle.qz_recover.specs.Commands.{is_of_members};
+ghost use Rattle.qz_types.specs.Groups.{IsOfMembership};
 ghost use Rattle.qz_recover.specs.Prepared.{HasRoomFor, IsChangeOf, Prepares};
 
 mod changes;
@@ -30,7 +30,7 @@ use recovering::{prepare_recover, recover, recover_refused};
 
 /// Why the command is refused, if it is.
 pub fn refusal(tables: &Tables, entry: &Entry) -> Option<Refusal>
-    requires { IsTrue (is_of_members entry.now.command) }
+    requires { IsOfMembership entry.now.command }
     ensures { MatchOption result (IsAccepted (transaction tables.now.tables entry.now)) (λ x. transaction tables.now.tables entry.now ≡ refused x) }
 {
     match &entry.command {
@@ -50,7 +50,7 @@ pub fn refusal(tables: &Tables, entry: &Entry) -> Option<Refusal>
 /// Decides the command's transaction, and takes all the memory that it needs. The rows, the numbers and the order of
 /// linking stay as they are. Memory is wanted only where the command isn't refused, and never for a Leave.
 pub fn prepare(tables: &mut Tables, entry: &Entry) -> Result<Change, StepRefused>
-    requires command { IsTrue (is_of_members entry.now.command) }
+    requires command { IsOfMembership entry.now.command }
     requires valid { ∥ TablesValid tables.old.tables ∥₁ }
     ensures ok { IfOk result (Prepares tables.new entry.now) }
     ensures cause { IfErr result (IsErrorOf (transaction tables.old.tables entry.now)) }
@@ -66,7 +66,7 @@ pub fn prepare(tables: &mut Tables, entry: &Entry) -> Result<Change, StepRefused
 
 // The change of a command that isn't refused.
 fn change_of(tables: &mut Tables, entry: &Entry) -> Result<Change, NoMemory>
-    requires command { IsTrue (is_of_members entry.now.command) }
+    requires command { IsOfMembership entry.now.command }
     requires valid { ∥ TablesValid tables.old.tables ∥₁ }
     requires accepted { IsAccepted (transaction tables.old.tables entry.now) }
     ensures change { IfOk result (IsChangeOf tables.old.tables entry.now.command) }

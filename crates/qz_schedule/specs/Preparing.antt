@@ -9,7 +9,7 @@ use Rattle.qz_model.specs.Plan.{first_time}
 use Rattle.qz_model.specs.Transaction.{transaction}
 use Rattle.qz_model.specs.Triggers.{new_trigger, manual_trigger}
 use Rattle.qz_tables.specs.Contents.{Spare, TablesData, HasSpare}
-use Rattle.qz_schedule.specs.Commands.{is_scheduling}
+use Rattle.qz_types.specs.Groups.{IsOfSchedule}
 use Rattle.qz_schedule.specs.declared.changes.Change.{Change}
 use Rattle.qz_schedule.specs.declared.changes.Change.TheVariants.{InPlace, Job, Trigger, Group, JobGroup, Calendar, Zone, Manual}
 
@@ -41,7 +41,7 @@ HasRoom change spare = HasSpare 1 spare
 
 -- the tables accept the entry, and the change has all that it needs there
 pub record Prepares (T : TablesData) (e : EntryData) (change : Change) : Type 0 where
-  pub command : IsTrue (is_scheduling e.command)
+  pub command : IsOfSchedule e.command
   pub accepts : IsAccepted (transaction T.tables e)
   pub holds : change ≡ change_for T.tables (recorded_moment T.tables e.at) e.command
   pub room : HasRoom change T.spare

@@ -5,7 +5,7 @@ ghost use Rattle.qz_types.specs.Outcomes.{accepted, IsAccepted};
 ghost use Rattle.qz_model.specs.Invariant.{TablesValid};
 ghost use Rattle.qz_model.specs.Transaction.{transaction};
 ghost use Rattle.qz_apply.specs.Memory.{takes_memory};
-ghost use Rattle.qz_schedule.specs.Commands.{is_scheduling};
+ghost use Rattle.qz_types.specs.Groups.{IsOfSchedule};
 ghost use Rattle.qz_schedule.specs.Preparing.{Prepares};
 
 use crate::calendars::{add_calendar, delete_calendar};
@@ -46,7 +46,7 @@ pub fn commit(tables: &mut Tables, entry: &Entry, change: Change) -> Reply
 
 // Does a command that stores nothing.
 fn commit_in_place(tables: &mut Tables, entry: &Entry) -> Reply
-    requires command { IsTrue (is_scheduling entry.now.command) }
+    requires command { IsOfSchedule entry.now.command }
     requires in_place { takes_memory entry.now.command ≡ false }
     requires accepts { IsAccepted (transaction tables.old.tables entry.now) }
     ensures { transaction tables.old.tables entry.now ≡ accepted tables.new.tables result }

@@ -6,7 +6,7 @@ ghost use Rattle.qz_types.specs.Tables.{recorded_moment};
 ghost use Rattle.qz_model.specs.Invariant.{TablesValid};
 ghost use Rattle.qz_model.specs.Transaction.{transaction};
 ghost use Rattle.qz_apply.specs.Memory.{takes_memory};
-ghost use Rattle.qz_schedule.specs.Commands.{is_scheduling};
+ghost use Rattle.qz_types.specs.Groups.{IsOfSchedule};
 ghost use Rattle.qz_schedule.specs.Preparing.{is_copied, change_for, Prepares};
 
 use crate::changes::Change;
@@ -22,7 +22,7 @@ use std::alloc::AllocError;
 /// answered only where the command isn't refused, and never for a command that stores nothing.
 #[tactic(auto, unfolding(qz_types::specs::Entries::is_entry))]
 pub fn prepare(tables: &mut Tables, entry: &Entry) -> Result<Change, StepRefused>
-    requires command { IsTrue (is_scheduling entry.now.command) }
+    requires command { IsOfSchedule entry.now.command }
     requires valid { ∥ TablesValid tables.old.tables ∥₁ }
     requires entry { IsTrue (is_entry entry.now) }
     ensures ok { IfOk result (λ change. Prepares tables.new entry.now change) }

@@ -3,7 +3,7 @@ ghost use Rattle.std.specs.Prelude.{◌≡◌, IsTrue, MatchOption};
 ghost use Rattle.qz_types.specs.Outcomes.{refused, IsAccepted};
 ghost use Rattle.qz_model.specs.Invariant.{TablesValid};
 ghost use Rattle.qz_model.specs.Transaction.{transaction};
-ghost use Rattle.qz_schedule.specs.Commands.{is_scheduling};
+ghost use Rattle.qz_types.specs.Groups.{IsOfSchedule};
 
 use crate::calendars::{add_calendar_refusal, delete_calendar_refusal};
 use crate::job_groups::pause_job_group_refusal;
@@ -20,7 +20,7 @@ use qz_types::{Command, Entry, Refusal};
 /// Why the command is refused, if it is. It takes no memory.
 #[tactic(auto, using(qz_apply::proofs::Refused::of_one), unfolding(qz_types::specs::Entries::is_entry))]
 pub fn refusal(tables: &Tables, entry: &Entry) -> Option<Refusal>
-    requires command { IsTrue (is_scheduling entry.now.command) }
+    requires command { IsOfSchedule entry.now.command }
     requires valid { ∥ TablesValid tables.now.tables ∥₁ }
     ensures { MatchOption result (IsAccepted (transaction tables.now.tables entry.now)) (λ x. transaction tables.now.tables entry.now ≡ refused x) }
 {

@@ -2,7 +2,7 @@
 ghost use Rattle.std.specs.Prelude.{◌≡◌, IsTrue, Err, IfOk, IfErr};
 ghost use Rattle.qz_model.specs.Invariant.{TablesValid};
 ghost use Rattle.qz_model.specs.Transaction.{transaction};
-ghost use Rattle.qz_complete.specs.Commands.{is_completing};
+ghost use Rattle.qz_types.specs.Groups.{IsOfEnd};
 ghost use Rattle.qz_complete.specs.Prepared.{Prepares};
 ghost use Rattle.qz_types.specs.Entries.{is_entry};
 ghost use Rattle.qz_types.specs.Outcomes.{accepted, IsErrorOf};
@@ -13,7 +13,7 @@ use qz_types::{Entry, Reply, StepRefused};
 
 /// Prepares a transaction, as `qz_complete::prepare` does.
 pub fn prepare_completing(tables: &Tables, entry: &Entry) -> Result<Change, StepRefused>
-    requires { IsTrue (is_completing entry.now.command) }
+    requires { IsOfEnd entry.now.command }
     ensures ok { IfOk result (Prepares tables.now.tables entry.now) }
     ensures cause { IfErr result (IsErrorOf (transaction tables.now.tables entry.now)) }
     ensures memory { result ≡ Err StepRefused.NoMemory → ⊥ }

@@ -3,7 +3,7 @@ ghost use Rattle.std.specs.Prelude.{◌≡◌, IsTrue, Err, IfOk, IfErr};
 ghost use Rattle.qz_apply.specs.Memory.{takes_memory};
 ghost use Rattle.qz_model.specs.Invariant.{TablesValid};
 ghost use Rattle.qz_model.specs.Transaction.{transaction};
-ghost use Rattle.qz_recover.specs.Commands.{is_of_members};
+ghost use Rattle.qz_types.specs.Groups.{IsOfMembership};
 ghost use Rattle.qz_recover.specs.Prepared.{Prepares};
 ghost use Rattle.qz_types.specs.Entries.{is_entry};
 ghost use Rattle.qz_types.specs.Outcomes.{accepted, IsErrorOf};
@@ -14,7 +14,7 @@ use qz_types::{Entry, Reply, StepRefused};
 
 /// Prepares a transaction, as `qz_recover::prepare` does.
 pub fn prepare_members(tables: &mut Tables, entry: &Entry) -> Result<Change, StepRefused>
-    requires command { IsTrue (is_of_members entry.now.command) }
+    requires command { IsOfMembership entry.now.command }
     requires valid { ∥ TablesValid tables.old.tables ∥₁ }
     requires entry { IsTrue (is_entry entry.now) }
     ensures ok { IfOk result (Prepares tables.new entry.now) }

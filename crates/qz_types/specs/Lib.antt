@@ -3,6 +3,7 @@ pub mod Changes
 pub mod Due
 pub mod Entries
 pub mod Errors
+pub mod Groups
 pub mod Outcomes
 pub mod Refusals
 pub mod Rows

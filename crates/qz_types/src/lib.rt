@@ -5,6 +5,7 @@ mod calendars;
 mod commands;
 mod errors;
 mod fired;
+mod groups;
 mod jobs;
 mod keys;
 mod limits;
@@ -21,6 +22,7 @@ pub use calendars::CalendarRow;
 pub use commands::{Actor, Code, Command, Entry};
 pub use errors::{StepRefused, SubmitError};
 pub use fired::{FiredRow, FiredState};
+pub use groups::Group;
 pub use jobs::JobRow;
 pub use keys::Key;
 pub use limits::{
