@@ -222,9 +222,9 @@ class Facts(WithHistory):
             wait_until(lambda: self.events("error"))
             found = {row["entry"]: row for row in one.rows("history")}
         self.assertEqual((found[1]["state"], found[entry]["state"], found[entry]["recovers"], found[entry]["job"]), ("lost", "ended", 1, "DEFAULT/j"))
-        kinds = {str(event["kind"]): event for event in self.events("lost", "error", "refused", "late")}
-        self.assertEqual(set(kinds), {"lost", "error", "refused", "late"})
-        self.assertEqual((kinds["late"]["trigger"], kinds["late"]["job"]), ("DEFAULT/late", "DEFAULT/j"))
+        kinds = {str(event["kind"]): event for event in self.events("lost", "error", "refused", "misfired")}
+        self.assertEqual(set(kinds), {"lost", "error", "refused", "misfired"})
+        self.assertEqual((kinds["misfired"]["trigger"], kinds["misfired"]["job"]), ("DEFAULT/late", "DEFAULT/j"))
         self.assertIn("couldn't fire it: refused 3", str(kinds["refused"]["text"]))
 
     def test_executed_again(self) -> None:

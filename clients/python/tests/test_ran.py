@@ -117,6 +117,17 @@ class Commands(WithFolder):
         self.assertIn("due has been due since", str(found["DEFAULT/idle"]["notes"]))
         self.assertIn("never ran, as far as is known", self.says("last"))
 
+    def test_nodes_and_lists(self) -> None:
+        with self.running.connect() as one:
+            one.load("A", 7, 1, -30)
+            wait_until(lambda: one.rows("loads"))
+        self.assertRegex(self.says("nodes"), r"A +1 +lives +.* +0 +7 +-30 ms")
+        self.assertEqual([(row["node"], row["workers"], row["skew"]) for row in self.jsons("nodes")], [("A", 7, -30)])
+        with self.running.connect() as one:
+            one.ask("add_job", job=job("shown", f"class{CLEAR}", durable=True, data=CLEAR))
+        self.assertIn("class\\x1b[2J", self.says("list", "jobs"))
+        self.assertIn("\\x1b[2J", self.says("show", "job", "shown"))
+
     def test_audit(self) -> None:
         rows = self.jsons("audit")
         self.assertEqual((len(rows), rows[0]["reply"], json.loads(str(rows[0]["line"]))["do"]), (8, "ok", "resume_trigger"))

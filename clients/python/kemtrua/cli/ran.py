@@ -23,6 +23,7 @@ from .printing import local_of, plain
 
 Words = argparse.Namespace
 PAGE = 1000  # rows of one question
+BESIDE = 5  # of what didn't run, below a screen of what did
 LOOK_AGAIN = 2.0  # seconds between two looks of --follow
 DAY = 86_400_000  # ms
 OVERDUE = 60_000  # ms that a trigger may be past its time
@@ -71,16 +72,23 @@ def history(given: Words) -> int:
     limit = given.limit or (None if given.json or given.all else screen.height())
     with source_of(given) as source:
         found = _pages(source, asked, limit)
-        gaps = source.rows("events", since=asked.get("since", 0), kinds=["gap"], limit=5)
+        beside = [] if given.node is not None else _beside(source, asked, limit)
     if given.json:
-        print(_json(found))
+        print(_json(found + beside))
         return 0
     print(screen.table(["ENTRY", "JOB", "STATE", "BEGAN", "TOOK", "NODE", "HOW"], map(_line, found), coloured=2) if found else "nothing ran")
     if limit is not None and len(found) == limit and not given.limit:
         print(f"the latest {limit}; all of them with --all")
-    for gap in reversed(gaps):
-        print(f"{local_of(gap['at'])}: {screen.harmless(str(gap['text']))}")
+    for event in beside:
+        print(f"{local_of(event['at'])}: {screen.harmless(str(event['text']))}")
     return 0
+
+
+def _beside(source: Source, asked: Object, limit: int | None) -> list[Object]:
+    """What didn't run: firings that were misfired, those of operators that were refused, and what is missing of the history. The latest comes last."""
+    job: Object = {"job": asked["job"]} if "job" in asked else {}
+    found = source.rows("events", since=asked.get("since", 0), kinds=["misfired", "refused", "gap"], limit=PAGE if limit is None else BESIDE, **job)
+    return [event for event in reversed(found) if "until" not in asked or int(str(event["at"])) < int(str(asked["until"]))]
 
 
 def _vacuum(given: Words) -> int:

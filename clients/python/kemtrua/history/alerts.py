@@ -12,7 +12,7 @@ from collections.abc import Mapping
 from .. import clock, logs
 from ..errors import KemtruaError
 from ..names import Key
-from .questions import Object, Questions
+from .questions import RINGS, Object, Questions
 from .recorder import Recorder
 from .schema import NoHistory
 from .settings import Alert
@@ -83,8 +83,9 @@ class Bell:
 
     def _done(self, last: int) -> None:
         """No event up to this one waits any more."""
-        kind = self._alert.kind
-        self._recorder.do(lambda it: it.connection.execute("UPDATE events SET waits = 0 WHERE kind = ? AND waits = 1 AND id <= ?", (kind, last)).rowcount).result()
+        kinds = RINGS.get(self._alert.kind, (self._alert.kind,))
+        statement = f"UPDATE events SET waits = 0 WHERE kind IN ({', '.join('?' * len(kinds))}) AND waits = 1 AND id <= ?"
+        self._recorder.do(lambda it: it.connection.execute(statement, (*kinds, last)).rowcount).result()
 
 
 def facts_of(event: Object, count: int, asked: Questions) -> tuple[dict[str, str], bytes]:

@@ -22,6 +22,7 @@ if TYPE_CHECKING:
 
 log = logs.logger("kemtrua.history")
 
+COPY = "history-copy-"  # how the folder of a copy begins
 AT_ONCE = 1000  # changes that are written at once
 
 BAD_WORDS = 1  # the exit status of a program that has no `history`
@@ -35,9 +36,9 @@ class NoWord(KemtruaError):
 class Copy:
     """A copy of a store, which is removed by `close`. It is made while the program works: a file only grows at its end, and a commit in the middle isn't in it."""
 
-    def __init__(self, stores: str, program: str):
+    def __init__(self, stores: str, program: str, inside: str | None = None):
         self.name, self._program = os.path.basename(os.path.realpath(stores)), program
-        self._folder = tempfile.mkdtemp(prefix="kemtrua-history-")
+        self._folder = tempfile.mkdtemp(prefix=COPY, dir=inside)
         try:
             for name in STORE_FILES:
                 shutil.copy(os.path.join(stores, name), self._folder)
@@ -92,9 +93,11 @@ class Reading:
         self.begins = int(found[1]) if found else None
 
 
-def name_of(stores: str) -> str:
-    """By which name the database knows a store: that of its folder."""
-    return os.path.basename(os.path.realpath(stores))
+def remove_copies(inside: str) -> None:
+    """Removes the copies that a hub which was killed has left in a folder."""
+    for name in os.listdir(inside):
+        if name.startswith(COPY):
+            shutil.rmtree(os.path.join(inside, name), ignore_errors=True)
 
 
 class Filling:

@@ -9,6 +9,7 @@ from . import outputs
 from .schema import TROUBLE, opened
 
 MOST = 1000  # rows of an answer
+RINGS = {"late": ("late", "misfired")}  # the kinds of events for which there is one alert
 Object = dict[str, object]
 
 
@@ -108,8 +109,9 @@ class Questions:
 
     def waiting(self, kind: str) -> tuple[int, Object] | None:
         """How many events of a kind wait for an alert, and the latest of them."""
-        (count,) = self._connection.execute("SELECT count(*) FROM events WHERE kind = ? AND waits = 1", (kind,)).fetchone()
-        row = self._connection.execute("SELECT * FROM events WHERE kind = ? AND waits = 1 ORDER BY id DESC LIMIT 1", (kind,)).fetchone()
+        marks = ", ".join("?" * len(kinds := RINGS.get(kind, (kind,))))
+        (count,) = self._connection.execute(f"SELECT count(*) FROM events WHERE kind IN ({marks}) AND waits = 1", kinds).fetchone()
+        row = self._connection.execute(f"SELECT * FROM events WHERE kind IN ({marks}) AND waits = 1 ORDER BY id DESC LIMIT 1", kinds).fetchone()
         return None if row is None else (count, dict(row))
 
 

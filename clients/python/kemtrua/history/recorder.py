@@ -13,7 +13,7 @@ from ..checking import Line
 from ..errors import KemtruaError
 from ..program import STORE_FILES
 from . import keeping, outputs
-from .filling import Copy, Filling
+from .filling import Copy, Filling, remove_copies
 from .places import unfinished
 from .reports import Report
 from .schema import FILE, NoHistory, opened
@@ -39,6 +39,7 @@ class Recorder:
         self._stores = ""
         self._opening = self._offset = 0
         self._filled = 0.0
+        remove_copies(folder)
         self._writer.start()
 
     @property
@@ -53,7 +54,7 @@ class Recorder:
         self._opening, self._offset = self._opening + 1, 0
         number = self._opening
         try:
-            copy = Copy(stores, self._program)
+            copy = Copy(stores, self._program, self.folder)
         except OSError as error:
             log.warning("the store can't be copied, so what the history doesn't know stays missing: %s", error)
             return
@@ -76,7 +77,7 @@ class Recorder:
     async def settled(self, closes: bool = False) -> bool:
         """Waits until the database has all that was answered, with the store's own moments. Whether it has; with `closes` nothing more comes to this store."""
         try:
-            copy = await asyncio.to_thread(Copy, self._stores, self._program)
+            copy = await asyncio.to_thread(Copy, self._stores, self._program, self.folder)
             done = self._put_filling(copy, None, closes)
             await asyncio.wait_for(asyncio.wrap_future(done), SETTLES_WITHIN)
         except (KemtruaError, OSError, TimeoutError) as error:
@@ -117,7 +118,7 @@ class Recorder:
         for name in unfinished(writer.connection, writer.generation):
             folder = os.path.join(before, name)
             if name != os.path.basename(os.path.realpath(stores)) and all(os.path.exists(os.path.join(folder, it)) for it in STORE_FILES):
-                copy = Copy(folder, self._program)
+                copy = Copy(folder, self._program, self.folder)
                 try:
                     Filling(writer, copy).run(None, closes=True)
                     writer.commit()

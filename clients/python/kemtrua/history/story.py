@@ -166,7 +166,7 @@ class Story:
         words = it.reply.split()[1:]
         for trigger, next_ in zip(words[0::2], words[1::2]) if words != ["none"] else ():
             then = "it fires no more" if next_ == "none" else f"its next time is {next_}"
-            self._events.append((it.at, "late", self.generation, None, trigger, self._triggers.get(trigger), None, f"{trigger} was misfired; {then}"))
+            self._events.append((it.at, "misfired", self.generation, None, trigger, self._triggers.get(trigger), None, f"{trigger} was misfired; {then}"))
             if next_ == "none":
                 self._drop_trigger(trigger)
 

@@ -50,7 +50,7 @@ OF_OPERATORS: dict[str, Form] = {
     "loads": Form({}),
     "vacuum": Form({})}
 LINES = {**OF_NODES, **OF_OPERATORS}
-KINDS = ("failure", "error", "late", "expect", "lost", "room", "refused", "gap")
+KINDS = ("failure", "error", "late", "misfired", "expect", "lost", "room", "refused", "gap")
 
 
 @dataclass(frozen=True)
