@@ -6,10 +6,12 @@ import sqlite3
 from dataclasses import dataclass
 
 from . import outputs
+from .executions import COLUMNS
 from .schema import TROUBLE, opened
 
 MOST = 1000  # rows of an answer
 RINGS = {"late": ("late", "misfired")}  # the kinds of events for which there is one alert
+SELECTED = ", ".join(COLUMNS)
 Object = dict[str, object]
 
 
@@ -50,7 +52,7 @@ class Questions:
         if asked.before is not None:
             terms.append("fired <= ? AND (fired, generation, entry) < (?, ?, ?)")
             values += [asked.before[0], *asked.before]
-        found = self._connection.execute(f"SELECT * FROM executions WHERE {' AND '.join(terms)} ORDER BY fired DESC, generation DESC, entry DESC LIMIT ?",
+        found = self._connection.execute(f"SELECT {SELECTED} FROM executions WHERE {' AND '.join(terms)} ORDER BY fired DESC, generation DESC, entry DESC LIMIT ?",
                                          (*values, min(max(asked.limit, 1), MOST)))
         return [execution(row) for row in found]
 
@@ -59,12 +61,12 @@ class Questions:
         if generation is None:
             row = self._latest(entry)
         else:
-            row = self._connection.execute("SELECT * FROM executions WHERE generation = ? AND entry = ?", (generation, entry)).fetchone()
+            row = self._connection.execute(f"SELECT {SELECTED} FROM executions WHERE generation = ? AND entry = ?", (generation, entry)).fetchone()
         return None if row is None else execution(row)
 
     def _latest(self, entry: int) -> sqlite3.Row | None:
         for (generation,) in self._connection.execute("SELECT DISTINCT generation FROM stores ORDER BY generation DESC").fetchall():
-            row: sqlite3.Row | None = self._connection.execute("SELECT * FROM executions WHERE generation = ? AND entry = ?", (generation, entry)).fetchone()
+            row: sqlite3.Row | None = self._connection.execute(f"SELECT {SELECTED} FROM executions WHERE generation = ? AND entry = ?", (generation, entry)).fetchone()
             if row is not None:
                 return row
         return None
@@ -81,7 +83,7 @@ class Questions:
                 SELECT min(job) FROM executions UNION ALL
                 SELECT (SELECT min(job) FROM executions WHERE executions.job > found.job) FROM found WHERE found.job IS NOT NULL)
             SELECT job FROM found WHERE job IS NOT NULL""").fetchall()
-        rows = (self._connection.execute("SELECT * FROM executions WHERE job = ? AND fired IS NOT NULL ORDER BY fired DESC LIMIT 1", (job,)).fetchone()
+        rows = (self._connection.execute(f"SELECT {SELECTED} FROM executions WHERE job = ? AND fired IS NOT NULL ORDER BY fired DESC LIMIT 1", (job,)).fetchone()
                 for (job,) in jobs)
         return [execution(row) for row in rows if row is not None]
 
@@ -115,11 +117,13 @@ class Questions:
         return None if row is None else (count, dict(row))
 
 
+ALWAYS = frozenset(("generation", "entry", "trigger", "job", "node", "scheduled", "fired", "ended", "refires", "state"))
+TELLS = [None if name in ("ended_by", "told") else name for name in COLUMNS]
+
+
 def execution(row: sqlite3.Row) -> Object:
-    """An execution as an object. What isn't known is left out, but for its end."""
-    always = ("generation", "entry", "trigger", "job", "node", "scheduled", "fired", "ended", "refires", "state")
-    names = [name for name in row.keys() if name in always or row[name] is not None and name not in ("ended_by", "told")]
-    found: Object = {name: row[name] for name in names}
+    """An execution as an object. What isn't known is left out, but for what each one has."""
+    found: Object = {name: value for name, value in zip(TELLS, row) if name is not None and (value is not None or name in ALWAYS)}
     if "ok" in found:
         found["ok"] = bool(found["ok"])
     return found
