@@ -6,7 +6,7 @@ _kemtrua_options() {
 
 _kemtrua() {
     local word=${COMP_WORDS[COMP_CWORD]} before=${COMP_WORDS[COMP_CWORD - 1]} command="" place
-    local commands="add add-job add-trigger add-calendar add-zone check list nodes show pause resume reset now delete threshold recover forget clock from-quartz"
+    local commands="add add-job add-trigger add-calendar add-zone check list nodes show history log last audit pause resume reset now delete threshold recover forget clock from-quartz"
     local top="--hub --folder --program --within --certificate --key --authority --help --version"
     for ((place = 1; place < COMP_CWORD; place++)); do
         case ${COMP_WORDS[place]} in
@@ -29,6 +29,11 @@ _kemtrua() {
         add-calendar) _kemtrua_options "weekly monthly annual holiday daily cron --inverted --base --zone --replace --help" "$word" ;;
         add-zone) [[ -r /usr/share/zoneinfo/tzdata.zi ]] && _kemtrua_options "$(awk '$1 == "Z" { print $2 }' /usr/share/zoneinfo/tzdata.zi)" "$word" ;;
         list) _kemtrua_options "all jobs triggers nodes running --raw --json --help" "$word" ;;
+        history) [[ $before == --job || $before == --node || $before == --since || $before == --until || $before == --limit ]] ||
+            _kemtrua_options "--job --node --since --until --failed --limit --all --vacuum --json --help" "$word" ;;
+        log) _kemtrua_options "--follow --generation --raw --json --help" "$word" ;;
+        last) _kemtrua_options "--json --help" "$word" ;;
+        audit) _kemtrua_options "--since --by --limit --json --help" "$word" ;;
         nodes) _kemtrua_options "--json --help" "$word" ;;
         show) if [[ $before == show ]]; then _kemtrua_options "job trigger entry next" "$word"; else _kemtrua_options "--json --help" "$word"; fi ;;
         from-quartz)
@@ -46,7 +51,7 @@ _kemtrua() {
 _kemtrua_hub() {
     local word=${COMP_WORDS[COMP_CWORD]}
     if [[ $word == -* ]]; then
-        _kemtrua_options "--listen --listen-nodes --nodes-group --make --program --operator --node --certificate --key --authority --revoked --log --help --version" "$word"
+        _kemtrua_options "--listen --listen-nodes --nodes-group --make --program --operator --node --certificate --key --authority --revoked --settings --check --log --help --version" "$word"
     else
         COMPREPLY=($(compgen -f -- "$word"))
     fi

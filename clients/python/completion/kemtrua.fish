@@ -1,6 +1,6 @@
 # Completion of the commands kemtrua, kemtrua-hub and kemtrua-node for fish.
 
-set -l commands add add-job add-trigger add-calendar add-zone check list nodes show pause resume reset now delete threshold recover forget clock from-quartz
+set -l commands add add-job add-trigger add-calendar add-zone check list nodes show history log last audit pause resume reset now delete threshold recover forget clock from-quartz
 
 complete -c kemtrua -f
 complete -c kemtrua -n "not __fish_seen_subcommand_from $commands" -a "$commands"
@@ -23,8 +23,21 @@ complete -c kemtrua -n "__fish_seen_subcommand_from add-calendar" -l inverted
 complete -c kemtrua -n "__fish_seen_subcommand_from add-calendar" -l base -x
 complete -c kemtrua -n "__fish_seen_subcommand_from list" -a "all jobs triggers nodes running"
 complete -c kemtrua -n "__fish_seen_subcommand_from list" -l raw
-complete -c kemtrua -n "__fish_seen_subcommand_from list nodes show" -l json
+complete -c kemtrua -n "__fish_seen_subcommand_from list nodes show history log last audit" -l json
 complete -c kemtrua -n "__fish_seen_subcommand_from show" -a "job trigger entry next"
+for option in job node until
+    complete -c kemtrua -n "__fish_seen_subcommand_from history" -l $option -x
+end
+for option in since limit
+    complete -c kemtrua -n "__fish_seen_subcommand_from history audit" -l $option -x
+end
+for option in failed all vacuum
+    complete -c kemtrua -n "__fish_seen_subcommand_from history" -l $option
+end
+complete -c kemtrua -n "__fish_seen_subcommand_from log" -l follow
+complete -c kemtrua -n "__fish_seen_subcommand_from log" -l raw
+complete -c kemtrua -n "__fish_seen_subcommand_from log" -l generation -x
+complete -c kemtrua -n "__fish_seen_subcommand_from audit" -l by -x
 complete -c kemtrua -n "__fish_seen_subcommand_from pause resume" -a "trigger group job-group"
 complete -c kemtrua -n "__fish_seen_subcommand_from delete" -a "job trigger calendar zone"
 complete -c kemtrua -n "__fish_seen_subcommand_from clock" -a accept
@@ -37,6 +50,8 @@ complete -c kemtrua-hub -l listen -x -a "unix: tls:"
 complete -c kemtrua-hub -l listen-nodes -x -a "unix:"
 complete -c kemtrua-hub -l nodes-group -x -a "(__fish_complete_groups)"
 complete -c kemtrua-hub -l make
+complete -c kemtrua-hub -l settings -r
+complete -c kemtrua-hub -l check
 complete -c kemtrua-hub -l operator -x
 complete -c kemtrua-hub -l node -x
 complete -c kemtrua-hub -l program -r

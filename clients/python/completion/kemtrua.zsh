@@ -16,7 +16,11 @@ _kemtrua_command() {
             _arguments '--inverted' '--base:name:' '--zone:zone:' '--replace' ':name:' ':kind:(weekly monthly annual holiday daily cron)' '*:value:' ;;
         add-zone) _arguments ':zone:_time_zone' ;;
         list) _arguments '--raw' '--json' ':what:(all jobs triggers nodes running)' ;;
-        nodes) _arguments '--json' ;;
+        nodes | last) _arguments '--json' ;;
+        history)
+            _arguments '--job:job:' '--node:node:' '--since:moment:' '--until:moment:' '--failed' '--limit:number:' '--all' '--vacuum' '--json' ;;
+        log) _arguments '--follow[as long as it runs]' '--generation:number:' '--raw' '--json' ':entry:' ;;
+        audit) _arguments '--since:moment:' '--by:name:' '--limit:number:' '--json' ;;
         show) _arguments '--json' ':what:(job trigger entry next)' ':name:' ;;
         pause | resume) _arguments ':what:(trigger group job-group)' ':name:' ;;
         delete) _arguments ':what:(job trigger calendar zone)' ':name:' ;;
@@ -30,14 +34,14 @@ _kemtrua_command() {
 
 case $service in
     kemtrua)
-        commands=(add add-job add-trigger add-calendar add-zone check list nodes show pause resume reset now delete threshold recover forget clock from-quartz)
+        commands=(add add-job add-trigger add-calendar add-zone check list nodes show history log last audit pause resume reset now delete threshold recover forget clock from-quartz)
         _arguments -C $tls '--hub[where the hub listens]:address:(unix: tls:)' '--folder[a store that no hub holds]:folder:_files -/' \
             '--program[the program]:file:_files' '--within[how long an answer may take]:span:' '--help' '--version' \
             "1:command:($commands)" '*::word:_kemtrua_command' ;;
     kemtrua-hub)
         _arguments $tls '*--listen[an address]:address:(unix: tls:)' '*--listen-nodes[a socket for nodes alone]:address:(unix:)' \
             '--nodes-group[who may open it]:group:_groups' '--make' '--program:file:_files' '*--operator[a certificate that operates]:name:' \
-            '*--node[a certificate that is a node]:name:' '--revoked[a revocation list]:file:_files' '--log:level:(debug info warning error)' \
+            '*--node[a certificate that is a node]:name:' '--revoked[a revocation list]:file:_files' '--settings[history, expectations, alerts]:file:_files -g "*.toml"' '--check' '--log:level:(debug info warning error)' \
             '--help' '--version' ':folder:_files -/' ;;
     kemtrua-node) _arguments '--name:name:' '--check' '--log:level:(debug info warning error)' '--help' '--version' ':settings:_files -g "*.toml"' ;;
 esac

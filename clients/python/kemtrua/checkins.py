@@ -16,12 +16,13 @@ log = logs.logger("kemtrua.node")
 class CheckIns:
     """Checks in each `interval` ms. Each time it recovers and forgets peers that are late.
 
-    `fenced` is called where this node was recovered itself, and `cut_off` where it couldn't check in for so long that it may be.
+    `checked` is called after each check-in. `fenced` is called where this node was recovered itself, and `cut_off` where it couldn't check in for so long that it may be.
     """
 
-    def __init__(self, members: Membership, interval: int, deadlines: Deadlines, fenced: Callable[[], None], cut_off: Callable[[], None]):
+    def __init__(self, members: Membership, interval: int, deadlines: Deadlines, fenced: Callable[[], None], cut_off: Callable[[], None],
+                 checked: Callable[[], None] = lambda: None):
         self._members, self._interval, self._deadlines = members, interval, deadlines
-        self._fenced, self._cut_off = fenced, cut_off
+        self._fenced, self._cut_off, self._checked = fenced, cut_off, checked
         self._ended = threading.Event()
 
     def end(self) -> None:
@@ -40,6 +41,7 @@ class CheckIns:
                 self._deadlines.cancel("check-in")
                 self._see_that_member()
                 self._measure_clock()
+                self._checked()
                 self._recover_peers()
             except Fenced:
                 self._fenced()

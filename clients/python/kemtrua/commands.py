@@ -7,7 +7,7 @@ from dataclasses import dataclass, field
 
 from . import logs
 from .guard import VARIABLE, Guard
-from .jobs import Code, Context, Job, Retry
+from .jobs import FAILS, Code, Context, Job, Retry
 from .running import NotThere, Order, Place, Run
 
 log = logs.logger("kemtrua.job")
@@ -30,7 +30,8 @@ class Command:
         return Job(lambda context: self.execute(context, guard), retry, ends_when_cut_off=ends_when_cut_off)
 
     def execute(self, context: Context, guard: Guard | None = None) -> Code:
-        """Runs the command until nothing of it is left, and gives the code that its exit status counts as.
+        """Runs the command until nothing of it is left, and gives the code that its exit status counts as. It ended as expected where `codes` has that
+        status, with a code that is no retry and no error, and nobody had to end it.
 
         Raises NotBegun where it couldn't begin for a reason that may pass.
         """
@@ -39,14 +40,19 @@ class Command:
         if guard is not None:
             environment[VARIABLE] = guard.token
         order = Order(self.words, self.directory, environment, self.timeout, self.output)
-        place = context.take_place()
+        place, record = context.take_place(), context.record
+        record.most = None if self.timeout is None else round(1000 * self.timeout)
         try:
             place = place if isinstance(place, Place) else Place()
             status = Run(place, context, order).to_the_end()
         except NotThere as error:
             log.error("entry %d %s: %s", context.entry, context.job, error)
+            record.ended(error.status)
+            record.ok, record.why = False, str(error)
             return self.codes.get(error.status, self.not_there)
         code = self.codes.get(status, self.otherwise)
+        record.ended(status)
+        record.ok = record.why is None and status in self.codes and code not in FAILS
         (log.info if status == 0 else log.warning)("entry %d %s: exit status %d, which counts as %s", context.entry, context.job, status, code.value)
         return code
 

@@ -2,6 +2,7 @@
 from __future__ import annotations
 
 import asyncio
+import json
 import ssl
 import threading
 from collections import deque
@@ -19,6 +20,7 @@ CONNECT_WITHIN = 5.0  # seconds
 ANSWER_WITHIN = 20.0  # seconds for a line, if nothing else is said
 LIST_WITHIN = 300.0  # seconds for a list
 PROTOCOL = 1  # of the hub's own lines
+OWN_ANSWERS = ("members", "held", "list", "clock", "hello", "ok", "rows", "stored", "vacuumed")
 LONGEST_REPLY = 16 * LINE_LIMIT  # bytes
 
 Answered = futures.Future[list[str]]
@@ -72,6 +74,23 @@ class Connection(Scheduler):
         """The lines of `list`."""
         return self._own({"do": "list"}, LIST_WITHIN)[1:]
 
+    def rows(self, do: str, **members: object) -> list[dict[str, object]]:
+        """The objects that a line about what ran is answered with."""
+        return [json.loads(line) for line in self._own({"do": do, **members}, LIST_WITHIN)[1:]]
+
+    def stored(self, do: str, **members: object) -> int:
+        """How many of the reports of a line, or whether its piece of output, the hub has on its disk now."""
+        return int(self._own({"do": do, **members})[0].split()[1])
+
+    def load(self, node: str, workers: int, runs: int, skew: int) -> None:
+        """Says how much a node can take, how much it runs, and by how many ms its clock is ahead of the hub's."""
+        self._own({"do": "load", "node": node, "workers": workers, "runs": runs, "skew": skew})
+
+    def vacuum(self) -> tuple[int, int]:
+        """Has the hub delete what is too old of its history. Gives the bytes before and after."""
+        before, after = self._own({"do": "vacuum"}, LIST_WITHIN)[0].split()[1:3]
+        return int(before), int(after)
+
     def clock(self) -> int:
         return self._clock({"do": "clock"})
 
@@ -105,7 +124,7 @@ class Connection(Scheduler):
     def _own(self, line: Line, within: float | None = None) -> list[str]:
         """The reply to a line of the hub's own. Raises HubRefused."""
         said = self._ask(bytes_of(line), within or self.answer_within)
-        if said[0].split(" ", 1)[0] not in ("members", "held", "list", "clock", "hello", "ok"):
+        if said[0].split(" ", 1)[0] not in OWN_ANSWERS:
             read(said[0])
             raise BadReply(f"{said[0][:200]!r} was answered to {line['do']}")
         return said
@@ -207,7 +226,7 @@ class Connection(Scheduler):
                 watcher()
             return
         answered, more = self._waiting.popleft()
-        if reply.startswith("list "):
+        if reply.startswith(("list ", "rows ")):
             for _ in range(int(reply.split()[1])):
                 more.append((await reader.readuntil(b"\n"))[:-1].decode())
         if not answered.done():

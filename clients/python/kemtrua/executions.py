@@ -8,7 +8,7 @@ from dataclasses import replace
 
 from . import clock, logs
 from .errors import HubRefused, NotBegun, Refused, Unanswered
-from .jobs import Code, Context, Job, Place
+from .jobs import FAILS, Code, Context, Job, Place
 from .membership import Fenced, GivenUp, Membership
 from .replies import Again, Completed
 from .rows import EntryRow
@@ -54,10 +54,12 @@ class Workers:
 
 
 class Executions:
-    """Begins executions, and completes them. `changed` is called when one has ended, and `failed` with what nobody foresaw."""
+    """Begins executions, and completes them. `changed` is called when one has ended, and `failed` with what nobody foresaw. `told` is told of each that
+    has ended here, before the store is."""
 
-    def __init__(self, jobs: Mapping[str, Job], members: Membership, workers: int, changed: Callable[[], None], failed: Callable[[BaseException], None]):
-        self._jobs, self._members = jobs, members
+    def __init__(self, jobs: Mapping[str, Job], members: Membership, workers: int, changed: Callable[[], None], failed: Callable[[BaseException], None],
+                 told: Callable[[Context, Code], None] = lambda context, code: None):
+        self._jobs, self._members, self._told = jobs, members, told
         self._changed, self._failed = changed, failed
         self._workers = Workers(workers, "job")
         self._running: dict[int, Execution] = {}
@@ -90,6 +92,10 @@ class Executions:
         context.places.extend([place] if place is not None else [])
         execution = self._running[row.entry] = Execution(context, job)
         self._workers.do(lambda: self._execute(execution))
+
+    def contexts(self) -> list[Context]:
+        """Those of what runs."""
+        return [execution.context for execution in list(self._running.values())]
 
     def finish(self) -> None:
         """From now on nobody waits for a retry: a job that asks for one runs at once, and once more at most."""
@@ -131,6 +137,8 @@ class Executions:
         try:
             while not execution.lost:
                 code = self._answered(execution, again)
+                if code is not None:
+                    self._told(execution.context, code)
                 if execution.lost or self._abandoned.is_set() or code is None or not isinstance(self._complete(execution, code), Again):
                     break
                 again += 1
@@ -174,16 +182,22 @@ class Executions:
     def _counted(self, execution: Execution, again: int) -> Code:
         """Runs the job once, and gives what its answer counts as."""
         context, job = execution.context, execution.job
+        record, begun = context.record, clock.uptime()
+        record.begin()
         if job is None:
+            record.ok, record.why = False, f"no job of the class {context.klass!r} is on this node"
             log.error("entry %d: no job of the class %r here; all triggers of %s get the state ERROR", context.entry, context.klass, context.job)
             return NO_JOB
         try:
             code = job.run(context) or Code.NOOP
         except NotBegun:
             raise
-        except Exception:
+        except Exception as error:
             log.exception("entry %d: the job failed", context.entry)
-            code = job.fails
+            code, record.ok, record.why = job.fails, False, f"{type(error).__name__}: {error}"
+        record.ms = round((clock.uptime() - begun) * 1000)
+        if record.ok is None:
+            record.ok = code not in FAILS
         if code is Code.RE_EXECUTE_JOB and (again >= job.retry.times or again and self._finishing.is_set()):
             log.error("entry %d: it was executed %d times, and isn't again; it counts as %s", context.entry, again + 1, job.retry.then.value)
             return job.retry.then

@@ -8,6 +8,7 @@ from enum import Enum
 from typing import Protocol
 
 from .names import RECOVERIES, Key
+from .record import Record
 from .rows import EntryRow
 
 
@@ -21,6 +22,9 @@ class Code(str, Enum):
     SET_ALL_JOB_TRIGGERS_COMPLETE = "SET_ALL_JOB_TRIGGERS_COMPLETE"
     SET_TRIGGER_ERROR = "SET_TRIGGER_ERROR"
     SET_ALL_JOB_TRIGGERS_ERROR = "SET_ALL_JOB_TRIGGERS_ERROR"
+
+
+FAILS = frozenset({Code.RE_EXECUTE_JOB, Code.SET_TRIGGER_ERROR, Code.SET_ALL_JOB_TRIGGERS_ERROR})  # no execution is expected to answer these
 
 
 class Stop:
@@ -74,6 +78,7 @@ class Context:
     refires: int = 0
     stop: Stop = field(default_factory=Stop, compare=False)
     places: list[Place] = field(default_factory=list, compare=False, repr=False)  # what the node has ready for a command, once
+    record: Record = field(default_factory=Record, compare=False, repr=False)  # what is told of it
 
     @property
     def recovering(self) -> bool:

@@ -6,8 +6,8 @@ keeper knows of each, and the execution is over when it has no child any more. W
 v2), the command has one of its own, too, which is killed and emptied.
 
 The node sends one line of JSON with the command, and `end` where it is to end. The keeper says `ready`, `failed WHAT ERRNO` or
-`begun`, then `ended STATUS` for the command itself, `stuck PID ..` where something can't be ended, and `empty` at last. Where the node
-dies, the socket ends, and the keeper kills all at once.
+`begun`, then `ended STATUS` for the command itself, `stuck PID ..` where something can't be ended, and at last `empty CPU PEAK`: the ms
+of processor time and the KiB of the largest process. Where the node dies, the socket ends, and the keeper kills all at once.
 """
 from __future__ import annotations
 
@@ -154,6 +154,7 @@ class Keeper:
         self._kill_at: float | None = None  # then all is killed, and again until nothing is left
         self._rest, self._killing_since = LOOK_AGAIN[0], 0.0
         self._said = -SAY_AGAIN
+        self._cpu, self._peak = 0.0, 0  # seconds of a processor and KiB, of all that ended so far
 
     def say(self, text: str) -> None:
         try:
@@ -185,7 +186,7 @@ class Keeper:
                 elif not self._hear():
                     poll.unregister(self._control)
         self._group.remove()
-        self.say("empty")
+        self.say(f"empty {round(self._cpu * 1000)} {self._peak}")
 
     def _wait(self) -> float | None:
         return None if self._kill_at is None else max(0.0, self._kill_at - time.monotonic()) * 1000
@@ -216,11 +217,12 @@ class Keeper:
     def _has_children(self) -> bool:
         while True:
             try:
-                process, status = os.waitpid(-1, os.WNOHANG)
+                process, status, used = os.wait4(-1, os.WNOHANG)
             except ChildProcessError:
                 return False
             if process == 0:
                 return True
+            self._cpu, self._peak = self._cpu + used.ru_utime + used.ru_stime, max(self._peak, used.ru_maxrss)
             if process == self._leader and self._status is None:
                 self._status = os.waitstatus_to_exitcode(status)
                 self.say(f"ended {self._status}")

@@ -57,6 +57,11 @@ class Membership:
         return self._scheduler
 
     @property
+    def team_generation(self) -> int:
+        """The generation of the team whose store has the epoch."""
+        return 1
+
+    @property
     def is_cut_off(self) -> bool:
         """Whether the hub is away."""
         return self._scheduler is not None and self._scheduler.is_broken

@@ -8,14 +8,17 @@ from dataclasses import dataclass
 
 from . import clock, logs
 from .checkins import CheckIns
+from .connection import Connection
 from .deadlines import Deadlines
 from .errors import HubRefused, NotBegun, Refused, Unanswered
 from .executions import Executions
 from .jobs import Code, Context, Job, Place, jobs_of
 from .membership import Fenced, GivenUp, Membership
 from .names import Key
+from .reporting import Reporting
 from .rows import EntryRow
 from .scheduler import Scheduler
+from .spool import Spool
 
 log = logs.logger("kemtrua.node")
 
@@ -28,6 +31,7 @@ ENDS_WITHIN = 15.0  # seconds that what is ended has: SIGKILL comes after 10 of 
 REFUSED_REST = 5.0  # seconds until the next acquire, where the store or the hub refused one
 LEAVE_WITHIN = 10.0  # seconds that the hub has to answer a node that leaves, once nothing runs any more
 LEAVE_AT_LEAST = 2.0  # seconds of them, where finish_within is shorter
+REPORTS_WITHIN = 2.0  # seconds for what isn't told yet of executions
 LOOK_AT_END = 0.25  # seconds between two looks at how far the end is
 
 
@@ -50,12 +54,13 @@ class Node:
     `connect` gives who is asked: a new `Connection` to a hub at each call, or a `Store`. `jobs` has a job, or a function of a `Context`, for each
     class. `check_in` and `clock_limit` are in ms: where this machine's clock is further from the hub's, the node isn't let in. `finish_within` is
     in seconds: what still runs so long after a stop is ended, and left for others to recover.
+    `spool` is a folder for what isn't told yet of executions; without one that is kept in memory.
     `prepare` makes ready what an execution needs, before it begins; where it raises NotBegun, the node gives back what it acquired.
     """
 
     def __init__(self, name: str, connect: Callable[[], Scheduler], jobs: Mapping[str, Job | Callable[[Context], Code | None]], *,
                  check_in: int = 15000, work: Work = Work(), finish_within: float | None = None, clock_limit: int = 5000,
-                 prepare: Callable[[], Place] | None = None):
+                 prepare: Callable[[], Place] | None = None, spool: str | None = None):
         self.name, self.work = name, work
         self._prepare = prepare
         self._finish_within = finish_within
@@ -65,8 +70,9 @@ class Node:
         self._members = Membership(name, check_in, connect, self.wake, clock_limit)
         self._clock = self._members.clock
         self._deadlines = Deadlines(self._fail)
-        self._executions = Executions(jobs_of(jobs), self._members, work.workers, self.wake, self._fail)
-        self._check_ins = CheckIns(self._members, check_in, self._deadlines, self.wake, self._executions.end_cut_off)
+        self._executions = Executions(jobs_of(jobs), self._members, work.workers, self.wake, self._fail, self._tell)
+        self._reporting = Reporting(name, connect, Spool(spool), self._executions.contexts, lambda: self._members.team_generation)
+        self._check_ins = CheckIns(self._members, check_in, self._deadlines, self.wake, self._executions.end_cut_off, self._tell_load)
         self._acquired: dict[int, tuple[int, Key]] = {}  # by entry number: when to fire it, and its trigger
         self._rests_until = 0.0  # nothing is acquired before this uptime
         self._has_joined, self._seen = False, 0  # (the generation of the membership that was looked at last)
@@ -83,6 +89,8 @@ class Node:
                  self.name, joined.epoch, joined.executions, joined.triggers)
         looking = threading.Thread(target=self._guarded, args=(self._check_ins.run,), name="check-in", daemon=True)
         looking.start()
+        if isinstance(self._members.scheduler, Connection):
+            self._reporting.start()
         self._guarded(self._schedule)
         self._guarded(self._finish)
         self._guarded(lambda: self._leave(looking))
@@ -106,6 +114,19 @@ class Node:
         with self._changed:
             self._woken = True
             self._changed.notify_all()
+
+    # -- what is told
+
+    def _tell(self, context: Context, code: Code) -> None:
+        """Has a report kept. Whatever becomes of that, the execution goes on to its completion."""
+        try:
+            if isinstance(self._members.scheduler, Connection):
+                self._reporting.ended(context, code, self._clock.now())
+        except Exception:
+            log.exception("entry %d: how it ended can't be told", context.entry)
+
+    def _tell_load(self) -> None:
+        self._reporting.loaded(self.work.workers, self._runs(), self._clock.skew)
 
     # -- where something fails
 
@@ -342,6 +363,7 @@ class Node:
             self._end_all()
         self._executions.wait(ENDS_WITHIN)
         self._check_ins.end()
+        self._reporting.end(REPORTS_WITHIN)
         looking.join(LEAVE_WITHIN)
         try:
             if not self._executions:

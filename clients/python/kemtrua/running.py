@@ -172,6 +172,8 @@ class Run:
             self._say(logging.ERROR, f"the processes {' '.join(rest) or 'of its control group'} can't be ended; it stays open at the store until they are")
         elif word == "empty":
             self._over = True
+            if len(rest) == 2:
+                self._context.record.cpu, self._context.record.peak = map(int, rest)
 
     def _failed(self, what: str, number: int) -> KemtruaError:
         text = os.strerror(number)
@@ -220,16 +222,20 @@ class Run:
 
     def _read(self, poll: select.poll) -> None:
         data = os.read(self._place.out, 65536)
-        self._output.feed(data)
+        self._feed(data)
         if not data:
             poll.unregister(self._place.out)
+
+    def _feed(self, data: bytes) -> None:
+        self._output.feed(data)
+        self._context.record.tail.feed(data)
 
     def _read_the_rest(self) -> None:
         """What the execution wrote before its end, and nothing of what somebody else may write who has its pipe."""
         os.set_blocking(self._place.out, False)
         try:
             while data := os.read(self._place.out, 65536):
-                self._output.feed(data)
+                self._feed(data)
         except BlockingIOError:
             pass
 
@@ -247,6 +253,7 @@ class Run:
         """Has the command end. It is called by any thread."""
         if not self._over and not self._ending:
             self._ending = True
+            self._context.record.why = why
             self._say(logging.WARNING, f"{why}: SIGTERM, and SIGKILL in {GRACE:g} seconds")
             try:
                 self._place.control.sendall(b"end\n")

@@ -39,6 +39,7 @@ class NodeSettings:
     work: Work
     finish_within: float | None
     clock_limit: int
+    spool: str | None
     classes: Mapping[str, CommandClass]
 
 
@@ -90,7 +91,7 @@ def read_node(path: str, name: str | None = None) -> NodeSettings:
     work = Work(node.take("workers", int, 10, 1), node.take("batch", int, 1, 1), node.take("window", int, 0, 0), node.take("ahead", int, 1000, 0))
     found = NodeSettings(name or node.take("name", str, socket.gethostname()), None if store else Address.parse(address or DEFAULT), store,
                          node.take("program", str, "qz_sched"), tls, node.take("check_in", int, 15000, 1000), work, finish,
-                         round(1000 * node.take("clock_limit", (int, float), 5.0, 0)), classes)
+                         round(1000 * node.take("clock_limit", (int, float), 5.0, 0)), node.take("spool", str), classes)
     node.take("name", str)
     node.end()
     if not 1 <= len(found.name.encode()) <= 120:

@@ -1,5 +1,5 @@
 #!/usr/bin/env python3
-"""A small stand-in for `qz_sched`, for tests of the client without the proved program: `init`, `list` and `script`.
+"""A small stand-in for `qz_sched`, for tests of the client without the proved program: `init`, `list`, `script` and `history`.
 
 It knows jobs, simple triggers, members, executions, check-ins and the lines that ask, each in its plain case. Of calendars it knows the names, and of groups
 those of jobs. Zones, cron texts and groups of triggers it doesn't know. It keeps the trigger store's journal in its real form as far as `kemtrua.journal` reads it, and its
@@ -24,6 +24,7 @@ from names import Key, escape  # noqa: E402
 
 TRIGGERS, STATES = "qz-triggers.store", "qz-states.store"
 STATES_HEADER = b"QZ23\x01S" + bytes(11)
+TOLD = b"\xfftold"  # what stands before it in a record
 CODES = ("NOOP", "RE_EXECUTE_JOB", "SET_TRIGGER_COMPLETE", "DELETE_TRIGGER", "SET_ALL_JOB_TRIGGERS_COMPLETE", "SET_TRIGGER_ERROR",
          "SET_ALL_JOB_TRIGGERS_ERROR")
 COMMANDS = {"add_job": 0, "delete_job": 1, "add_trigger": 2, "delete_trigger": 3, "pause_trigger": 4, "resume_trigger": 5, "add_calendar": 8, "trigger_now": 0x0C, "threshold": 0x0D,
@@ -409,6 +410,34 @@ def record(line, now, epoch):
     return b"\x01" + struct.pack(">q", now) + actor + struct.pack(">I", 0) + bytes([COMMANDS[do]]) + body
 
 
+def told(line, now, epoch, reply):
+    """What `history` tells of a transaction, behind its record: which the real one reads from the record itself."""
+    defaults = {"code": "NOOP", "replace": False, "window": 0, "max": 1}
+    kept = {name: value for name, value in line.items() if name not in ("at", "do", "interval") and value != defaults.get(name, ...)}
+    named = {"epoch": epoch} if "node" in line and line["do"] != "join" else {}
+    return TOLD + json.dumps({**named, "line": {"at": now, "do": line["do"], **kept}, "reply": reply}, separators=(",", ":"), ensure_ascii=False).encode()
+
+
+def history(after):
+    """The transactions behind the last snapshot."""
+    with open(TRIGGERS, "rb") as file:
+        file.seek(16)
+        number, base, found = 0, 0, []
+        while (block := file.read(5))[:1] == b"\xa5":
+            payload = file.read(int.from_bytes(block[1:], "big"))
+            if payload[:1] == b"\xf0":
+                base, found = number, []
+            else:
+                number += 1
+                found.append((number, payload.partition(TOLD)[2]))
+    for number, text in found:
+        if number > after:
+            sys.stdout.buffer.write(b'{"number":%d,' % number + text[1:] + b"\n")
+    if after < base:
+        sys.stderr.write(f"qz: begins at {base + 1}\n")
+    return 0
+
+
 def append(file, payload):
     """Adds a payload at the closed gate at the end of the file."""
     file.seek(-1, os.SEEK_END)
@@ -452,7 +481,7 @@ def script(tables, journal):
                     reply = getattr(run, do)(line, now)
                     if do in COMMANDS:
                         tables.last = now
-                        append(journal, record(line, now, epoch))
+                        append(journal, record(line, now, epoch) + told(line, now, epoch, reply))
                     if not do.startswith("show") and do not in ("resume", "stop"):
                         save(tables)
         except Refusal as refusal:
@@ -464,7 +493,10 @@ def script(tables, journal):
     return 5 if closed else 0
 
 
-def main(word):
+def main(word, *more):
+    if word == "history" and os.environ.get("STAND_IN") == "no-history":
+        sys.stderr.write("qz: bad words\n")
+        return 1
     if word == "init":
         if os.path.exists(TRIGGERS):
             sys.stderr.write("qz: store exists\n")
@@ -490,8 +522,10 @@ def main(word):
     if word == "list":
         print("\n".join(listed(tables)))
         return 0
+    if word == "history":
+        return history(int(more[0]))
     return script(tables, journal)
 
 
 if __name__ == "__main__":
-    sys.exit(main(sys.argv[1]))
+    sys.exit(main(*sys.argv[1:]))

@@ -6,6 +6,7 @@ from dataclasses import replace
 
 from ..address import DEFAULT, Address
 from ..errors import BadSettings
+from ..history.settings import HistorySettings, read_hub
 from ..hub import Grant, Hub, HubSettings
 from . import common
 
@@ -31,6 +32,8 @@ def main(words: list[str] | None = None) -> int:
     parser.add_argument("--node", action="append", default=[], metavar="NAME[:WORKERS]",
                         help="a certificate that may be the node of its name, with so many entries in its hands; 'NAME.*' for all nodes below "
                         "it; may be repeated (each trusted one may)")
+    parser.add_argument("--settings", metavar="FILE", help="how long the history is kept, what jobs are expected to do, and who is alerted, in TOML")
+    parser.add_argument("--check", action="store_true", help="only look at the settings")
     common.add_tls(parser)
     parser.add_argument("--revoked", metavar="FILE", help="a revocation list of the authority's, in PEM")
     common.add_log_level(parser)
@@ -38,6 +41,10 @@ def main(words: list[str] | None = None) -> int:
     common.log_to_stderr(given.log)
 
     def work() -> None:
+        history = HistorySettings() if given.settings is None else read_hub(given.settings)
+        if given.check:
+            print(f"{given.settings}: {len(history.expects)} expectations, alerts for {', '.join(history.alerts) or 'nothing'}")
+            return
         tls = common.tls_of(given)
         if given.revoked is not None:
             if tls is None:
@@ -45,7 +52,7 @@ def main(words: list[str] | None = None) -> int:
             tls = replace(tls, revoked=given.revoked)
         Hub(HubSettings(given.folder, given.program, given.make, [Address.parse(text) for text in given.listen or [DEFAULT]],
                         [Address.parse(text) for text in given.listen_nodes], given.nodes_group, tls, given.operator,
-                        [Grant.parse(text) for text in given.node])).run()
+                        [Grant.parse(text) for text in given.node], history=history)).run()
 
     return common.ended("kemtrua-hub", work)
 

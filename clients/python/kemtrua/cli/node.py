@@ -1,6 +1,7 @@
 """`kemtrua-node`: runs jobs that are commands."""
 from __future__ import annotations
 
+import os
 import signal
 import sys
 import threading
@@ -14,6 +15,7 @@ from ..certificates import DAY, warn_of
 from ..connection import ANSWER_WITHIN, Connection
 from ..errors import BadSettings
 from ..guard import Guard
+from ..names import escape
 from ..node import Node
 from ..notify import notify
 from ..patience import MARGIN
@@ -47,6 +49,17 @@ def connector(settings: NodeSettings) -> Callable[[], Scheduler]:
     return partial(Connection, address, settings.tls, within)
 
 
+def spool_of(settings: NodeSettings) -> str | None:
+    """The folder for what isn't told yet of executions: that of the settings, or one of the folder that systemd gives a service."""
+    if settings.spool is not None or settings.store is not None:
+        return settings.spool
+    given = os.environ.get("STATE_DIRECTORY", "").split(":")[0]
+    if not given:
+        log.warning("this node has no spool: what it hasn't told the hub of executions is lost when it ends; set `spool` in [node]")
+        return None
+    return os.path.join(given, "spool", f"node-{escape(settings.name)}")
+
+
 def warn_each_day(tls: Tls) -> None:
     """Says each day where a certificate ends soon."""
     while True:
@@ -63,7 +76,7 @@ def run(settings: NodeSettings) -> None:
     guard = Guard()
     jobs = {name: it.command.job(guard, it.retry, it.ends_when_cut_off) for name, it in settings.classes.items()}
     node = Node(settings.name, connector(settings), jobs, check_in=settings.check_in, work=settings.work, finish_within=settings.finish_within,
-                clock_limit=settings.clock_limit, prepare=Place if jobs else None)
+                clock_limit=settings.clock_limit, prepare=Place if jobs else None, spool=spool_of(settings))
     for number in (signal.SIGTERM, signal.SIGINT):
         signal.signal(number, lambda *_: node.stop())
     notify("READY=1")

@@ -42,8 +42,9 @@ def entry(row: rows.EntryRow) -> Object:
     return found
 
 
-def nodes(found: Sequence[rows.Row]) -> list[Object]:
-    """All members, and all nodes with a check-in: `lives`, `late`, or `gone` where it is no member."""
+def nodes(found: Sequence[rows.Row], loads: Iterable[Object] = ()) -> list[Object]:
+    """All members, and all nodes with a check-in: `lives`, `late`, or `gone` where it is no member; with what the living told of their workers and clock."""
+    told = {load["node"]: {"workers": load["workers"], "skew": load["skew"]} for load in loads}
     members = {row.node: row.epoch for row in found if isinstance(row, rows.MemberRow)}
     seen = {row.node: row for row in found if isinstance(row, rows.CheckInRow)}
     busy = [row.node for row in found if isinstance(row, rows.EntryRow) and row.executes]
@@ -52,7 +53,8 @@ def nodes(found: Sequence[rows.Row]) -> list[Object]:
         row = seen.get(node)
         late = row is not None and row.last + row.interval + MARGIN < clock.now()
         objects.append({"row": "node", "node": node, "epoch": members.get(node), "state": ("late" if late else "lives") if node in members else "gone",
-                        "last": row.last if row else None, "interval": row.interval if row else DEFAULT_INTERVAL, "runs": busy.count(node)})
+                        "last": row.last if row else None, "interval": row.interval if row else DEFAULT_INTERVAL, "runs": busy.count(node),
+                        **(told.get(node, {}) if node in members else {})})
     return objects
 
 

@@ -4,14 +4,13 @@ from __future__ import annotations
 from collections.abc import Iterable, Sequence
 
 from .. import clock, replies, rows
+from . import screen
 from .objects import Object
 
 
 def table(head: Sequence[str], body: Iterable[Sequence[object]]) -> str:
     """Columns, each as wide as its widest cell."""
-    cells = [list(head), *([str(cell) for cell in line] for line in body)]
-    widths = [max(len(line[column]) for line in cells) for column in range(len(head))]
-    return "\n".join("  ".join(cell.ljust(width) for cell, width in zip(line, widths)).rstrip() for line in cells)
+    return screen.table(head, body)
 
 
 def plain(key: object) -> str:
@@ -30,8 +29,9 @@ def triggers(found: Iterable[rows.TriggerRow]) -> str:
 
 
 def nodes(found: Iterable[Object]) -> str:
-    lines = [[it["node"], "-" if it["epoch"] is None else it["epoch"], it["state"], local_of(it["last"]), f"{span_of(it['interval'])} s", it["runs"]] for it in found]
-    return table(["NODE", "EPOCH", "STATE", "LAST CHECK-IN", "EACH", "RUNS"], lines)
+    lines = [[it["node"], "-" if it["epoch"] is None else it["epoch"], it["state"], local_of(it["last"]), f"{span_of(it['interval'])} s", it["runs"],
+              it.get("workers", "-"), f"{it['skew']} ms" if "skew" in it else "-"] for it in found]
+    return table(["NODE", "EPOCH", "STATE", "LAST CHECK-IN", "EACH", "RUNS", "OF", "CLOCK AHEAD"], lines)
 
 
 def local_of(moment: object) -> str:
@@ -61,7 +61,7 @@ def shown(row: rows.JobRow | rows.TriggerRow | rows.EntryRow) -> str:
     lines = []
     for name, value in vars(row).items():
         if value is not None:
-            text = f"{clock.local(value)} ({value})" if name in times else value
+            text = f"{clock.local(value)} ({value})" if name in times else screen.harmless(str(value))
             lines.append(f"{'class' if name == 'klass' else name:18} {text}")
     return "\n".join(lines)
 

@@ -8,7 +8,7 @@ from typing import Protocol
 
 from ..address import DEFAULT
 from ..from_quartz import command as from_quartz
-from . import calendars, common, work
+from . import calendars, common, ran, work
 
 DESCRIPTION = """\
 Asks a hub (--hub, or the variable KEMTRUA_HUB), or a store of this machine that no hub holds (--folder).
@@ -46,6 +46,7 @@ def parser() -> argparse.ArgumentParser:
     _add_adding(command)
     _add_trigger(command)
     _add_asking(command)
+    _add_ran(command)
     _add_changing(command)
     _add_tending(command)
     from_quartz.add(command)
@@ -108,6 +109,32 @@ def _add_asking(command: Adder) -> None:
     it = command("show", work.show, "show a job, a trigger, an entry, or when something is due next")
     it.add_argument("what", choices=SHOWN)
     it.add_argument("name", nargs="?", help="a name, or an entry number")
+    _add_json(it)
+
+
+def _add_ran(command: Adder) -> None:
+    it = command("history", ran.history, "list what ran, the latest first; a moment may be a span before now, as 8h")
+    it.add_argument("--job", metavar="JOB")
+    it.add_argument("--node", metavar="NODE")
+    it.add_argument("--since", metavar="MOMENT", default="1d", help="what began then or later (1d)")
+    it.add_argument("--until", metavar="MOMENT", help="and what began before")
+    it.add_argument("--failed", action="store_true", help="only what failed, was lost, or whose end is missing")
+    it.add_argument("--limit", type=int, metavar="NUMBER", help="so many at most (a screen, or all where the output is no terminal)")
+    it.add_argument("--all", action="store_true", help="more than a screen")
+    it.add_argument("--vacuum", action="store_true", help="delete what is too old, and give the room back to the disk")
+    _add_json(it)
+    it = command("log", ran.log, "show the end of what an execution wrote")
+    it.add_argument("entry", help="its entry number")
+    it.add_argument("--follow", action="store_true", help="go on as long as it runs; its node tells each 10 seconds")
+    it.add_argument("--generation", type=int, metavar="NUMBER", help="of the team, where a restored backup gave the number again (the latest)")
+    it.add_argument("--raw", action="store_true", help="the bytes as they are, also what a terminal takes for commands")
+    _add_json(it)
+    it = command("last", ran.last, "show each job's last execution, its next time, and what should have run and didn't")
+    _add_json(it)
+    it = command("audit", ran.audit, "list who did what, the latest first")
+    it.add_argument("--since", metavar="MOMENT", default="1d", help="then or later (1d)")
+    it.add_argument("--by", metavar="NAME", help="a certificate's name, or a user's")
+    it.add_argument("--limit", type=int, metavar="NUMBER", help="so many at most, up to 1000")
     _add_json(it)
 
 

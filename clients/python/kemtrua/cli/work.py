@@ -131,7 +131,7 @@ def list_(given: Words) -> int:
     triggers = [row for row in found if isinstance(row, rows.TriggerRow)]
     entries = [row for row in found if isinstance(row, rows.EntryRow)]
     others = [row for row in found if isinstance(row, rows.OtherRow)]
-    nodes = objects.nodes(found)
+    nodes = objects.nodes(found, _loads(given) if given.what in ("nodes", "all") else ())
     parts: dict[str, tuple[list[objects.Object], Callable[[], str]]] = {
         "jobs": ([objects.job(row) for row in jobs], lambda: printing.jobs(jobs)),
         "triggers": ([objects.trigger(row) for row in triggers], lambda: printing.triggers(triggers)),
@@ -142,6 +142,17 @@ def list_(given: Words) -> int:
     wanted = [part for name, part in parts.items() if given.what in (name, "all")]
     print(objects.text(one for part, _ in wanted for one in part) if given.json else "\n\n".join(shown() for _, shown in wanted))
     return 0
+
+
+def _loads(given: Words) -> list[objects.Object]:
+    """What nodes told of their workers and clocks, where a hub keeps that."""
+    if given.folder is not None:
+        return []
+    with hub_of(given) as hub:
+        try:
+            return hub.rows("loads")
+        except HubRefused:
+            return []
 
 
 def _listed(given: Words) -> list[str]:

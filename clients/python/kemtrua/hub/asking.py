@@ -14,6 +14,7 @@ from dataclasses import dataclass
 from .. import clock, logs
 from ..checking import Line, bytes_of
 from ..errors import BadLine, KemtruaError, ProgramEnded, Unanswered
+from ..history.recorder import Recorder
 from ..ledger import Ledger
 from ..patience import STALL
 from ..program import Gone, Program, call, ended, make_store, opened, wait_until_free
@@ -77,6 +78,7 @@ class Asking:
         self._let_stay: Program | None = None  # one that ends
         self._is_to_pump = False
         self._listed: list[str] | None = None
+        self.recorder: Recorder | None = None  # who is told all that is answered
 
     def make(self) -> None:
         make_store(self.program, self.folder)
@@ -129,6 +131,7 @@ class Asking:
             await asyncio.wait([self._opening])
         running = self._let_go()
         self._refuse_all(self._broken)
+        await self._settle()
         if running is not None:
             status, said = await asyncio.to_thread(running.end)
             log.info("qz_sched ended with status %d %s", status, said)
@@ -208,6 +211,8 @@ class Asking:
             question = self._sent.popleft()
             text = reply.decode()
             self.ledger.learn(question.line, text)
+            if self.recorder is not None:
+                self.recorder.answered(question.line, text, self.ledger.held.get(str(question.line.get("node"))))
             if question.line["do"] in WAKING and not text.startswith(("refused", "stopped", "closed")):
                 wakes = True
             question.take(text)
@@ -259,12 +264,18 @@ class Asking:
 
     async def _next_call(self) -> None:
         assert self._let_stay is not None
+        await self._settle()
         status, said = await asyncio.to_thread(self._let_stay.end)
         log.info("opening the store again after %d lines (status %d %s)", self._lines, status, said)
         if status:
             self._give_up(ProgramEnded(status, said))
         else:
             await self._open_again()
+
+    async def _settle(self) -> None:
+        """A call may make a snapshot at its end, and the store's history begins behind that: so the recorder has to have all that was answered."""
+        if self.recorder is not None:
+            await self.recorder.settled()
 
     async def _open_again(self) -> None:
         begun = clock.uptime()
@@ -297,6 +308,8 @@ class Asking:
         wait_until_free(self.folder, LOCK_WITHIN)
         listed = call(self.program, self.folder, "list").splitlines()
         self._listed = listed if self._listed is None else []
+        if self.recorder is not None:
+            self.recorder.opened(self.folder)
         return Ledger(listed), opened(self.program, self.folder)
 
     def _take_sent(self) -> list[Question]:

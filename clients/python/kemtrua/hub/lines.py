@@ -9,6 +9,7 @@ from ..checking import Line, check, value_of
 from ..errors import BadLine, HubRefused, KemtruaError, ProgramEnded, Unanswered
 from ..ledger import DEFAULT_INTERVAL
 from ..patience import Patience
+from . import telling
 from .asking import Asking
 from .listing import Listing
 from .rights import Rights
@@ -24,6 +25,7 @@ OWN_LINES: dict[str, frozenset[str]] = {  # of the hub, with the members that th
     "watch": frozenset()}
 KEPT_FROM_CONNECTIONS = {"restart": "it would take every node's epoch", "stop": "the hub sends it when a connection breaks"}
 OPERATORS_LINES = frozenset({*forms.CLIENT_LINES, "show_job", "show_trigger"})
+OF_CLIENTS = frozenset({*forms.CLIENT_LINES, "recover", "forget"})  # which are kept with who said them, where an operator did
 CHANGING = ("join", "resume", "leave")  # after them the connection speaks for another node
 
 
@@ -36,6 +38,7 @@ class Lines:
         self._tasks: set[asyncio.Task[None]] = set()
         self._touched: set[Visitor] = set()
         self._told: str | None = None  # the doubt that was logged last
+        self.telling: telling.Telling | None = None  # where the hub keeps a history
         self.speakers = Speakers()
         self.patience = Patience()
         self.timekeeping = Timekeeping()
@@ -124,6 +127,9 @@ class Lines:
         if do in OWN_LINES:
             self._own_line(visitor, slot, line)
             return
+        if do in telling.LINES:
+            self._tell(visitor, slot, line)
+            return
         if do in KEPT_FROM_CONNECTIONS:
             raise HubRefused("not-here", f"{do} isn't for connections: {KEPT_FROM_CONNECTIONS[do]}")
         if do not in forms.LINES:
@@ -159,7 +165,10 @@ class Lines:
                 visitor.is_busy = False
             elif do == "acquire":
                 visitor.acquiring -= int(line["max"])  # type: ignore[call-overload]
-            self._answer(visitor, slot, self._noted(visitor, line, said) if isinstance(said, str) else said)
+            answered = self._noted(visitor, line, said) if isinstance(said, str) else said
+            if self.telling is not None and do in OF_CLIENTS and self._rights.is_operator(visitor.who):
+                self.telling.recorder.said(visitor.who.in_full(), line, answered if isinstance(answered, str) else self._words(answered))
+            self._answer(visitor, slot, answered)
 
         self._asking.ask(visitor.turn, line, take)
 
@@ -262,6 +271,16 @@ class Lines:
             wanted = min(wanted, room)
         visitor.acquiring += wanted
         return {**line, "max": wanted}
+
+    def _tell(self, visitor: Visitor, slot: Slot, line: Line) -> None:
+        """A line about what ran. A node may tell of itself on any of its connections."""
+        if self.telling is None:
+            raise HubRefused("not-here", "this hub keeps no history: its log says why")
+        if line["do"] in telling.OF_NODES:
+            self._rights.may_be(visitor.who, str(line.get("node")))
+        else:
+            self._rights.may_operate(visitor.who)
+        self._later(visitor, slot, self.telling.answer(line))
 
     # -- the hub's own lines
 

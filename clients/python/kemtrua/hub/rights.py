@@ -1,6 +1,7 @@
 """Who may do what: operators, nodes, and how much a node may take."""
 from __future__ import annotations
 
+import pwd
 from collections.abc import Iterable
 from dataclasses import dataclass
 from enum import Enum
@@ -28,6 +29,15 @@ class Identity:
 
     def __str__(self) -> str:
         return self.name if self.door is Door.TLS else f"user {self.name}"
+
+    def in_full(self) -> str:
+        """`certificate NAME`, or `user NAME` with the name that this machine has for the user's number."""
+        if self.door is Door.TLS:
+            return f"certificate {self.name}"
+        try:
+            return f"user {pwd.getpwuid(int(self.name)).pw_name}"
+        except (KeyError, ValueError):
+            return f"user {self.name}"
 
 
 @dataclass(frozen=True)

@@ -5,6 +5,7 @@ import asyncio
 import signal
 import socket
 import ssl
+import sys
 from collections.abc import Coroutine, Sequence
 from dataclasses import dataclass
 from typing import Any
@@ -13,10 +14,12 @@ from .. import clock, logs, rows
 from ..address import Address, Tls, common_name
 from ..certificates import warn_of
 from ..errors import BadSettings, KemtruaError
+from ..history.settings import HistorySettings
 from ..notify import notify
 from .asking import Asking, Events
 from .entrance import OF_ONE, Entrance
 from .lines import Lines
+from .recording import Recording
 from .rights import Door, Grant, Identity, Rights
 from .room import look_at_room
 from .timekeeping import moment_of
@@ -26,6 +29,7 @@ log = logs.logger("kemtrua.hub")
 
 TICK = 0.5  # seconds
 DAY = 86400.0
+SWITCH = 0.0005  # seconds that the thread of the history may keep the interpreter while an answer waits
 LATEST = 0.2  # seconds that an answer has to go out, before a hub whose store failed ends
 
 
@@ -45,6 +49,7 @@ class HubSettings:
     tls: Tls | None = None
     operators: Sequence[str] = ()
     nodes: Sequence[Grant] = ()
+    history: HistorySettings = HistorySettings()
 
 
 class Hub:
@@ -69,6 +74,7 @@ class Hub:
 
     def run(self) -> None:
         """Serves to the end. Raises what ended the store, if it ended."""
+        sys.setswitchinterval(SWITCH)
         asyncio.run(self._run())
         if self.failure is not None:
             raise self.failure
@@ -77,11 +83,14 @@ class Hub:
         self._loop, self._ended = asyncio.get_running_loop(), asyncio.Event()
         if self.settings.make:
             self._asking.make()
+        self._history = Recording(self.settings.folder, self.settings.program, self.settings.history, 1)
+        self._asking.recorder = self._history.recorder
         await self._asking.open()
         try:
             await self._serve()
         finally:
             await self._end()
+            await asyncio.to_thread(self._history.end)
 
     async def _serve(self) -> None:
         await self._compare_clock()
@@ -94,6 +103,8 @@ class Hub:
         self._start(self._tick())
         self._start(self._look_at_certificates())
         self._start(look_at_room(self.settings.folder))
+        self.lines.telling = self._history.telling()
+        self._start(self._history.run(self._asking.own))
         log.info("listening at %s", ", ".join(map(str, self._entrance.listening)))
         notify("READY=1")
         await self._ended.wait()

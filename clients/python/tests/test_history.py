@@ -1,0 +1,290 @@
+"""A hub's history beside the store's own: after kills, without the database, with a program that doesn't tell, and with one that is wrong."""
+import json
+import os
+import sqlite3
+import unittest
+
+from kemtrua import Connection
+from kemtrua.history.filling import Copy
+from kemtrua.history.questions import Filter, Object, Questions
+from kemtrua.history.schema import FILE
+from tests.helpers import IS_STAND_IN, PROGRAM, HubProcess, WithFolder, job, now, once, wait_until
+
+FIVE = ("entry", "trigger", "node", "scheduled", "fired")
+
+
+def stores_of(folder: str) -> str:
+    """Where a hub's folder has its store files."""
+    current = os.path.join(folder, "current")
+    return current if os.path.islink(current) else folder
+
+
+def told(folder: str) -> dict[int, Object]:
+    """The executions that the store's own history tells, folded here anew, from beginning to end."""
+    copy = Copy(stores_of(folder), PROGRAM)
+    try:
+        found: dict[int, Object] = {}
+        acquired: dict[int, str] = {}
+        for it in copy.history(0):
+            words = it.reply.split()
+            if words[0] == "acquired" and words[1] != "none":
+                acquired |= {int(entry): trigger for entry, trigger in zip(words[1::3], words[2::3])}
+            elif words[0] == "fired":
+                entry = int(words[1])
+                found[entry] = {"entry": entry, "trigger": acquired.get(entry, ""), "node": it.line["node"], "scheduled": int(words[3]), "fired": int(words[5]), "ended": None}
+            elif words[0] == "completed" and int(words[1]) in found:
+                found[int(words[1])]["ended"] = it.at
+            elif it.do in ("join", "recover"):
+                node = it.line["failed" if it.do == "recover" else "node"]
+                for one in found.values():
+                    if one["node"] == node and one["ended"] is None:
+                        one["ended"] = it.at
+        return found
+    finally:
+        copy.close()
+
+
+def recorded(folder: str) -> dict[int, Object]:
+    with Questions(folder) as asked:
+        return {int(str(one["entry"])): one for one in asked.executions(Filter())}
+
+
+def snapshot(folder: str) -> None:
+    """Puts a snapshot at the end of the stand-in's journal, so that it tells nothing of before."""
+    with open(os.path.join(stores_of(folder), "qz-triggers.store"), "r+b") as file:
+        file.seek(-1, os.SEEK_END)
+        file.write(b"\xa5" + (53).to_bytes(4, "big") + b"\xf0" + bytes(52) + b"\x00")
+
+
+class WithHistory(WithFolder):
+    def work(self, one: Connection, node: str, firings: int, leaves_open: bool = False) -> None:
+        """Makes a node fire so many times a trigger that is always due; the last one may stay open."""
+        for number in range(firings):
+            entry = one.acquire(node, now()).triggers[0].entry  # type: ignore[attr-defined]
+            one.fire(node, entry)
+            if number + 1 < firings or not leaves_open:
+                one.complete(node, entry)
+
+    def begun(self, hub: HubProcess) -> Connection:
+        one = hub.connect()
+        one.ask("add_job", job=job(requests_recovery=True, durable=True))
+        one.ask("add_trigger", trigger={"name": "t", "job": "j", "kind": "simple", "start": now() - 30000, "interval": 1, "count": -1, "misfire": -1})
+        one.ask("join", node="A")
+        return one
+
+    def agrees(self, within: float = 30.0) -> None:
+        """The database says of each execution what the store says."""
+        wanted = told(self.folder)
+
+        def holds() -> bool:
+            found = recorded(self.folder)
+            return wanted == {entry: {name: found[entry][name] for name in (*FIVE, "ended")} for entry in wanted if entry in found}
+
+        try:
+            wait_until(holds, within)
+        except AssertionError:
+            found = recorded(self.folder)
+            self.assertEqual(wanted, {entry: {name: one[name] for name in (*FIVE, "ended")} for entry, one in found.items()})
+            raise
+
+    def events(self, *kinds: str) -> list[Object]:
+        with Questions(self.folder) as asked:
+            return asked.events(kinds, 0)
+
+
+class Agrees(WithHistory):
+    def test_as_it_goes_and_after_an_end(self) -> None:
+        hub = self.hub()
+        with self.begun(hub) as one:
+            self.work(one, "A", 5)
+            wait_until(lambda: len(one.rows("history")) == 5)
+            self.assertEqual([(found["entry"], found["state"], found["job"], found["class"]) for found in one.rows("history")][:2],
+                             [(5, "ended", "DEFAULT/j", "ok"), (4, "ended", "DEFAULT/j", "ok")])
+            self.work(one, "A", 1, leaves_open=True)
+        hub.ended()
+        self.agrees()  # (with the store's own moments, since the end waits for them)
+        self.assertEqual([found["state"] for found in recorded(self.folder).values()], ["runs", *["ended"] * 5])
+
+    def test_after_kills(self) -> None:
+        hub = self.hub()
+        one = self.begun(hub)
+        for _ in range(3):
+            self.work(one, "A", 7, leaves_open=True)
+            hub.kill()
+            one.close()
+            hub = self.hub(make=False)
+            one = hub.connect()
+            self.agrees()
+            one.ask("join", node="A")  # (whose executions are lost)
+        one.close()
+        hub.ended()
+        self.agrees()
+        self.assertEqual(len(self.events("lost")), 3)
+
+    def test_without_its_database(self) -> None:
+        hub = self.hub()
+        with self.begun(hub) as one:
+            self.work(one, "A", 5, leaves_open=True)
+            wait_until(lambda: len(recorded(self.folder)) == 5)
+            os.remove(os.path.join(self.folder, FILE))
+            self.work(one, "A", 3)
+            wait_until(lambda: os.path.exists(os.path.join(self.folder, FILE)))
+            wait_until(lambda: len(one.rows("history")) == 8)
+            hub.ended()
+            self.agrees()
+
+    @unittest.skipUnless(IS_STAND_IN, "it puts a snapshot into the stand-in's journal")
+    def test_what_stands_before_a_snapshot_is_missing(self) -> None:
+        hub = self.hub()
+        with self.begun(hub) as one:
+            self.work(one, "A", 4, leaves_open=True)
+        hub.ended()
+        for name in (FILE, f"{FILE}-wal", f"{FILE}-shm"):
+            if os.path.exists(os.path.join(self.folder, name)):
+                os.remove(os.path.join(self.folder, name))
+        snapshot(self.folder)
+        hub = self.hub(make=False)
+        with hub.connect() as one:
+            one.ask("resume", node="A", epoch=1)
+            self.work(one, "A", 2)
+            wait_until(lambda: len(one.rows("history")) == 3)
+            found = {row["entry"]: row for row in one.rows("history")}
+            self.assertEqual([(entry, row["state"], row["job"]) for entry, row in found.items()], [(6, "ended", "DEFAULT/j"), (5, "ended", "DEFAULT/j"), (4, "runs", "DEFAULT/j")])
+            self.assertRegex(str(self.events("gap")[0]["text"]), r"after its transaction 0 and before 1\d isn't in its history any more")
+            one.complete("A", 4)
+            wait_until(lambda: one.rows("history", until=found[5]["fired"])[0]["state"] == "ended")
+
+    @unittest.skipUnless(IS_STAND_IN, "it puts a snapshot into the stand-in's journal")
+    def test_an_end_that_nobody_saw_is_missing(self) -> None:
+        hub = self.hub()
+        with self.begun(hub) as one:
+            self.work(one, "A", 2, leaves_open=True)
+        hub.ended()
+        with self.store() as store:
+            store.ask("resume", node="A", epoch=1)
+            store.ask("complete", node="A", entry=2)
+        snapshot(self.folder)
+        hub = self.hub(make=False)
+        hub.connect().close()
+        wait_until(lambda: recorded(self.folder)[2]["state"] == "missing")
+        self.assertIsNone(recorded(self.folder)[2]["ended"])
+
+    def test_a_wrong_count_is_mended(self) -> None:
+        hub = self.hub()
+        with self.begun(hub) as one:
+            self.work(one, "A", 4)
+        hub.ended()
+        with sqlite3.connect(os.path.join(self.folder, FILE)) as connection:
+            connection.execute("UPDATE stores SET last = last - 3, exact = exact - 3")  # (as of another store: the reply doesn't fit)
+            connection.execute("DELETE FROM executions WHERE entry < 3")
+        hub = self.hub(make=False)
+        hub.connect().close()
+        self.agrees()
+
+    def test_a_spoiled_database_is_moved_away(self) -> None:
+        hub = self.hub()
+        with self.begun(hub) as one:
+            self.work(one, "A", 2)
+        hub.ended()
+        with open(os.path.join(self.folder, FILE), "wb") as file:
+            file.write(b"no database" * 1000)
+        hub = self.hub(make=False)
+        hub.connect().close()
+        self.agrees()
+        self.assertTrue(os.path.exists(os.path.join(self.folder, FILE + ".spoiled")))
+
+    def test_one_of_another_version_is_left_alone(self) -> None:
+        connection = sqlite3.connect(os.path.join(self.folder, FILE))
+        connection.execute("PRAGMA user_version=77")
+        connection.close()
+        hub = self.hub()
+        with self.begun(hub) as one:
+            self.work(one, "A", 1)
+            with self.assertRaisesRegex(Exception, "keeps no history"):
+                one.rows("history")
+        self.assertIn("format 77", hub.ended()[1])
+
+
+class Facts(WithHistory):
+    def test_recoveries_misfires_and_refusals(self) -> None:
+        hub = self.hub()
+        with self.begun(hub) as one:
+            self.work(one, "A", 1, leaves_open=True)
+            one.ask("join", node="A")
+            one.ask("pause_trigger", name="t")
+            entry = one.acquire("A", now()).triggers[0].entry
+            one.fire("A", entry)
+            one.complete("A", entry, "SET_TRIGGER_ERROR")
+            with self.assertRaises(Exception):
+                one.ask("trigger_now", name="nobody")
+            one.ask("add_trigger", trigger=once("late", start=now() - 100_000, misfire=0))
+            one.ask("misfires", node="A")
+            wait_until(lambda: self.events("error"))
+            found = {row["entry"]: row for row in one.rows("history")}
+        self.assertEqual((found[1]["state"], found[entry]["state"], found[entry]["recovers"], found[entry]["job"]), ("lost", "ended", 1, "DEFAULT/j"))
+        kinds = {str(event["kind"]): event for event in self.events("lost", "error", "refused", "misfired")}
+        self.assertEqual(set(kinds), {"lost", "error", "refused", "misfired"})
+        self.assertEqual((kinds["misfired"]["trigger"], kinds["misfired"]["job"]), ("DEFAULT/late", "DEFAULT/j"))
+        self.assertIn("couldn't fire it: refused 3", str(kinds["refused"]["text"]))
+
+    def test_executed_again(self) -> None:
+        hub = self.hub()
+        with self.begun(hub) as one:
+            entry = one.acquire("A", now()).triggers[0].entry
+            one.fire("A", entry)
+            one.complete("A", entry, "RE_EXECUTE_JOB")
+            one.complete("A", entry, "RE_EXECUTE_JOB")
+            one.complete("A", entry)
+        hub.ended()
+        self.assertEqual(recorded(self.folder)[entry]["refires"], 2)
+        self.agrees()
+
+    def test_who_did_what(self) -> None:
+        hub = self.hub()
+        with self.begun(hub) as one:
+            with self.assertRaises(Exception):
+                one.ask("delete_trigger", name="nobody")
+            wait_until(lambda: len(one.rows("audit")) == 3)
+            lines = [(json.loads(str(row["line"]))["do"], row["reply"]) for row in one.rows("audit")]
+            self.assertEqual(lines[0], ("delete_trigger", "refused 4"))
+            self.assertEqual([do for do, _ in lines[1:]], ["add_trigger", "add_job"])
+            who = str(one.rows("audit")[0]["who"])
+            self.assertRegex(who, "^user .+")
+            self.assertEqual(len(one.rows("audit", by=who.removeprefix("user "))), 3)
+            self.assertEqual(one.rows("audit", by="nobody"), [])
+        hub.ended()
+        with self.store() as store:
+            store.ask("pause_trigger", name="t")
+        hub = self.hub(make=False)
+        with hub.connect() as one:
+            wait_until(lambda: len(one.rows("audit")) == 4)
+            self.assertIsNone(one.rows("audit")[0]["who"])  # (only the store knows of it)
+
+    def test_lines_that_are_none(self) -> None:
+        with self.hub().connect() as one:
+            for line in ({"do": "history", "limit": 0}, {"do": "history", "before": [1, 2]}, {"do": "history", "job": 5}, {"do": "log"}, {"do": "log", "entry": -1},
+                         {"do": "report", "node": "A", "told": [{"report": {"entry": 1}}]}, {"do": "report", "node": "A", "told": 7},
+                         {"do": "output", "node": "A", "generation": 1, "entry": 1, "from": 0, "data": "%%"}, {"do": "audit", "since": "x"}, {"do": "last", "x": 1}):
+                self.assertTrue(one._ask(json.dumps(line).encode() + b"\n", 20)[0].startswith("hub bad-line"), line)
+
+
+@unittest.skipUnless(IS_STAND_IN, "it makes the stand-in one without the word")
+class WithoutTheWord(WithHistory):
+    def test_a_program_that_does_not_tell(self) -> None:
+        hub = self.hub(fault="no-history")
+        with self.begun(hub) as one:
+            self.work(one, "A", 3, leaves_open=True)
+            wait_until(lambda: len(one.rows("history")) == 3)
+        hub.kill()
+        with self.store() as store:
+            store.ask("resume", node="A", epoch=1)
+            store.ask("complete", node="A", entry=3)
+        hub = self.hub(make=False, fault="no-history")
+        with hub.connect() as one:
+            one.ask("resume", node="A", epoch=1)
+            wait_until(lambda: one.rows("history")[0]["state"] == "missing")
+            self.work(one, "A", 2)
+            wait_until(lambda: [row["state"] for row in one.rows("history")] == ["ended", "ended", "missing", "ended", "ended"])
+        self.assertIn("has no word `history`", hub.ended()[1])
+
+
