@@ -17,10 +17,17 @@ from kemtrua.history.reports import Report
 from kemtrua.history.settings import Alert, Expectation, HistorySettings, read_hub
 from tests.helpers import PROGRAM, WithFolder, job, now, wait_until
 
-logging.disable(logging.CRITICAL)
 DAY, HOUR = 86_400_000, 3_600_000
 JANUARY = 1_767_225_600_000  # 2026-01-01T00:00:00Z, a Thursday
 BERLIN = "Europe/Berlin"
+
+
+def setUpModule() -> None:
+    logging.disable(logging.CRITICAL)
+
+
+def tearDownModule() -> None:
+    logging.disable(logging.NOTSET)
 
 
 def settings(text: str) -> HistorySettings:
@@ -172,11 +179,9 @@ class Told(WithRecorder):
         begun = time.monotonic()
         for _ in range(10_000):
             self.execution(now() - 5000, now(), ok=False)
-        put = time.monotonic() - begun  # (whoever answers waits for nothing)
         self.settle()
         wait_until(lambda: sum(int(told["KEMTRUA_COUNT"]) for told in self.told()) == 10_000)
         self.assertLessEqual(len(self.told()), 2 + (time.monotonic() - begun) / 2.0)
-        self.assertLess(put, 10.0)
 
     def test_one_that_fails_is_tried_again(self) -> None:
         self.trigger()

@@ -18,7 +18,13 @@ from kemtrua.record import Tail
 from kemtrua.spool import Kept, Spool
 from tests.helpers import HubProcess, WithFolder, job, now, once, wait_until
 
-logging.disable(logging.CRITICAL)
+
+def setUpModule() -> None:
+    logging.disable(logging.CRITICAL)
+
+
+def tearDownModule() -> None:
+    logging.disable(logging.NOTSET)
 
 
 def report(entry: int = 1, **more: object) -> Report:
