@@ -1,5 +1,5 @@
 -- The state store is a lawful kind of store.
-use Rattle.std.proofs.Common.{◌≡◌, List, [], ◌∷◌, ◌++◌, refl}
+use Rattle.std.proofs.Common.{◌≡◌, List, [], ◌∷◌, ◌++◌, refl, arith}
 use Rattle.std.specs.Prelude.{IsOk}
 use Rattle.qz_types.specs.Entries.{StateEntryData}
 use Rattle.qz_codec.proofs.StateRecords.{state_record_unique}
@@ -45,6 +45,7 @@ all_stay_valid T (e ∷ es) valid = all_stay_valid (rows_left T (state_transacti
 
 pub state_lawful : IsLawful state_kind
 state_lawful = record {
+  numbered = omega arith;
   records_once = state_record_unique;
   records_apart = λ bytes e is. refl;
   headed = λ payloads T before entries begun. absurd begun;

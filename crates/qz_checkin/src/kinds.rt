@@ -8,7 +8,7 @@ use crate::rows::States;
 use qz_civil::List;
 use qz_codec::{ReadError, get_state, put_state};
 use qz_disk::Disk;
-use qz_journal::{Journal, STATES};
+use qz_journal::{Journal, JournalFull, STATES};
 use qz_stores::{CheckpointError, Kind, TakeError};
 use qz_types::{NoMemory, Refusal, StateEntry, StateRow, StepRefused};
 use std::alloc::Global;
@@ -113,6 +113,14 @@ impl Kind for States {
         _entries: u64,
     ) -> Result<bool, CheckpointError> {
         Ok(false)
+    }
+
+    // No snapshot is made.
+    fn first_snapshot(
+        &self,
+        alloc: Global,
+    ) -> Result<Result<List<List<u8>>, JournalFull>, NoMemory> {
+        Ok(Ok(List::new(alloc)))
     }
 
     ghost lawful = { state_lawful };

@@ -8,6 +8,7 @@ mod laws;
 mod mounting;
 mod parts;
 mod restarting;
+mod rooms;
 mod rows;
 mod stores;
 mod submitting;

@@ -1,9 +1,10 @@
 -- When a step closes a store.
-use Rattle.std.proofs.Common.{◌≡◌, ◌⊎◌, inl, inr, Bool, true, false, not, refl, sym, ◌∙◌}
+use Rattle.std.proofs.Common.{◌≡◌, ◌⊎◌, inl, inr, Bool, true, false, not, refl, sym, ap, subst, ◌∙◌}
 use Rattle.std.specs.Prelude.{◌||◌, Option, Some, None}
 use Rattle.qz_civil.specs.Causes.{Rose}
 use Rattle.qz_types.specs.Entries.{EntryData, StateEntryData}
 use Rattle.qz_types.specs.declared.replies.Reply.{Reply}
+use Rattle.qz_steps.specs.declared.rooms.Marked.TheVariants.{Made, NoRoom}
 use Rattle.qz_steps.specs.declared.steps.StepReply.{StepReply}
 use Rattle.qz_steps.specs.declared.steps.StepReply.TheVariants as reply
 use Rattle.qz_types.specs.declared.replies.Refusal.{Refusal}
@@ -62,11 +63,24 @@ refused_ready t x S S' (inr at) ready = record {
   states_settled = states_done_settled _ S.states S'.states at.states ready.states_settled;
 }
 
+-- where the trigger store stays open, and no call was made of the other
+beside_ready : (S S' : ClusterState) → S'.triggers.is_open ≡ true → S'.triggers.undecided ≡ S.triggers.undecided → S'.states ≡ S.states → IsReady S → IsReady S'
+beside_ready S S' opened undecided states ready = record {
+  triggers_open = opened;
+  states_open = ap (λ (s : StatesState). s.is_open) states ∙ ready.states_open;
+  triggers_settled = undecided ∙ ready.triggers_settled;
+  states_settled = ap (λ (s : StatesState). s.undecided) states ∙ ready.states_settled;
+}
+
 -- Without a fault both stores stay so.
 pub step_ready : (honest : Type 0) (t : TimedStep) (r : StepReply) (S S' : ClusterState) → StepCase honest t r S S' → IsReady S → (r ≡ reply.Fault → ⊥) → IsReady S'
 step_ready honest t reply.Closed S S' case ready no_fault = stay_ready S S' case.stays.stores ready
 step_ready honest t reply.Stopped S S' case ready no_fault = stay_ready S S' case.stays.stores ready
 step_ready honest t (reply.Shown s) S S' case ready no_fault = stay_ready S S' case.stays.stores ready
+step_ready honest t (reply.Marked Made) S S' case ready no_fault = beside_ready S S' case.marked.0.is_open case.marked.0.undecided case.states ready
+step_ready honest t (reply.Marked NoRoom) S S' case ready no_fault =
+    beside_ready S S' (case.marked.0.same.is_open ∙ case.marked.0.was_open) case.marked.0.same.undecided case.states ready
+step_ready honest t (reply.Room room) S S' case ready no_fault = subst IsReady (sym case.same) ready
 step_ready honest t (reply.Refused x) S S' (inl case) ready no_fault = stay_ready S S' case.stays.stores ready
 step_ready honest t (reply.Refused x) S S' (inr case) ready no_fault = refused_ready t x S S' case.which ready
 step_ready honest t (reply.Ok x) S S' case ready no_fault = record {
@@ -88,4 +102,5 @@ failed_rose t S S' (inr at) = inl at.triggers.rose
 pub fault_rose : (honest : Type 0) (t : TimedStep) (S S' : ClusterState) → StepCase honest t reply.Fault S S'
     → Rose S.triggers.faults S'.triggers.faults ⊎ Rose S.states.faults S'.states.faults
 fault_rose honest t S S' (inl case) = failed_rose t S S' case.which
-fault_rose honest t S S' (inr case) = case.rose
+fault_rose honest t S S' (inr (inl case)) = case.rose
+fault_rose honest t S S' (inr (inr case)) = inl case.breaks.rose

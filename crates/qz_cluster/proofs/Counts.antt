@@ -1,9 +1,10 @@
 -- The disks' counts of faults never fall in a step.
-use Rattle.std.proofs.Common.{◌⊎◌, inl, inr, ◌≤◌, List}
+use Rattle.std.proofs.Common.{◌≡◌, ◌⊎◌, inl, inr, ◌≤◌, List, sym, ap, subst, arith}
 use Rattle.std.specs.Prelude.{Option, Some, None}
 use Rattle.qz_types.specs.Entries.{EntryData, StateEntryData}
 use Rattle.qz_types.specs.Rows.{MemberData}
 use Rattle.qz_types.specs.declared.replies.Reply.{Reply}
+use Rattle.qz_steps.specs.declared.rooms.Marked.TheVariants.{Made, NoRoom}
 use Rattle.qz_steps.specs.declared.steps.StepReply.{StepReply}
 use Rattle.qz_steps.specs.declared.steps.StepReply.TheVariants as reply
 use Rattle.qz_trigger_store.specs.Entries.{TriggerState}
@@ -38,6 +39,10 @@ module _ (C : StateEntryData → StatesState → StatesState → Type 0) (E : En
 shut_counts : (S S' : ClusterState) → BothShut S S' → NoneFalls S S'
 shut_counts S S' shut = (shut.triggers.later, shut.states.later)
 
+-- a state store that no call was made of
+states_as_they_were : (S S' : ClusterState) → S'.states ≡ S.states → S.states.faults ≤ S'.states.faults
+states_as_they_were S S' same = let count = ap (λ (s : StatesState). s.faults) same in omega (arith, count)
+
 pub step_counts : (honest : Type 0) (t : TimedStep) (r : StepReply) (S S' : ClusterState) → StepCase honest t r S S' → NoneFalls S S'
 step_counts honest t reply.Closed S S' case = stay_counts S S' case.stays.stores
 step_counts honest t reply.Stopped S S' case = stay_counts S S' case.stays.stores
@@ -46,7 +51,11 @@ step_counts honest t (reply.Refused x) S S' (inl case) = stay_counts S S' case.s
 step_counts honest t (reply.Refused x) S S' (inr case) = entry_counts _ _ (λ e s t is. is.same.later) (λ e s t is. is.same.later) _ t S S' case.which
 step_counts honest t (reply.Ok x) S S' case = (triggers_done_count _ x S.triggers S'.triggers case.triggers, states_done_count _ S.states S'.states case.states)
 step_counts honest t reply.Fault S S' (inl case) = entry_counts _ _ (λ e s t is. is.later) (λ e s t is. is.later) _ t S S' case.which
-step_counts honest t reply.Fault S S' (inr case) = shut_counts S S' case.shut
+step_counts honest t reply.Fault S S' (inr (inl case)) = shut_counts S S' case.shut
+step_counts honest t reply.Fault S S' (inr (inr case)) = (case.breaks.later, states_as_they_were S S' case.states)
+step_counts honest t (reply.Marked Made) S S' case = (case.marked.0.later, states_as_they_were S S' case.states)
+step_counts honest t (reply.Marked NoRoom) S S' case = (case.marked.0.same.later, states_as_they_were S S' case.states)
+step_counts honest t (reply.Room room) S S' case = subst (NoneFalls S) (sym case.same) (omega arith, omega arith)
 step_counts honest t reply.Restarted S S' case = (case.triggers.later, case.states.later)
 
 -- nor in a step that is cut short

@@ -14,7 +14,7 @@ use Rattle.qz_types.specs.declared.replies.Reply.{Reply}
 use Rattle.qz_types.specs.declared.replies.Reply.TheVariants as answer
 use Rattle.qz_types.specs.declared.replies.Refusal.{Refusal}
 use Rattle.qz_steps.specs.declared.steps.Step.{Step}
-use Rattle.qz_steps.specs.declared.steps.Step.TheVariants.{Client, Join, CheckIn, Node, Forget, Stop, Restart, Resume, Show}
+use Rattle.qz_steps.specs.declared.steps.Step.TheVariants.{Client, Join, CheckIn, Node, Forget, Stop, Restart, Resume, Show, Checkpoint, ShowRoom}
 use Rattle.qz_steps.specs.declared.steps.StepReply.TheVariants as step_reply
 use Rattle.qz_model.specs.Transaction.{transaction}
 use Rattle.qz_model.specs.History.{replay}
@@ -25,7 +25,7 @@ use Rattle.qz_checkin.specs.Entries.{answer_of as answer_of_states}
 use Rattle.qz_model.specs.Upgrading.{version_refusal}
 use Rattle.qz_stores.specs.Kinds.{unless_refused}
 use Rattle.qz_cluster.specs.Script.{StepEffect, held_after_command, entry_of, check_in_entry, forget_entry, member_refusal, done, refuse, unless, effect_of, submit, effect_of_states, submit_state, as_holder, effect_of_command, step_effect}
-use Rattle.qz_cluster.specs.Steps.{ClusterState, is_restart, is_show, is_unheld, rows_of, command_refusal, first_refusal, state_entry_of_step, entry_of_member, entry_of_step, held_after}
+use Rattle.qz_cluster.specs.Steps.{ClusterState, is_restart, is_asking, is_unheld, rows_of, command_refusal, first_refusal, state_entry_of_step, entry_of_member, entry_of_step, held_after}
 
 -- At the store of triggers.
 
@@ -146,8 +146,8 @@ holder_effect : (held : List MemberData) (m : Option MemberData) (effect : StepE
 holder_effect held None effect = refl
 holder_effect held (Some me) effect = refl
 
--- Each step has this form but a restart and one that asks for what is stored.
-pub effect_is : (S : ClusterState) (x : Step) (at : ℤ) → is_restart x ≡ false → is_show x ≡ false
+-- Each step has this form but a restart and one that asks.
+pub effect_is : (S : ClusterState) (x : Step) (at : ℤ) → is_restart x ≡ false → is_asking x ≡ false
     → effect_at S x at
     ≡ plain_effect (is_unheld x S.held) (first_refusal S x at) (state_entry_of_step S x at) (entry_of_step S.held x at) (replay S.triggers.history) (rows_of S) S.held (held_after x S.held)
 effect_is S (Client c) at works acts = refl
@@ -161,3 +161,5 @@ effect_is S (Stop node) at works acts = holder_effect S.held (member_of node S.h
 effect_is S Restart at works acts = let bad : true ≡ false = works in absurd cc
 effect_is S (Resume node epoch) at works acts = refl
 effect_is S (Show question) at works acts = let bad : true ≡ false = acts in absurd cc
+effect_is S Checkpoint at works acts = let bad : true ≡ false = acts in absurd cc
+effect_is S ShowRoom at works acts = let bad : true ≡ false = acts in absurd cc

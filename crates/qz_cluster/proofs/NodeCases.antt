@@ -54,6 +54,8 @@ module _ (honest : Type 0) (node : List ℕ) (c : Command) (at : ℤ) (epoch : �
   came reply.Stopped way held = absurd way
   came reply.Restarted way held = absurd way
   came (reply.Shown shown) way held = absurd way
+  came (reply.Marked marked) way held = absurd way
+  came (reply.Room room) way held = absurd way
 
   pub obeyed : (result : Result StepReply StepEnd) → IfOk result (λ r. Submitted entry r S.triggers new.triggers)
       → IfOk result (λ r. new.held ≡ held_by r (λ x. held_after_command node c S.held) S.held S.held) → IfOk result (λ r. StepCase honest (record { step = Node node c; at = at }) r S new)
@@ -83,11 +85,23 @@ module _ (honest : Type 0) (node : List ℕ) (interval at : ℤ) (S new : Cluste
   joins reply.Stopped way held = absurd way
   joins reply.Restarted way held = absurd way
   joins (reply.Shown shown) way held = absurd way
+  joins (reply.Marked marked) way held = absurd way
+  joins (reply.Room room) way held = absurd way
 
   pub joined : (result : Result StepReply StepEnd) → IfOk result (λ r. Submitted (entry_of actor.Client (command.Join node) at) r S.triggers new.triggers)
       → IfOk result (λ r. new.held ≡ held_by r (λ x. held_after_join node S.held x) (without_member node S.held) S.held) → IfOk result (λ r. StepCase honest (record { step = Join node interval; at = at }) r S new)
   joined (Ok r) way held = joins r way held
   joined (Err end) way held = tt
+
+  pub joined_not : (result : Result StepReply StepEnd) → IfErr result (λ e. Unsubmitted trigger_entry (entry_of actor.Client (command.Join node) at) e S.triggers new.triggers)
+      → OnErr result (new.held ≡ S.held) → IfErr result (λ e. EndCase honest (record { step = Join node interval; at = at }) e S new)
+  joined_not (Ok r) way held = tt
+  joined_not (Err (ends.JournalFull need room)) way held =
+      record { submits = join_submits node interval at S ready; which = inr (record { states = checked; entry = entry_of actor.Client (command.Join node) at; asked = refl; triggers = way; held_is = held }) }
+  joined_not (Err (ends.NotAStore store)) way held = absurd way
+  joined_not (Err (ends.Damaged store place)) way held = absurd way
+  joined_not (Err ends.NoMemory) way held =
+      inl (record { submits = join_submits node interval at S ready; which = inr (record { states = checked; entry = entry_of actor.Client (command.Join node) at; asked = refl; triggers = way; held_is = held }) })
 
 -- A member that forgets a node that is none.
 
@@ -114,6 +128,8 @@ module _ (honest : Type 0) (node failed : List ℕ) (at : ℤ) (S new : ClusterS
   forgot (Ok reply.Stopped) way = absurd way
   forgot (Ok reply.Restarted) way = absurd way
   forgot (Ok (reply.Shown shown)) way = absurd way
+  forgot (Ok (reply.Marked marked)) way = absurd way
+  forgot (Ok (reply.Room room)) way = absurd way
   forgot (Err end) way = tt
 
   pub forgot_not : (result : Result StepReply StepEnd) → IfErr result (λ e. Unsubmitted of_states (forget_entry (rows_of S) failed at) e S.states new.states) → IfErr result (λ e. EndCase honest forgetting e S new)

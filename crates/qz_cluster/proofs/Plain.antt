@@ -8,8 +8,10 @@ use Rattle.qz_types.specs.Tables.{SchedulerTables}
 use Rattle.qz_types.specs.declared.replies.Reply.{Reply}
 use Rattle.qz_types.specs.declared.replies.Refusal.{Refusal}
 use Rattle.qz_steps.specs.declared.questions.Question.{Question}
+use Rattle.qz_steps.specs.declared.rooms.Marked.{Marked}
+use Rattle.qz_steps.specs.declared.rooms.Marked.TheVariants.{Made, NoRoom}
 use Rattle.qz_steps.specs.declared.steps.Step.{Step}
-use Rattle.qz_steps.specs.declared.steps.Step.TheVariants.{Client, Join, CheckIn, Node, Forget, Stop, Restart, Resume, Show}
+use Rattle.qz_steps.specs.declared.steps.Step.TheVariants.{Client, Join, CheckIn, Node, Forget, Stop, Restart, Resume, Show, Checkpoint, ShowRoom}
 use Rattle.qz_steps.specs.declared.steps.StepReply.{StepReply}
 use Rattle.qz_steps.specs.declared.steps.StepReply.TheVariants as reply
 use Rattle.qz_stores.specs.Bases.{IsDecided}
@@ -25,8 +27,8 @@ use Rattle.qz_checkin.specs.Kinds.{rows_once, state_kind}
 use Rattle.qz_checkin.specs.Laws.{state_lawful}
 use Rattle.qz_checkin.specs.Rows.{StateTables}
 use Rattle.qz_cluster.specs.Asking.{answer_to}
-use Rattle.qz_cluster.specs.Script.{TimedStep, StepEffect, refuse, with_optional, with_optional_state}
-use Rattle.qz_cluster.specs.Steps.{ClusterState, needs_triggers, needs_states, is_closed_for, is_restart, is_show, is_unheld, rows_of, first_refusal, state_entry_of_step, entry_of_step, held_after, Stays, StatesDone, TriggersDone, AtStates, AtTriggers, StepCase}
+use Rattle.qz_cluster.specs.Script.{TimedStep, StepEffect, without_disk, plain_reply, refuse, with_optional, with_optional_state}
+use Rattle.qz_cluster.specs.Steps.{ClusterState, needs_triggers, needs_states, is_closed_for, is_restart, is_asking, is_unheld, rows_of, first_refusal, state_entry_of_step, entry_of_step, held_after, Stays, StatesDone, TriggersDone, AtStates, AtTriggers, MarkedStep, is_recover, StepCase}
 use Rattle.qz_cluster.proofs.Closings.{IsReady}
 use Rattle.qz_cluster.proofs.Effects.{onto_triggers, onto_states, plain_effect, effect_at, effect_is, submit_accepted, submit_refused, submit_state_accepted, submit_state_refused}
 
@@ -47,9 +49,24 @@ open_for false false true true is also = refl
 open_for a b false p is also = let bad : false ≡ true = is in absurd cc
 open_for a b true false is also = let bad : false ≡ true = also in absurd cc
 
-not_closed : (x : Step) (S : ClusterState) → IsReady S → is_closed_for x S ≡ true → ⊥
-not_closed x S ready closed =
-    let bad : true ≡ false = sym closed ∙ open_for (needs_triggers x) (needs_states x) S.triggers.is_open S.states.is_open ready.triggers_open ready.states_open in cc
+opened : (a b : Bool) (S : ClusterState) → IsReady S → (a && not S.triggers.is_open) || (b && not S.states.is_open) ≡ true → ⊥
+opened a b S ready closed = let bad : true ≡ false = sym closed ∙ open_for a b S.triggers.is_open S.states.is_open ready.triggers_open ready.states_open in cc
+
+not_closed : (x : Step) (S : ClusterState) → IsReady S → (x ≡ ShowRoom → ⊥) → is_closed_for x S ≡ true → ⊥
+not_closed (Client c) S ready other closed = opened true false S ready closed
+not_closed (Join node interval) S ready other closed = opened true true S ready closed
+not_closed (CheckIn node interval) S ready other closed = opened false true S ready closed
+not_closed (Node node c) S ready other closed = opened true (is_recover c) S ready closed
+not_closed (Forget node failed) S ready other closed = opened true true S ready closed
+not_closed (Stop node) S ready other closed = opened false false S ready closed
+not_closed Restart S ready other closed = opened false false S ready closed
+not_closed (Resume node epoch) S ready other closed = opened true false S ready closed
+not_closed (Show question) S ready other closed = opened true false S ready closed
+not_closed Checkpoint S ready other closed = opened true false S ready closed
+not_closed ShowRoom S ready other closed = other refl
+
+no_room_step : (x : Step) → is_asking x ≡ false → x ≡ ShowRoom → ⊥
+no_room_step x acts is = let bad : true ≡ false = sym (ap is_asking is) ∙ acts in cc
 
 -- The parts of an effect.
 
@@ -136,17 +153,19 @@ module _ (S S' : ClusterState) (x : Step) (at : ℤ) where
       ∙ states_done_effect S S.held (held_after x S.held y) (state_entry_of_step S x at) (entry_of_step S.held x at) (reply.Ok y) S'.states states)
       (record { reply = refl; tables = ap replay (triggers_done_history _ y S.triggers S'.triggers triggers); rows = ap replay_states (states_done_history _ S.states S'.states states); held = now })
 
-  plain_here : (honest : Type 0) (r : StepReply) → StepCase honest Step_at r S S' → IsReady S → (r ≡ reply.Fault → ⊥) → is_restart x ≡ false → is_show x ≡ false → IsPlain r Here S S'
-  plain_here honest reply.Closed case ready no_fault works acts = absurd (not_closed x S ready case.needs_closed)
+  plain_here : (honest : Type 0) (r : StepReply) → StepCase honest Step_at r S S' → IsReady S → (r ≡ reply.Fault → ⊥) → is_restart x ≡ false → is_asking x ≡ false → IsPlain r Here S S'
+  plain_here honest reply.Closed case ready no_fault works acts = absurd (not_closed x S ready (no_room_step x acts) case.needs_closed)
   plain_here honest reply.Stopped case ready no_fault works acts = stopped_plain case.unheld case.stays
   plain_here honest (reply.Refused y) (inl case) ready no_fault works acts = first_plain y case.allowed.is_held case.refused case.stays
   plain_here honest (reply.Refused y) (inr case) ready no_fault works acts = entry_plain y case.submits.allowed.is_held case.submits.unrefused case.which
   plain_here honest (reply.Ok y) case ready no_fault works acts = done_plain y case.submits.allowed.is_held case.submits.unrefused case.states case.triggers case.held
   plain_here honest reply.Fault case ready no_fault works acts = absurd (no_fault refl)
   plain_here honest reply.Restarted case ready no_fault works acts = let bad : true ≡ false = sym case.asked ∙ works in absurd cc
-  plain_here honest (reply.Shown s) case ready no_fault works acts = let bad : true ≡ false = sym (ap is_show case.asked) ∙ acts in absurd cc
+  plain_here honest (reply.Shown s) case ready no_fault works acts = let bad : true ≡ false = sym (ap is_asking case.asked) ∙ acts in absurd cc
+  plain_here honest (reply.Marked m) case ready no_fault works acts = let bad : true ≡ false = sym (ap is_asking case.asked) ∙ acts in absurd cc
+  plain_here honest (reply.Room room) case ready no_fault works acts = let bad : true ≡ false = sym (ap is_asking case.asked) ∙ acts in absurd cc
 
-  works_plain : (honest : Type 0) (r : StepReply) → StepCase honest Step_at r S S' → IsReady S → (r ≡ reply.Fault → ⊥) → is_restart x ≡ false → is_show x ≡ false → IsPlain r (effect_at S x at) S S'
+  works_plain : (honest : Type 0) (r : StepReply) → StepCase honest Step_at r S S' → IsReady S → (r ≡ reply.Fault → ⊥) → is_restart x ≡ false → is_asking x ≡ false → IsPlain r (effect_at S x at) S S'
   works_plain honest r case ready no_fault works acts =
       subst (λ (e : StepEffect). IsPlain r e S S') (sym (effect_is S x at works acts)) (plain_here honest r case ready no_fault works acts)
 
@@ -165,13 +184,15 @@ states_found start h (Some e) found none is = let bad : ◌≡◌ {A = Option St
 
 restart_plain : (honest : Type 0) (at : ℤ) (r : StepReply) (S S' : ClusterState) → StepCase honest (record { step = Restart; at = at }) r S S' → IsReady S → (r ≡ reply.Fault → ⊥) → honest
     → IsPlain r (effect_at S Restart at) S S'
-restart_plain honest at reply.Closed S S' case ready no_fault is = absurd (not_closed Restart S ready case.needs_closed)
+restart_plain honest at reply.Closed S S' case ready no_fault is = absurd (not_closed Restart S ready (λ is. let bad : ◌≡◌ {A = Step} Restart ShowRoom = is in cc) case.needs_closed)
 restart_plain honest at reply.Stopped S S' case ready no_fault is = let bad : false ≡ true = case.unheld in absurd cc
 restart_plain honest at (reply.Refused y) S S' (inl case) ready no_fault is = let bad : true ≡ false = case.allowed.works in absurd cc
 restart_plain honest at (reply.Refused y) S S' (inr case) ready no_fault is = let bad : true ≡ false = case.submits.allowed.works in absurd cc
 restart_plain honest at (reply.Ok y) S S' case ready no_fault is = let bad : true ≡ false = case.submits.allowed.works in absurd cc
 restart_plain honest at reply.Fault S S' case ready no_fault is = absurd (no_fault refl)
 restart_plain honest at (reply.Shown s) S S' case ready no_fault is = let bad : ◌≡◌ {A = Step} Restart (Show case.question) = case.asked in absurd cc
+restart_plain honest at (reply.Marked m) S S' case ready no_fault is = let bad : ◌≡◌ {A = Step} Restart Checkpoint = case.asked in absurd cc
+restart_plain honest at (reply.Room room) S S' case ready no_fault is = let bad : ◌≡◌ {A = Step} Restart ShowRoom = case.asked in absurd cc
 restart_plain honest at reply.Restarted S S' case ready no_fault is = record {
   reply = refl;
   tables = ∥∥₁_elim (case.triggers.decided is) (tables_once _ _) (λ d. triggers_found d.0 S.triggers.history S.triggers.undecided S'.triggers.history ready.triggers_settled d.1);
@@ -182,13 +203,15 @@ restart_plain honest at reply.Restarted S S' case ready no_fault is = record {
 -- Of a step that asks for what is stored.
 show_plain : (honest : Type 0) (q : Question) (at : ℤ) (r : StepReply) (S S' : ClusterState) → StepCase honest (record { step = Show q; at = at }) r S S' → IsReady S → (r ≡ reply.Fault → ⊥)
     → IsPlain r (effect_at S (Show q) at) S S'
-show_plain honest q at reply.Closed S S' case ready no_fault = absurd (not_closed (Show q) S ready case.needs_closed)
+show_plain honest q at reply.Closed S S' case ready no_fault = absurd (not_closed (Show q) S ready (λ is. let bad : ◌≡◌ {A = Step} (Show q) ShowRoom = is in cc) case.needs_closed)
 show_plain honest q at reply.Stopped S S' case ready no_fault = let bad : false ≡ true = case.unheld in absurd cc
 show_plain honest q at (reply.Refused y) S S' (inl case) ready no_fault = let bad : true ≡ false = case.allowed.acts in absurd cc
 show_plain honest q at (reply.Refused y) S S' (inr case) ready no_fault = let bad : true ≡ false = case.submits.allowed.acts in absurd cc
 show_plain honest q at (reply.Ok y) S S' case ready no_fault = let bad : true ≡ false = case.submits.allowed.acts in absurd cc
 show_plain honest q at reply.Fault S S' case ready no_fault = absurd (no_fault refl)
 show_plain honest q at reply.Restarted S S' case ready no_fault = let bad : false ≡ true = case.asked in absurd cc
+show_plain honest q at (reply.Marked m) S S' case ready no_fault = let bad : ◌≡◌ {A = Step} (Show q) Checkpoint = case.asked in absurd cc
+show_plain honest q at (reply.Room room) S S' case ready no_fault = let bad : ◌≡◌ {A = Step} (Show q) ShowRoom = case.asked in absurd cc
 show_plain honest q at (reply.Shown s) S S' case ready no_fault = record {
   reply = ap reply.Shown (case.shown ∙ ap (answer_to (replay S.triggers.history)) (same_question case.question q case.asked));
   tables = ap replay (case.stays.stores.triggers.history);
@@ -196,9 +219,45 @@ show_plain honest q at (reply.Shown s) S S' case ready no_fault = record {
   held = case.stays.held;
 }
 
--- A step without a fault has the reply of a plain scheduler, and leaves what it leaves.
+-- Of a step about the disks: whatever they say, the histories, the rows and the held epochs stay.
+
+same_all : (S S' : ClusterState) → S'.triggers.history ≡ S.triggers.history → S'.states.history ≡ S.states.history → S'.held ≡ S.held → IsPlain reply.Closed (without_disk S.held) S S'
+same_all S S' triggers states held = record { reply = refl; tables = ap replay triggers; rows = ap replay_states states; held = held }
+
+marked_plain : (at : ℤ) (m : Marked) (S S' : ClusterState) → MarkedStep (record { step = Checkpoint; at = at }) m S S' → IsPlain reply.Closed (without_disk S.held) S S'
+marked_plain at Made S S' case = same_all S S' case.marked.0.history (ap (λ (s : StatesState). s.history) case.states) case.held
+marked_plain at NoRoom S S' case = same_all S S' case.marked.0.same.history (ap (λ (s : StatesState). s.history) case.states) case.held
+
+checkpoint_plain : (honest : Type 0) (at : ℤ) (r : StepReply) (S S' : ClusterState) → StepCase honest (record { step = Checkpoint; at = at }) r S S' → (r ≡ reply.Fault → ⊥)
+    → IsPlain reply.Closed (without_disk S.held) S S'
+checkpoint_plain honest at reply.Closed S S' case no_fault = same_all S S' case.stays.stores.triggers.history case.stays.stores.states.history case.stays.held
+checkpoint_plain honest at reply.Stopped S S' case no_fault = let bad : false ≡ true = case.unheld in absurd cc
+checkpoint_plain honest at (reply.Refused y) S S' (inl case) no_fault = let bad : true ≡ false = case.allowed.acts in absurd cc
+checkpoint_plain honest at (reply.Refused y) S S' (inr case) no_fault = let bad : true ≡ false = case.submits.allowed.acts in absurd cc
+checkpoint_plain honest at (reply.Ok y) S S' case no_fault = let bad : true ≡ false = case.submits.allowed.acts in absurd cc
+checkpoint_plain honest at reply.Fault S S' case no_fault = absurd (no_fault refl)
+checkpoint_plain honest at reply.Restarted S S' case no_fault = let bad : false ≡ true = case.asked in absurd cc
+checkpoint_plain honest at (reply.Shown s) S S' case no_fault = let bad : ◌≡◌ {A = Step} Checkpoint (Show case.question) = case.asked in absurd cc
+checkpoint_plain honest at (reply.Marked m) S S' case no_fault = marked_plain at m S S' case
+checkpoint_plain honest at (reply.Room room) S S' case no_fault = let bad : ◌≡◌ {A = Step} Checkpoint ShowRoom = case.asked in absurd cc
+
+room_plain : (honest : Type 0) (at : ℤ) (r : StepReply) (S S' : ClusterState) → StepCase honest (record { step = ShowRoom; at = at }) r S S' → (r ≡ reply.Fault → ⊥)
+    → IsPlain reply.Closed (without_disk S.held) S S'
+room_plain honest at reply.Closed S S' case no_fault = same_all S S' case.stays.stores.triggers.history case.stays.stores.states.history case.stays.held
+room_plain honest at reply.Stopped S S' case no_fault = let bad : false ≡ true = case.unheld in absurd cc
+room_plain honest at (reply.Refused y) S S' (inl case) no_fault = let bad : true ≡ false = case.allowed.acts in absurd cc
+room_plain honest at (reply.Refused y) S S' (inr case) no_fault = let bad : true ≡ false = case.submits.allowed.acts in absurd cc
+room_plain honest at (reply.Ok y) S S' case no_fault = let bad : true ≡ false = case.submits.allowed.acts in absurd cc
+room_plain honest at reply.Fault S S' case no_fault = absurd (no_fault refl)
+room_plain honest at reply.Restarted S S' case no_fault = let bad : false ≡ true = case.asked in absurd cc
+room_plain honest at (reply.Shown s) S S' case no_fault = let bad : ◌≡◌ {A = Step} ShowRoom (Show case.question) = case.asked in absurd cc
+room_plain honest at (reply.Marked m) S S' case no_fault = let bad : ◌≡◌ {A = Step} ShowRoom Checkpoint = case.asked in absurd cc
+room_plain honest at (reply.Room room) S S' case no_fault =
+    same_all S S' (ap (λ (T : ClusterState). T.triggers.history) case.same) (ap (λ (T : ClusterState). T.states.history) case.same) (ap (λ (T : ClusterState). T.held) case.same)
+
+-- A step without a fault has the reply of a plain scheduler, but for what the disks say, and leaves what it leaves.
 pub step_plain : (honest : Type 0) (x : Step) (at : ℤ) (r : StepReply) (S S' : ClusterState) → StepCase honest (record { step = x; at = at }) r S S' → IsReady S → (r ≡ reply.Fault → ⊥)
-    → (is_restart x ≡ true → honest) → IsPlain r (effect_at S x at) S S'
+    → (is_restart x ≡ true → honest) → IsPlain (plain_reply x r) (effect_at S x at) S S'
 step_plain honest (Client c) at r S S' case ready no_fault is_honest = works_plain S S' (Client c) at honest r case ready no_fault refl refl
 step_plain honest (Join node interval) at r S S' case ready no_fault is_honest = works_plain S S' (Join node interval) at honest r case ready no_fault refl refl
 step_plain honest (CheckIn node interval) at r S S' case ready no_fault is_honest = works_plain S S' (CheckIn node interval) at honest r case ready no_fault refl refl
@@ -208,3 +267,5 @@ step_plain honest (Stop node) at r S S' case ready no_fault is_honest = works_pl
 step_plain honest (Resume node epoch) at r S S' case ready no_fault is_honest = works_plain S S' (Resume node epoch) at honest r case ready no_fault refl refl
 step_plain honest (Show q) at r S S' case ready no_fault is_honest = show_plain honest q at r S S' case ready no_fault
 step_plain honest Restart at r S S' case ready no_fault is_honest = restart_plain honest at r S S' case ready no_fault (is_honest refl)
+step_plain honest Checkpoint at r S S' case ready no_fault is_honest = checkpoint_plain honest at r S S' case no_fault
+step_plain honest ShowRoom at r S S' case ready no_fault is_honest = room_plain honest at r S S' case no_fault

@@ -1,5 +1,5 @@
 -- The case of a restart, step by step.
-use Rattle.std.proofs.Common.{◌≡◌, ◌⊎◌, inl, inr, ⊎_elim, ℕ, ℤ, ◌≤◌, true, false, refl, sym, ◌∙◌, subst, arith}
+use Rattle.std.proofs.Common.{◌≡◌, ◌⊎◌, inl, inr, ⊎_elim, ℕ, ℤ, ◌≤◌, Bool, true, false, refl, sym, ◌∙◌, subst, arith}
 use Rattle.std.proofs.Math.Logic.{∥∥₁_elim}
 use Rattle.std.specs.Prelude.{IfOk, IfErr, Ok, Err}
 use Rattle.std.specs.declared.result.Result.{Result}
@@ -9,7 +9,7 @@ use Rattle.qz_journal.specs.declared.errors.MountError.{MountError}
 use Rattle.qz_journal.specs.declared.errors.MountError.TheVariants as mount
 use Rattle.qz_types.specs.declared.stores.Store.{Store}
 use Rattle.qz_steps.specs.declared.steps.Step.{Step}
-use Rattle.qz_steps.specs.declared.steps.Step.TheVariants.{Restart, Show}
+use Rattle.qz_steps.specs.declared.steps.Step.TheVariants.{Restart, Show, Checkpoint, ShowRoom}
 use Rattle.qz_steps.specs.declared.steps.StepReply.{StepReply}
 use Rattle.qz_steps.specs.declared.steps.StepReply.TheVariants as reply
 use Rattle.qz_stores.specs.Bases.{IsDecided, Opens}
@@ -25,7 +25,7 @@ use Rattle.qz_checkin.specs.Laws.{state_lawful}
 use Rattle.qz_checkin.specs.View.{view as states_view, LeavesEither as LeaveEither}
 use Rattle.qz_checkin.specs.declared.stores.StateStore.{StateStore}
 use Rattle.qz_cluster.specs.Restarting.{unread}
-use Rattle.qz_cluster.specs.Steps.{ClusterState, BothShut, StepCase, EndCase}
+use Rattle.qz_cluster.specs.Steps.{ClusterState, BothShut, StepCase, EndCase, standing_after}
 use Rattle.qz_cluster.specs.View.{KeepsUnlessDone}
 use Rattle.qz_cluster.specs.declared.clusters.Cluster.{Cluster}
 use Rattle.qz_cluster.specs.declared.errors.StepEnd.{StepEnd}
@@ -72,12 +72,13 @@ restarted_after honest at (reply.Ok r) S mid new triggers states is = impossible
 restarted_after honest at (reply.Refused refusal) S mid new triggers states (inl is) = impossible is.allowed.works
 restarted_after honest at (reply.Refused refusal) S mid new triggers states (inr is) = impossible is.submits.allowed.works
 restarted_after honest at reply.Fault S mid new triggers states (inl is) = impossible is.submits.allowed.works
-restarted_after honest at reply.Fault S mid new triggers states (inr is) = inr (record {
+restarted_after honest at reply.Fault S mid new triggers states (inr (inr is)) = let bad : ◌≡◌ {A = Step} Restart Checkpoint = is.asked in absurd cc
+restarted_after honest at reply.Fault S mid new triggers states (inr (inl is)) = inr (inl (record {
   asked = is.asked;
   shut = both_again S mid new triggers states is.shut;
   rose = ⊎_elim (λ rose. inl (rose_after S.triggers.faults mid.triggers.faults new.triggers.faults triggers.later rose))
       (λ rose. inr (rose_after S.states.faults mid.states.faults new.states.faults states.later rose)) is.rose;
-})
+}))
 restarted_after honest at reply.Closed S mid new triggers states is = impossible (sym is.needs_closed)
 restarted_after honest at reply.Stopped S mid new triggers states is = impossible (sym is.unheld)
 restarted_after honest at reply.Restarted S mid new triggers states is = record {
@@ -90,6 +91,8 @@ restarted_after honest at reply.Restarted S mid new triggers states is = record 
 }
 restarted_after honest at (reply.Shown s) S mid new triggers states is =
     let bad : ◌≡◌ {A = Step} Restart (Show is.question) = is.asked in absurd cc
+restarted_after honest at (reply.Marked m) S mid new triggers states is = let bad : ◌≡◌ {A = Step} Restart Checkpoint = is.asked in absurd cc
+restarted_after honest at (reply.Room room) S mid new triggers states is = let bad : ◌≡◌ {A = Step} Restart ShowRoom = is.asked in absurd cc
 
 pub cut_after : (honest : Type 0) (at : ℤ) (end : StepEnd) (S mid new : ClusterState) → Shuts S.triggers mid.triggers → Shuts S.states mid.states
     → EndCase honest (record { step = Restart; at = at }) end mid new → EndCase honest (record { step = Restart; at = at }) end S new
@@ -150,6 +153,17 @@ pub unread_ends : (P : Type 0) (store : Store) (error : MountError) (at : ℤ) (
 unread_ends P store error at result S new is shut refused =
     subst (λ (r : Result StepReply StepEnd). IfErr r (λ e. EndCase P (record { step = Restart; at = at }) e S new)) (sym is) (unread_end P store error at S new shut refused)
 
+-- where a store couldn't be read there are none
+pub unread_stands : (store : Store) (error : MountError) (result : Result StepReply StepEnd) (now was : Bool) → result ≡ unread store error → now ≡ false
+    → IfOk result (λ r. now ≡ standing_after Restart r was)
+unread_stands store error result now was is none =
+    subst (λ (x : Result StepReply StepEnd). IfOk x (λ r. now ≡ standing_after Restart r was)) (sym is) (by error) where
+      by : (e : MountError) → IfOk (unread store e) (λ r. now ≡ standing_after Restart r was)
+      by mount.Fault = none
+      by mount.NotAStore = tt
+      by (mount.Damaged place) = tt
+      by mount.NoMemory = tt
+
 -- a closed store that no call was made of
 pub stays_shut : {H E : Type 0} (s : StoreState H E) → s.is_open ≡ false → Shuts s s
 stays_shut s closed = record { history = refl; is_open = closed; undecided = refl; later = omega arith }
@@ -164,6 +178,8 @@ keeps_at honest at reply.Closed S new c d is = impossible (sym is.needs_closed)
 keeps_at honest at reply.Stopped S new c d is = impossible (sym is.unheld)
 keeps_at honest at reply.Restarted S new c d is = tt
 keeps_at honest at (reply.Shown s) S new c d is = let bad : ◌≡◌ {A = Step} Restart (Show is.question) = is.asked in absurd cc
+keeps_at honest at (reply.Marked m) S new c d is = let bad : ◌≡◌ {A = Step} Restart Checkpoint = is.asked in absurd cc
+keeps_at honest at (reply.Room room) S new c d is = let bad : ◌≡◌ {A = Step} Restart ShowRoom = is.asked in absurd cc
 
 pub keeps : {D : Type 0} {g : Ghosts D} (honest : Type 0) (at : ℤ) (result : Result StepReply StepEnd) (S new : ClusterState) (c d : Cluster D g)
     → IfOk result (λ r. StepCase honest (record { step = Restart; at = at }) r S new) → IfOk result (λ r. KeepsUnlessDone r c d)

@@ -6,7 +6,7 @@ use Rattle.qz_types.specs.Entries.{EntryData, StateEntryData}
 use Rattle.qz_types.specs.declared.replies.Reply.{Reply}
 use Rattle.qz_types.specs.declared.replies.Refusal.{Refusal}
 use Rattle.qz_steps.specs.declared.steps.Step.{Step}
-use Rattle.qz_steps.specs.declared.steps.Step.TheVariants.{Client, Join, CheckIn, Node, Forget, Stop, Restart, Resume, Show}
+use Rattle.qz_steps.specs.declared.steps.Step.TheVariants.{Client, Join, CheckIn, Node, Forget, Stop, Restart, Resume, Show, Checkpoint, ShowRoom}
 use Rattle.qz_types.specs.Tables.{SchedulerTables}
 use Rattle.qz_types.specs.Outcomes.{Outcome, accepted, refused, IsAccepted}
 use Rattle.qz_model.specs.Transaction.{transaction}
@@ -18,7 +18,7 @@ use Rattle.qz_checkin.specs.Rows as rows
 use Rattle.qz_checkin.specs.History.{StateHistory, IsLegal as AreLegal, replay_states}
 use Rattle.qz_checkin.proofs.Histories.{IsLegalFrom-entry as states_legal_entry}
 use Rattle.qz_cluster.specs.Script.{ScriptState, TimedStep, StepEffect, unless, effect_of, submit, effect_of_states, submit_state, with_optional, with_optional_state, effect_in, after_step, state_after, step_replies}
-use Rattle.qz_cluster.specs.Steps.{ClusterState, is_restart, is_show, is_unheld, first_refusal, state_entry_of_step, entry_of_step, held_after}
+use Rattle.qz_cluster.specs.Steps.{ClusterState, is_restart, is_asking, is_unheld, first_refusal, state_entry_of_step, entry_of_step, held_after}
 use Rattle.qz_cluster.proofs.Effects.{onto_triggers, onto_states, plain_effect, effect_at, effect_is}
 
 pub state_after-append : (s : ScriptState) (ts us : List TimedStep) → state_after s (ts ++ us) ≡ state_after (state_after s ts) us
@@ -73,7 +73,7 @@ plain_fit true refusal se e T R held after = (tt, tt)
 plain_fit false (Some x) se e T R held after = (tt, tt)
 plain_fit false None se e T R held after = onto_states_fit T R held se (onto_triggers T held e after) (onto_triggers_fit T R held e after)
 
-works_fit : (S : ClusterState) (x : Step) (at : ℤ) → is_restart x ≡ false → is_show x ≡ false → IsFit (replay S.triggers.history) (replay_states S.states.history) (effect_at S x at)
+works_fit : (S : ClusterState) (x : Step) (at : ℤ) → is_restart x ≡ false → is_asking x ≡ false → IsFit (replay S.triggers.history) (replay_states S.states.history) (effect_at S x at)
 works_fit S x at works acts =
     subst (λ (f : StepEffect). IsFit (replay S.triggers.history) (replay_states S.states.history) f) (sym (effect_is S x at works acts))
     (plain_fit (is_unheld x S.held) (first_refusal S x at) (state_entry_of_step S x at) (entry_of_step S.held x at) (replay S.triggers.history) (replay_states S.states.history) S.held (held_after x S.held))
@@ -82,6 +82,8 @@ works_fit S x at works acts =
 pub step_fit : (S : ClusterState) (x : Step) (at : ℤ) → IsFit (replay S.triggers.history) (replay_states S.states.history) (effect_at S x at)
 step_fit S Restart at = (tt, tt)
 step_fit S (Show question) at = (tt, tt)
+step_fit S Checkpoint at = (tt, tt)
+step_fit S ShowRoom at = (tt, tt)
 step_fit S (Client c) at = works_fit S (Client c) at refl refl
 step_fit S (Join node interval) at = works_fit S (Join node interval) at refl refl
 step_fit S (CheckIn node interval) at = works_fit S (CheckIn node interval) at refl refl
@@ -96,6 +98,8 @@ as_cluster s = record {
   triggers = record { history = s.history; gate = 0; payloads = 0; is_open = true; undecided = None; faults = 0 };
   states = record { history = s.states; gate = 0; payloads = 0; is_open = true; undecided = None; faults = 0 };
   held = s.held;
+  behind = 0;
+  standing = true;
 }
 
 pub IsLegal-with_optional : (e : Option EntryData) (h : History) → IsLegal h → IsAcceptedAt (replay h) e → IsLegal (with_optional e h)

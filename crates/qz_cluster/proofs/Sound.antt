@@ -1,5 +1,5 @@
 -- A valid step submits valid entries, so it leaves sound stores where it found them.
-use Rattle.std.proofs.Common.{◌≡◌, ◌⊎◌, inl, inr, ℤ, List, Bool, true, false, not, ◌&&◌, IsTrue, Some, None, refl, subst}
+use Rattle.std.proofs.Common.{◌≡◌, ◌⊎◌, inl, inr, ℤ, List, Bool, true, false, not, ◌&&◌, IsTrue, Some, None, refl, subst, sym}
 use Rattle.std.specs.Prelude.{Option, Ok, Err}
 use Rattle.std.proofs.lemmas.Bool.{and_parts}
 use Rattle.qz_types.specs.Rows.{MemberData, is_node, is_interval}
@@ -11,13 +11,14 @@ use Rattle.qz_types.specs.declared.commands.Command.{Command}
 use Rattle.qz_types.specs.declared.commands.Command.TheVariants as command
 use Rattle.qz_types.specs.declared.errors.SubmitError.TheVariants as submit
 use Rattle.qz_types.specs.declared.replies.Reply.{Reply}
+use Rattle.qz_steps.specs.declared.rooms.Marked.TheVariants.{Made, NoRoom}
 use Rattle.qz_steps.specs.declared.steps.Step.{Step}
-use Rattle.qz_steps.specs.declared.steps.Step.TheVariants.{Client, Join, CheckIn, Node, Forget, Stop, Restart, Resume, Show}
+use Rattle.qz_steps.specs.declared.steps.Step.TheVariants.{Client, Join, CheckIn, Node, Forget, Stop, Restart, Resume, Show, Checkpoint, ShowRoom}
 use Rattle.qz_steps.specs.declared.steps.StepReply.{StepReply}
 use Rattle.qz_steps.specs.declared.steps.StepReply.TheVariants as reply
 use Rattle.qz_trigger_store.specs.Entries.{TriggerState}
 use Rattle.qz_trigger_store.specs.Opening.{IsSound}
-use Rattle.qz_trigger_store.proofs.Sound.{same_sound, submitted_sound, shut_sound}
+use Rattle.qz_trigger_store.proofs.Sound.{same_sound, submitted_sound, checked_sound, shut_sound}
 use Rattle.qz_checkin.specs.Entries.{StatesState}
 use Rattle.qz_checkin.specs.Opening.{IsSound as AreSound}
 use Rattle.qz_checkin.proofs.Sound.{same_sound as states_same_sound, shut_sound as states_shut_sound, submitted_sound as states_submitted_sound}
@@ -65,6 +66,8 @@ valid_entry (Stop node) held at e valid asked = absurd cc
 valid_entry Restart held at e valid asked = absurd cc
 valid_entry (Resume node epoch) held at e valid asked = absurd cc
 valid_entry (Show question) held at e valid asked = absurd cc
+valid_entry Checkpoint held at e valid asked = absurd cc
+valid_entry ShowRoom held at e valid asked = absurd cc
 
 same_state_entry : (P : StateEntryData → Type 0) (e f : StateEntryData) → ◌≡◌ {A = Option StateEntryData} (Some e) (Some f) → P e → P f
 same_state_entry P e f same is = let one : e ≡ f = cc in subst P one is
@@ -80,6 +83,8 @@ valid_state_entry S (Stop node) at e valid asked = absurd cc
 valid_state_entry S Restart at e valid asked = absurd cc
 valid_state_entry S (Resume node epoch) at e valid asked = absurd cc
 valid_state_entry S (Show question) at e valid asked = absurd cc
+valid_state_entry S Checkpoint at e valid asked = absurd cc
+valid_state_entry S ShowRoom at e valid asked = absurd cc
 
 -- both stores are sound
 abbrev pub AreBothSound : ClusterState → Type 0
@@ -121,11 +126,15 @@ case_sound honest t (reply.Refused x) S S' valid (inr case) sound =
     entry_sound _ _ (λ e s u is. states_submitted_sound e (Err (submit.Refused x)) s u is) (λ e s u good is. submitted_sound e (Err (submit.Refused x)) s u good is) _ t S S' valid case.which sound
 case_sound honest t reply.Fault S S' valid (inl case) sound =
     entry_sound _ _ (λ e s u is. states_submitted_sound e (Err submit.Fault) s u is) (λ e s u good is. submitted_sound e (Err submit.Fault) s u good is) _ t S S' valid case.which sound
-case_sound honest t reply.Fault S S' valid (inr case) sound = shut_both_sound S S' case.shut sound
+case_sound honest t reply.Fault S S' valid (inr (inl case)) sound = shut_both_sound S S' case.shut sound
+case_sound honest t reply.Fault S S' valid (inr (inr case)) sound = (checked_sound (Err submit.Fault) S.triggers S'.triggers case.breaks sound.0, rw case.states sound.1)
 case_sound honest t reply.Closed S S' valid case sound = stay_sound S S' case.stays.stores sound
 case_sound honest t reply.Stopped S S' valid case sound = stay_sound S S' case.stays.stores sound
 case_sound honest t reply.Restarted S S' valid case sound = (case.are_triggers.sound, case.are_states.sound)
 case_sound honest t (reply.Shown s) S S' valid case sound = stay_sound S S' case.stays.stores sound
+case_sound honest t (reply.Marked Made) S S' valid case sound = (checked_sound (Ok true) S.triggers S'.triggers case.marked.0 sound.0, rw case.states sound.1)
+case_sound honest t (reply.Marked NoRoom) S S' valid case sound = (checked_sound (Ok false) S.triggers S'.triggers case.marked.0 sound.0, rw case.states sound.1)
+case_sound honest t (reply.Room room) S S' valid case sound = subst AreBothSound (sym case.same) sound
 
 pub step_sound : (honest : Type 0) (t : TimedStep) (r : StepReply) (S S' : ClusterState) → IsStep honest t r S S' → AreBothSound S → AreBothSound S'
 step_sound honest t r S S' step sound = case_sound honest t r S S' step.valid step.case sound

@@ -11,7 +11,7 @@ use Rattle.qz_checkin.specs.Entries.{of_states}
 use Rattle.qz_steps.specs.Steps.{is_step}
 use Rattle.qz_steps.specs.declared.steps.Step.TheVariants.{Join, CheckIn}
 use Rattle.qz_cluster.specs.Script.{TimedStep, check_in_entry}
-use Rattle.qz_cluster.specs.Steps.{ClusterState, is_closed, is_unheld, IsStep, IsCutShort, Submits, StepCase, EndCase, state_entry_of_step}
+use Rattle.qz_cluster.specs.Steps.{ClusterState, is_closed, is_unheld, IsStep, IsCutShort, Submits, StepCase, EndCase, state_entry_of_step, standing_after}
 use Rattle.qz_cluster.specs.Submitting.{Declined, StatesSubmitted, Unsubmitted}
 use Rattle.qz_cluster.proofs.Unaccepted.{same_here}
 use Rattle.qz_cluster.specs.declared.errors.StepEnd.{StepEnd}
@@ -33,6 +33,8 @@ declined honest t e reply.Closed S new submits asked ready way triggers held = n
 declined honest t e reply.Stopped S new submits asked ready way triggers held = absurd way
 declined honest t e reply.Restarted S new submits asked ready way triggers held = absurd way
 declined honest t e (reply.Shown shown) S new submits asked ready way triggers held = absurd way
+declined honest t e (reply.Marked marked) S new submits asked ready way triggers held = absurd way
+declined honest t e (reply.Room room) S new submits asked ready way triggers held = absurd way
 
 pub ends_at_states : (honest : Type 0) (t : TimedStep) (e : StateEntryData) (end : StepEnd) (S new : ClusterState) → Submits t S
     → state_entry_of_step S t.step t.at ≡ Some e → Unsubmitted of_states e end S.states new.states → Same S.triggers new.triggers → new.held ≡ S.held → EndCase honest t end S new
@@ -118,6 +120,8 @@ checked_in honest node interval at (Ok reply.Closed) S new ready holds way trigg
 checked_in honest node interval at (Ok reply.Stopped) S new ready holds way triggers held = absurd way
 checked_in honest node interval at (Ok reply.Restarted) S new ready holds way triggers held = absurd way
 checked_in honest node interval at (Ok (reply.Shown shown)) S new ready holds way triggers held = absurd way
+checked_in honest node interval at (Ok (reply.Marked marked)) S new ready holds way triggers held = absurd way
+checked_in honest node interval at (Ok (reply.Room room)) S new ready holds way triggers held = absurd way
 checked_in honest node interval at (Err end) S new ready holds way triggers held = tt
 
 pub check_in_cut : (honest : Type 0) (node : List ℕ) (interval at : ℤ) (result : Result StepReply StepEnd) (S new : ClusterState) → not S.states.is_open ≡ false → is_unheld (CheckIn node interval) S.held ≡ false
@@ -126,9 +130,15 @@ pub check_in_cut : (honest : Type 0) (node : List ℕ) (interval at : ℤ) (resu
 check_in_cut honest node interval at result S new ready holds way triggers held =
     states_ended honest (record { step = CheckIn node interval; at = at }) (check_in_entry node interval at) result S new (check_in_submits node interval at S ready holds) refl way triggers held
 
-pub steps_of : (honest : Type 0) (t : TimedStep) (result : Result StepReply StepEnd) (S new : ClusterState) → IsTrue (is_step t.step) → IfOk result (λ r. StepCase honest t r S new) → IfOk result (λ r. IsStep honest t r S new)
-steps_of honest t (Ok r) S new valid case = record { valid = valid; case = case }
-steps_of honest t (Err end) S new valid case = tt
+-- whatever was answered
+pub all_stand : {P : Type 0} (result : Result StepReply StepEnd) → P → IfOk result (λ r. P)
+all_stand (Ok r) stands = stands
+all_stand (Err end) stands = tt
+
+pub steps_of : (honest : Type 0) (t : TimedStep) (result : Result StepReply StepEnd) (S new : ClusterState) → IsTrue (is_step t.step) → IfOk result (λ r. StepCase honest t r S new)
+    → IfOk result (λ r. new.standing ≡ standing_after t.step r S.standing) → IfOk result (λ r. IsStep honest t r S new)
+steps_of honest t (Ok r) S new valid case stands = record { valid = valid; case = case; standing = stands }
+steps_of honest t (Err end) S new valid case stands = tt
 
 pub cuts_of : (honest : Type 0) (t : TimedStep) (result : Result StepReply StepEnd) (S new : ClusterState) → IsTrue (is_step t.step) → IfErr result (λ e. EndCase honest t e S new) → IfErr result (λ e. IsCutShort honest t e S new)
 cuts_of honest t (Ok r) S new valid case = tt

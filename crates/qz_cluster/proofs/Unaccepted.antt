@@ -13,6 +13,7 @@ use Rattle.qz_cluster.specs.Submitting.{Submitted, StatesSubmitted, Unsubmitted,
 use Rattle.qz_cluster.specs.View.{KeepsStores, KeepsTriggers, KeepsUnlessDone, KeepsUnlessJoined}
 use Rattle.qz_cluster.specs.declared.clusters.Cluster.{Cluster}
 use Rattle.qz_cluster.specs.declared.errors.StepEnd.{StepEnd}
+use Rattle.qz_steps.specs.declared.rooms.Marked.TheVariants.{Made, NoRoom}
 use Rattle.qz_steps.specs.declared.steps.StepReply.{StepReply}
 use Rattle.qz_steps.specs.declared.steps.StepReply.TheVariants as reply
 
@@ -82,6 +83,9 @@ joined_too reply.Closed c d keep = keep
 joined_too reply.Stopped c d keep = keep
 joined_too reply.Restarted c d keep = tt
 joined_too (reply.Shown shown) c d keep = keep
+joined_too (reply.Marked Made) c d keep = tt
+joined_too (reply.Marked NoRoom) c d keep = keep
+joined_too (reply.Room room) c d keep = keep
 
 pub all_joined_too : {D : Type 0} {g : Ghosts D} (result : Result StepReply StepEnd) (c d : Cluster D g) → IfOk result (λ r. KeepsUnlessDone r c d) → IfOk result (λ r. KeepsUnlessJoined r c d)
 all_joined_too (Ok r) c d keep = joined_too r c d keep

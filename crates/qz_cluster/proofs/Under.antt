@@ -43,9 +43,11 @@ module _ (P Q : Type 0) (tells : P → ∥ Q ∥₁) (t : TimedStep) (S S' : Clu
     held = case.held;
   }
   case_under (reply.Shown s) case = case
+  case_under (reply.Marked m) case = case
+  case_under (reply.Room room) case = case
 
   pub step_under : (r : StepReply) → IsStep Q t r S S' → IsStep P t r S S'
-  step_under r step = record { valid = step.valid; case = case_under r step.case }
+  step_under r step = record { valid = step.valid; case = case_under r step.case; standing = step.standing }
 
   pub end_under : (e : StepEnd) → EndCase Q t e S S' → EndCase P t e S S'
   end_under (ends.JournalFull need room) case = case

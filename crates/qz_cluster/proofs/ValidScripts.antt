@@ -7,7 +7,7 @@ use Rattle.qz_steps.specs.Steps.{is_step}
 use Rattle.qz_types.specs.declared.replies.Reply.{Reply}
 use Rattle.qz_types.specs.declared.replies.Refusal.{Refusal}
 use Rattle.qz_steps.specs.declared.steps.Step.{Step}
-use Rattle.qz_steps.specs.declared.steps.Step.TheVariants.{Client, Join, CheckIn, Node, Forget, Stop, Restart, Resume, Show}
+use Rattle.qz_steps.specs.declared.steps.Step.TheVariants.{Client, Join, CheckIn, Node, Forget, Stop, Restart, Resume, Show, Checkpoint, ShowRoom}
 use Rattle.qz_types.specs.Tables.{SchedulerTables}
 use Rattle.qz_types.specs.Outcomes.{Outcome, accepted, refused}
 use Rattle.qz_model.specs.Transaction.{transaction}
@@ -19,7 +19,7 @@ use Rattle.qz_checkin.specs.Rows.{StateTables, StateOutcome, state_transaction}
 use Rattle.qz_checkin.specs.Rows as rows
 use Rattle.qz_checkin.specs.History.{StateHistory, replay_states}
 use Rattle.qz_cluster.specs.Script.{ScriptState, TimedStep, StepEffect, unless, effect_of, submit, effect_of_states, submit_state, with_optional, with_optional_state, effect_in, after_step, state_after}
-use Rattle.qz_cluster.specs.Steps.{ClusterState, is_restart, is_show, is_unheld, first_refusal, state_entry_of_step, entry_of_step, held_after}
+use Rattle.qz_cluster.specs.Steps.{ClusterState, is_restart, is_asking, is_unheld, first_refusal, state_entry_of_step, entry_of_step, held_after}
 use Rattle.qz_cluster.proofs.Effects.{onto_triggers, onto_states, plain_effect, effect_at, effect_is}
 use Rattle.qz_cluster.proofs.Scripts.{as_cluster}
 use Rattle.qz_cluster.proofs.Sound.{valid_entry, valid_state_entry}
@@ -66,7 +66,7 @@ if_some : {A : Type 0} (P : A → Type 0) (o : Option A) → ((x : A) → o ≡ 
 if_some P None all = tt
 if_some P (Some x) all = all x refl
 
-works_valid : (S : ClusterState) (x : Step) (at : ℤ) → IsTrue (is_step x) → is_restart x ≡ false → is_show x ≡ false → AppendsValid (effect_at S x at)
+works_valid : (S : ClusterState) (x : Step) (at : ℤ) → IsTrue (is_step x) → is_restart x ≡ false → is_asking x ≡ false → AppendsValid (effect_at S x at)
 works_valid S x at valid works acts =
     subst AppendsValid (sym (effect_is S x at works acts))
     (plain_valid (is_unheld x S.held) (first_refusal S x at) (state_entry_of_step S x at) (entry_of_step S.held x at) (replay S.triggers.history) (replay_states S.states.history) S.held (held_after x S.held)
@@ -77,6 +77,8 @@ works_valid S x at valid works acts =
 pub step_valid : (S : ClusterState) (x : Step) (at : ℤ) → IsTrue (is_step x) → AppendsValid (effect_at S x at)
 step_valid S Restart at valid = (tt, tt)
 step_valid S (Show question) at valid = (tt, tt)
+step_valid S Checkpoint at valid = (tt, tt)
+step_valid S ShowRoom at valid = (tt, tt)
 step_valid S (Client c) at valid = works_valid S (Client c) at valid refl refl
 step_valid S (Join node interval) at valid = works_valid S (Join node interval) at valid refl refl
 step_valid S (CheckIn node interval) at valid = works_valid S (CheckIn node interval) at valid refl refl

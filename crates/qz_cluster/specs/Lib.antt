@@ -3,6 +3,7 @@ pub mod Checkpoints
 pub mod Found
 pub mod Mounting
 pub mod Restarting
+pub mod Rooms
 pub mod Script
 pub mod Steps
 pub mod Submitting

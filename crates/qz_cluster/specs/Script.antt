@@ -16,7 +16,7 @@ use Rattle.qz_types.specs.Tables.{SchedulerTables}
 use Rattle.qz_types.specs.Outcomes.{Outcome, accepted, refused}
 use Rattle.qz_types.specs.Words.{member_of, put_member, without_member}
 use Rattle.qz_steps.specs.declared.steps.Step.{Step}
-use Rattle.qz_steps.specs.declared.steps.Step.TheVariants.{Client, Join, CheckIn, Node, Forget, Stop, Restart, Resume, Show}
+use Rattle.qz_steps.specs.declared.steps.Step.TheVariants.{Client, Join, CheckIn, Node, Forget, Stop, Restart, Resume, Show, Checkpoint, ShowRoom}
 use Rattle.qz_steps.specs.declared.steps.StepReply.{StepReply}
 use Rattle.qz_steps.specs.declared.steps.StepReply.TheVariants as step_reply
 use Rattle.qz_model.specs.Transaction.{transaction}
@@ -28,6 +28,24 @@ use Rattle.qz_checkin.specs.Lateness.{last_of, fresh_refusal}
 use Rattle.qz_checkin.specs.History.{StateHistory, new_state_history, with_state_entry, replay_states}
 use Rattle.qz_cluster.specs.Asking.{answer_to, resume_refusal, held_after_resume}
 
+-- a step with the reading of the clock that it is done at
+pub record TimedStep : Type 0 where
+  pub step : Step
+  pub at : ℤ
+
+-- A step about the disks, of which a plain scheduler knows nothing: a snapshot is to be made, or it is asked how full they are.
+-- Such a scheduler answers `closed`. These are replies with that in place of what the disks said.
+abbrev pub plain_reply : Step → StepReply → StepReply
+plain_reply Checkpoint r = step_reply.Closed
+plain_reply ShowRoom r = step_reply.Closed
+plain_reply step r = r
+
+-- the same of the replies of steps, in order
+abbrev pub plain_replies : List TimedStep → List StepReply → List StepReply
+plain_replies [] rs = rs
+plain_replies (t ∷ ts) [] = []
+plain_replies (t ∷ ts) (r ∷ rs) = plain_reply t.step r ∷ plain_replies ts rs
+
 -- both histories so far, and under which epoch each node that joined in this script works
 pub record ScriptState : Type 0 where
   pub history : History
@@ -37,11 +55,6 @@ pub record ScriptState : Type 0 where
 -- a script on new stores of this format version
 abbrev pub new_script : ℕ → ScriptState
 new_script version = record { history = history_of_version version; states = new_state_history; held = [] }
-
--- a step with the reading of the clock that it is done at
-pub record TimedStep : Type 0 where
-  pub step : Step
-  pub at : ℤ
 
 -- The effect of a step: its reply, the entry that it appends to each history, if it appends one, and the epochs that
 -- are held after it.
@@ -92,6 +105,10 @@ member_refusal T failed = if is_some (member_of failed T.members) then Some Stil
 -- a step that has no transaction
 abbrev pub done : List MemberData → StepEffect
 done held = record { reply = step_reply.Ok reply.Done; entry = None; state_entry = None; held = held }
+
+-- a step about the disks: there are none, and nothing is done
+abbrev pub without_disk : List MemberData → StepEffect
+without_disk held = record { reply = step_reply.Closed; entry = None; state_entry = None; held = held }
 
 -- it is refused, and nothing is done
 abbrev pub refuse : Refusal → List MemberData → StepEffect
@@ -144,6 +161,8 @@ step_effect T S held Restart at = record { reply = step_reply.Restarted; entry =
 step_effect T S held (Resume node epoch) at = unless (resume_refusal T held node epoch) held (done (held_after_resume node epoch held))
 step_effect T S held (Show question) at =
     record { reply = step_reply.Shown (answer_to T question); entry = None; state_entry = None; held = held }
+step_effect T S held Checkpoint at = without_disk held
+step_effect T S held ShowRoom at = without_disk held
 
 abbrev pub with_optional : Option EntryData → History → History
 with_optional None h = h

@@ -1,6 +1,7 @@
 -- One step of a script at the cluster: what it answers, and what it makes of both stores and of the held epochs.
-use Rattle.std.specs.Prelude.{◌≡◌, ◌⊎◌, ℕ, ℤ, true, false, Bool, not, ◌&&◌, ◌||◌, IsTrue, List, [], Option, Some, None, is_none}
+use Rattle.std.specs.Prelude.{◌≡◌, ◌⊎◌, ℕ, ◌+◌, ℤ, true, false, Bool, not, ◌&&◌, ◌||◌, IsTrue, List, [], length, Option, Some, None, is_none}
 use Rattle.qz_civil.specs.Causes.{Rose}
+use Rattle.qz_journal.specs.Commits.{LackRoom, HaveRoom}
 use Rattle.qz_types.specs.Rows.{MemberData}
 use Rattle.qz_types.specs.Entries.{EntryData, StateEntryData}
 use Rattle.qz_types.specs.Words.{member_of, without_member}
@@ -13,11 +14,16 @@ use Rattle.qz_types.specs.declared.replies.Refusal.{Refusal}
 use Rattle.qz_steps.specs.Steps.{is_step}
 use Rattle.qz_steps.specs.declared.questions.Question.{Question}
 use Rattle.qz_steps.specs.declared.questions.Shown.{Shown}
+use Rattle.qz_steps.specs.declared.rooms.Marked.{Marked}
+use Rattle.qz_steps.specs.declared.rooms.Marked.TheVariants.{Made, NoRoom}
+use Rattle.qz_steps.specs.declared.rooms.Room.{Room}
 use Rattle.qz_steps.specs.declared.steps.Step.{Step}
-use Rattle.qz_steps.specs.declared.steps.Step.TheVariants.{Client, Join, CheckIn, Node, Forget, Stop, Restart, Resume, Show}
+use Rattle.qz_steps.specs.declared.steps.Step.TheVariants.{Client, Join, CheckIn, Node, Forget, Stop, Restart, Resume, Show, Checkpoint, ShowRoom}
 use Rattle.qz_steps.specs.declared.steps.StepReply.{StepReply}
 use Rattle.qz_steps.specs.declared.steps.StepReply.TheVariants as reply
+use Rattle.qz_snapshot.specs.Checkpoints.{snapshot_written}
 use Rattle.qz_stores.specs.Bases.{Opens}
+use Rattle.qz_stores.specs.Checkpoints.{Marks, Breaks, Declines}
 use Rattle.qz_stores.specs.Stores.{Same, Appends, Refuses, Overflows, Starves, Fails, Shuts}
 use Rattle.qz_model.specs.History.{replay}
 use Rattle.qz_trigger_store.specs.Entries.{TriggerState, trigger_entry}
@@ -31,6 +37,7 @@ use Rattle.qz_checkin.specs.Lateness.{fresh_refusal}
 use Rattle.qz_checkin.specs.Opening.{IsOpened as AreOpened}
 use Rattle.qz_cluster.specs.Asking.{answer_to, has_row, resume_refusal, held_after_resume}
 use Rattle.qz_cluster.specs.Script.{TimedStep, held_after_join, held_after_command, entry_of, check_in_entry, forget_entry, member_refusal}
+use Rattle.qz_cluster.specs.Rooms.{room_of}
 use Rattle.qz_cluster.specs.declared.errors.StepEnd.{StepEnd}
 use Rattle.qz_cluster.specs.declared.errors.StepEnd.TheVariants as ends
 
@@ -39,6 +46,14 @@ pub record ClusterState : Type 0 where
   pub triggers : TriggerState
   pub states : StatesState
   pub held : List MemberData
+  -- how many entries of the trigger store came after its last snapshot, or in all where there is none
+  pub behind : ℕ
+  -- there are stores: a restart that failed leaves none
+  pub standing : Bool
+
+-- two stores on which no script works: no node of one holds an epoch, and how far a snapshot is behind isn't told
+abbrev pub without_script : TriggerState → StatesState → ClusterState
+without_script triggers states = record { triggers = triggers; states = states; held = []; behind = 0; standing = true }
 
 -- a store is closed
 abbrev pub is_closed : ClusterState → Bool
@@ -60,6 +75,8 @@ needs_triggers (Stop node) = false
 needs_triggers Restart = false
 needs_triggers (Resume node epoch) = true
 needs_triggers (Show question) = true
+needs_triggers Checkpoint = true
+needs_triggers ShowRoom = false
 
 abbrev pub needs_states : Step → Bool
 needs_states (Client c) = false
@@ -71,9 +88,12 @@ needs_states (Stop node) = false
 needs_states Restart = false
 needs_states (Resume node epoch) = false
 needs_states (Show question) = false
+needs_states Checkpoint = false
+needs_states ShowRoom = false
 
--- a store is closed that the step needs
+-- A store is closed that the step needs. How full the stores are is told as long as there are any, closed or not.
 abbrev pub is_closed_for : Step → ClusterState → Bool
+is_closed_for ShowRoom S = not S.standing
 is_closed_for step S = (needs_triggers step && not S.triggers.is_open) || (needs_states step && not S.states.is_open)
 
 -- the step needs that its node holds an epoch, and it holds none
@@ -87,21 +107,26 @@ is_unheld (Stop node) held = is_none (member_of node held)
 is_unheld Restart held = false
 is_unheld (Resume node epoch) held = false
 is_unheld (Show question) held = false
+is_unheld Checkpoint held = false
+is_unheld ShowRoom held = false
 
 abbrev pub is_restart : Step → Bool
 is_restart Restart = true
 is_restart step = false
 
--- the step asks for what is stored
-abbrev pub is_show : Step → Bool
-is_show (Show question) = true
-is_show step = false
+-- the step asks: for what is stored, for a snapshot, or for how full the stores are
+abbrev pub is_asking : Step → Bool
+is_asking (Show question) = true
+is_asking Checkpoint = true
+is_asking ShowRoom = true
+is_asking step = false
 
 -- The step neither reads nor writes a disk.
 abbrev pub is_quiet : Step → Bool
 is_quiet (Stop node) = true
 is_quiet (Resume node epoch) = true
 is_quiet (Show question) = true
+is_quiet ShowRoom = true
 is_quiet step = false
 
 -- What a step does: it may be refused before it submits anything; then it submits one entry or none on the state store,
@@ -125,6 +150,8 @@ first_refusal S (Stop node) at = None
 first_refusal S Restart at = None
 first_refusal S (Resume node epoch) at = resume_refusal (replay S.triggers.history) S.held node epoch
 first_refusal S (Show question) at = None
+first_refusal S Checkpoint at = None
+first_refusal S ShowRoom at = None
 
 abbrev pub state_entry_of_step : ClusterState → Step → ℤ → Option StateEntryData
 state_entry_of_step S (Client c) at = None
@@ -136,6 +163,8 @@ state_entry_of_step S (Stop node) at = None
 state_entry_of_step S Restart at = None
 state_entry_of_step S (Resume node epoch) at = None
 state_entry_of_step S (Show question) at = None
+state_entry_of_step S Checkpoint at = None
+state_entry_of_step S ShowRoom at = None
 
 -- what a member submits
 abbrev pub entry_of_member : Option MemberData → Command → ℤ → Option EntryData
@@ -152,6 +181,8 @@ entry_of_step held (Stop node) at = None
 entry_of_step held Restart at = None
 entry_of_step held (Resume node epoch) at = None
 entry_of_step held (Show question) at = None
+entry_of_step held Checkpoint at = None
+entry_of_step held ShowRoom at = None
 
 -- Which epochs are held then.
 
@@ -167,6 +198,8 @@ held_after (Stop node) held r = without_member node held
 held_after Restart held r = []
 held_after (Resume node epoch) held r = held_after_resume node epoch held
 held_after (Show question) held r = held
+held_after Checkpoint held r = held
+held_after ShowRoom held r = held
 
 -- after its entry on the trigger store met a fault: a join that may be on the disk or not leaves its node without one
 abbrev pub held_after_fault : Step → List MemberData → List MemberData
@@ -181,6 +214,10 @@ pub record StoresStay (S S' : ClusterState) : Type 0 where
 pub record Stays (S S' : ClusterState) : Type 0 where
   pub stores : StoresStay S S'
   pub held : S'.held ≡ S.held
+
+-- the parts of a snapshot of a trigger store as it is
+abbrev pub snapshot_here : TriggerState → List (List ℕ)
+snapshot_here s = snapshot_written (replay s.history) s.payloads (s.history.base_count + length s.history.entries)
 
 -- Each case of a step says which stores it needs, which entries it submitted on which of them, and what that came to. Of
 -- the cases the first holds that can.
@@ -201,7 +238,7 @@ pub record IsAllowed (t : TimedStep) (S : ClusterState) : Type 0 where
   pub needs_open : is_closed_for t.step S ≡ false
   pub is_held : is_unheld t.step S.held ≡ false
   pub works : is_restart t.step ≡ false
-  pub acts : is_show t.step ≡ false
+  pub acts : is_asking t.step ≡ false
 
 -- ... nor refused before it submits anything
 pub record Submits (t : TimedStep) (S : ClusterState) : Type 0 where
@@ -261,6 +298,34 @@ pub record AnsweredStep (t : TimedStep) (s : Shown) (S S' : ClusterState) : Type
   pub shown : s ≡ answer_to (replay S.triggers.history) question
   pub stays : Stays S S'
 
+-- A snapshot of the tables was made, or it has no room and nothing was done.
+abbrev pub IsMarked : Marked → ClusterState → ClusterState → Type 0
+IsMarked Made S S' =
+    Marks S.triggers S'.triggers × HaveRoom (snapshot_here S.triggers) S.triggers.gate S.triggers.payloads × (S'.behind ≡ 0)
+IsMarked NoRoom S S' =
+    Declines S.triggers S'.triggers × LackRoom (snapshot_here S.triggers) S.triggers.gate S.triggers.payloads × (S'.behind ≡ S.behind)
+
+-- The step asks for a snapshot. Nothing but the disk of triggers has changed: the histories and the held epochs are as they were.
+pub record MarkedStep (t : TimedStep) (m : Marked) (S S' : ClusterState) : Type 0 where
+  pub asked : t.step ≡ Checkpoint
+  pub marked : IsMarked m S S'
+  pub states : S'.states ≡ S.states
+  pub held : S'.held ≡ S.held
+
+-- The disk failed in it: the trigger store is closed, with its history and no undecided entry.
+pub record BrokenStep (t : TimedStep) (S S' : ClusterState) : Type 0 where
+  pub asked : t.step ≡ Checkpoint
+  pub breaks : Breaks S.triggers S'.triggers
+  pub states : S'.states ≡ S.states
+  pub held : S'.held ≡ S.held
+
+-- The step asks how full the stores are, and there are some, open or closed. It is answered by both as they are, and nothing is done.
+pub record RoomStep (t : TimedStep) (room : Room) (S S' : ClusterState) : Type 0 where
+  pub asked : t.step ≡ ShowRoom
+  pub standing : S.standing ≡ true
+  pub room_is : room ≡ room_of S.triggers S.behind S.states
+  pub same : S' ≡ S
+
 -- An entry of it would be accepted, and the disk failed.
 pub record FailedStep (t : TimedStep) (S S' : ClusterState) : Type 0 where
   pub submits : Submits t S
@@ -293,15 +358,24 @@ StepCase honest t reply.Closed S S' = ClosedStep t S S'
 StepCase honest t reply.Stopped S S' = StoppedStep t S S'
 StepCase honest t (reply.Refused refusal) S S' = RefusedFirst t refusal S S' ⊎ EntryRefused t refusal S S'
 StepCase honest t (reply.Ok r) S S' = AcceptedStep t r S S'
-StepCase honest t reply.Fault S S' = FailedStep t S S' ⊎ FailedRestart t S S'
+StepCase honest t reply.Fault S S' = FailedStep t S S' ⊎ FailedRestart t S S' ⊎ BrokenStep t S S'
 StepCase honest t reply.Restarted S S' = RestartedStep honest t S S'
 StepCase honest t (reply.Shown s) S S' = AnsweredStep t s S S'
+StepCase honest t (reply.Marked m) S S' = MarkedStep t m S S'
+StepCase honest t (reply.Room room) S S' = RoomStep t room S S'
+
+-- whether there are stores after a step was answered so: a restart that failed leaves none
+abbrev pub standing_after : Step → StepReply → Bool → Bool
+standing_after Restart reply.Restarted was = true
+standing_after Restart reply.Fault was = false
+standing_after step r was = was
 
 -- A valid step at its reading of the clock was answered so. Whether the disks tell what they hold matters to a
 -- restart alone.
 pub record IsStep (honest : Type 0) (t : TimedStep) (r : StepReply) (S S' : ClusterState) : Type 0 where
   pub valid : IsTrue (is_step t.step)
   pub case : StepCase honest t r S S'
+  pub standing : S'.standing ≡ standing_after t.step r S.standing
 
 -- How a step may have no answer, which ends the run. A join whose second entry came to this has checked in.
 
@@ -316,13 +390,14 @@ pub record StarvedStep (t : TimedStep) (S S' : ClusterState) : Type 0 where
   pub submits : Submits t S
   pub which : AtStates (Starves of_states) t S S' ⊎ AtTriggers (Starves trigger_entry) S.held t S S'
 
--- what the step takes memory for beside an entry: the row of a node that goes on, or a row that is shown
+-- what the step takes memory for beside an entry: the row of a node that goes on, a row that is shown, or a snapshot
 abbrev pub takes_row : ClusterState → Step → Bool
 takes_row S (Resume node epoch) = true
 takes_row S (Show question) = has_row (answer_to (replay S.triggers.history) question)
+takes_row S Checkpoint = true
 takes_row S step = false
 
--- It has no entry and isn't refused, and there was no memory for that row. Nothing is done.
+-- It has no entry and isn't refused, and there was no memory for that. Nothing is done.
 pub record StarvedRow (t : TimedStep) (S S' : ClusterState) : Type 0 where
   pub needs_open : is_closed_for t.step S ≡ false
   pub unrefused : first_refusal S t.step t.at ≡ None

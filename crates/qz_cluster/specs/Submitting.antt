@@ -26,6 +26,8 @@ Declined kind e reply.Closed s t = Stops s t
 Declined kind e reply.Stopped s t = ⊥
 Declined kind e reply.Restarted s t = ⊥
 Declined kind e (reply.Shown shown) s t = ⊥
+Declined kind e (reply.Marked marked) s t = ⊥
+Declined kind e (reply.Room room) s t = ⊥
 
 -- what the trigger store made of an entry
 abbrev pub Submitted : EntryData → StepReply → TriggerState → TriggerState → Type 0

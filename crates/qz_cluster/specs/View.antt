@@ -2,20 +2,27 @@
 use Rattle.std.specs.Prelude.{⊤}
 use Rattle.qz_disk.specs.declared.disk.Disk.{Ghosts}
 use Rattle.qz_disk.specs.Disk.{DiskState}
+use Rattle.qz_steps.specs.declared.rooms.Marked.TheVariants.{Made, NoRoom}
 use Rattle.qz_steps.specs.declared.steps.Step.{Step}
 use Rattle.qz_steps.specs.declared.steps.Step.TheVariants.{Join, Restart}
 use Rattle.qz_steps.specs.declared.steps.StepReply.{StepReply}
 use Rattle.qz_steps.specs.declared.steps.StepReply.TheVariants as reply
 use Rattle.qz_checkin.specs.declared.stores.StateStore.{StateStore}
 use Rattle.qz_trigger_store.specs.declared.stores.TriggerStore.{TriggerStore}
-use Rattle.qz_trigger_store.specs.View.{view as store_view, disk_of as store_disk, disk_state, IsAsBefore, LeavesEither, IsTold as TriggersTold}
+use Rattle.qz_trigger_store.specs.View.{view as store_view, behind_of, disk_of as store_disk, disk_state, IsAsBefore, LeavesEither, IsTold as TriggersTold}
 use Rattle.qz_checkin.specs.View.{view as states_view, disk_of as rows_disk, disk_state as rows_disk_state, IsAsBefore as AreAsBefore, LeavesEither as LeaveEither, IsTold as StatesTold}
 use Rattle.qz_cluster.specs.Steps.{ClusterState}
 use Rattle.qz_cluster.specs.declared.clusters.Cluster.{Cluster}
 
 -- the cluster at this moment
 abbrev pub view : {D : Type 0} {g : Ghosts D} → Cluster D g → ClusterState
-view c = record { triggers = store_view c.triggers; states = states_view c.states; held = c.held.items }
+view c = record {
+  triggers = store_view c.triggers;
+  states = states_view c.states;
+  held = c.held.items;
+  behind = behind_of c.triggers;
+  standing = c.standing;
+}
 
 -- the stores
 abbrev pub triggers_of : {D : Type 0} {g : Ghosts D} → Cluster D g → TriggerStore D g
@@ -59,6 +66,9 @@ KeepsUnlessDone (reply.Refused refusal) c d = KeepsStores c d
 KeepsUnlessDone reply.Closed c d = KeepsStores c d
 KeepsUnlessDone reply.Stopped c d = KeepsStores c d
 KeepsUnlessDone (reply.Shown shown) c d = KeepsStores c d
+KeepsUnlessDone (reply.Marked Made) c d = ⊤
+KeepsUnlessDone (reply.Marked NoRoom) c d = KeepsStores c d
+KeepsUnlessDone (reply.Room room) c d = KeepsStores c d
 
 -- The same of a join: where its second transaction was refused, its check-in was done before.
 abbrev pub KeepsUnlessJoined : {D : Type 0} {g : Ghosts D} → StepReply → Cluster D g → Cluster D g → Type 0

@@ -28,6 +28,7 @@ impl<D: Disk> Cluster<D> {
         ensures err { IfErr result (λ e. EndCase (IsTold self.old) (record { step = step_is.Join node interval; at = at }) e (view self.old) (view self.new)) }
         ensures keeps { IfOk result (λ r. KeepsUnlessJoined r self.old self.new) }
         ensures unchanged { OnErr result (KeepsTriggers self.old self.new) }
+        ensures standing { self.new.standing ≡ self.old.standing }
         ensures any_moment { D.honest → EachLeavesEither self.old self.new }
     {
         if self.closed() {
@@ -58,6 +59,7 @@ impl<D: Disk> Cluster<D> {
         ensures err { IfErr result (λ e. EndCase (IsTold self.old) (record { step = step_is.Join node interval; at = at }) e (view self.old) (view self.new)) }
         ensures keeps { IfOk result (λ r. KeepsUnlessJoined r self.old self.new) }
         ensures unchanged { OnErr result (KeepsTriggers self.old self.new) }
+        ensures standing { self.new.standing ≡ self.old.standing }
         ensures any_moment { D.honest → EachLeavesEither self.old self.new }
     {
         match self.states.check_in(at, 0, &name, interval) {
@@ -86,6 +88,7 @@ impl<D: Disk> Cluster<D> {
         ensures states { self.new.states ≡ self.old.states }
         ensures keeps { IfOk result (λ r. KeepsUnlessDone r self.old self.new) }
         ensures unchanged { OnErr result (KeepsStores self.old self.new) }
+        ensures standing { self.new.standing ≡ self.old.standing }
         ensures any_moment { D.honest → EachLeavesEither self.old self.new }
     {
         let reply = self.submit(client_entry(Command::Join { node }, at))?;
@@ -101,6 +104,7 @@ impl<D: Disk> Cluster<D> {
         requires room { vec_len rows < vec_capacity rows }
         ensures held { (view self.new).held ≡ held_by reply.now (λ x. held_after_join node (view self.old).held x) (without_member node (view self.old).held) (view self.old).held }
         ensures stores { (self.new.triggers ≡ self.old.triggers) × (self.new.states ≡ self.old.states) }
+        ensures standing { self.new.standing ≡ self.old.standing }
     {
         match reply {
             StepReply::Ok(
@@ -125,7 +129,9 @@ impl<D: Disk> Cluster<D> {
             | StepReply::Closed
             | StepReply::Stopped
             | StepReply::Restarted
-            | StepReply::Shown(_) => {}
+            | StepReply::Shown(_)
+            | StepReply::Marked(_)
+            | StepReply::Room(_) => {}
         }
     }
 
@@ -142,6 +148,7 @@ impl<D: Disk> Cluster<D> {
         ensures err { IfErr result (λ e. EndCase (IsTold self.old) (record { step = step_is.CheckIn node.now interval; at = at }) e (view self.old) (view self.new)) }
         ensures keeps { IfOk result (λ r. KeepsUnlessDone r self.old self.new) }
         ensures unchanged { OnErr result (KeepsStores self.old self.new) }
+        ensures standing { self.new.standing ≡ self.old.standing }
         ensures any_moment { D.honest → EachLeavesEither self.old self.new }
     {
         if self.states.closed() {
@@ -166,6 +173,7 @@ impl<D: Disk> Cluster<D> {
         ensures err { IfErr result (λ e. EndCase (IsTold self.old) (record { step = step_is.Forget node.now failed.now; at = at }) e (view self.old) (view self.new)) }
         ensures keeps { IfOk result (λ r. KeepsUnlessDone r self.old self.new) }
         ensures unchanged { OnErr result (KeepsStores self.old self.new) }
+        ensures standing { self.new.standing ≡ self.old.standing }
         ensures any_moment { D.honest → EachLeavesEither self.old self.new }
     {
         if self.closed() {

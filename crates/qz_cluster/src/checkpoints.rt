@@ -1,8 +1,10 @@
 //! Snapshots of the trigger store's tables.
-ghost use Rattle.std.specs.Prelude.{◌≡◌, ◌≢◌, ◌⊎◌, ◌+◌, ◌++◌, length, true, Ok, Err, IfOk, IfErr};
+ghost use Rattle.std.specs.Prelude.{◌≡◌, ◌≢◌, ◌⊎◌, ◌+◌, ◌++◌, length, true, Some, Ok, Err, IfOk, IfErr};
 ghost use Rattle.qz_journal.specs.Commits.{LackRoom, HaveRoom};
+ghost use Rattle.qz_journal.specs.Slots.{with_offset, free_slot};
 ghost use Rattle.qz_snapshot.specs.Checkpoints.{snapshot_written};
-ghost use Rattle.qz_trigger_store.specs.View.{tables_of, base_count_of, found_of, added_of, behind_of, keeps_of};
+ghost use Rattle.qz_trigger_store.specs.View.{tables_of, base_count_of, found_of, added_of, behind_of, slots_of, keeps_of};
+ghost use Rattle.qz_stores.specs.Checkpoints.{Declines};
 ghost use Rattle.qz_cluster.specs.Checkpoints.{IsChecked};
 ghost use Rattle.qz_cluster.specs.View.{view, triggers_of, states_of, KeepsTriggers, EachLeavesEither};
 
@@ -44,7 +46,10 @@ impl<D: Disk> Cluster<D> {
             → HaveRoom (snapshot_written (tables_of (triggers_of self.old)) (view self.old).triggers.payloads (base_count_of (triggers_of self.old) + length (found_of (triggers_of self.old) ++ added_of (triggers_of self.old)))) (view self.old).triggers.gate (view self.old).triggers.payloads }
         ensures behind { result ≡ Ok Checked.Done → behind_of (triggers_of self.new) ≡ 0 }
         ensures keeps { keeps_of (triggers_of self.new) ≡ keeps_of (triggers_of self.old) }
-        ensures others { (states_of self.new ≡ states_of self.old) × (self.new.held ≡ self.old.held) }
+        ensures others { (states_of self.new ≡ states_of self.old) × (self.new.held ≡ self.old.held) × (self.new.standing ≡ self.old.standing) }
+        // Where a snapshot was made, the slot that was free leads to it.
+        ensures slots { result ≡ Ok Checked.Done → slots_of (triggers_of self.new) ≡ with_offset (free_slot (slots_of (triggers_of self.old))) (Some (view self.old).triggers.gate) (slots_of (triggers_of self.old)) }
+        ensures starved { IfErr result (λ e. Declines (view self.old).triggers (view self.new).triggers) }
         ensures any_moment { D.honest → EachLeavesEither self.old self.new }
     {
         match self.triggers.checkpoint() {

@@ -14,4 +14,6 @@ pub struct Cluster<D: Disk> {
     pub(crate) states: StateStore<D>,
     /// In the order of the nodes' names.
     pub(crate) held: Vec<MemberRow>,
+    /// Whether there are stores: a restart that failed leaves none.
+    pub(crate) standing: bool,
 }

@@ -14,6 +14,7 @@ mod opening;
 mod parts;
 mod restarting;
 mod resuming;
+mod rooms;
 mod steps;
 mod submitting;
 

@@ -34,6 +34,7 @@ impl<D: Disk> Cluster<D> {
         ensures err { IfErr result (λ e. EndCase (IsTold self.old) (record { step = step_is.Node node command; at = at }) e (view self.old) (view self.new)) }
         ensures keeps { IfOk result (λ r. KeepsUnlessDone r self.old self.new) }
         ensures unchanged { OnErr result (KeepsStores self.old self.new) }
+        ensures standing { self.new.standing ≡ self.old.standing }
         ensures any_moment { D.honest → EachLeavesEither self.old self.new }
     {
         if self.is_closed_for(&command) {
@@ -81,6 +82,7 @@ impl<D: Disk> Cluster<D> {
         ensures states { self.new.states ≡ self.old.states }
         ensures keeps { IfOk result (λ r. KeepsUnlessDone r self.old self.new) }
         ensures unchanged { OnErr result (KeepsStores self.old self.new) }
+        ensures standing { self.new.standing ≡ self.old.standing }
         ensures any_moment { D.honest → EachLeavesEither self.old self.new }
     {
         if !is_leave(&command) {
@@ -103,6 +105,7 @@ impl<D: Disk> Cluster<D> {
         ensures states { self.new.states ≡ self.old.states }
         ensures keeps { IfOk result (λ r. KeepsUnlessDone r self.old self.new) }
         ensures unchanged { OnErr result (KeepsStores self.old self.new) }
+        ensures standing { self.new.standing ≡ self.old.standing }
         ensures any_moment { D.honest → EachLeavesEither self.old self.new }
     {
         let reply = self.submit(node_entry(me, Command::Leave, at))?;
@@ -114,6 +117,7 @@ impl<D: Disk> Cluster<D> {
     fn hold_none(&mut self, rows: Vec<MemberRow>, reply: &StepReply)
         ensures held { (view self.new).held ≡ held_by reply.now (λ x. rows.items) (view self.old).held (view self.old).held }
         ensures stores { (self.new.triggers ≡ self.old.triggers) × (self.new.states ≡ self.old.states) }
+        ensures standing { self.new.standing ≡ self.old.standing }
     {
         if let StepReply::Ok(_) = reply {
             self.held = rows;

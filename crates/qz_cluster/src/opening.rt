@@ -1,5 +1,5 @@
 //! Opening and giving back.
-ghost use Rattle.std.specs.Prelude.{◌≡◌, ◌⊎◌, ◌≤◌, [], length, IfOk, IfErr, MatchResult};
+ghost use Rattle.std.specs.Prelude.{◌≡◌, ◌⊎◌, ◌≤◌, [], true, length, IfOk, IfErr, MatchResult};
 ghost use Rattle.qz_journal.specs.Through.{OnlyReads};
 ghost use Rattle.qz_trigger_store.specs.Bytes.{Whole, IsWhole};
 ghost use Rattle.qz_trigger_store.specs.Opening.{IsOpened};
@@ -34,6 +34,7 @@ impl<D: Disk> Cluster<D> {
     ) -> Result<Cluster<D>, (MountFault, D, D)>
         ensures opened { IfOk result (λ c. IsOpened (view c).triggers × AreOpened (view c).states) }
         ensures nothing_held { IfOk result (λ c. (view c).held ≡ []) }
+        ensures standing { IfOk result (λ c. (view c).standing ≡ true) }
         ensures nothing_added { IfOk result (λ c. added_of (triggers_of c) ≡ []) }
         ensures keeps { IfOk result (λ c. keeps_of (triggers_of c) ≡ keeps_entries keep) }
         ensures behind { IfOk result (λ c. behind_of (triggers_of c) ≡ length (found_of (triggers_of c))) }
@@ -61,6 +62,7 @@ impl<D: Disk> Cluster<D> {
                     triggers,
                     states,
                     held: Vec::new(alloc),
+                    standing: true,
                 }),
                 Err((error, states)) => Err((
                     MountFault {
@@ -98,6 +100,7 @@ impl<D: Disk> Cluster<D> {
             triggers,
             states,
             held: _,
+            standing: _,
         } = self;
         (triggers.into_disk(), states.into_disk())
     }
@@ -111,6 +114,7 @@ impl<D: Disk> Cluster<D> {
             triggers,
             states,
             held: _,
+            standing: _,
         } = self;
         (triggers, states)
     }

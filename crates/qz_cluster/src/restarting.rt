@@ -1,8 +1,8 @@
 //! A restart of both disks.
-ghost use Rattle.std.specs.Prelude.{◌≡◌, ℤ, [], false, IfOk, IfErr};
+ghost use Rattle.std.specs.Prelude.{◌≡◌, ℤ, [], Bool, false, IfOk, IfErr};
 ghost use Rattle.qz_steps.specs.declared.steps.Step.TheVariants as step_is;
 ghost use Rattle.qz_cluster.specs.Restarting.{unread};
-ghost use Rattle.qz_cluster.specs.Steps.{StepCase, EndCase};
+ghost use Rattle.qz_cluster.specs.Steps.{StepCase, EndCase, standing_after};
 ghost use Rattle.qz_cluster.specs.View.{view, KeepsUnlessDone, EachLeavesEither, IsTold};
 
 use crate::{Cluster, StepEnd};
@@ -18,9 +18,11 @@ impl<D: Disk> Cluster<D> {
         ensures ok { (at : ℤ) → IfOk result (λ r. StepCase (IsTold self.old) (record { step = step_is.Restart; at = at }) r (view self.old) (view self.new)) }
         ensures err { (at : ℤ) → IfErr result (λ e. EndCase (IsTold self.old) (record { step = step_is.Restart; at = at }) e (view self.old) (view self.new)) }
         ensures keeps { IfOk result (λ r. KeepsUnlessDone r self.old self.new) }
+        ensures standing { IfOk result (λ r. self.new.standing ≡ standing_after step_is.Restart r self.old.standing) }
         ensures any_moment { D.honest → EachLeavesEither self.old self.new }
     {
         self.held = Vec::new(self.alloc);
+        self.standing = false;
         let triggers_crashed = self.triggers.crash();
         let states_crashed = self.states.crash();
         if triggers_crashed.is_err() || states_crashed.is_err() {
@@ -35,8 +37,10 @@ impl<D: Disk> Cluster<D> {
         requires triggers { (view self.old).triggers.is_open ≡ false }
         requires states { (view self.old).states.is_open ≡ false }
         requires held { (view self.old).held ≡ [] }
+        requires standing { self.old.standing ≡ false }
         ensures ok { (at : ℤ) → IfOk result (λ r. StepCase (IsTold self.old) (record { step = step_is.Restart; at = at }) r (view self.old) (view self.new)) }
         ensures err { (at : ℤ) → IfErr result (λ e. EndCase (IsTold self.old) (record { step = step_is.Restart; at = at }) e (view self.old) (view self.new)) }
+        ensures standing { (was : Bool) → IfOk result (λ r. self.new.standing ≡ standing_after step_is.Restart r was) }
         ensures any_moment { D.honest → EachLeavesEither self.old self.new }
     {
         match self.triggers.reread() {
@@ -44,6 +48,7 @@ impl<D: Disk> Cluster<D> {
                 Ok(states) => {
                     self.triggers.open(triggers);
                     self.states.open(states);
+                    self.standing = true;
                     Ok(StepReply::Restarted)
                 }
                 Err(error) => {

@@ -23,6 +23,7 @@ impl<D: Disk> Cluster<D> {
         ensures err { (at : ℤ) → IfErr result (λ e. EndCase (IsTold self.old) (record { step = step_is.Resume node epoch; at = at }) e (view self.old) (view self.new)) }
         ensures keeps { IfOk result (λ r. KeepsUnlessDone r self.old self.new) }
         ensures quiet { KeepsStores self.old self.new }
+        ensures standing { self.new.standing ≡ self.old.standing }
         ensures any_moment { D.honest → EachLeavesEither self.old self.new }
     {
         if self.triggers.closed() {
@@ -75,6 +76,7 @@ impl<D: Disk> Cluster<D> {
         ensures err { (at : ℤ) → IfErr result (λ e. EndCase (IsTold self.old) (record { step = step_is.Resume node epoch; at = at }) e (view self.old) (view self.new)) }
         ensures keeps { IfOk result (λ r. KeepsUnlessDone r self.old self.new) }
         ensures quiet { KeepsStores self.old self.new }
+        ensures standing { self.new.standing ≡ self.old.standing }
         ensures any_moment { D.honest → EachLeavesEither self.old self.new }
     {
         self.held.reserve(1)?;

@@ -37,6 +37,8 @@ impl<D: Disk> Cluster<D> {
             Step::Restart => self.restart(),
             Step::Resume { node, epoch } => self.resume(node, epoch),
             Step::Show(question) => self.show(&question),
+            Step::Checkpoint => self.make_checkpoint(),
+            Step::ShowRoom => Ok(self.show_room()),
         }
     }
 
@@ -45,6 +47,7 @@ impl<D: Disk> Cluster<D> {
         ensures ok { (at : ℤ) → StepCase (IsTold self.old) (record { step = step_is.Stop node.now; at = at }) result (view self.old) (view self.new) }
         ensures keeps { KeepsUnlessDone result self.old self.new }
         ensures quiet { KeepsStores self.old self.new }
+        ensures standing { self.new.standing ≡ self.old.standing }
         ensures any_moment { D.honest → EachLeavesEither self.old self.new }
     {
         if epoch_of(&self.held, node).is_none() {

@@ -25,6 +25,7 @@ impl<D: Disk> Cluster<D> {
         ensures states { self.new.states ≡ self.old.states }
         ensures keeps { IfOk result (λ r. KeepsUnlessDone r self.old self.new) }
         ensures unchanged { OnErr result (KeepsStores self.old self.new) }
+        ensures standing { self.new.standing ≡ self.old.standing }
         ensures any_moment { D.honest → EachLeavesEither self.old self.new }
     {
         match self.triggers.submit(entry) {
@@ -65,6 +66,7 @@ impl<D: Disk> Cluster<D> {
         ensures triggers { self.new.triggers ≡ self.old.triggers }
         ensures keeps { IfOk result (λ r. KeepsUnlessDone r self.old self.new) }
         ensures unchanged { OnErr result (KeepsStores self.old self.new) }
+        ensures standing { self.new.standing ≡ self.old.standing }
         ensures any_moment { D.honest → EachLeavesEither self.old self.new }
     {
         let answer = self.states.check_in(at, 0, node, interval);
@@ -95,6 +97,7 @@ impl<D: Disk> Cluster<D> {
         ensures triggers { self.new.triggers ≡ self.old.triggers }
         ensures keeps { IfOk result (λ r. KeepsUnlessDone r self.old self.new) }
         ensures unchanged { OnErr result (KeepsStores self.old self.new) }
+        ensures standing { self.new.standing ≡ self.old.standing }
         ensures any_moment { D.honest → EachLeavesEither self.old self.new }
     {
         let last = self.last_check_in(failed);

@@ -1,4 +1,10 @@
+pub mod Bases
+pub mod Joined
+pub mod Begun
 pub mod Feeding
+pub mod Froms
+pub mod Gathering
+pub mod NewTables
 pub mod Over
 pub mod Promoted
 pub mod Reading

@@ -1,316 +1,190 @@
--- A promotion, record by record.
-use Rattle.std.proofs.Common.{◌≡◌, ◌≢◌, ◌⊎◌, inl, inr, ⊎_elim, ℕ, ◌+◌, ◌<◌, ◌≤◌, ◌^◌, true, false, List, [], ◌∷◌, ◌++◌, length, get_or, take, drop, suc, refl, sym, ◌∙◌, ap, subst, arith, append_assoc}
-use Rattle.std.specs.Prelude.{Option, Some, None, Ok, Err, IsOk, IfOk, IfErr, MatchResult, Bool}
+-- A promotion.
+use Rattle.std.proofs.Common.{◌≡◌, ◌≢◌, ◌⊎◌, inl, inr, ⊎_elim, ℕ, ◌+◌, ◌-◌, ◌<◌, ◌≤◌, ◌^◌, true, false, nat_lt, if◌then◌else◌, List, [], ◌++◌, length, refl, sym, ◌∙◌, ap, subst, arith, append_assoc, length-append}
+use Rattle.std.specs.Prelude.{Option, Some, None, Ok, Err, IfOk, IfErr, MatchResult, Bool, IsTrue, All}
 use Rattle.std.specs.declared.result.Result.{Result}
 use Rattle.std.specs.List.{AllZip}
 use Rattle.std.proofs.Math.Logic.{◌↔◌, ∥∥₁_map, ∥∥₁_elim}
-use Rattle.std.proofs.Math.Seq.{split_at}
 use Rattle.std.proofs.Props.{props}
-use Rattle.std.proofs.lemmas.Bool.{lt-ltb}
-use Rattle.std.proofs.lemmas.List.{take_more, take_all, length-take-le}
-use Rattle.std.proofs.lemmas.List.Elements.{All-get_or}
+use Rattle.std.proofs.lemmas.Bool.{ltb-true, ltb-false}
 use Rattle.qz_civil.specs.Causes.{Rose}
+use Rattle.qz_civil.specs.Lists.{WithRoom}
 use Rattle.qz_disk.specs.Disk.{DiskState, Only, Torn, LeavesOnly, IsLawful}
 use Rattle.qz_disk.specs.declared.disk.Disk.{Ghosts}
 use Rattle.qz_disk.proofs.Moments
-use Rattle.qz_journal.specs.Commits.{need_of}
-use Rattle.qz_journal.specs.Layout.{IsPayload, end_of}
+use Rattle.qz_journal.proofs.GroupBytes.{no_more}
+use Rattle.qz_journal.specs.Commits.{HaveRoom, IsFullFor, room_for}
+use Rattle.qz_journal.specs.Layout.{HasStore, IsPayload, blocks, end_of}
 use Rattle.qz_journal.specs.Making.{Makes}
 use Rattle.qz_journal.specs.declared.errors.NewStoreError.{NewStoreError}
 use Rattle.qz_journal.specs.declared.errors.NewStoreError.TheVariants as new_store
-use Rattle.qz_journal.specs.declared.layout.TheConstants.{TRIGGERS, MAX_PAYLOADS}
-use Rattle.qz_codec.specs.Reading.{Answers}
-use Rattle.qz_codec.specs.declared.errors.ReadError.{ReadError}
-use Rattle.qz_codec.specs.declared.errors.ReadError.TheVariants as errors
-use Rattle.qz_model.specs.History.{History, IsLegalFrom, replay}
-use Rattle.qz_model.specs.Transaction.{transaction}
+use Rattle.qz_journal.specs.declared.layout.TheConstants.{TRIGGERS, MAX_BYTES, MAX_PAYLOADS}
+use Rattle.qz_model.specs.History.{History, IsLegalFrom, replay_from}
+use Rattle.qz_snapshot.specs.Checkpoints.{snapshot_written}
 use Rattle.qz_stores.specs.Bases.{HoldAll}
+use Rattle.qz_stores.specs.declared.compacting.CompactError.{CompactError}
+use Rattle.qz_stores.specs.declared.compacting.CompactError.TheVariants as compact
 use Rattle.qz_stores.specs.Facts.{Encode-length}
-use Rattle.qz_stores.specs.Kinds.{IsAccepted, with_entry}
-use Rattle.qz_stores.specs.Stores.{HasRoom, Appends, Fails, Submits}
-use Rattle.qz_stores.proofs.Blocks.{gate_fits, taken_gate}
-use Rattle.qz_stores.proofs.Moments.{view_as_before}
 use Rattle.qz_types.specs.Entries.{EntryData}
-use Rattle.qz_types.specs.Tables.{empty}
-use Rattle.qz_types.specs.declared.errors.SubmitError.{SubmitError}
-use Rattle.qz_types.specs.declared.errors.SubmitError.TheVariants as submit
-use Rattle.qz_types.specs.declared.replies.Refusal.{Refusal}
-use Rattle.qz_types.specs.declared.replies.Reply.{Reply}
-use Rattle.qz_trigger_store.specs.Bytes.{list_of, IsWhole, Stands, MayBe}
-use Rattle.qz_trigger_store.specs.Entries.{IsRecordOf, TriggerState, answer_of, adopted_entry, history_of}
+use Rattle.qz_types.specs.Tables.{SchedulerTables, empty}
+use Rattle.qz_trigger_store.specs.Bytes.{IsWhole, Stands, MayBe}
+use Rattle.qz_stores.specs.Compacting.{IsNoneOrBegun}
+use Rattle.qz_trigger_store.specs.Compacting.{Compacts}
+use Rattle.qz_trigger_store.specs.Entries.{IsRecordOf}
+use Rattle.qz_trigger_store.specs.Extending.{with_entries, HoldsFirst as HoldsMore, Has, Extends}
 use Rattle.qz_trigger_store.specs.Kinds.{trigger_kind}
 use Rattle.qz_trigger_store.specs.Laws.{trigger_lawful}
-use Rattle.qz_trigger_store.specs.View.{view, version_of, found_of, added_of, keeps_of, disk_state, GoesOnFrom, IsOpenedAsBefore, LeavesEither}
+use Rattle.qz_trigger_store.specs.View.{view, added_of, keeps_of, tables_of, opened_of, disk_state, GoesOnFrom, IsOpenedAsBefore}
 use Rattle.qz_trigger_store.specs.declared.stores.TriggerStore.{TriggerStore}
 use Rattle.qz_trigger_store.proofs.Images.{now}
-use Rattle.qz_trigger_store.proofs.Outcomes.{not_read}
-use Rattle.qz_civil.specs.Lists.{WithRoom}
 use Rattle.qz_follow.specs.Kept.{AreKept, KeepsRecords}
-use Rattle.qz_follow.specs.Promoting.{HoldsFirst, HasEntries, Promotes, AreAdoptable, IsNext, IsOpenWith, HasAdopted, HasAdoptedFirst, Adopts, IsFailure, HasFilled, Fills, fault_of}
+use Rattle.qz_follow.specs.Promoting.{list_from, history_from, HoldsFirst, HoldsPart, HasEntries, IsFullOf, LacksAll, Promotes, Begins, IsBehindStart, AreAdoptable, IsOpenWith, IsFailure, Fills, fault_of, unbegun}
 use Rattle.qz_follow.specs.declared.promoting.PromoteFault.{PromoteFault}
 use Rattle.qz_follow.specs.declared.promoting.PromoteFault.TheVariants as fault
 
--- The entry at a place, and the records before it.
-
-pub entry_at : (es : List EntryData) (i : ℕ) → i < length es → (e : EntryData) × (es ≡ take i es ++ e ∷ drop (suc i) es) × (take (i + 1) es ≡ take i es ++ e ∷ [])
-entry_at [] i below = absurd (omega (arith, below))
-entry_at (d ∷ es) i below = (get_or (d ∷ es) i d, split_at (d ∷ es) i d below, take_more (d ∷ es) i d below)
-
-zip_at : (xs ys : List (List ℕ)) (p : List ℕ) (es fs : List EntryData) (e : EntryData) → length xs ≡ length es → AllZip IsRecordOf (xs ++ p ∷ ys) (es ++ e ∷ fs) → IsRecordOf p e
-zip_at [] ys p [] fs e same all = all.0
-zip_at [] ys p (f ∷ es) fs e same all = absurd (omega (arith, same))
-zip_at (x ∷ xs) ys p [] fs e same all = absurd (omega (arith, same))
-zip_at (x ∷ xs) ys p (f ∷ es) fs e same all = zip_at xs ys p es fs e (omega (arith, same)) all.1
-
-module _ (v : ℕ) (es : List EntryData) (ps : List (List ℕ)) (can : AreAdoptable v es ps) where
-  pub as_many : length ps ≡ length es
-  as_many = ∥∥₁_elim can.kept (hlevel props) (λ k. Encode-length trigger_kind ps es ∣ k.recorded ∣₁)
-
-  -- The next payload is that at this place.
-  module _ (i : ℕ) (p : List ℕ) (below : i < length ps) (here : p ≡ get_or ps i p) where
-    pub next_entry : (e : EntryData) × (es ≡ take i es ++ e ∷ drop (suc i) es) × (take (i + 1) es ≡ take i es ++ e ∷ [])
-    next_entry = entry_at es i (omega (arith, below, as_many))
-
-    pub next_size : IsPayload p
-    next_size = ∥∥₁_elim can.kept (hlevel props) (λ k. subst IsPayload (sym here) (All-get_or IsPayload ps i p below k.sizes))
-
-    parts : ps ≡ take i ps ++ p ∷ drop (suc i) ps
-    parts = split_at ps i p below ∙ ap (λ (x : List ℕ). take i ps ++ x ∷ drop (suc i) ps) (sym here)
-
-    pub next_record : ∥ IsRecordOf p next_entry.0 ∥₁
-    next_record = ∥∥₁_map can.kept (λ k.
-        zip_at (take i ps) (drop (suc i) ps) p (take i es) (drop (suc i) es) next_entry.0
-        (length-take-le i ps (omega (arith, below)) ∙ sym (length-take-le i es (omega (arith, below, as_many))))
-        (subst (λ (l : List EntryData). AllZip IsRecordOf (take i ps ++ p ∷ drop (suc i) ps) l) next_entry.1 (subst (λ (l : List (List ℕ)). AllZip IsRecordOf l es) parts k.recorded)))
-
-    next_room : (s : TriggerState) → s.gate ≡ end_of (take i ps) → s.payloads ≡ length (take i ps) → HasRoom (length p) s
-    next_room s gate payloads =
-        let fits : s.gate + need_of (length p) ≤ end_of ps = gate_fits 16 ps i p s.gate below here gate in
-        let few : s.payloads < MAX_PAYLOADS = omega (arith, payloads, length-take-le i ps (omega (arith, below)), below, can.few) in
-        rw (lt-ltb s.payloads MAX_PAYLOADS few) (omega (arith, fits, can.low))
-
-    -- A store that has adopted those before can adopt it.
-    pub can_next : (s : TriggerState) → s.is_open ≡ true → s.history ≡ history_of v (take i es) → s.gate ≡ end_of (take i ps) → s.payloads ≡ length (take i ps) → ∥ ((e : EntryData) × IsNext s p e) ∥₁
-    can_next s is_open history gate payloads =
-        ∥∥₁_elim can.legal squash₁ (λ l. ∥∥₁_map next_record (λ is. (
-          next_entry.0,
-          record {
-            is_open = is_open;
-            is_record = is;
-            accepted = subst (λ (h : History). IsAccepted trigger_kind (replay h) next_entry.0) (sym history)
-                (trigger_lawful.legal_at (empty v) (take i es) next_entry.0 (drop (suc i) es) (subst (IsLegalFrom (empty v)) next_entry.1 l));
-            room = next_room s gate payloads;
-          },
-        )))
-
-    -- Then it has adopted it, too.
-    pub adopted_more : {D : Type 0} {g : Ghosts D} (s t : TriggerStore D g) → IsOpenedAsBefore s t → Adopts p next_entry.0 (Ok tt) s t → HasAdopted v (take i es) (take i ps) s → HasAdopted v (take (i + 1) es) (take (i + 1) ps) t
-    adopted_more s t opened done was =
-        let more = done.2 in
-        let e = next_entry.0 in
-        let all : take i es ++ e ∷ [] ≡ take (i + 1) es = sym next_entry.2 in
-        record {
-          with_them = record {
-            is_open = more.is_open;
-            version_is = opened.0 ∙ was.with_them.version_is;
-            history = more.history ∙ ap (with_entry trigger_kind e) was.with_them.history ∙ ap (history_of v) all;
-            found = opened.3 ∙ was.with_them.found;
-            added = done.0 ∙ ap (λ (l : List EntryData). l ++ e ∷ []) was.with_them.added ∙ all;
-          };
-          gate = more.gate ∙ taken_gate 16 ps i p (view s).gate below here was.gate;
-          payloads_are = omega (arith, more.payloads, was.payloads_are, length-take-le i ps (omega (arith, below)), length-take-le (i + 1) ps (omega (arith, below)));
-        }
-
-  -- At the end all were adopted.
-  pub all_adopted : {D : Type 0} {g : Ghosts D} (i : ℕ) (s : TriggerStore D g) → length ps ≤ i → HasAdopted v (take i es) (take i ps) s → HasAdopted v es ps s
-  all_adopted i s over was =
-      subst (λ (l : List EntryData). HasAdopted v l ps s) (take_all i es (omega (arith, over, as_many))) (subst (λ (l : List (List ℕ)). HasAdopted v (take i es) l s) (take_all i ps over) was)
-
 -- What the bytes of such a store are.
 
-pub stands_all : (v : ℕ) (first : List EntryData) (b : List ℕ) → Stands (list_of v []) b (history_of v first) → IsWhole (list_of v first) b
-stands_all v first b stands = subst (λ (l : List EntryData). HoldAll trigger_kind v (empty v) b l) (sym stands.end_of_them.rest) stands.held
-
-module _ (v : ℕ) (entries first rest : List EntryData) (parts : entries ≡ first ++ rest) (h : History) (is : h ≡ history_of v first) where
-  stands_first : (b : List ℕ) → Stands (list_of v []) b h → HoldsFirst v entries b
-  stands_first b stands = (first, rest, parts, stands_all v first b (subst (Stands (list_of v []) b) is stands))
-
-  pub may_first : (u : Option EntryData) (b : List ℕ) → u ≡ None → MayBe (list_of v []) h u b → HoldsFirst v entries b
-  may_first u b none may = stands_first b (subst (λ (x : Option EntryData). MayBe (list_of v []) h x b) none may)
-
-  -- where the next entry is undecided
-  pub may_next : (u : Option EntryData) (e : EntryData) (more : List EntryData) (b : List ℕ) → u ≡ Some e → rest ≡ e ∷ more → MayBe (list_of v []) h u b → HoldsFirst v entries b
-  may_next u e more b some next may =
-      ⊎_elim (λ before. stands_first b before)
-      (λ after. (
-        first ++ e ∷ [],
-        more,
-        parts ∙ ap (λ (l : List EntryData). first ++ l) next ∙ sym (append_assoc first (e ∷ []) more),
-        stands_all v (first ++ e ∷ []) b (subst (Stands (list_of v []) b) (ap (with_entry trigger_kind e) is) after),
-      ))
-      (subst (λ (x : Option EntryData). MayBe (list_of v []) h x b) some may)
+pub stands_all : (v : ℕ) (start : SchedulerTables) (first : List EntryData) (b : List ℕ) → Stands (list_from v start []) b (history_from start first) → IsWhole (list_from v start first) b
+stands_all v start first b stands = subst (λ (l : List EntryData). HoldAll trigger_kind v start b l) (sym stands.end_of_them.rest) stands.held
 
 -- the count of faults rose since an earlier moment, too
 pub rose_later : (a b c : ℕ) → a ≤ b → Rose b c → Rose a c
 rose_later a b c le rose = omega (arith, le, rose)
 
--- A store that has adopted some of the entries.
-module _ {D : Type 0} {g : Ghosts D} (v : ℕ) where
+-- A store that has some of the entries.
+module _ {D : Type 0} {g : Ghosts D} (v : ℕ) (start : SchedulerTables) where
   pub settled : (s : TriggerStore D g) → (view s).is_open ≡ true → (view s).undecided ≡ None
   settled s is_open = s.store.settled is_open
 
   -- an honest disk has these, and a crash leaves them
-  pub has_entries : (first : List EntryData) (s : TriggerStore D g) → g.honest → IsLawful (disk_state s) → GoesOnFrom s (list_of v []) → IsOpenWith v first s → HasEntries v first (disk_state s)
+  pub has_entries : (first : List EntryData) (s : TriggerStore D g) → g.honest → IsLawful (disk_state s) → GoesOnFrom s (list_from v start []) → IsOpenWith v start first s → HasEntries v start first (disk_state s)
   has_entries first s honest lawful from with_them =
-      let each : (b : List ℕ) → (disk_state s).IsImage b → IsWhole (list_of v first) b =
-      λ b is. stands_all v first b (subst (Stands (list_of v []) b) with_them.history (subst (λ (x : Option EntryData). MayBe (list_of v []) (view s).history x b) (settled s with_them.is_open) (now s honest (list_of v []) from b is))) in
+      let each : (b : List ℕ) → (disk_state s).IsImage b → IsWhole (list_from v start first) b =
+      λ b is. stands_all v start first b (subst (Stands (list_from v start []) b) with_them.history (subst (λ (x : Option EntryData). MayBe (list_from v start []) (view s).history x b) (settled s with_them.is_open) (now s honest (list_from v start []) from b is))) in
       record { content = each (disk_state s).content lawful.content; images = each }
 
-  -- one record more, or a failure
-  module _ (entries first more : List EntryData) (e : EntryData) (parts : entries ≡ first ++ e ∷ more) (p : List ℕ) (s t : TriggerStore D g) (with_them : IsOpenWith v first s) where
-    next_may : (r : Result (Unit {0}) PromoteFault) → Adopts p e r s t → (b : List ℕ) → MayBe (list_of v []) (view t).history (view t).undecided b → HoldsFirst v entries b
-    next_may (Ok x) done b may =
-        may_first v entries (first ++ e ∷ []) more (parts ∙ sym (append_assoc first (e ∷ []) more)) (view t).history (done.2.history ∙ ap (with_entry trigger_kind e) with_them.history) (view t).undecided b done.2.undecided may
-    next_may (Err fault.NoMemory) done b may =
-        let same = view_as_before trigger_lawful s.store t.store done.0 in
-        may_first v entries first (e ∷ more) parts (view t).history (ap (λ (x : TriggerState). x.history) same ∙ with_them.history) (view t).undecided b (ap (λ (x : TriggerState). x.undecided) same ∙ settled s with_them.is_open) may
-    next_may (Err fault.Fault) done b may =
-        may_next v entries first (e ∷ more) parts (view t).history (done.history ∙ with_them.history) (view t).undecided e more b done.undecided refl may
-    next_may (Err (fault.Short at)) done b may = absurd done
-    next_may (Err fault.Exists) done b may = absurd done
-    next_may (Err fault.OtherKind) done b may = absurd done
+-- A store that takes over entries, after it was begun with nothing but its start.
+module _ {D : Type 0} {g : Ghosts D} (v : ℕ) (start : SchedulerTables) (es : List EntryData) (s : TriggerStore D g) (was : IsOpenWith v start [] s) where
+  pub left_by : tables_of s ≡ start
+  left_by = s.store.replayed ∙ ap (λ (h : History). replay_from h.base h.entries) was.history ∙ trigger_lawful.replay_none start
 
-    pub next_leaves : (r : Result (Unit {0}) PromoteFault) → Adopts p e r s t → LeavesEither s t → GoesOnFrom s (list_of v []) → LeavesOnly (disk_state s) (disk_state t) (HoldsFirst v entries)
-    next_leaves r done leaves from =
-        Moments.weaker (disk_state s) (disk_state t) _ _ (leaves (list_of v []) from).1
-        (λ b either. ⊎_elim (λ before. may_first v entries first (e ∷ more) parts (view s).history with_them.history (view s).undecided b (settled s with_them.is_open) before) (λ after. next_may r done b after) either)
+  pub goes_on : IsWhole (list_from v start []) (opened_of s) → GoesOnFrom s (list_from v start [])
+  goes_on whole = ([], was.version_is, whole)
 
-    -- memory ran out
-    pub still_first : Adopts p e (Err fault.NoMemory) s t → HasAdoptedFirst v entries t
-    still_first done =
-        let same = view_as_before trigger_lawful s.store t.store done.0 in
-        let opened = done.0.1 in (
-          first,
-          e ∷ more,
-          parts,
-          record {
-            is_open = ap (λ (x : TriggerState). x.is_open) same ∙ with_them.is_open;
-            version_is = opened.0 ∙ with_them.version_is;
-            history = ap (λ (x : TriggerState). x.history) same ∙ with_them.history;
-            found = opened.3 ∙ with_them.found;
-            added = done.0.5 ∙ with_them.added;
-          },
-        )
+  pub open_with : (ps : List (List ℕ)) (t : TriggerStore D g) → Extends ps es (view s) (view t) → added_of t ≡ added_of s ++ es → IsOpenedAsBefore s t → IsOpenWith v start es t
+  open_with ps t more added opened = record {
+    is_open = more.is_open;
+    version_is = opened.0 ∙ was.version_is;
+    history = more.history ∙ ap (λ (h : History). record h { entries = h.entries ++ es }) was.history;
+    found = opened.3 ∙ was.found;
+    added = added ∙ ap (λ (l : List EntryData). l ++ es) was.added;
+  }
 
-    pub failed_first : (y : PromoteFault) → y ≡ fault.NoMemory → Adopts p e (Err y) s t → HasAdoptedFirst v entries t
-    failed_first y is done = still_first (subst (λ (x : PromoteFault). Adopts p e (Err x) s t) is done)
+  leaves_first : (t : DiskState) → LeavesOnly (disk_state s) t (HoldsMore (with_entries (list_from v start []) (added_of s)) es) → LeavesOnly (disk_state s) t (HoldsFirst v start es)
+  leaves_first t leaves = subst (λ (l : List EntryData). LeavesOnly (disk_state s) t (HoldsMore (with_entries (list_from v start []) l) es)) was.added leaves
 
-    pub failed_by : (before : ℕ) (y : PromoteFault) → before ≤ (view s).faults → Adopts p e (Err y) s t → IsFailure before y (view t).faults
-    failed_by before fault.NoMemory le done = tt
-    failed_by before fault.Fault le done = rose_later before (view s).faults (view t).faults le done.rose
-    failed_by before (fault.Short at) le done = absurd done
-    failed_by before fault.Exists le done = absurd done
-    failed_by before fault.OtherKind le done = absurd done
+  pub filled : (t : DiskState) → Has (with_entries (list_from v start []) (added_of s ++ es)) t → LeavesOnly (disk_state s) t (HoldsMore (with_entries (list_from v start []) (added_of s)) es) → Fills v start es None (disk_state s) t
+  filled t has leaves =
+      let here : Has (list_from v start es) t = subst (λ (l : List EntryData). Has (with_entries (list_from v start []) (l ++ es)) t) was.added has in
+      record { has = record { content = here.content; images = here.images }; any_moment = leaves_first t leaves }
+
+  pub starved_by : (t : DiskState) → Has (with_entries (list_from v start []) (added_of s)) t → LeavesOnly (disk_state s) t (HoldsMore (with_entries (list_from v start []) (added_of s)) es) → Fills v start es (Some fault.NoMemory) (disk_state s) t
+  starved_by t has leaves =
+      let here : Has (list_from v start []) t = subst (λ (l : List EntryData). Has (with_entries (list_from v start []) l) t) was.added has in
+      record { has = record { content = here.content; images = here.images }; any_moment = leaves_first t leaves }
+
+  pub failed_by : (t : DiskState) → LeavesOnly (disk_state s) t (HoldsMore (with_entries (list_from v start []) (added_of s)) es) → Fills v start es (Some fault.Fault) (disk_state s) t
+  failed_by t leaves = record { has = tt; any_moment = leaves_first t leaves }
+
+  -- there was no room, and so nothing was done
+  pub full_by : (need room : ℕ) → g.honest → IsLawful (disk_state s) → IsWhole (list_from v start []) (opened_of s) → Fills v start es (Some (fault.NoRoom need room)) (disk_state s) (disk_state s)
+  full_by need room honest lawful whole =
+      let has = has_entries v start [] s honest lawful (goes_on whole) was in
+      record { has = has; any_moment = Moments.started (disk_state s) (HoldsFirst v start es) lawful (λ b is. ([], es, refl, has.images b is)) }
 
 -- What becomes of the disk.
 
-pub not_made : (v : ℕ) (entries : List EntryData) (x : NewStoreError) (s t : DiskState) → Makes v TRIGGERS (Some x) s t → Promotes v entries (Some (fault_of x)) s t
-not_made v entries new_store.Exists s t m = record { found = m.found; made = m.made; kept = m.kept; kept_at_any_moment = m.kept_at_any_moment; any_moment = λ bytes only. Moments.weaker s t _ _ (m.any_moment bytes only) (λ b torn. inl torn) }
-not_made v entries new_store.OtherKind s t m = record { found = m.found; made = m.made; kept = m.kept; kept_at_any_moment = m.kept_at_any_moment; any_moment = λ bytes only. Moments.weaker s t _ _ (m.any_moment bytes only) (λ b torn. inl torn) }
-not_made v entries new_store.NoMemory s t m = record { found = m.found; made = inl m.made; kept = m.kept; kept_at_any_moment = m.kept_at_any_moment; any_moment = λ bytes only. Moments.weaker s t _ _ (m.any_moment bytes only) (λ b torn. inl torn) }
-not_made v entries new_store.Fault s t m = record { found = tt; made = tt; kept = m.kept; kept_at_any_moment = m.kept_at_any_moment; any_moment = λ bytes only. Moments.weaker s t _ _ (m.any_moment bytes only) (λ b torn. inl torn) }
+pub not_made : (v : ℕ) (start : SchedulerTables) (entries : List EntryData) (x : NewStoreError) (s t : DiskState) → Makes v TRIGGERS (Some x) s t → Promotes v start entries (Some (fault_of x)) s t
+not_made v start entries new_store.Exists s t m = record { found = m.found; made = m.made; kept = m.kept; kept_at_any_moment = m.kept_at_any_moment; any_moment = λ bytes only. Moments.weaker s t _ _ (m.any_moment bytes only) (λ b torn. inl torn) }
+not_made v start entries new_store.OtherKind s t m = record { found = m.found; made = m.made; kept = m.kept; kept_at_any_moment = m.kept_at_any_moment; any_moment = λ bytes only. Moments.weaker s t _ _ (m.any_moment bytes only) (λ b torn. inl torn) }
+not_made v start entries new_store.NoMemory s t m = record { found = m.found; made = inl m.made; kept = m.kept; kept_at_any_moment = m.kept_at_any_moment; any_moment = λ bytes only. Moments.weaker s t _ _ (m.any_moment bytes only) (λ b torn. inl torn) }
+not_made v start entries new_store.Fault s t m = record { found = tt; made = tt; kept = m.kept; kept_at_any_moment = m.kept_at_any_moment; any_moment = λ bytes only. Moments.weaker s t _ _ (m.any_moment bytes only) (λ b torn. inl torn) }
 
--- a new store was made, and then adopted the first entries
-module _ (v : ℕ) (entries : List EntryData) (s m t : DiskState) (made : Makes v TRIGGERS None s m) (leaves : LeavesOnly m t (HoldsFirst v entries)) where
-  moment : (bytes : List ℕ) → Only bytes s → LeavesOnly s t (λ b. Torn 0 17 bytes b ⊎ HoldsFirst v entries b)
-  moment bytes only = Moments.then_leaves s m t (Torn 0 17 bytes) (HoldsFirst v entries) _ (made.any_moment bytes only) leaves (λ b torn. inl torn) (λ b first. inr first)
+-- a store that was begun with a snapshot has the first of all entries: none
+no_entries : (v : ℕ) (start : SchedulerTables) (entries : List EntryData) (b : List ℕ) → IsNoneOrBegun trigger_kind v start b → HoldsPart v start entries b
+no_entries v start entries b (inl none) = inl none
+no_entries v start entries b (inr begun) = inr ([], entries, refl, begun)
 
-  pub promoted : HasEntries v entries t → Promotes v entries None s t
-  promoted has = record { found = made.found; made = has; kept = λ there. absurd (made.found there); kept_at_any_moment = λ there. absurd (made.found there); any_moment = moment }
+module _ (v : ℕ) (start : SchedulerTables) (entries : List EntryData) (s t : DiskState) where
+  begun_moment : {error : Option CompactError} → Compacts v start error s t → (bytes : List ℕ) → Only bytes s → LeavesOnly s t (λ b. Torn 0 17 bytes b ⊎ HoldsPart v start entries b)
+  begun_moment m bytes only = Moments.weaker s t _ _ (m.any_moment bytes only) (λ b left. ⊎_elim (λ torn. inl torn) (λ begun. inr (no_entries v start entries b begun)) left)
 
-  pub starved : (first rest : List EntryData) → entries ≡ first ++ rest → HasEntries v first t → Promotes v entries (Some fault.NoMemory) s t
-  starved first rest parts has = record { found = made.found; made = inr (first, rest, parts, has); kept = λ there. absurd (made.found there); kept_at_any_moment = λ there. absurd (made.found there); any_moment = moment }
+  pub not_begun : (x : CompactError) → Compacts v start (Some x) s t → Promotes v start entries (Some (unbegun x)) s t
+  not_begun compact.Exists m = record { found = m.found; made = m.made; kept = m.kept; kept_at_any_moment = m.kept_at_any_moment; any_moment = begun_moment m }
+  not_begun compact.OtherKind m = record { found = m.found; made = m.made; kept = m.kept; kept_at_any_moment = m.kept_at_any_moment; any_moment = begun_moment m }
+  not_begun compact.NoMemory m = record { found = m.found; made = inl m.made; kept = m.kept; kept_at_any_moment = m.kept_at_any_moment; any_moment = begun_moment m }
+  not_begun (compact.NoRoom need room) m = record { found = m.found; made = inl m.made; kept = m.kept; kept_at_any_moment = m.kept_at_any_moment; any_moment = begun_moment m }
+  not_begun compact.Fault m = record { found = tt; made = tt; kept = m.kept; kept_at_any_moment = m.kept_at_any_moment; any_moment = begun_moment m }
 
-  pub failed : Promotes v entries (Some fault.Fault) s t
-  failed = record { found = tt; made = tt; kept = λ there. absurd (made.found there); kept_at_any_moment = λ there. absurd (made.found there); any_moment = moment }
+  pub begun : Compacts v start None s t → Begins v start s t
+  begun m = record { none = m.found; any_moment = λ bytes only. Moments.weaker s t _ _ (m.any_moment bytes only) (λ b left. ⊎_elim (λ torn. inl torn) (λ x. inr (no_entries v start [] b x)) left) }
 
--- The beginning: nothing was adopted.
-pub starts : {D : Type 0} {g : Ghosts D} (v : ℕ) (entries : List EntryData) (s : TriggerStore D g) → g.honest → IsLawful (disk_state s) → GoesOnFrom s (list_of v []) → IsOpenWith v [] s → LeavesOnly (disk_state s) (disk_state s) (HoldsFirst v entries)
-starts v entries s honest lawful from with_them =
-    Moments.started (disk_state s) (HoldsFirst v entries) lawful (λ b is.
-    may_first v entries [] entries refl (view s).history with_them.history (view s).undecided b (settled v s with_them.is_open) (now s honest (list_of v []) from b is))
+-- a store without a snapshot was made
+pub made_begins : (v : ℕ) (start : SchedulerTables) (s t : DiskState) → Makes v TRIGGERS None s t → Begins v start s t
+made_begins v start s t m = record { none = m.found; any_moment = λ bytes only. Moments.weaker s t _ _ (m.any_moment bytes only) (λ b torn. inl torn) }
 
--- one call after another
-pub opened_both : {D : Type 0} {g : Ghosts D} (s m t : TriggerStore D g) → IsOpenedAsBefore s m → IsOpenedAsBefore m t → IsOpenedAsBefore s t
-opened_both s m t first second = (second.0 ∙ first.0, second.1 ∙ first.1, second.2 ∙ first.2, second.3 ∙ first.3, second.4 ∙ first.4)
+-- a new store was made, and then took over the first entries
+module _ (v : ℕ) (start : SchedulerTables) (entries : List EntryData) (s m t : DiskState) (made : Begins v start s m) (leaves : LeavesOnly m t (HoldsFirst v start entries)) where
+  moment : (bytes : List ℕ) → Only bytes s → LeavesOnly s t (λ b. Torn 0 17 bytes b ⊎ HoldsPart v start entries b)
+  moment bytes only =
+      Moments.then_leaves s m t _ (HoldsFirst v start entries) _ (made.any_moment bytes only) leaves
+      (λ b before. ⊎_elim (λ torn. inl torn) (λ part. ⊎_elim (λ new. inr (inl new)) (λ first. inr (inr (none_first b first))) part) before)
+      (λ b first. inr (inr first))
+    where
+      none_first : (b : List ℕ) → HoldsFirst v start [] b → HoldsFirst v start entries b
+      none_first b first = (first.0, (first.1 ++ entries), sym (ap (λ (l : List EntryData). l ++ entries) (sym first.2)) ∙ append_assoc first.0 first.1 entries, first.3)
 
--- the count of faults doesn't fall
-pub adopts_later : {D : Type 0} {g : Ghosts D} (p : List ℕ) (e : EntryData) (r : Result (Unit {0}) PromoteFault) (s t : TriggerStore D g) → Adopts p e r s t → (view s).faults ≤ (view t).faults
-adopts_later p e (Ok x) s t done = done.2.later
-adopts_later p e (Err fault.NoMemory) s t done = let same = ap (λ (x : TriggerState). x.faults) (view_as_before trigger_lawful s.store t.store done.0) in omega (arith, same)
-adopts_later p e (Err fault.Fault) s t done = done.later
-adopts_later p e (Err (fault.Short at)) s t done = absurd done
-adopts_later p e (Err fault.Exists) s t done = absurd done
-adopts_later p e (Err fault.OtherKind) s t done = absurd done
+  pub promoted : HasEntries v start entries t → Promotes v start entries None s t
+  promoted has = record { found = made.none; made = has; kept = λ there. absurd (made.none there); kept_at_any_moment = λ there. absurd (made.none there); any_moment = moment }
 
--- One record.
+  pub starved : HasEntries v start [] t → Promotes v start entries (Some fault.NoMemory) s t
+  starved has = record { found = made.none; made = inr has; kept = λ there. absurd (made.none there); kept_at_any_moment = λ there. absurd (made.none there); any_moment = moment }
 
-not_ok : (a : Result Reply Refusal) (x : Refusal) → a ≡ Err x → IsOk a → ⊥
-not_ok a x is ok = no x (subst IsOk is ok)
-  where
-    no : (x : Refusal) → IsOk {T = Reply} {E = Refusal} (Err x) → ⊥
-    no x is = absurd cc
+  pub full : (need room : ℕ) → HasEntries v start [] t → Promotes v start entries (Some (fault.NoRoom need room)) s t
+  full need room has = record { found = made.none; made = inr has; kept = λ there. absurd (made.none there); kept_at_any_moment = λ there. absurd (made.none there); any_moment = moment }
 
-module _ (s : TriggerState) (p : List ℕ) (next : ∥ ((e : EntryData) × IsNext s p e) ∥₁) where
-  -- it is read
-  pub is_read : (x : ReadError) (at : ℕ) → x ≡ errors.BadRecord at → ((e : EntryData) → IsRecordOf p e → Answers {A = EntryData} (Err x) (Ok e)) → ⊥
-  is_read x at is only = ∥∥₁_elim next (hlevel props) (λ n. not_read x at n.0 is (only n.0 n.1.is_record))
+  pub failed : Promotes v start entries (Some fault.Fault) s t
+  failed = record { found = tt; made = tt; kept = λ there. absurd (made.none there); kept_at_any_moment = λ there. absurd (made.none there); any_moment = moment }
 
-  -- and memory or the disk alone may fail
-  abbrev pub IsOutside : SubmitError → Type 0
-  IsOutside (submit.Closed at) = ⊥
-  IsOutside (submit.Refused x) = ⊥
-  IsOutside (submit.JournalFull need room) = ⊥
-  IsOutside submit.NoMemory = Unit {0}
-  IsOutside submit.Fault = Unit {0}
+-- What was taken of a stream can be taken over.
+pub adoptable : (start : SchedulerTables) (end : ℕ) (es : List EntryData) (kept : Option (WithRoom (List ℕ))) (list : WithRoom (List ℕ)) → kept ≡ Some list → ∥ KeepsRecords end es kept ∥₁ → ∥ IsLegalFrom start es ∥₁ → AreAdoptable start es list.items
+adoptable start end es kept list is records legal =
+    let there : ∥ AreKept end es list.items ∥₁ = subst (λ (o : Option (WithRoom (List ℕ))). ∥ KeepsRecords end es o ∥₁) is records in
+    let end_is : end ≡ end_of list.items = ∥∥₁_elim there (hlevel props) (λ k. k.end_is) in
+    record { kept = subst (λ n. ∥ AreKept n es list.items ∥₁) end_is there; legal = legal }
 
-  pub only_failures : (y : SubmitError) (t : TriggerState) (e : EntryData) → IsRecordOf p e → Submits (adopted_entry p) e (Err y) s t → IsOutside y
-  only_failures (submit.Closed at) t e is done = ∥∥₁_elim next (hlevel props) (λ n. let no : true ≡ false = sym n.1.is_open ∙ done.0.was_closed in absurd cc)
-  only_failures (submit.Refused x) t e is done =
-      ∥∥₁_elim next (hlevel props) (λ n.
-      let same : n.0 ≡ e = trigger_lawful.records_once p n.0 e n.1.is_record is in
-      not_ok (answer_of (transaction (replay s.history) e)) x done.refused_as (subst (λ (f : EntryData). IsAccepted trigger_kind (replay s.history) f) same n.1.accepted))
-  only_failures (submit.JournalFull need room) t e is done = ∥∥₁_elim next (hlevel props) (λ n. absurd (omega (arith, n.1.room, done.full.0, done.full.1, done.full.2)))
-  only_failures submit.NoMemory t e is done = tt
-  only_failures submit.Fault t e is done = tt
+pub are_sizes : (start : SchedulerTables) (es : List EntryData) (ps : List (List ℕ)) → AreAdoptable start es ps → All IsPayload ps
+are_sizes start es ps can = ∥∥₁_elim can.kept (hlevel props) (λ k. k.sizes)
 
-pub same_entry : (p : List ℕ) (e f : EntryData) → ∥ IsRecordOf p e ∥₁ → IsRecordOf p f → f ≡ e
-same_entry p e f one is = ∥∥₁_elim one (hlevel props) (λ x. trigger_lawful.records_once p f e is x)
+pub are_records : (start : SchedulerTables) (es : List EntryData) (ps : List (List ℕ)) → AreAdoptable start es ps → ∥ AllZip IsRecordOf ps es ∥₁
+are_records start es ps can = ∥∥₁_map can.kept (λ k. k.recorded)
 
-module _ {D : Type 0} {g : Ghosts D} (p : List ℕ) (e f : EntryData) (same : f ≡ e) (s t : TriggerStore D g) where
-  pub adopts_one : (reply : Reply) → added_of t ≡ added_of s ++ f ∷ [] → Appends (adopted_entry p) f reply (view s) (view t) → Adopts p e (Ok tt) s t
-  adopts_one reply added done = subst (λ (x : EntryData). Adopts p x (Ok tt) s t) same (added, reply, done)
+-- the offset after them
+pub ends_at : (start : SchedulerTables) (end : ℕ) (es : List EntryData) (kept : Option (WithRoom (List ℕ))) (list : WithRoom (List ℕ)) → kept ≡ Some list → ∥ KeepsRecords end es kept ∥₁ → end ≡ end_of list.items
+ends_at start end es kept list is records =
+    let there : ∥ AreKept end es list.items ∥₁ = subst (λ (o : Option (WithRoom (List ℕ))). ∥ KeepsRecords end es o ∥₁) is records in
+    ∥∥₁_elim there (hlevel props) (λ k. k.end_is)
 
-  pub adopts_none : Fails (adopted_entry p) f (view s) (view t) → Adopts p e (Err fault.Fault) s t
-  adopts_none done = subst (λ (x : EntryData). Adopts p x (Err fault.Fault) s t) same done
-
--- What was taken of a stream can be adopted.
-pub adoptable : (v end count : ℕ) (es : List EntryData) (kept : Option (WithRoom (List ℕ))) (list : WithRoom (List ℕ)) → kept ≡ Some list → ∥ KeepsRecords end es kept ∥₁ → ∥ IsLegalFrom (empty v) es ∥₁ → count ≡ length es → count ≤ 2 ^ 23 → end < 2 ^ 29
-    → AreAdoptable v es list.items
-adoptable v end count es kept list is records legal counted few low =
+-- and has room in a store that has its records alone
+pub room_alone : (end count : ℕ) (es : List EntryData) (kept : Option (WithRoom (List ℕ))) (list : WithRoom (List ℕ)) → kept ≡ Some list → ∥ KeepsRecords end es kept ∥₁ → count ≡ length es → count ≤ 2 ^ 23 → end < 2 ^ 29 → HaveRoom list.items (end_of []) 0
+room_alone end count es kept list is records counted few low =
     let there : ∥ AreKept end es list.items ∥₁ = subst (λ (o : Option (WithRoom (List ℕ))). ∥ KeepsRecords end es o ∥₁) is records in
     let end_is : end ≡ end_of list.items = ∥∥₁_elim there (hlevel props) (λ k. k.end_is) in
     let many : length list.items ≡ length es = ∥∥₁_elim there (hlevel props) (λ k. Encode-length trigger_kind list.items es ∣ k.recorded ∣₁) in
-    record { kept = subst (λ n. ∥ AreKept n es list.items ∥₁) end_is there; legal = legal; low = omega (arith, low, end_is); few = omega (arith, many, counted, few) }
-
--- A store that was just made has adopted nothing.
-pub new_adopted : {D : Type 0} {g : Ghosts D} (v : ℕ) (s : TriggerStore D g) → (view s).is_open ≡ true → (view s).history ≡ history_of v [] → version_of s ≡ v → found_of s ≡ [] → added_of s ≡ [] → (view s).gate ≡ end_of [] → (view s).payloads ≡ 0
-    → HasAdopted v [] [] s
-new_adopted v s is_open history version found added gate payloads = record { with_them = record { is_open = is_open; version_is = version; history = history; found = found; added = added }; gate = gate; payloads_are = payloads }
+    (omega (arith, low, end_is), omega (arith, many, counted, few))
 
 -- Nothing was done.
-pub untouched : (v : ℕ) (entries : List EntryData) (at : ℕ) (s : DiskState) → IsLawful s → Promotes v entries (Some (fault.Short at)) s s
-untouched v entries at s lawful = record {
+pub untouched : (v : ℕ) (start : SchedulerTables) (entries : List EntryData) (at : ℕ) (s : DiskState) → IsLawful s → Promotes v start entries (Some (fault.Short at)) s s
+untouched v start entries at s lawful = record {
   found = tt;
   made = Moments.stays_same s;
   kept = λ there. Moments.stays_same s;
@@ -318,39 +192,54 @@ untouched v entries at s lawful = record {
   any_moment = λ bytes only. Moments.started s _ lawful (λ b is. inl (subst (Torn 0 17 bytes) (sym (only b is)) (Moments.torn_same 0 17 bytes)));
 }
 
--- one answer has one error
-pub same_error : (r : Result (Unit {0}) PromoteFault) (a b : PromoteFault) → r ≡ Err a → r ≡ Err b → a ≡ b
-same_error r a b p q = cc
-
--- What was filled.
-
-module _ {D : Type 0} {g : Ghosts D} (v : ℕ) (entries : List EntryData) (o t : TriggerStore D g) (honest : g.honest) (lawful : IsLawful (disk_state t)) (from : GoesOnFrom t (list_of v [])) where
-  filled_by : (before : ℕ) (y : PromoteFault) → IsFailure before y (view t).faults → (y ≡ fault.NoMemory → HasAdoptedFirst v entries t) → HasFilled v entries (Some y) (disk_state t)
-  filled_by before fault.NoMemory is first = let f = first refl in (f.0, f.1, f.2, has_entries v f.0 t honest lawful from f.3)
-  filled_by before fault.Fault is first = tt
-  filled_by before (fault.Short at) is first = absurd is
-  filled_by before fault.Exists is first = absurd is
-  filled_by before fault.OtherKind is first = absurd is
-
-  pub not_filled : (before : ℕ) (y : PromoteFault) → IsFailure before y (view t).faults → (y ≡ fault.NoMemory → HasAdoptedFirst v entries t) → LeavesOnly (disk_state o) (disk_state t) (HoldsFirst v entries) → Fills v entries (Some y) (disk_state o) (disk_state t)
-  not_filled before y is first leaves = record { has = filled_by before y is first; any_moment = leaves }
-
-  pub filled : IsOpenWith v entries t → LeavesOnly (disk_state o) (disk_state t) (HoldsFirst v entries) → Fills v entries None (disk_state o) (disk_state t)
-  filled with_them leaves = record { has = has_entries v entries t honest lawful from with_them; any_moment = leaves }
-
 -- A new store was made and filled.
-pub promotes_by : (v : ℕ) (entries : List EntryData) (s m t : DiskState) (error : Option PromoteFault) → Makes v TRIGGERS None s m → Fills v entries error m t → Promotes v entries error s t
-promotes_by v entries s m t None made fills = promoted v entries s m t made fills.any_moment fills.has
-promotes_by v entries s m t (Some fault.NoMemory) made fills = let f = fills.has in starved v entries s m t made fills.any_moment f.0 f.1 f.2 f.3
-promotes_by v entries s m t (Some fault.Fault) made fills = failed v entries s m t made fills.any_moment
-promotes_by v entries s m t (Some (fault.Short at)) made fills = absurd fills.has
-promotes_by v entries s m t (Some fault.Exists) made fills = absurd fills.has
-promotes_by v entries s m t (Some fault.OtherKind) made fills = absurd fills.has
+pub promotes_by : (v : ℕ) (start : SchedulerTables) (entries : List EntryData) (s m t : DiskState) (error : Option PromoteFault) → Begins v start s m → Fills v start entries error m t → Promotes v start entries error s t
+promotes_by v start entries s m t None made fills = promoted v start entries s m t made fills.any_moment fills.has
+promotes_by v start entries s m t (Some fault.NoMemory) made fills = starved v start entries s m t made fills.any_moment fills.has
+promotes_by v start entries s m t (Some (fault.NoRoom need room)) made fills = full v start entries s m t made fills.any_moment need room fills.has
+promotes_by v start entries s m t (Some fault.Fault) made fills = failed v start entries s m t made fills.any_moment
+promotes_by v start entries s m t (Some (fault.Short at)) made fills = absurd fills.has
+promotes_by v start entries s m t (Some fault.Exists) made fills = absurd fills.has
+promotes_by v start entries s m t (Some fault.OtherKind) made fills = absurd fills.has
 
-pub promotes_each : {D : Type 0} {g : Ghosts D} (v : ℕ) (entries : List EntryData) (s m : DiskState) (r : Result (TriggerStore D g) (PromoteFault × D)) → Makes v TRIGGERS None s m
-    → MatchResult r (λ x. Fills v entries None m (disk_state x)) (λ e. Fills v entries (Some e.0) m (g.state e.1)) → MatchResult r (λ x. Promotes v entries None s (disk_state x)) (λ e. Promotes v entries (Some e.0) s (g.state e.1))
-promotes_each {g = g} v entries s m (Ok x) made fills = promotes_by v entries s m (disk_state x) None made fills
-promotes_each {g = g} v entries s m (Err e) made fills = promotes_by v entries s m (g.state e.1) (Some e.0) made fills
+pub promotes_each : {D : Type 0} {g : Ghosts D} (v : ℕ) (start : SchedulerTables) (entries : List EntryData) (s m : DiskState) (r : Result (TriggerStore D g) (PromoteFault × D)) → Begins v start s m
+    → MatchResult r (λ x. Fills v start entries None m (disk_state x)) (λ e. Fills v start entries (Some e.0) m (g.state e.1)) → MatchResult r (λ x. Promotes v start entries None s (disk_state x)) (λ e. Promotes v start entries (Some e.0) s (g.state e.1))
+promotes_each {g = g} v start entries s m (Ok x) made fills = promotes_by v start entries s m (disk_state x) None made fills
+promotes_each {g = g} v start entries s m (Err e) made fills = promotes_by v start entries s m (g.state e.1) (Some e.0) made fills
+
+-- The room that was wanted behind a start.
+
+room_by : (gate count n : ℕ) (c : Bool) → nat_lt (MAX_PAYLOADS - count) n ≡ c → room_for gate count n ≡ (if c then 0 else MAX_BYTES - (gate + 1))
+room_by gate count n c is = ap (λ b. if b then 0 else MAX_BYTES - (gate + 1)) is
+
+-- payloads that need no more than there is have room
+pub have_room : (ps : List (List ℕ)) (gate count end n : ℕ) → count ≤ MAX_PAYLOADS → end ≡ end_of ps → n ≡ length ps → end - 16 ≤ room_for gate count n → HaveRoom ps gate count
+have_room ps gate count end n few end_is n_is fits =
+    let le : length (blocks ps) ≤ room_for gate count (length ps) = omega (arith, end_is, fits, ap (room_for gate count) n_is) in elim (nat_lt (MAX_PAYLOADS - count) (length ps)) as (λ c. nat_lt (MAX_PAYLOADS - count) (length ps) ≡ c → HaveRoom ps gate count) [
+      | true ↦ λ lt. absurd (omega (arith, ltb-true (MAX_PAYLOADS - count) (length ps) lt, no_more ps, le, room_by gate count (length ps) true lt))
+      | false ↦ λ ge. (omega (arith, le, room_by gate count (length ps) false ge), omega (arith, few, ltb-false (MAX_PAYLOADS - count) (length ps) ge))
+    ] refl
+
+pub has_room : (ps : List (List ℕ)) (gate count end n g k : ℕ) → end ≡ end_of ps → n ≡ length ps → g ≡ gate → k ≡ count → (k ≤ MAX_PAYLOADS) × (end - 16 ≤ room_for g k n) → HaveRoom ps gate count
+has_room ps gate count end n g k end_is n_is g_is k_is fits =
+    subst (λ (x : ℕ × ℕ). HaveRoom ps x.0 x.1) (λ i. (g_is i, k_is i)) (have_room ps g k end n fits.0 end_is n_is fits.1)
+
+-- why they haven't
+pub full_as : (ps : List (List ℕ)) (gate count end n g k need room x y : ℕ) → fault.NoRoom x y ≡ fault.NoRoom need room → end ≡ end_of ps → n ≡ length ps → g ≡ gate → k ≡ count
+    → (k ≤ MAX_PAYLOADS → (x ≡ end - 16) × (y ≡ room_for g k n) × (y < x)) → count ≤ MAX_PAYLOADS → IsFullFor ps gate count need room
+full_as ps gate count end n g k need room x y is end_is n_is g_is k_is full few =
+    let a : x ≡ need = cc in
+    let b : y ≡ room = cc in
+    let f = full (omega (arith, k_is, few)) in
+    let r : y ≡ room_for gate count (length ps) = f.1 ∙ (λ i. room_for (g_is i) (k_is i) (n_is i)) in
+    (omega (arith, a, f.0, end_is), sym b ∙ r, omega (arith, a, b, f.2))
+
+-- and those that have room never lack it
+pub never_full : (ps : List (List ℕ)) (gate count need room : ℕ) → HaveRoom ps gate count → IsFullFor ps gate count need room → ⊥
+never_full ps gate count need room has full = elim (nat_lt (MAX_PAYLOADS - count) (length ps)) as (λ c. nat_lt (MAX_PAYLOADS - count) (length ps) ≡ c → ⊥) [
+  | true ↦ λ lt. omega (arith, ltb-true (MAX_PAYLOADS - count) (length ps) lt, has.1)
+  | false ↦ λ ge. omega (arith, full.0, full.1, full.2, room_by gate count (length ps) false ge, has.0)
+] refl
 
 -- and why it wasn't
 pub never_short : (before now : ℕ) (y : PromoteFault) (at : ℕ) → IsFailure before y now → y ≡ fault.Short at → ⊥
@@ -380,3 +269,17 @@ module _ {D : Type 0} {g : Ghosts D} where
   pub short_each : (r : Result (TriggerStore D g) (PromoteFault × D)) (o : Option ℕ) (at : ℕ) → IfErr r (λ e. e.0 ≢ fault.Short at) → o ≡ None → IfErr r (λ e. (e.0 ≡ fault.Short at) ↔ (o ≡ Some at))
   short_each (Ok x) o at never none = tt
   short_each (Err e) o at never none = (λ is. absurd (never is), λ is. let both : ◌≡◌ {A = Option ℕ} None (Some at) = sym none ∙ is in absurd cc)
+
+  -- why there was no room
+  pub no_room_each : (v : ℕ) (start : SchedulerTables) (ps : List (List ℕ)) (m : TriggerStore D g) (r : Result (TriggerStore D g) (PromoteFault × D)) (need room : ℕ) → HaveRoom ps (end_of []) 0
+      → (start ≡ empty v → ((view m).gate ≡ end_of []) × ((view m).payloads ≡ 0)) → IfErr r (λ e. e.0 ≡ fault.NoRoom need room → (view m).payloads ≤ MAX_PAYLOADS → IsFullFor ps (view m).gate (view m).payloads need room) → IfErr r (λ e. e.0 ≡ fault.NoRoom need room → start ≢ empty v)
+  no_room_each v start ps m (Ok x) need room has plain full = tt
+  no_room_each v start ps m (Err e) need room has plain full = λ is new. let place = plain new in never_full ps (view m).gate (view m).payloads need room (omega (arith, has.0, place.0), omega (arith, has.1, place.1)) (full is (omega (arith, place.1)))
+
+  pub lacks_each : (v : ℕ) (start : SchedulerTables) (es : List EntryData) (ps : List (List ℕ)) (m : TriggerStore D g) (r : Result (TriggerStore D g) (PromoteFault × D)) (need room : ℕ) → AreAdoptable start es ps → HaveRoom ps (end_of []) 0
+      → (start ≡ empty v → ((view m).gate ≡ end_of []) × ((view m).payloads ≡ 0)) → (start ≢ empty v → IsBehindStart start (view m).gate (view m).payloads)
+      → IfErr r (λ e. e.0 ≡ fault.NoRoom need room → (view m).payloads ≤ MAX_PAYLOADS → IsFullFor ps (view m).gate (view m).payloads need room) → IfErr r (λ e. e.0 ≡ fault.NoRoom need room → LacksAll start es need room)
+  lacks_each v start es ps m (Ok x) need room can has plain place full = tt
+  lacks_each v start es ps m (Err e) need room can has plain place full = λ is.
+      let based = place (λ new. let here = plain new in never_full ps (view m).gate (view m).payloads need room (omega (arith, has.0, here.0), omega (arith, has.1, here.1)) (full is (omega (arith, here.1)))) in
+      (ps, can.kept, inr (subst (λ (x : ℕ × ℕ). IsFullFor ps x.0 x.1 need room) (λ i. (based.0 i, based.1 i)) (full is (omega (arith, based.1, based.2.1)))))

@@ -13,7 +13,7 @@ use Rattle.qz_stores.proofs.Whole.{zip_both}
 use Rattle.qz_stores.specs.Kinds.{IsAccepted}
 use Rattle.qz_types.specs.Entries.{EntryData}
 use Rattle.qz_types.specs.Outcomes.{accepted}
-use Rattle.qz_types.specs.Tables.{SchedulerTables, empty}
+use Rattle.qz_types.specs.Tables.{SchedulerTables}
 use Rattle.qz_types.specs.declared.replies.Reply.{Reply}
 use Rattle.qz_trigger_store.proofs.Outcomes.{left_as}
 use Rattle.qz_trigger_store.specs.Entries.{IsRecordOf}
@@ -22,12 +22,12 @@ use Rattle.qz_trigger_store.specs.Laws.{trigger_lawful}
 use Rattle.qz_follow.specs.Kept.{AreKept, KeepsRecords, IsKeptToo}
 
 -- the tables that it leaves
-pub replayed_more : (v : ℕ) (T U : SchedulerTables) (es : List EntryData) (e : EntryData) (r : Reply) → T ≡ replay_from (empty v) es → transaction T e ≡ accepted U r → U ≡ replay_from (empty v) (es ++ e ∷ [])
-replayed_more v T U es e r before is =
-    left_as T U (transaction T e) r is ∙ ap (λ (X : SchedulerTables). tables_left X (transaction X e)) before ∙ sym (trigger_lawful.replay_more (empty v) es e)
+pub replayed_more : (start T U : SchedulerTables) (es : List EntryData) (e : EntryData) (r : Reply) → T ≡ replay_from start es → transaction T e ≡ accepted U r → U ≡ replay_from start (es ++ e ∷ [])
+replayed_more start T U es e r before is =
+    left_as T U (transaction T e) r is ∙ ap (λ (X : SchedulerTables). tables_left X (transaction X e)) before ∙ sym (trigger_lawful.replay_more start es e)
 
-pub legal_more : (v : ℕ) (T : SchedulerTables) (es : List EntryData) (e : EntryData) → T ≡ replay_from (empty v) es → ∥ IsLegalFrom (empty v) es ∥₁ → IsAccepted trigger_kind T e → ∥ IsLegalFrom (empty v) (es ++ e ∷ []) ∥₁
-legal_more v T es e before legal passes = ∥∥₁_map legal (λ l. trigger_lawful.legal_more (empty v) es e l (subst (λ (X : SchedulerTables). IsAccepted trigger_kind X e) before passes))
+pub legal_more : (start T : SchedulerTables) (es : List EntryData) (e : EntryData) → T ≡ replay_from start es → ∥ IsLegalFrom start es ∥₁ → IsAccepted trigger_kind T e → ∥ IsLegalFrom start (es ++ e ∷ []) ∥₁
+legal_more start T es e before legal passes = ∥∥₁_map legal (λ l. trigger_lawful.legal_more start es e l (subst (λ (X : SchedulerTables). IsAccepted trigger_kind X e) before passes))
 
 -- what is kept
 are_kept : (end : ℕ) (es : List EntryData) (e : EntryData) (p : List ℕ) (ps : List (List ℕ)) → AreKept end es ps → IsPayload p → IsRecordOf p e → AreKept (end + need_of (length p)) (es ++ e ∷ []) (ps ++ p ∷ [])
@@ -46,15 +46,11 @@ pub keeps_more : (end : ℕ) (es : List EntryData) (e : EntryData) (p : List ℕ
 keeps_more end es e p old new too size is kept = ∥∥₁_map kept (keeps_by end es e p old new too size is)
 
 -- before the first record
-pub legal_new : (v : ℕ) (es : List EntryData) → es ≡ [] → ∥ IsLegalFrom (empty v) es ∥₁
-legal_new v es none = subst (λ (l : List EntryData). ∥ IsLegalFrom (empty v) l ∥₁) (sym none) ∣ trigger_lawful.legal_none (empty v) ∣₁
+pub legal_new : (start : SchedulerTables) (es : List EntryData) → es ≡ [] → ∥ IsLegalFrom start es ∥₁
+legal_new start es none = subst (λ (l : List EntryData). ∥ IsLegalFrom start l ∥₁) (sym none) ∣ trigger_lawful.legal_none start ∣₁
 
-pub replayed_new : (v : ℕ) (T : SchedulerTables) (es : List EntryData) → T ≡ empty v → es ≡ [] → T ≡ replay_from (empty v) es
-replayed_new v T es new none = new ∙ ap (replay_from (empty v)) (sym none)
+pub replayed_new : (start T : SchedulerTables) (es : List EntryData) → T ≡ start → es ≡ [] → T ≡ replay_from start es
+replayed_new start T es new none = new ∙ ap (replay_from start) (sym none)
 
 pub kept_new : (es : List EntryData) (kept : Option (WithRoom (List ℕ))) → es ≡ [] → KeepsRecords 16 [] kept → ∥ KeepsRecords 16 es kept ∥₁
 kept_new es kept none is = ∣ subst (λ (l : List EntryData). KeepsRecords 16 l kept) (sym none) is ∣₁
-
-pub none_of : (es : List EntryData) → length es ≡ 0 → es ≡ []
-none_of [] none = refl
-none_of (e ∷ es) none = absurd (omega (arith, none))

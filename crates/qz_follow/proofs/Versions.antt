@@ -8,6 +8,8 @@ use Rattle.qz_stream.proofs.Fronts.{version-more}
 use Rattle.qz_stream.specs.Front.{IsVersionOf}
 use Rattle.qz_follow.specs.Payloads.{version_or_two}
 use Rattle.qz_follow.specs.Taking.{IsBegun}
+use Rattle.qz_follow.specs.declared.stages.Stage.{Stage}
+use Rattle.qz_follow.specs.declared.stages.Stage.TheVariants as stage
 
 version_known : (bytes : List ℕ) (v : ℕ) → IsVersionOf bytes (Some v) → is_version v ≡ true
 version_known bytes v is =
@@ -27,19 +29,16 @@ version_once bytes (Some v) (Some w) p q = ap Some (sym p.2 ∙ q.2)
 none_some : (x : ℕ) → ◌≡◌ {A = Option ℕ} None (Some x) → ⊥
 none_some x is = cc
 
-not_nil : {A : Type 0} (x : A) (xs : List A) → x ∷ xs ≡ [] → ⊥
-not_nil x xs is = cc
-
--- Before the first record it is what the bytes say.
-pub version_new : {E : Type 0} (bytes : List ℕ) (said : Option ℕ) (es : List E) (old new : ℕ) → es ≡ [] → IsVersionOf bytes said → IsBegun said es old new → new ≡ version_or_two said
-version_new bytes None es old new none is begun = begun.two none (none_some 1)
-version_new bytes (Some v) es old new none is begun =
-    ⊎_elim (λ one. begun.one none (ap Some one) ∙ sym one)
-    (λ other. begun.two none (λ (same : Some v ≡ Some 1). other (cc)) ∙ sym (two v other (version_known bytes v is)))
+-- Before the first payload it is what the bytes say.
+pub version_new : (bytes : List ℕ) (said : Option ℕ) (at : Stage) (old new : ℕ) → at ≡ stage.First → IsVersionOf bytes said → IsBegun said at old new → new ≡ version_or_two said
+version_new bytes None at old new first is begun = begun.two first (none_some 1)
+version_new bytes (Some v) at old new first is begun =
+    ⊎_elim (λ one. begun.one first (ap Some one) ∙ sym one)
+    (λ other. begun.two first (λ (same : Some v ≡ Some 1). other (cc)) ∙ sym (two v other (version_known bytes v is)))
     (cases_eq v 1)
 
 -- Later it stays.
-pub version_later : {E : Type 0} (fed more : List ℕ) (told said : Option ℕ) (es : List E) (old new : ℕ) → (es ≡ [] → ⊥) → 16 ≤ length fed → IsVersionOf fed told → IsVersionOf (fed ++ more) said → old ≡ version_or_two told
-    → IsBegun said es old new → new ≡ version_or_two said
-version_later fed more told said es old new some long is now was begun =
-    begun.later some ∙ was ∙ ap version_or_two (version_once (fed ++ more) told said (version-more fed more told (omega (arith, long)) is) now)
+pub version_later : (fed more : List ℕ) (told said : Option ℕ) (at : Stage) (old new : ℕ) → (at ≡ stage.First → ⊥) → 16 ≤ length fed → IsVersionOf fed told → IsVersionOf (fed ++ more) said → old ≡ version_or_two told
+    → IsBegun said at old new → new ≡ version_or_two said
+version_later fed more told said at old new later long is now was begun =
+    begun.later later ∙ was ∙ ap version_or_two (version_once (fed ++ more) told said (version-more fed more told (omega (arith, long)) is) now)

@@ -1,13 +1,18 @@
 -- What is kept of the payloads that were taken.
-use Rattle.std.specs.Prelude.{⊤, ◌≡◌, ◌<◌, ℕ, true, false, List, [], ◌∷◌, ◌++◌, All, Bool, Option, Some, None}
+use Rattle.std.specs.Prelude.{⊤, ◌≡◌, ◌≢◌, ◌<◌, ℕ, pos, length, true, false, List, [], ◌∷◌, ◌++◌, All, Bool, Option, Some, None}
 use Rattle.std.specs.List.{AllZip}
 use Rattle.qz_civil.specs.Lists.{WithRoom}
 use Rattle.qz_journal.specs.Commits.{IsFull}
 use Rattle.qz_journal.specs.Layout.{IsPayload, end_of}
 use Rattle.qz_types.specs.Entries.{EntryData}
+use Rattle.qz_types.specs.Tables.{SchedulerTables, empty, horizon_of}
+use Rattle.qz_types.specs.declared.limits.TheConstants.{FIRST_THRESHOLD}
+use Rattle.qz_tables.specs.Contents.{TablesData}
 use Rattle.qz_trigger_store.specs.Entries.{IsRecordOf}
 use Rattle.qz_follow.specs.declared.faults.FollowFault.{FollowFault}
 use Rattle.qz_follow.specs.declared.faults.FollowFault.TheVariants as fault
+use Rattle.qz_follow.specs.declared.stages.Stage.{Stage}
+use Rattle.qz_follow.specs.declared.stages.Stage.TheVariants as stage
 use Rattle.qz_follow.specs.declared.keeping.Keeping.{Keeping}
 use Rattle.qz_follow.specs.declared.keeping.Keeping.TheVariants as keeping
 
@@ -47,3 +52,37 @@ IsPlaced (Some list) payload copy = (0 < list.room) × (copy ≡ Some payload)
 abbrev pub IsKeptToo : List ℕ → Option (WithRoom (List ℕ)) → Option (WithRoom (List ℕ)) → Type 0
 IsKeptToo payload None new = new ≡ None
 IsKeptToo payload (Some old) new = (list : WithRoom (List ℕ)) × (new ≡ Some list) × (list.items ≡ old.items ++ payload ∷ [])
+
+-- What a new store begins with in place of these tables: nothing where they are those of a new store, else a snapshot of them.
+abbrev pub IsBaseOf : ℕ → SchedulerTables → Option TablesData → Type 0
+IsBaseOf version start None = start ≡ empty version
+IsBaseOf version start (Some base) = (base.tables ≡ start) × (start ≢ empty version)
+
+-- What is kept of a base for a promotion. Until it is settled nothing else was taken.
+abbrev pub KeepsBase : ℕ → Stage → SchedulerTables → List EntryData → Option (WithRoom (List ℕ)) → Option TablesData → Type 0
+KeepsBase version stage.First start entries kept base = (start ≡ empty version) × (entries ≡ []) × (base ≡ None)
+KeepsBase version (stage.Awaited slot) start entries kept base = (start ≡ empty version) × (entries ≡ []) × (base ≡ None)
+KeepsBase version stage.Settled start entries None base = ⊤
+KeepsBase version stage.Settled start entries (Some list) base = IsBaseOf version start base
+
+-- There is no job, trigger, calendar or zone.
+pub record HasNoPlans (T : SchedulerTables) : Type 0 where
+  pub jobs : length T.jobs ≡ 0
+  pub triggers : length T.triggers ≡ 0
+  pub calendars : length T.calendars ≡ 0
+  pub zones : length T.zones ≡ 0
+
+-- There is no row of any other kind.
+pub record HasNoStates (T : SchedulerTables) : Type 0 where
+  pub groups : length T.paused_groups ≡ 0
+  pub job_groups : length T.paused_job_groups ≡ 0
+  pub members : length T.members ≡ 0
+  pub fired_rows : length T.fired ≡ 0
+
+-- The numbers are those of a new store of this version.
+pub record HasNewNumbers (version : ℕ) (T : SchedulerTables) : Type 0 where
+  pub next_entry : T.next_entry ≡ 1
+  pub next_epoch : T.next_epoch ≡ 1
+  pub threshold : T.threshold ≡ FIRST_THRESHOLD
+  pub last_moment : T.last_moment ≡ pos 0
+  pub horizon : T.horizon ≡ horizon_of version

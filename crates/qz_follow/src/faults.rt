@@ -10,8 +10,8 @@ use thiserror::Error;
 pub enum FollowFault {
     /// At this offset, in bytes, stands the first bad place: one of the first six bytes that no trigger store has there; a gate
     /// whose payload would be empty, longer than 32768 bytes, or beyond the 2^29 bytes that a store may have; the gate of a
-    /// payload that is no part of a snapshot, and no record of a transaction that is accepted; or the gate of a part of a snapshot
-    /// before the first record, whose tables would be lost.
+    /// payload that is no part of a snapshot, and no record of a transaction that is accepted; or the gate of the slot in use, 6 or
+    /// 11, where the first payload is a part of a snapshot, and none that an opening takes begins where that slot leads.
     #[error("bad stream at {at}")]
     BadStream { at: u64 },
     /// A store that has the records alone has no room for the next one. Both numbers are in bytes.

@@ -2,7 +2,6 @@
 ghost use Rattle.std.specs.Prelude.{◌≡◌, ◌↔◌, ◌<◌, ◌≤◌, ◌++◌, [], ℕ, List as Items, length, take, None, Some, IfOk, IfErr, IsTrue};
 ghost use Rattle.qz_model.specs.History.{replay_from};
 ghost use Rattle.qz_model.specs.Invariant.{TablesValid};
-ghost use Rattle.qz_types.specs.Tables.{empty};
 ghost use Rattle.qz_follow.specs.Following.{IsFollowed, Follows, Keeps, IsEnded};
 ghost use Rattle.qz_follow.specs.Kept.{keeps_payloads};
 ghost use Rattle.qz_follow.specs.Taking.{Adds};
@@ -10,7 +9,7 @@ ghost use Rattle.qz_trigger_store.specs.Kinds.{trigger_kind};
 ghost use Rattle.qz_follow.specs.View.{view, tables_of, keeps_of};
 ghost use Rattle.qz_stream.specs.declared.place.Place.TheVariants as place;
 
-use crate::taken::Taken;
+use crate::holding::Taken;
 use crate::{FollowFault, Keeping};
 use qz_stream::{Next, Place, Stream};
 use qz_tables::Tables;
@@ -104,16 +103,18 @@ impl Follower {
         ensures keeps { keeps_of self.new ≡ keeps_of self.old }
     {
         let gate = self.stream.gate();
-        match self.taken.add(self.stream.payload(), gate) {
+        let slots = self.stream.slots();
+        match self.taken.add(self.stream.payload(), gate, &slots) {
             Ok(()) => {}
             Err(fault) => self.fault = Some(fault),
         }
     }
 
-    /// The tables that the entries leave; those of an empty store of version 2 before the first five bytes are there and right.
+    /// The tables that the entries leave, from the stream's base on if it has one, or from a new store on. A base that isn't whole is left
+    /// out. Before the first five bytes are there and right the tables are those of a new store of version 2.
     pub fn tables(&self) -> &Tables
         ensures kept { result.now.tables ≡ tables_of self.now }
-        ensures value { result.now.tables ≡ replay_from (empty (view self.now).version) (view self.now).entries }
+        ensures value { result.now.tables ≡ replay_from (view self.now).start (view self.now).entries }
         ensures valid { ∥ TablesValid result.now.tables ∥₁ }
     {
         self.taken.tables.is_valid();

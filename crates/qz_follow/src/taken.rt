@@ -1,66 +1,50 @@
-//! What was taken of a stream: the tables, and how much room the records have.
+//! How payloads are taken: all that is decided, and all memory, before anything changes.
 ghost use Rattle.std.specs.Prelude.{◌≡◌, ◌≢◌, ◌+◌, ◌^◌, ◌<◌, ◌≤◌, [], ◌∷◌, ◌++◌, length, true, is_some, Some, IfOk, IfErr, OnOk, OnErr, List as Items, ℕ};
 ghost use Rattle.std.specs.Option.{ForSome};
 ghost use Rattle.qz_journal.specs.Commits.{need_of, room_of};
 ghost use Rattle.qz_journal.specs.Layout.{is_version, IsPayload};
-ghost use Rattle.qz_model.specs.History.{replay_from, IsLegalFrom};
 ghost use Rattle.qz_plain.specs.Prepared.{Prepares};
 ghost use Rattle.qz_stores.specs.Kinds.{IsAccepted};
 ghost use Rattle.qz_types.specs.Tables.{empty};
 ghost use Rattle.qz_trigger_store.specs.Entries.{IsRecordOf};
-ghost use Rattle.qz_trigger_store.specs.Kinds.{trigger_kind, tables_once};
+ghost use Rattle.qz_trigger_store.specs.Kinds.{trigger_kind};
 ghost use Rattle.qz_follow.specs.Kept.{KeepsRecords, payloads_in, keeps_payloads, IsUnplaced, IsPlaced, IsKeptToo};
-ghost use Rattle.qz_follow.specs.Taking.{IsBegun, Takes, IsUntaken};
+ghost use Rattle.qz_follow.specs.Taking.{IsBegun, IsRenewed, Takes, TakesPayload, IsRefused, IsUntaken, StaysTaken};
+ghost use Rattle.qz_follow.specs.View.{held};
 
+use crate::basing::{FIRST_GATE, awaited_slot, start_of};
 use crate::deciding::decide;
-use crate::{FollowFault, Keeping};
+use crate::holding::Taken;
+use crate::{FollowFault, Keeping, Stage};
 use qz_civil::{List, ListWithRoom};
-use qz_journal::{FRAME_LENGTH, JournalFull, fits};
+use qz_journal::{FRAME_LENGTH, JournalFull, Slots, fits};
 use qz_logs::Log;
 use qz_plain::{PlainStore, Prepared};
 use qz_snapshot::is_part;
 use qz_types::Entry;
 use std::alloc::Global;
 use std::mem;
-
-// Where the first gate of a store is.
-const FIRST_GATE: u64 = 16;
-
-/// What was taken of a stream.
-#[derive(Drop)]
-pub(crate) struct Taken {
-    pub(crate) alloc: Global,
-    pub(crate) tables: PlainStore,
-    // the version of the format that the stream has, 1 or 2
-    pub(crate) version: u8,
-    // the entries, which contracts alone read, and how many they are
-    pub(crate) entries: Log<Entry>,
-    pub(crate) count: u64,
-    // the offset of the gate after their records, in a store that has these alone
-    pub(crate) end: u64,
-    // the records as they came, where they are kept
-    pub(crate) kept: Option<ListWithRoom<List<u8>>>,
-    ghost known: { is_version version ≡ true },
-    ghost counted: { count ≡ length entries.items },
-    ghost few: { count ≤ 2 ^ 23 },
-    ghost low: { end < 2 ^ 29 },
-    ghost legal: { ∥ IsLegalFrom (empty version) entries.items ∥₁ },
-    ghost replayed: { tables.tables ≡ replay_from (empty version) entries.items } by { tables_once tables.tables (replay_from (empty version) entries.items) },
-    ghost recorded: { ∥ KeepsRecords end entries.items kept ∥₁ },
-}
+use std::snapshot::Snapshot;
 
 impl Taken {
     /// Nothing. The version is 2 until the stream says another.
     pub(crate) fn new(alloc: Global, keeping: Keeping) -> Taken
         ensures version { result.version ≡ 2 }
-        ensures none { result.entries.items ≡ [] }
+        ensures stage { result.stage ≡ Stage.First }
+        ensures none { (result.parts ≡ []) × (result.entries.items ≡ []) }
+        ensures start { (held result).start ≡ empty 2 }
         ensures end { result.end ≡ 16 }
         ensures keeps { is_some result.kept ≡ keeps_payloads keeping }
     {
+        let tables = PlainStore::new(alloc, 2);
         Taken {
             alloc,
-            tables: PlainStore::new(alloc, 2),
+            start: Snapshot::of(&tables),
+            tables,
             version: 2,
+            stage: Stage::First,
+            parts: List::new(alloc),
+            base: None,
             entries: Log::new(),
             count: 0,
             end: FIRST_GATE,
@@ -70,29 +54,62 @@ impl Taken {
 
     /// Takes over the version that the stream says, before its first record.
     pub(crate) fn begin(&mut self, version: Option<u8>)
-        ensures begun { IsBegun version self.old.entries.items self.old.version self.new.version }
-        ensures same { (self.new.entries.items ≡ self.old.entries.items) × (self.new.end ≡ self.old.end) × (self.new.kept ≡ self.old.kept) }
+        ensures begun { IsBegun version self.old.stage self.old.version self.new.version }
+        ensures renewed { IsRenewed trigger_kind (held self.old) (held self.new) }
+        ensures same { self.new.kept ≡ self.old.kept }
     {
-        let said = version_said(version);
-        if self.count == 0 && said != self.version {
-            renew(self.alloc, &mut self.tables, said);
-            self.version = said;
+        match self.stage {
+            Stage::First => self.renew(version_said(version)),
+            Stage::Awaited { slot: _ } => {}
+            Stage::Settled => {}
         }
     }
 
+    // A new store of this version, where nothing was taken yet.
+    fn renew(&mut self, version: u8)
+        requires first { self.old.stage ≡ Stage.First }
+        requires known { is_version version ≡ true }
+        ensures version { self.new.version ≡ version }
+        ensures start { (held self.new).start ≡ empty version }
+        ensures same { (self.new.stage ≡ self.old.stage) × (self.new.parts ≡ self.old.parts) × (self.new.end ≡ self.old.end) }
+        ensures kept { (self.new.entries.items ≡ self.old.entries.items) × (self.new.kept ≡ self.old.kept) }
+    {
+        let old = mem::replace(&mut self.tables, PlainStore::new(self.alloc, version));
+        drop(old);
+        self.start = Snapshot::of(&self.tables);
+        self.version = version;
+    }
+
     /// Takes the payload at this gate. All causes are decided, and all memory is taken, before anything changes.
-    pub(crate) fn add(&mut self, payload: &[u8], gate: u64) -> Result<(), FollowFault>
+    pub(crate) fn add(
+        &mut self,
+        payload: &[u8],
+        gate: u64,
+        slots: &Slots,
+    ) -> Result<(), FollowFault>
         requires { IsPayload payload.now }
-        ensures ok { OnOk result (Takes trigger_kind self.old.tables.tables payload.now self.old.entries.items self.new.entries.items self.old.end self.new.end) }
-        ensures err { IfErr result (IsUntaken trigger_kind self.old.tables.tables payload.now gate self.old.end (length self.old.entries.items)) }
-        ensures unchanged { OnErr result ((self.new.entries.items ≡ self.old.entries.items) × (self.new.end ≡ self.old.end)) }
+        ensures ok { OnOk result (Takes trigger_kind slots.now self.old.tables.tables payload.now gate (held self.old) (held self.new)) }
+        ensures err { IfErr result (IsUntaken trigger_kind slots.now self.old.tables.tables payload.now gate (held self.old)) }
+        ensures unchanged { OnErr result (StaysTaken (held self.old) (held self.new)) }
+        ensures same { (self.new.version ≡ self.old.version) × (is_some self.new.kept ≡ is_some self.old.kept) }
+    {
+        match awaited_slot(self.stage, slots, payload) {
+            Some(slot) => self.await_base(payload, gate, slot, start_of(slots)),
+            None => self.take(payload, gate),
+        }
+    }
+
+    // Takes a payload where no base is awaited.
+    fn take(&mut self, payload: &[u8], gate: u64) -> Result<(), FollowFault>
+        requires size { IsPayload payload.now }
+        requires here { (slot : ℕ) → self.old.stage ≢ Stage.Awaited slot }
+        ensures ok { OnOk result (TakesPayload trigger_kind self.old.tables.tables payload.now (held self.old) (held self.new)) }
+        ensures err { IfErr result (IsRefused trigger_kind self.old.tables.tables payload.now gate (held self.old)) }
+        ensures unchanged { OnErr result (StaysTaken (held self.old) (held self.new)) }
         ensures same { (self.new.version ≡ self.old.version) × (is_some self.new.kept ≡ is_some self.old.kept) }
     {
         if is_part(payload) {
-            // the tables of a snapshot before the first record aren't read, and would be lost
-            if self.count == 0 {
-                return Err(FollowFault::BadStream { at: gate });
-            }
+            self.stage = Stage::Settled;
             return Ok(());
         }
         let (entry, prepared) = decide(self.alloc, &mut self.tables, payload, gate)?;
@@ -111,12 +128,14 @@ impl Taken {
 
     // Puts an entry that was prepared last, and keeps the copy of its record.
     fn put(&mut self, payload: &[u8], entry: Entry, prepared: Prepared, copy: Option<List<u8>>)
+        requires here { (slot : ℕ) → self.old.stage ≢ Stage.Awaited slot }
         requires size { IsPayload payload.now }
         requires record { IsRecordOf payload.now entry }
         requires accepted { IsAccepted trigger_kind self.old.tables.tables entry }
         requires prepared { Prepares self.old.tables entry prepared }
         requires room { need_of (length payload.now) ≤ room_of self.old.end self.old.count }
         requires placed { IsPlaced self.old.kept payload.now copy }
+        ensures settled { (self.new.stage ≡ Stage.Settled) × ((held self.new).start ≡ (held self.old).start) }
         ensures entries { self.new.entries.items ≡ self.old.entries.items ++ entry ∷ [] }
         ensures end { self.new.end ≡ self.old.end + need_of (length payload.now) }
         ensures same { (self.new.version ≡ self.old.version) × (is_some self.new.kept ≡ is_some self.old.kept) }
@@ -125,6 +144,7 @@ impl Taken {
         drop(reply);
         self.entries = Log::and(&self.entries, &entry);
         drop(entry);
+        self.stage = Stage::Settled;
         self.count += 1;
         self.end += (FRAME_LENGTH + payload.len()) as u64;
         keep(&mut self.kept, copy);
@@ -152,14 +172,6 @@ fn version_said(version: Option<u8>) -> u8
         Some(1) => 1,
         _ => 2,
     }
-}
-
-// The tables of a new store of this version.
-fn renew(alloc: Global, tables: &mut PlainStore, version: u8)
-    ensures { tables.new.tables ≡ empty version }
-{
-    let old = mem::replace(tables, PlainStore::new(alloc, version));
-    drop(old);
 }
 
 // The copy of a record that is to be kept, and the place for it. The room in a store is looked at first.

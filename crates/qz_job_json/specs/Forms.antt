@@ -10,7 +10,7 @@ use Rattle.qz_job_json.specs.declared.words.NodeWord.TheVariants.{Leave, Acquire
 use Rattle.qz_job_json.specs.declared.words.StepWord.{StepWord}
 use Rattle.qz_job_json.specs.declared.words.StepWord.TheVariants.{Join, CheckIn, Forget, Stop, Restart}
 use Rattle.qz_job_json.specs.declared.words.UntimedWord.{UntimedWord}
-use Rattle.qz_job_json.specs.declared.words.UntimedWord.TheVariants.{ShowJob, ShowTrigger, ShowEntry, ShowNext, Resume}
+use Rattle.qz_job_json.specs.declared.words.UntimedWord.TheVariants.{ShowJob, ShowTrigger, ShowEntry, ShowNext, Resume, Checkpoint, ShowRoom}
 use Rattle.qz_job_json.specs.declared.words.Word.{Word}
 use Rattle.qz_job_json.specs.declared.words.Word.TheVariants as word
 use Rattle.qz_job_json.specs.declared.forms.KindWord.{KindWord}
@@ -63,6 +63,8 @@ untimed_own ShowTrigger = codes "name" ∷ codes "group" ∷ []
 untimed_own ShowEntry = codes "entry" ∷ []
 untimed_own ShowNext = []
 untimed_own Resume = codes "node" ∷ codes "epoch" ∷ []
+untimed_own Checkpoint = []
+untimed_own ShowRoom = []
 
 abbrev pub line_own : Word → List (List ℕ)
 line_own (word.Client what) = client_own what

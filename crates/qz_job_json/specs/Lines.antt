@@ -13,7 +13,7 @@ use Rattle.qz_io.specs.declared.limits.TheConstants.{LINE_LIMIT}
 use Rattle.qz_job_json.specs.declared.words.StepWord.{StepWord}
 use Rattle.qz_job_json.specs.declared.words.StepWord.TheVariants.{Join, CheckIn, Forget, Stop, Restart}
 use Rattle.qz_job_json.specs.declared.words.UntimedWord.{UntimedWord}
-use Rattle.qz_job_json.specs.declared.words.UntimedWord.TheVariants.{ShowJob, ShowTrigger, ShowEntry, ShowNext, Resume}
+use Rattle.qz_job_json.specs.declared.words.UntimedWord.TheVariants.{ShowJob, ShowTrigger, ShowEntry, ShowNext, Resume, Checkpoint, ShowRoom}
 use Rattle.qz_job_json.specs.declared.words.Word.{Word}
 use Rattle.qz_job_json.specs.declared.words.Word.TheVariants.{Client, Node, Of, Untimed}
 use Rattle.qz_job_json.specs.declared.forms.Form.TheVariants.{Line}
@@ -54,6 +54,8 @@ untimed_step ShowTrigger d = or_shape (key_at (codes "group") (codes "name") d) 
 untimed_step ShowEntry d = or_shape (entry_at d) >>= λ entry. Ok (step.Show (question.Entry entry))
 untimed_step ShowNext d = Ok (step.Show question.Next)
 untimed_step Resume d = with_node (number_at (codes "epoch") d) step.Resume d
+untimed_step Checkpoint d = Ok step.Checkpoint
+untimed_step ShowRoom d = Ok step.ShowRoom
 
 -- the step of a line by its own members
 unfoldable pub step_of : Word → Data → Result Step LineFault

@@ -13,7 +13,7 @@ use Rattle.qz_job_json.specs.declared.words.NodeWord.TheVariants.{Leave, Acquire
 use Rattle.qz_job_json.specs.declared.words.StepWord.{StepWord}
 use Rattle.qz_job_json.specs.declared.words.StepWord.TheVariants.{Join, CheckIn, Forget, Stop, Restart}
 use Rattle.qz_job_json.specs.declared.words.UntimedWord.{UntimedWord}
-use Rattle.qz_job_json.specs.declared.words.UntimedWord.TheVariants.{ShowJob, ShowTrigger, ShowEntry, ShowNext, Resume}
+use Rattle.qz_job_json.specs.declared.words.UntimedWord.TheVariants.{ShowJob, ShowTrigger, ShowEntry, ShowNext, Resume, Checkpoint, ShowRoom}
 use Rattle.qz_job_json.specs.declared.words.Word.{Word}
 use Rattle.qz_job_json.specs.declared.words.Word.TheVariants.{Client, Node, Of, Untimed}
 
@@ -69,6 +69,8 @@ untimed_word_of text =
     else if is_text text (codes "show_entry") then Some ShowEntry
     else if is_text text (codes "show_next") then Some ShowNext
     else if is_text text (codes "resume") then Some Resume
+    else if is_text text (codes "checkpoint") then Some Checkpoint
+    else if is_text text (codes "show_room") then Some ShowRoom
     else None
 
 -- the first that there is

@@ -162,7 +162,7 @@ fn untimed_has(word: UntimedWord, name: &str) -> bool
     match word {
         UntimedWord::ShowJob | UntimedWord::ShowTrigger => matches!(name, "name" | "group"),
         UntimedWord::ShowEntry => name == "entry",
-        UntimedWord::ShowNext => false,
+        UntimedWord::ShowNext | UntimedWord::Checkpoint | UntimedWord::ShowRoom => false,
         UntimedWord::Resume => matches!(name, "node" | "epoch"),
     }
 }

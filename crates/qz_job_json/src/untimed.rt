@@ -57,5 +57,7 @@ pub(crate) fn untimed_step(
         }
         UntimedWord::ShowNext => Ok(Step::Show(Question::Next)),
         UntimedWord::Resume => resume(alloc, value),
+        UntimedWord::Checkpoint => Ok(Step::Checkpoint),
+        UntimedWord::ShowRoom => Ok(Step::ShowRoom),
     }
 }

@@ -128,7 +128,7 @@ impl StepWord {
     }
 }
 
-/// What takes no reading of the clock: questions about the stored rows, and a node that goes on under its epoch.
+/// What takes no reading of the clock: questions about what is stored, a node that goes on under its epoch, and a checkpoint.
 #[derive(Clone, Copy)]
 pub(crate) enum UntimedWord {
     ShowJob,
@@ -136,6 +136,8 @@ pub(crate) enum UntimedWord {
     ShowEntry,
     ShowNext,
     Resume,
+    Checkpoint,
+    ShowRoom,
 }
 
 impl UntimedWord {
@@ -149,6 +151,8 @@ impl UntimedWord {
             "show_entry" => Some(UntimedWord::ShowEntry),
             "show_next" => Some(UntimedWord::ShowNext),
             "resume" => Some(UntimedWord::Resume),
+            "checkpoint" => Some(UntimedWord::Checkpoint),
+            "show_room" => Some(UntimedWord::ShowRoom),
             _ => None,
         }
     }

@@ -76,7 +76,16 @@ pub record Holds (bytes : List ℕ) (version kind : ℕ) (payloads : List (List 
   pub gate : end_of payloads < length bytes
   pub shut : slice_index bytes (end_of payloads) ≢ open_gate
 
+-- without these further payloads, or with all of them
+abbrev pub IsWithoutOrWithAll : ℕ → ℕ → List (List ℕ) → List (List ℕ) → List ℕ → Type 0
+IsWithoutOrWithAll version kind payloads news bytes =
+    Holds bytes version kind payloads ⊎ Holds bytes version kind (payloads ++ news)
+
 -- without this further payload, or with it
 abbrev pub IsBeforeOrAfter : ℕ → ℕ → List (List ℕ) → List ℕ → List ℕ → Type 0
-IsBeforeOrAfter version kind payloads payload bytes =
-    Holds bytes version kind payloads ⊎ Holds bytes version kind (payloads ++ payload ∷ [])
+IsBeforeOrAfter version kind payloads payload bytes = IsWithoutOrWithAll version kind payloads (payload ∷ []) bytes
+
+-- The bytes hold these payloads and the first of the further ones.
+pub record HoldFirst (version kind : ℕ) (payloads news : List (List ℕ)) (bytes : List ℕ) : Type 0 where
+  pub many : ℕ
+  pub holds : Holds bytes version kind (payloads ++ take many news)

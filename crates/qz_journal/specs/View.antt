@@ -1,6 +1,7 @@
 -- What a journal shows to those above it.
-use Rattle.std.specs.Prelude.{ℕ, Option}
+use Rattle.std.specs.Prelude.{ℕ, List, Option, vec_capacity}
 use Rattle.qz_disk.specs.declared.disk.Disk.{Ghosts}
+use Rattle.qz_journal.specs.declared.groups.Group.{Group}
 use Rattle.qz_journal.specs.declared.journal.Journal.{Journal}
 use Rattle.qz_journal.specs.declared.slots.Slots.{Slots}
 
@@ -31,3 +32,11 @@ closed_at j = j.closed
 -- the slots of its header
 abbrev pub slots_of : {D : Type 0} {g : Ghosts D} → Journal D g → Slots
 slots_of j = j.slots
+
+-- the payloads of a group
+abbrev pub payloads_of : Group → List (List ℕ)
+payloads_of g = g.payloads.items
+
+-- how many bytes of blocks, and of the gate after them, it has memory for
+abbrev pub capacity_of : Group → ℕ
+capacity_of g = vec_capacity g.bytes

@@ -6,7 +6,7 @@ ghost use Rattle.qz_journal.specs.Slots.{IsSlot, slots_of, slot_in_use, free_slo
 ghost use Rattle.qz_journal.specs.Tails.{start_of, IsTail, IsCounted, IsTailRefused};
 
 use crate::layout::{
-    CLOSED_GATE, FRAME_LENGTH, HEAD, HEAD_LENGTH, HEADER_LENGTH, MAX_BYTES, MAX_PAYLOAD,
+    CLOSED_GATE, FRAME_LENGTH, HEAD, HEAD_LENGTH, HEADER_LENGTH, MAX_BLOCK, MAX_BYTES, MAX_PAYLOAD,
     MAX_PAYLOADS, OPEN_GATE, STATES, TRIGGERS, VERSION, WINDOW,
 };
 use crate::slots::{SLOT_A, SLOT_B};
@@ -52,6 +52,7 @@ pub fn format_is()
     ensures header { HEADER_LENGTH ≡ 16 }
     ensures payload { MAX_PAYLOAD ≡ 32768 }
     ensures frame { FRAME_LENGTH ≡ 5 }
+    ensures block { MAX_BLOCK ≡ 32773 }
     ensures slots { (SLOT_A ≡ 6) × (SLOT_B ≡ 11) }
     ensures head { (HEAD ≡ 240) × (HEAD_LENGTH ≡ 5) }
     ensures limits { (MAX_BYTES ≡ 2 ^ 29) × (MAX_PAYLOADS ≡ 2 ^ 23) }

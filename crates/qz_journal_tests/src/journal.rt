@@ -8,18 +8,18 @@ use qz_journal::{
 };
 use std::alloc::{AllocError, Global};
 
-const HEADER: &[u8] = b"QZ23\x02T\0\0\0\0\0\0\0\0\0\0";
+pub(crate) const HEADER: &[u8] = b"QZ23\x02T\0\0\0\0\0\0\0\0\0\0";
 
 const OLD_HEADER: &[u8] = b"QZ23\x01T\0\0\0\0\0\0\0\0\0\0";
 
-fn joined(alloc: Global, front: &[u8], behind: &[u8]) -> Result<List<u8>, AllocError> {
+pub(crate) fn joined(alloc: Global, front: &[u8], behind: &[u8]) -> Result<List<u8>, AllocError> {
     let mut bytes = Vec::from_slice(alloc, front)?;
     bytes.extend_from_slice(behind)?;
     Ok(List::from_vec(bytes))
 }
 
 // A disk with these two pieces.
-fn disk_of(alloc: Global, front: &[u8], behind: &[u8]) -> Result<MemDisk, AllocError> {
+pub(crate) fn disk_of(alloc: Global, front: &[u8], behind: &[u8]) -> Result<MemDisk, AllocError> {
     Ok(MemDisk::with_bytes(alloc, joined(alloc, front, behind)?))
 }
 
@@ -213,7 +213,7 @@ fn committed<D: Disk>(alloc: Global, disk: D) -> Option<D> {
     if answer.is_ok() { Some(disk) } else { None }
 }
 
-fn is_write(call: &Call, offset: u64, payload: &[u8]) -> bool {
+pub(crate) fn is_write(call: &Call, offset: u64, payload: &[u8]) -> bool {
     matches!(call, Call::Write { at, bytes } if *at == offset && bytes.as_slice() == payload)
 }
 
@@ -261,7 +261,7 @@ fn a_commit_makes_four_device_calls(rt: HostRuntime) {
 type Cut = (u8, &'static [u8], Result<(), AppendError>, &'static [usize]);
 
 // A list of the image alone that has a header and these bytes.
-fn only_image(alloc: Global, image: &[u8]) -> Result<List<List<u8>>, AllocError> {
+pub(crate) fn only_image(alloc: Global, image: &[u8]) -> Result<List<List<u8>>, AllocError> {
     let image = joined(alloc, HEADER, image)?;
     let mut images = List::new(alloc);
     images.push(image)?;
@@ -269,14 +269,22 @@ fn only_image(alloc: Global, image: &[u8]) -> Result<List<List<u8>>, AllocError>
 }
 
 // A new store's disk that is cut so.
-fn cut_disk(alloc: Global, passes: u8, image: &[u8]) -> Result<CutDisk<MemDisk>, AllocError> {
+pub(crate) fn cut_disk(
+    alloc: Global,
+    passes: u8,
+    image: &[u8],
+) -> Result<CutDisk<MemDisk>, AllocError> {
     let (images, mut disk) = beside(only_image(alloc, image)?, disk_of(alloc, HEADER, b"\0"))?;
     disk.choose(images);
     Ok(CutDisk::new(disk, 4 + u64::from(passes)))
 }
 
 // Whether a crash and a restart leave payloads of these lengths.
-fn restarts_with<D: Disk>(alloc: Global, journal: &mut Journal<D>, lengths: &[usize]) -> bool {
+pub(crate) fn restarts_with<D: Disk>(
+    alloc: Global,
+    journal: &mut Journal<D>,
+    lengths: &[usize],
+) -> bool {
     journal.crash().is_ok()
         && matches!(
             journal.remount(alloc),

@@ -1,6 +1,8 @@
-//! Tests of the journal: stores that are whole, damaged or cut, openings of a tail, and slots.
+//! Tests of the journal: stores that are whole, damaged or cut, groups of payloads, openings of a tail, and slots.
 #![tactic(auto)]
 
+#[cfg(test)]
+mod groups;
 #[cfg(test)]
 mod journal;
 #[cfg(test)]

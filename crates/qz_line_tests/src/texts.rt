@@ -4,7 +4,7 @@ ghost use Rattle.qz_types.specs.Entries.{is_command, is_of_node};
 ghost use Rattle.qz_types.specs.Rows.{is_node};
 
 use qz_report::{Counts, history_line, reply_line};
-use qz_steps::{Shown, StepReply};
+use qz_steps::{Marked, Shown, StepReply};
 use qz_types::{Actor, Code, Command, Entry, Key, MemberRow, NoMemory, Refusal, Reply, Text};
 use std::alloc::{AllocError, Global};
 
@@ -35,6 +35,11 @@ fn numbers_have_their_lines(alloc: Global) -> bool {
             alloc,
             StepReply::Ok(Reply::Completed { entry: u64::MAX }),
             "completed 18446744073709551615\n",
+        )
+        && has_line(
+            alloc,
+            StepReply::Marked(Marked::NoRoom),
+            "checkpoint no room\n",
         )
 }
 

@@ -1,6 +1,6 @@
 //! Words that are no call, with what is wrong with them.
 use qz_civil::Text;
-use qz_words::{WordFault, read_serve, read_words};
+use qz_words::{WordFault, read_history, read_serve, read_words};
 use std::alloc::{AllocError, Global};
 
 /// Words, and their fault.
@@ -99,6 +99,28 @@ const NO_SERVES: &[BadRow] = &[
     ),
 ];
 
+/// The same of `history`.
+const NO_HISTORIES: &[BadRow] = &[
+    (&[], WordFault::UnknownCommand),
+    (&["list"], WordFault::UnknownCommand),
+    (&["history"], WordFault::WrongCount { found: 0 }),
+    (&["history", "x", "0"], WordFault::WrongCount { found: 2 }),
+    (&["history", "-1"], WordFault::BadNumber { place: 1 }),
+    (&["history", ""], WordFault::BadNumber { place: 1 }),
+    (
+        &["history", "00000000000000000000"],
+        WordFault::BadNumber { place: 1 },
+    ),
+];
+
+/// Whose words they are to be.
+#[derive(Clone, Copy)]
+enum Grammar {
+    Calls,
+    Serve,
+    History,
+}
+
 fn texts_of(alloc: Global, words: &[&str]) -> Result<Vec<Text>, AllocError> {
     let mut texts = Vec::new(alloc);
     for word in words {
@@ -108,17 +130,29 @@ fn texts_of(alloc: Global, words: &[&str]) -> Result<Vec<Text>, AllocError> {
     Ok(texts)
 }
 
-// What is wrong with words, by the grammar of `serve` or that of the other calls.
-fn fault_of(alloc: Global, words: &[&str], serves: bool) -> Option<WordFault> {
+// What is wrong with words, by this grammar.
+fn fault_of(alloc: Global, words: &[&str], grammar: Grammar) -> Option<WordFault> {
     match texts_of(alloc, words) {
         Ok(texts) => {
-            let fault = if serves {
-                read_serve(&texts).err()
-            } else {
-                read_words(&texts).err()
+            let fault = match grammar {
+                Grammar::Calls => read_words(&texts).err(),
+                Grammar::Serve => read_serve(&texts).err(),
+                Grammar::History => read_history(&texts).err(),
             };
             drop(texts);
             fault
+        }
+        Err(AllocError) => None,
+    }
+}
+
+// The number behind which these words ask for a history.
+fn history_from(alloc: Global, words: &[&str]) -> Option<u64> {
+    match texts_of(alloc, words) {
+        Ok(texts) => {
+            let from = read_history(&texts).ok();
+            drop(texts);
+            from
         }
         Err(AllocError) => None,
     }
@@ -128,14 +162,30 @@ fn fault_of(alloc: Global, words: &[&str], serves: bool) -> Option<WordFault> {
 fn words_have_their_faults(rt: HostRuntime) {
     for &(words, fault) in NO_CALLS {
         assert!(rt;
-            fault_of(rt.alloc(), words, false) == Some(fault),
+            fault_of(rt.alloc(), words, Grammar::Calls) == Some(fault),
             "at {words:?}"
         );
     }
     for &(words, fault) in NO_SERVES {
         assert!(rt;
-            fault_of(rt.alloc(), words, true) == Some(fault),
+            fault_of(rt.alloc(), words, Grammar::Serve) == Some(fault),
             "at {words:?}"
         );
     }
+    for &(words, fault) in NO_HISTORIES {
+        assert!(rt;
+            fault_of(rt.alloc(), words, Grammar::History) == Some(fault),
+            "at {words:?}"
+        );
+    }
+}
+
+#[test]
+fn a_history_begins_behind_its_number(rt: HostRuntime) {
+    assert!(rt; history_from(rt.alloc(), &["history", "0"]) == Some(0));
+    assert!(rt;
+        history_from(rt.alloc(), &["history", "9999999999999999999"])
+            == Some(9_999_999_999_999_999_999)
+    );
+    assert!(rt; history_from(rt.alloc(), &["history", "0017"]) == Some(17));
 }

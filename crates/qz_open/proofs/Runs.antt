@@ -1,5 +1,5 @@
 -- The law over runs.
-use Rattle.std.proofs.Common.{◌≡◌, inl, inr, ⊎_elim, ℕ, ℤ, ◌==◌, true, false, not, ◌&&◌, List, [], ◌∷◌, Option, Some, None, is_none, IsTrue, refl, sym, ap, ◌∙◌, arith}
+use Rattle.std.proofs.Common.{◌≡◌, inl, inr, ⊎_elim, ℕ, ℤ, ◌==◌, true, false, not, ◌&&◌, List, [], ◌∷◌, Option, Some, None, is_none, IsTrue, refl, sym, ap, subst, ◌∙◌, arith}
 use Rattle.std.proofs.Math.Logic.{∥∥₁_elim, ∥∥₁_map}
 use Rattle.std.proofs.Props.{props}
 use Rattle.std.specs.List.{AllByRecursion, AllByRecursion-prop}
@@ -14,8 +14,9 @@ use Rattle.qz_types.specs.declared.commands.Command.{Command}
 use Rattle.qz_types.specs.declared.commands.Command.TheVariants as command
 use Rattle.qz_types.specs.declared.replies.Reply.{Reply}
 use Rattle.qz_steps.specs.Steps.{is_join, is_step}
+use Rattle.qz_steps.specs.declared.rooms.Marked.TheVariants.{Made, NoRoom}
 use Rattle.qz_steps.specs.declared.steps.Step.{Step}
-use Rattle.qz_steps.specs.declared.steps.Step.TheVariants.{Client, Join, CheckIn, Node, Forget, Stop, Restart, Resume, Show}
+use Rattle.qz_steps.specs.declared.steps.Step.TheVariants.{Client, Join, CheckIn, Node, Forget, Stop, Restart, Resume, Show, Checkpoint, ShowRoom}
 use Rattle.qz_steps.specs.declared.steps.StepReply.{StepReply}
 use Rattle.qz_steps.specs.declared.steps.StepReply.TheVariants as answer
 use Rattle.qz_model.specs.Executions.{is_exclusive_of}
@@ -29,7 +30,7 @@ use Rattle.qz_cluster.proofs.Sound.{valid_entry}
 use Rattle.qz_open.specs.Opened.{Execution, IsAlone, AreAlone, AreAlwaysAlone, open_after_command, open_after_done, open_after_fault, open_after}
 use Rattle.qz_open.specs.Runs.{IsStart, StepsDone, SparesDone, SparesOthers, AlwaysSparesOthers}
 use Rattle.qz_open.proofs.Lists.{of_all, only_one, fewer}
-use Rattle.qz_open.proofs.Steps.{Stands, Holds, some_is_none, true_is_false, holds_none, holds_same, holds_closed, holds_without, holds_resumed, holds_client, holds_join}
+use Rattle.qz_open.proofs.Steps.{Stands, Holds, some_is_none, true_is_false, holds_none, holds_same, holds_marked, holds_closed, holds_without, holds_resumed, holds_client, holds_join}
 use Rattle.qz_open.proofs.Held.{resume-none}
 use Rattle.qz_open.proofs.Members.{holds_command}
 
@@ -63,6 +64,8 @@ holds_done S S' os Restart at r valid is_held unrefused works on held h = absurd
 holds_done S S' os (Resume node epoch) at r valid is_held unrefused works on held h =
     holds_resumed S S' os node epoch on.0 (resume-none (replay S.triggers.history) S.held node epoch unrefused) held h
 holds_done S S' os (Show question) at r valid is_held unrefused works on held h = holds_same S S' os on.0 held h
+holds_done S S' os Checkpoint at r valid is_held unrefused works on held h = holds_same S S' os on.0 held h
+holds_done S S' os ShowRoom at r valid is_held unrefused works on held h = holds_same S S' os on.0 held h
 
 -- a restart takes all
 holds_fault : (S : ClusterState) (os : List Execution) (x : Step) → Holds S os → Holds S (open_after_fault os x)
@@ -78,8 +81,12 @@ holds_case honest t (answer.Ok r) S S' os valid case h =
     ∣ holds_done S S' os t.step t.at r valid case.submits.allowed.is_held case.submits.unrefused case.submits.allowed.works case.triggers case.held h ∣₁
 holds_case honest t answer.Fault S S' os valid (inl case) h =
     ∣ holds_fault S' os t.step (⊎_elim (λ at. holds_same S S' os at.triggers at.held h) (λ at. holds_closed S S' os at.triggers.history at.triggers.is_open h) case.which) ∣₁
-holds_case honest t answer.Fault S S' os valid (inr case) h = ∣ holds_fault S' os t.step (holds_closed S S' os case.shut.triggers.history case.shut.triggers.is_open h) ∣₁
+holds_case honest t answer.Fault S S' os valid (inr (inr case)) h = ∣ holds_fault S' os t.step (holds_closed S S' os case.breaks.history case.breaks.is_open h) ∣₁
+holds_case honest t answer.Fault S S' os valid (inr (inl case)) h = ∣ holds_fault S' os t.step (holds_closed S S' os case.shut.triggers.history case.shut.triggers.is_open h) ∣₁
 holds_case honest t (answer.Shown s) S S' os valid case h = ∣ holds_same S S' os case.stays.stores.triggers case.stays.held h ∣₁
+holds_case honest t (answer.Marked Made) S S' os valid case h = ∣ holds_marked S S' os case.marked.0 case.held h ∣₁
+holds_case honest t (answer.Marked NoRoom) S S' os valid case h = ∣ holds_same S S' os case.marked.0.same case.held h ∣₁
+holds_case honest t (answer.Room room) S S' os valid case h = ∣ subst (λ (T : ClusterState). Holds T os) (sym case.same) h ∣₁
 holds_case honest t answer.Restarted S S' os valid case h = ∥∥₁_map case.are_triggers.sound.state (holds_none S')
 
 -- All steps.

@@ -20,6 +20,7 @@ use Rattle.qz_model.proofs.Histories.{replay_from-append}
 use Rattle.qz_model.proofs.Kept.{kept}
 use Rattle.qz_model.proofs.NamedRows.{same_text_laws}
 use Rattle.qz_model.proofs.RowPoints.{All-weaker, All-filter, count_by-left_le}
+use Rattle.qz_stores.specs.Checkpoints.{Marks}
 use Rattle.qz_stores.specs.Stores.{Same, Appends}
 use Rattle.qz_trigger_store.specs.Entries.{answer_of, trigger_entry}
 use Rattle.qz_trigger_store.proofs.Horizons.{accepted_anyway}
@@ -88,6 +89,14 @@ pub holds_same : (S S' : ClusterState) (os : List Execution) → Same S.triggers
 holds_same S S' os same held h = record {
   valid = valid_as S S' same.history h.valid;
   stands = All-weaker (Stands S) (Stands S') os (λ o was. stands_as S S' o same.history (still_held S S' o same (ap (member_of o.node) held) was) was) h.stands;
+  apart = h.apart;
+}
+
+-- a snapshot was made
+pub holds_marked : (S S' : ClusterState) (os : List Execution) → Marks S.triggers S'.triggers → S'.held ≡ S.held → Holds S os → Holds S' os
+holds_marked S S' os marks held h = record {
+  valid = valid_as S S' marks.history h.valid;
+  stands = All-weaker (Stands S) (Stands S') os (λ o was. stands_as S S' o marks.history (λ now. ap is_some (ap (member_of o.node) held) ∙ was.held marks.was_open) was) h.stands;
   apart = h.apart;
 }
 

@@ -9,7 +9,7 @@ use Rattle.qz_types.specs.declared.keys.Key.{Key}
 use Rattle.qz_types.specs.declared.replies.Reply.{Reply}
 use Rattle.qz_types.specs.declared.replies.Reply.TheVariants.{Fired, Completed}
 use Rattle.qz_steps.specs.declared.steps.Step.{Step}
-use Rattle.qz_steps.specs.declared.steps.Step.TheVariants.{Client, Join, CheckIn, Node, Forget, Stop, Restart, Resume, Show}
+use Rattle.qz_steps.specs.declared.steps.Step.TheVariants.{Client, Join, CheckIn, Node, Forget, Stop, Restart, Resume, Show, Checkpoint, ShowRoom}
 use Rattle.qz_steps.specs.declared.steps.StepReply.{StepReply}
 use Rattle.qz_steps.specs.declared.steps.StepReply.TheVariants as answer
 use Rattle.qz_cluster.specs.Script.{TimedStep}
@@ -51,6 +51,8 @@ open_after_done os (Stop node) reply = without_node node os
 open_after_done os Restart reply = os
 open_after_done os (Resume node epoch) reply = os
 open_after_done os (Show question) reply = os
+open_after_done os Checkpoint reply = os
+open_after_done os ShowRoom reply = os
 
 -- a disk failed in the step
 abbrev pub open_after_fault : List Execution → Step → List Execution

@@ -7,6 +7,7 @@ pub const HELP: &str = "usage: qz_sched < LINES           a script on new stores
        qz_sched script < LINES    a script on the stores of the current folder
        qz_sched load < DOCUMENT   jobs and triggers into the stores of the current folder
        qz_sched list              what the stores of the current folder hold
+       qz_sched history FROM      what was done behind transaction FROM, as lines of scripts
        qz_sched migrate           takes a trigger store of format version 1 to version 2
        qz_sched follow < STREAM   new stores from the bytes of a trigger store
        qz_sched compact < STREAM  the same, with a snapshot in place of the entries

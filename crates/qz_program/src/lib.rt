@@ -13,6 +13,7 @@ use qz_disk::{FileDisk, SystemFile};
 use qz_io::{RealClock, Sink, StdSink, StdSource, write_all};
 use qz_node::{Job, Jobs};
 use qz_serve::{OpenGate, serve};
+use qz_tell::history;
 use qz_top::{Status, command};
 use qz_types::{NoMemory, Text};
 use qz_words::NODE_LIMIT;
@@ -68,7 +69,7 @@ fn starve<E: Sink>(err: &mut E) -> Status {
     Status::NoMemory
 }
 
-// One of the two top calls over real objects.
+// One of the top calls over real objects.
 fn work<R: Threads + Wait + Sync, K: Sink, E: Sink>(
     rt: HostRuntime,
     handle: &R,
@@ -76,8 +77,11 @@ fn work<R: Threads + Wait + Sync, K: Sink, E: Sink>(
     out: &mut K,
     err: &mut E,
 ) -> Status {
-    if is_serve(words) {
+    if begins_with(words, "serve") {
         return call_serve(rt, handle, words, out, err);
+    }
+    if begins_with(words, "history") {
+        return call_history(rt, words, out, err);
     }
     match prepare(rt) {
         Ok(prepared) => call(rt, prepared, words, out, err),
@@ -85,12 +89,33 @@ fn work<R: Threads + Wait + Sync, K: Sink, E: Sink>(
     }
 }
 
-// Whether the first word asks for nodes in threads.
-fn is_serve(words: &[Text]) -> bool {
+// Whether this is the first word.
+fn begins_with(words: &[Text], first: &str) -> bool {
     match words.first() {
-        Some(word) => word.as_str() == "serve",
+        Some(word) => word.as_str() == first,
         None => false,
     }
+}
+
+// `history`, on the two files.
+fn call_history<K: Sink, E: Sink>(
+    rt: HostRuntime,
+    words: &[Text],
+    out: &mut K,
+    err: &mut E,
+) -> Status {
+    let Ok((triggers, states)) = paths(rt) else {
+        return starve(err);
+    };
+    let told = history(
+        rt.alloc(),
+        words,
+        out,
+        err,
+        FileDisk::new(SystemFile::new(rt, triggers)),
+        FileDisk::new(SystemFile::new(rt, states)),
+    );
+    told.status
 }
 
 // What a call needs beside its words.

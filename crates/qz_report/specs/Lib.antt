@@ -2,6 +2,7 @@ pub mod Histories
 pub mod Names
 pub mod Optional
 pub mod Replies
+pub mod Rooms
 pub mod Rows
 pub mod Shown
 pub mod Summaries

@@ -12,9 +12,10 @@ use Rattle.qz_types.specs.declared.replies.Refusal.TheVariants.{Fenced, InUse, C
 use Rattle.qz_types.specs.declared.replies.Reply.{Reply}
 use Rattle.qz_types.specs.declared.replies.Reply.TheVariants.{Done, Added, Deleted, Triggered, Joined, Acquired, Fired, Completed, Again, Misfired, Recovered}
 use Rattle.qz_steps.specs.declared.steps.StepReply.{StepReply}
-use Rattle.qz_steps.specs.declared.steps.StepReply.TheVariants.{Ok, Refused, Fault, Closed, Stopped, Restarted, Shown}
+use Rattle.qz_steps.specs.declared.steps.StepReply.TheVariants.{Ok, Refused, Fault, Closed, Stopped, Restarted, Shown, Marked, Room}
 use Rattle.qz_report.specs.Names.{escaped, key_text}
 use Rattle.qz_report.specs.Optional.{next_text}
+use Rattle.qz_report.specs.Rooms.{marked_text, room_text}
 use Rattle.qz_report.specs.Shown.{shown_text}
 
 -- an epoch, if there is one
@@ -96,6 +97,8 @@ step_text Closed = codes "closed"
 step_text Stopped = codes "stopped"
 step_text Restarted = codes "restarted"
 step_text (Shown shown) = shown_text shown
+step_text (Marked marked) = marked_text marked
+step_text (Room room) = room_text room
 
 -- the text with its line feed
 abbrev pub reply_text : StepReply → List ℕ

@@ -7,6 +7,7 @@ mod jobs;
 mod names;
 mod optional;
 mod replies;
+mod rooms;
 mod shown;
 mod summaries;
 mod times;

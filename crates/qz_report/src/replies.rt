@@ -7,6 +7,7 @@ ghost use Rattle.qz_report.specs.Replies.{taken_text, all_taken_text, triggered_
 
 use crate::names::{push_key, push_name};
 use crate::optional::Next;
+use crate::rooms::{push_marked, push_room};
 use crate::shown::push_shown;
 use qz_steps::StepReply;
 use qz_types::{Key, MovedRow, NoMemory, Owner, Refusal, Reply, Taken, Text};
@@ -37,6 +38,8 @@ fn push_step(text: &mut String, reply: &StepReply) -> Result<(), AllocError>
         StepReply::Stopped => text.push_str("stopped"),
         StepReply::Restarted => text.push_str("restarted"),
         StepReply::Shown(shown) => push_shown(text, shown),
+        StepReply::Marked(marked) => push_marked(text, *marked),
+        StepReply::Room(room) => push_room(text, room),
     }
 }
 

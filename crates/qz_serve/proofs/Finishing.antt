@@ -32,7 +32,7 @@ use Rattle.qz_top.specs.OpenStores.{JustOpened}
 use Rattle.qz_top.specs.Resting.{RestsNodes}
 use Rattle.qz_top.specs.declared.statuses.Status.{Status}
 use Rattle.qz_top.specs.declared.statuses.Status.TheVariants as status
-use Rattle.qz_top.proofs.NodeRunLaws.{kept_on_the_way, left_at_end, rows_legal}
+use Rattle.qz_top.proofs.NodeRunLaws.{goes_on_still, kept_on_the_way, left_at_end, rows_legal}
 use Rattle.qz_top.proofs.NodeRestLaws.{MayRest, rested_kept, rests_may}
 use Rattle.qz_top.proofs.StandingLaws.{stores_in_order, stores_one_at_a_time}
 use Rattle.qz_serve.specs.Courses.{EndsBy, OneIsClosed, TookCourse}
@@ -155,6 +155,7 @@ module _ {D : Type 0} {g : Ghosts D} (shows : ℤ → Type 0) (p : Serving) (job
           is_decided (g.faults second) (states_view (states_of t)) (states_of t).store.settled (states_rose first second b t opened proceeds.kept),
         );
         any_moment = kept_on_the_way first second (triggers_of b) ended.rested (states_of b) (states_of t) _ _ refl refl opened.reads opened.goes_on opened.rows_go_on kept rows;
+        next = λ is still w v held. ended.next is still held.honest w (goes_on_still (triggers_of b) ended.rested w (opened.goes_on held.honest w held.entries) held.honest kept);
       }
 
 -- A disk failed where the call tells so: in the nodes' work, or in the checkpoint.

@@ -1,5 +1,5 @@
 -- What a call of `serve` does, by its words.
-use Rattle.std.specs.Prelude.{⊤, ◌≡◌, ◌⊎◌, ◌≤◌, ℕ, ℤ, List, [], false, Option, Some, None, Result, Ok, Err, IfSome}
+use Rattle.std.specs.Prelude.{⊤, ◌≡◌, ◌⊎◌, ◌≤◌, ℕ, ℤ, List, [], true, false, Option, Some, None, Result, Ok, Err, IfSome}
 use Rattle.qz_civil.specs.Causes.{Rose}
 use Rattle.qz_disk.specs.declared.disk.Disk.{Ghosts}
 use Rattle.qz_io.specs.Outside.{Outside}
@@ -24,7 +24,7 @@ use Rattle.qz_top.specs.Found.{HoldWhole, IsFoundOn}
 use Rattle.qz_top.specs.Moments.{HasStates, HasTriggers}
 use Rattle.qz_top.specs.NodeRuns.{WentOn, IsKeptOnTheWay, IsToldAs, run_text}
 use Rattle.qz_top.specs.OpenStores.{HasNoStores}
-use Rattle.qz_top.specs.Resting.{RestsNodes}
+use Rattle.qz_top.specs.Resting.{RestsNodes, OpensShortIfRoom}
 use Rattle.qz_top.specs.Standing.{IsInOrder}
 use Rattle.qz_top.specs.declared.ended.Ended.{Ended}
 use Rattle.qz_top.specs.declared.statuses.Status.{Status}
@@ -94,6 +94,8 @@ pub record ServedOnDisk {D : Type 0} (g : Ghosts D) (shows : ℤ → Type 0) (p 
   pub decided : IsDecided (g.faults triggers) end.triggers × IsDecided (g.faults states) end.states
   -- and at any moment before, it leaves each store with what was opened and some of what was added
   pub any_moment : ∥ IsKeptOnTheWay g triggers states triggers_end states_end opened end ∥₁
+  -- where the call ends with 0 and the trigger store is open, its next opening is short
+  pub next : s.status ≡ status.Ok → end.triggers.is_open ≡ true → (w : Whole) (v : WholeRows) → HoldWhole g triggers states w v → OpensShortIfRoom end.triggers (g.state triggers_end).content
 
 -- The call gives this back, and has the disks of one that ended so.
 pub record EndsAs {D : Type 0} {g : Ghosts D} (e : Ended D g) (s : Served D) : Type 0 where

@@ -32,7 +32,7 @@ use qz_node::{Job, Jobs};
 use qz_rounds::SharedClock;
 use qz_run::Declined;
 use qz_shared_stores::{SharedStates, SharedTriggers};
-use qz_top::{Ended, Status, open_node_stores, report, rest_nodes};
+use qz_top::{Ended, Status, give_back, open_node_stores, report, rest_nodes};
 use qz_trigger_store::TriggerStore;
 use qz_types::{NoMemory, Text};
 use qz_words::{Serving, read_serve};
@@ -250,7 +250,7 @@ fn end_call<K: Sink, D: Disk, H: Wait + Drop>(
     let status = rest_nodes(&mut triggers, told);
     Served {
         status,
-        disks: Some((triggers.into_disk(), states.into_disk())),
+        disks: Some((give_back(triggers), states.into_disk())),
     }
 }
 

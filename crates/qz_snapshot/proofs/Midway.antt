@@ -1,5 +1,5 @@
 -- What a crash in a checkpoint leaves.
-use Rattle.std.proofs.Common.{◌≡◌, inl, inr, ⊎_elim, ℕ, ◌+◌, ◌≤◌, List, [], ◌∷◌, ◌++◌, length, take, Some, refl, sym, ap, subst, ◌∙◌, arith, append-nil, append_assoc}
+use Rattle.std.proofs.Common.{◌≡◌, inl, inr, ⊎_elim, ℕ, ◌+◌, ◌≤◌, List, [], ◌++◌, length, take, Some, refl, sym, ap, subst, ◌∙◌, arith, append-nil}
 use Rattle.std.specs.Prelude.{Ok, Err, OnOk}
 use Rattle.std.specs.declared.result.Result.{Result}
 use Rattle.std.proofs.lemmas.List.{take_all}
@@ -8,7 +8,7 @@ use Rattle.qz_disk.proofs.Moments.{started, then_leaves, weaker, content_among}
 use Rattle.qz_journal.proofs.Marks.{AreSlots, offset_is, free_is}
 use Rattle.qz_journal.proofs.SlotBytes.{take-shorter, slot_before, keeps_payloads}
 use Rattle.qz_journal.specs.declared.slots.Slots.{Slots}
-use Rattle.qz_journal.specs.Layout.{Holds, IsBeforeOrAfter, end_of}
+use Rattle.qz_journal.specs.Layout.{Holds, HoldFirst, end_of}
 use Rattle.qz_journal.specs.Slots.{IsSlot, IsSlotWrite, slot, other_slot, free_slot, offset_in}
 use Rattle.qz_snapshot.specs.Checkpoints.{IsPartly, IsMidway}
 
@@ -25,13 +25,6 @@ pub whatever : {T E : Type 0} (r : Result T E) (P : Type 0) → P → OnOk r P
 whatever (Ok x) P p = p
 whatever (Err e) P p = tt
 
--- a journal's version and kind are those that it had
-pub same_holds : (b : List ℕ) (v w k l : ℕ) (ps : List (List ℕ)) → v ≡ w → k ≡ l → Holds b v k ps → Holds b w l ps
-same_holds b v w k l ps versions kinds holds = subst (λ n. Holds b n l ps) versions (subst (λ n. Holds b v n ps) kinds holds)
-
-pub same_either : (s t : DiskState) (v w k l : ℕ) (ps : List (List ℕ)) (p : List ℕ) → v ≡ w → k ≡ l → LeavesOnly s t (IsBeforeOrAfter v k ps p) → LeavesOnly s t (IsBeforeOrAfter w l ps p)
-same_either s t v w k l ps p versions kinds leaves = subst (λ n. LeavesOnly s t (IsBeforeOrAfter n l ps p)) versions (subst (λ n. LeavesOnly s t (IsBeforeOrAfter v n ps p)) kinds leaves)
-
 pub same_clearing : (s t : DiskState) (a b : Slots) → a ≡ b → LeavesOnly s t (IsSlotWrite (free_slot a) (offset_in a (free_slot a)) s.content) → LeavesOnly s t (IsSlotWrite (free_slot b) (offset_in b (free_slot b)) s.content)
 same_clearing s t a b is leaves = subst (λ (x : Slots). LeavesOnly s t (IsSlotWrite (free_slot x) (offset_in x (free_slot x)) s.content)) is leaves
 
@@ -43,31 +36,16 @@ same_setting s t g h o p is offset_is leaves = subst (λ n. LeavesOnly s t (IsSl
 pub header_stays : (gate : ℕ) (s t : DiskState) → 16 ≤ gate → LeavesOnly s t (λ b. take gate b ≡ take gate s.content) → LeavesOnly s t (λ b. take 16 b ≡ take 16 s.content)
 header_stays gate s t le leaves = weaker s t _ _ leaves (λ b is. take-shorter 16 gate b s.content le is)
 
-pub holds_next : (version kind : ℕ) (payloads more : List (List ℕ)) (place : ℕ) (p b : List ℕ) → take (place + 1) more ≡ take place more ++ p ∷ [] → Holds b version kind ((payloads ++ take place more) ++ p ∷ [])
-    → Holds b version kind (payloads ++ take (place + 1) more)
-holds_next version kind payloads more place p b next holds = subst (Holds b version kind) (append_assoc payloads (take place more) (p ∷ []) ∙ ap (λ (l : List (List ℕ)). payloads ++ l) (sym next)) holds
-
 module _ (version kind : ℕ) (old : List ℕ) (payloads more : List (List ℕ)) where
   pub partly_none : (s : DiskState) → IsLawful s → Only s.content s → s.content ≡ old → Holds old version kind payloads → LeavesOnly s s (IsPartly version kind old payloads more)
   partly_none s lawful durable is holds = started s _ lawful (λ b image.
       let same = durable b image ∙ is in
       record { count = 0; holds = subst (λ (l : List ℕ). Holds l version kind (payloads ++ [])) (sym same) (subst (Holds old version kind) (sym (append-nil payloads)) holds); header = ap (λ (l : List ℕ). take 16 l) same })
 
-  partly_next : (place : ℕ) (p mid b : List ℕ) → take (place + 1) more ≡ take place more ++ p ∷ [] → take 16 mid ≡ take 16 old → IsBeforeOrAfter version kind (payloads ++ take place more) p b → take 16 b ≡ take 16 mid
-      → IsPartly version kind old payloads more b
-  partly_next place p mid b next front (inl before) header = record { count = place; holds = before; header = header ∙ front }
-  partly_next place p mid b next front (inr after) header = record {
-    count = place + 1;
-    holds = holds_next version kind payloads more place p b next after;
-    header = header ∙ front;
-  }
-
-  pub partly_on : (place : ℕ) (p : List ℕ) (s m t : DiskState) → take (place + 1) more ≡ take place more ++ p ∷ [] → IsLawful m → LeavesOnly s m (IsPartly version kind old payloads more)
-      → LeavesOnly m t (IsBeforeOrAfter version kind (payloads ++ take place more) p) → LeavesOnly m t (λ b. take 16 b ≡ take 16 m.content) → LeavesOnly s t (IsPartly version kind old payloads more)
-  partly_on place p s m t next lawful so_far one header =
-      let here = content_among s m _ lawful so_far in
-      then_leaves s m t _ (λ b. IsBeforeOrAfter version kind (payloads ++ take place more) p b × (take 16 b ≡ take 16 m.content)) _ so_far (both_leave m t _ _ one header) (λ b x. x)
-      (λ b x. partly_next place p m.content b next here.header x.0 x.1)
+pub partly_first : (version kind gate : ℕ) (s t : DiskState) (payloads more : List (List ℕ)) → 16 ≤ gate → LeavesOnly s t (HoldFirst version kind payloads more) → LeavesOnly s t (λ b. take gate b ≡ take gate s.content)
+    → LeavesOnly s t (IsPartly version kind s.content payloads more)
+partly_first version kind gate s t payloads more le first front =
+    weaker s t _ _ (both_leave s t _ _ first (header_stays gate s t le front)) (λ b both. record { count = both.0.many; holds = both.0.holds; header = both.1 })
 
 -- ---- the slot after them
 

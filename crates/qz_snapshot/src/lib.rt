@@ -21,4 +21,5 @@ pub use heads::{Head, Numbers, heads_are_read_in_one_way, put_head, read_head};
 pub use laws::snapshots_are_read_in_one_way;
 pub use marks::is_part;
 pub use parts::{Parts, read_parts};
+pub use payloads::first_snapshot;
 pub use rows::add_row;

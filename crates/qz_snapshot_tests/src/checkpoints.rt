@@ -9,12 +9,10 @@ use qz_valid::are_valid;
 use std::alloc::{AllocError, Global};
 
 // F0; no payload and no entry before it, one piece after it; the next entry 1, the next epoch 2, the threshold 60000, the last
-// moment 0, the horizon 7258118399999. Its length stands before it, and a closed gate after it.
-const HEAD: &[u8] =
-    b"\0\0\0\x35\xf0\0\0\0\0\0\0\0\0\0\0\0\x01\0\0\0\0\0\0\0\x01\0\0\0\0\0\0\0\x02\0\0\0\0\0\0\xea\x60\0\0\0\0\0\0\0\0\0\0\x06\x99\xe9\x91\xa7\xff\0";
-
-// F1, and the record of the member A under the epoch 1. Its length stands before it, and a closed gate after it.
-const PIECE: &[u8] = b"\0\0\0\x10\xf1\x05\0\x0c\x02\0\x01A\0\0\0\0\0\0\0\x01\0";
+// moment 0, the horizon 7258118399999. Its length stands before it. Then an open gate, and F1 and the record of the member A under
+// the epoch 1, with its length before it, and a closed gate.
+const SNAPSHOT: &[u8] =
+    b"\0\0\0\x35\xf0\0\0\0\0\0\0\0\0\0\0\0\x01\0\0\0\0\0\0\0\x01\0\0\0\0\0\0\0\x02\0\0\0\0\0\0\xea\x60\0\0\0\0\0\0\0\0\0\0\x06\x99\xe9\x91\xa7\xff\xa5\0\0\0\x10\xf1\x05\0\x0c\x02\0\x01A\0\0\0\0\0\0\0\x01\0";
 
 // Puts in the member A.
 fn add_member(alloc: Global, tables: &mut Tables) -> Result<(), NoMemory> {
@@ -45,8 +43,8 @@ fn is_write(call: &Call, offset: u64, payload: &[u8]) -> bool {
     matches!(call, Call::Write { at, bytes } if *at == offset && bytes.as_slice() == payload)
 }
 
-// Whether these are the calls of appending a payload at this gate: its length, its bytes and a closed gate, a sync, the open
-// gate, a sync.
+// Whether these are the calls of appending payloads at this gate: lengths and bytes and a closed gate, a sync, the open gate, a
+// sync.
 fn appends(calls: &[Call], gate: u8, body: &[u8]) -> bool {
     let gate = u64::from(gate);
     match calls {
@@ -95,12 +93,11 @@ fn makes_three(alloc: Global, tables: &Tables) -> Result<bool, AllocError> {
     let are_counted = journal.payloads() == 6 && journal.gate() == 253;
     let disk = journal.into_disk();
     let calls = disk.calls();
-    let is_right = calls.len() == 42
-        && appends(&calls[4..8], 16, HEAD)
-        && appends(&calls[8..12], 74, PIECE)
-        && sets(&calls[12..16], 6, b"\0\0\0\x10")
-        && sets(&calls[24..28], 11, b"\0\0\0\x5f")
-        && clears_and_sets(&calls[36..], 6, b"\0\0\0\xae");
+    let is_right = calls.len() == 30
+        && appends(&calls[4..8], 16, SNAPSHOT)
+        && sets(&calls[8..12], 6, b"\0\0\0\x10")
+        && sets(&calls[16..20], 11, b"\0\0\0\x5f")
+        && clears_and_sets(&calls[24..], 6, b"\0\0\0\xae");
     drop(disk);
     Ok(is_first && is_second && is_third && are_counted && is_right)
 }

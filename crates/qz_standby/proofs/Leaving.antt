@@ -64,6 +64,6 @@ makes_then form (Err unmade.Exists) f t m n s u v first second looked = looked_t
 makes_then form (Err (unmade.NotAStore store)) f t m n s u v first second looked =
     looked_then (λ triggers states. (HasOwn triggers states → ⊥) × IsFirstOfOther store triggers states) t m n s u v first second looked
 makes_then form (Err (unmade.Short at)) f t m n s u v first second looked = looked_then HasNone t m n s u v first second looked
-makes_then form (Err unmade.NoRoom) f t m n s u v first second part = (part.0, part_then form f t m n s u v first second part.1)
+makes_then form (Err (unmade.NoRoom need room)) f t m n s u v first second part = (part.0, part_then form f t m n s u v first second part.1)
 makes_then form (Err unmade.NoMemory) f t m n s u v first second some = some_then form f t m n s u v first second some
 makes_then form (Err unmade.Fault) f t m n s u v first second some = some_then form f t m n s u v first second some

@@ -41,6 +41,6 @@ pub refused_makes : (form : Form) (x : Unmade) (f : Following) (t t' u u' : Disk
 refused_makes form unmade.Exists f t t' u u' found first second = record { found = found; triggers = first; states = second }
 refused_makes form (unmade.NotAStore st) f t t' u u' found first second = record { found = found; triggers = first; states = second }
 refused_makes form (unmade.Short at) f t t' u u' found first second = absurd found
-refused_makes form unmade.NoRoom f t t' u u' found first second = absurd found
+refused_makes form (unmade.NoRoom need room) f t t' u u' found first second = absurd found
 refused_makes form unmade.NoMemory f t t' u u' found first second = absurd found
 refused_makes form unmade.Fault f t t' u u' found first second = inl (record { found = tt; triggers = first; states = second })

@@ -4,10 +4,9 @@ use Rattle.std.specs.Prelude.{Some, None, Result, Ok, Err, IfErr}
 use Rattle.qz_disk.specs.Disk.{DiskState, IsLawful}
 use Rattle.qz_stores.specs.declared.compacting.CompactError.{CompactError}
 use Rattle.qz_stores.specs.declared.compacting.CompactError.TheVariants as compact
-use Rattle.qz_stream.specs.Standing.{header_length_of}
 use Rattle.qz_trigger_store.specs.Kinds.{trigger_kind}
 use Rattle.qz_checkin.specs.Kinds.{state_kind}
-use Rattle.qz_follow.specs.Following.{Following}
+use Rattle.qz_follow.specs.Following.{Following, short_at}
 use Rattle.qz_follow.specs.declared.promoting.PromoteFault.{PromoteFault}
 use Rattle.qz_follow.specs.declared.promoting.PromoteFault.TheVariants as promote
 use Rattle.qz_standby.specs.Fronts.{HasNone}
@@ -27,7 +26,7 @@ module _ (form : Form) (f : Following) (t t' s : DiskState) (beside : IsLawful s
   unmade_makes unmade.Exists made = absurd made
   unmade_makes (unmade.NotAStore st) made = absurd made
   unmade_makes (unmade.Short at) made = record { found = none; triggers = made; states = looks_not s beside }
-  unmade_makes unmade.NoRoom made = (made.0, part made.1)
+  unmade_makes (unmade.NoRoom need room) made = (made.0, part made.1)
   unmade_makes unmade.NoMemory made = inr (part made)
   unmade_makes unmade.Fault made = inr (part made)
 
@@ -41,7 +40,7 @@ module _ (form : Form) (f : Following) (t t' s s' : DiskState) (none : HasNone t
   made_makes (Err unmade.Exists) rows = absurd rows.0
   made_makes (Err (unmade.NotAStore st)) rows = absurd rows.0
   made_makes (Err (unmade.Short at)) rows = absurd rows.0
-  made_makes (Err unmade.NoRoom) rows = absurd rows.0
+  made_makes (Err (unmade.NoRoom need room)) rows = absurd rows.0
   made_makes (Err unmade.NoMemory) rows = inr (part_of rows.1)
   made_makes (Err unmade.Fault) rows = inr (part_of rows.1)
 
@@ -51,24 +50,25 @@ pub other_header : (x : Unmade) (f : Following) → IsOfStores x → TellsHeader
 other_header unmade.Exists f is = tt
 other_header (unmade.NotAStore st) f is = tt
 other_header (unmade.Short at) f is = absurd is
-other_header unmade.NoRoom f is = tt
+other_header (unmade.NoRoom need room) f is = tt
 other_header unmade.NoMemory f is = tt
 other_header unmade.Fault f is = tt
 
-pub unpromoted_header : (x : PromoteFault) (f : Following) → ((at : ℕ) → x ≡ promote.Short at → header_length_of f.standing ≡ Some at) → TellsHeader (Err (unpromoted x)) f
+pub unpromoted_header : (x : PromoteFault) (f : Following) → ((at : ℕ) → x ≡ promote.Short at → short_at f ≡ Some at) → TellsHeader (Err (unpromoted x)) f
 unpromoted_header (promote.Short at) f told = told at refl
 unpromoted_header promote.Exists f told = tt
 unpromoted_header promote.OtherKind f told = tt
 unpromoted_header promote.NoMemory f told = tt
+unpromoted_header (promote.NoRoom need room) f told = tt
 unpromoted_header promote.Fault f told = tt
 
 pub uncompacted_header : (x : CompactError) (f : Following) → TellsHeader (Err (uncompacted x)) f
 uncompacted_header compact.Exists f = tt
 uncompacted_header compact.OtherKind f = tt
 uncompacted_header compact.NoMemory f = tt
-uncompacted_header compact.NoRoom f = tt
+uncompacted_header (compact.NoRoom need room) f = tt
 uncompacted_header compact.Fault f = tt
 
-pub counted_header : (r : Result (Unit {0}) Unmade) (count : ℕ) (f : Following) → IfErr r IsOfStores → header_length_of f.standing ≡ None → count ≡ length f.entries → TellsHeader (counted r count) f
+pub counted_header : (r : Result (Unit {0}) Unmade) (count : ℕ) (f : Following) → IfErr r IsOfStores → short_at f ≡ None → count ≡ length f.entries → TellsHeader (counted r count) f
 counted_header (Ok x) count f error long all = (long, all)
 counted_header (Err x) count f error long all = other_header x f error

@@ -12,10 +12,12 @@ use Rattle.qz_stream.proofs.Once.{no_splits-short}
 use Rattle.qz_trigger_store.specs.Kinds.{trigger_kind}
 use Rattle.qz_trigger_store.specs.Laws.{trigger_lawful}
 use Rattle.qz_types.specs.Entries.{EntryData}
+use Rattle.qz_types.specs.Tables.{SchedulerTables}
 use Rattle.qz_follow.specs.Following.{Following, IsFollowed, Follows, IsFault, IsEnded}
 use Rattle.qz_follow.specs.Payloads.{IsFine, StandsBy}
 use Rattle.qz_follow.specs.declared.faults.FollowFault.{FollowFault}
 use Rattle.qz_follow.specs.declared.faults.FollowFault.TheVariants as fault
+use Rattle.qz_follow.proofs.Gathering.{trigger_gathered}
 use Rattle.qz_follow.proofs.Told.{first_fault, end_taken}
 use Rattle.qz_standby.specs.Reading.{GoesOn, WasFed, HasRead, HasMet, IsUnread}
 use Rattle.qz_standby.specs.declared.errors.Unread.TheVariants as unread
@@ -30,21 +32,22 @@ no_bad : (before : List (List ℕ)) (at : ℕ) → IsBadPlace [] before at → �
 no_bad before at (inl front) = omega (arith, front.0.there)
 no_bad before at (inr gate) = no_splits before gate.tail gate.splits
 
-no_fault : (v : ℕ) (es : List EntryData) (x : FollowFault) → IsFault v [] es x → ⊥
-no_fault v es (fault.BadStream at) (inl bad) = no_bad bad.before at bad.bad
-no_fault v es (fault.BadStream at) (inr unfit) = no_splits _ unfit.next.tail unfit.next.splits
-no_fault v es (fault.JournalFull need room) full = no_splits _ full.next.tail full.next.splits
-no_fault v es fault.NoMemory wanting = no_splits _ wanting.next.tail wanting.next.splits
+no_fault : (v : ℕ) (T : SchedulerTables) (es : List EntryData) (x : FollowFault) → IsFault v [] T es x → ⊥
+no_fault v T es (fault.BadStream at) (inl bad) = no_bad bad.before at bad.bad
+no_fault v T es (fault.BadStream at) (inr (inl unfit)) = no_splits _ unfit.next.tail unfit.next.splits
+no_fault v T es (fault.BadStream at) (inr (inr lack)) = no_splits _ lack.tail lack.splits
+no_fault v T es (fault.JournalFull need room) full = no_splits _ full.next.tail full.next.splits
+no_fault v T es fault.NoMemory wanting = no_splits _ wanting.next.tail wanting.next.splits
 
 fresh_by : (f : Following) (o : Option FollowFault) → f.fault ≡ o → IsFollowed [] f → f.fault ≡ None
 fresh_by f None is followed = is
-fresh_by f (Some x) is followed = absurd (no_fault f.version f.entries x (first_fault trigger_kind trigger_lawful [] f x followed is))
+fresh_by f (Some x) is followed = absurd (no_fault f.version f.start f.entries x (first_fault trigger_kind trigger_lawful trigger_gathered [] f x followed is))
 
 pub fresh_fine : (f : Following) → IsFollowed [] f → f.fault ≡ None
 fresh_fine f followed = fresh_by f f.fault refl followed
 
 pub fresh_open : (f : Following) → IsFollowed [] f → IsEnded f → ⊥
-fresh_open f followed ended = let end = end_taken trigger_kind trigger_lawful [] f followed ended.0 ended.1 in no_splits end.0 end.2.tail end.2.splits
+fresh_open f followed ended = let end = end_taken trigger_kind trigger_lawful trigger_gathered [] f followed ended.0 ended.1 in no_splits end.0 end.2.tail end.2.splits
 
 -- A stream that goes on has no more bytes than a store may have, a gate and three bytes of a length.
 

@@ -20,6 +20,6 @@ check_ins T = map (check_in_of T.last_moment) T.members
 abbrev pub rows_list : SchedulerTables → WholeRows
 rows_list T = list_of 2 (check_ins T)
 
--- that of the state store beside a trigger store of these entries, in this version
-abbrev pub rows_beside : ℕ → List EntryData → WholeRows
-rows_beside version entries = rows_list (left_by version entries)
+-- that of the state store beside a trigger store of these entries, from this start on
+abbrev pub rows_beside : SchedulerTables → List EntryData → WholeRows
+rows_beside start entries = rows_list (left_by start entries)

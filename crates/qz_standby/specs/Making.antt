@@ -1,13 +1,14 @@
 -- What a standby makes of the two disks.
-use Rattle.std.specs.Prelude.{⊤, ◌≡◌, ◌⊎◌, ℕ, List, [], ◌++◌, length, Result, Ok, Err, None, Some}
+use Rattle.std.specs.Prelude.{⊤, ◌≡◌, ◌≢◌, ◌⊎◌, ℕ, List, [], ◌++◌, length, Result, Ok, Err, None, Some}
 use Rattle.qz_disk.specs.Disk.{DiskState, Only, Torn, LeavesOnly}
-use Rattle.qz_follow.specs.Following.{Following}
-use Rattle.qz_journal.specs.Commits.{LackRoom}
-use Rattle.qz_journal.specs.Layout.{end_of}
+use Rattle.qz_follow.specs.Following.{Following, short_at}
+use Rattle.qz_follow.specs.Promoting.{LacksAll}
+use Rattle.qz_journal.specs.Commits.{IsFullFor}
+use Rattle.qz_journal.specs.Layout.{IsStore, end_of}
 use Rattle.qz_snapshot.specs.Checkpoints.{snapshot_written}
-use Rattle.qz_stores.specs.Bases.{WholeList, IsWhole, list_of as new_list}
+use Rattle.qz_stores.specs.Bases.{WholeList, IsWhole}
 use Rattle.qz_stores.specs.Kinds.{StoreKind}
-use Rattle.qz_stream.specs.Standing.{header_length_of}
+use Rattle.qz_types.specs.Tables.{empty}
 use Rattle.qz_trigger_store.specs.Bytes.{Whole}
 use Rattle.qz_trigger_store.specs.Kinds.{trigger_kind}
 use Rattle.qz_checkin.specs.Bytes.{Whole as WholeRows}
@@ -27,9 +28,9 @@ pub record HoldsFirst {H S E R : Type 0} (k : StoreKind H S E R) (w : WholeList 
   pub entries : w.entries ≡ first ++ more
   pub held : IsWhole k (record w { entries = first }) bytes
 
--- they are such a store, or a new one of this version
+-- they begin as no store of this kind does, or are such a store
 abbrev pub HoldsPart : {H S E R : Type 0} → StoreKind H S E R → WholeList S E → List ℕ → Type 0
-HoldsPart k w bytes = IsWhole k (new_list k w.version []) bytes ⊎ HoldsFirst k w bytes
+HoldsPart k w bytes = (IsStore k.number bytes → ⊥) ⊎ HoldsFirst k w bytes
 
 -- A crash at any moment leaves such a store; before that the header, and the gate after it, may be there in part.
 abbrev pub LeavesFirst : {H S E R : Type 0} → StoreKind H S E R → WholeList S E → DiskState → DiskState → Type 0
@@ -41,16 +42,17 @@ HoldsNow k w new = IsWhole k w new.content × ((b : List ℕ) → new.IsImage b 
 
 -- the whole list of the trigger store of this form that this follower is made into
 abbrev pub list_of : Form → Following → Whole
-list_of form f = list_in form f.version f.entries
+list_of form f = list_in form f.version f.start f.entries
 
 -- and that of the state store beside it
 abbrev pub rows_of : Following → WholeRows
-rows_of f = rows_beside f.version f.entries
+rows_of f = rows_beside f.start f.entries
 
--- A snapshot of the follower's tables has no room in a store. (All its entries have.)
-abbrev pub LacksRoom : Form → Following → Type 0
-LacksRoom form.Entries f = ⊥
-LacksRoom form.Snapshot f = LackRoom (snapshot_written (left_by f.version f.entries) 0 0) (end_of []) 0
+-- A snapshot of the follower's tables has no room in a store, or one of its base with all its entries: so many bytes are needed, and so
+-- many there are. (The entries alone have room.)
+abbrev pub LacksRoom : Form → Following → ℕ → ℕ → Type 0
+LacksRoom form.Entries f need room = (f.start ≢ empty f.version) × LacksAll f.start f.entries need room
+LacksRoom form.Snapshot f need room = IsFullFor (snapshot_written (left_by f.start f.entries) 0 0) (end_of []) 0 need room
 
 -- Stores are made on two disks that had none.
 pub record MakesPart (form : Form) (f : Following) (t t' s s' : DiskState) : Type 0 where
@@ -76,13 +78,13 @@ Makes form (Ok count) f t t' s s' = MakesBoth form f t t' s s'
 Makes form (Err unmade.Exists) f t t' s s' = LooksAtBoth HasOwn t t' s s'
 Makes form (Err (unmade.NotAStore store)) f t t' s s' = LooksAtBoth (λ triggers states. (HasOwn triggers states → ⊥) × IsFirstOfOther store triggers states) t t' s s'
 Makes form (Err (unmade.Short at)) f t t' s s' = LooksAtBoth HasNone t t' s s'
-Makes form (Err unmade.NoRoom) f t t' s s' = LacksRoom form f × MakesPart form f t t' s s'
+Makes form (Err (unmade.NoRoom need room)) f t t' s s' = LacksRoom form f need room × MakesPart form f t t' s s'
 Makes form (Err unmade.NoMemory) f t t' s s' = LooksAtBoth (λ triggers states. ⊤) t t' s s' ⊎ MakesPart form f t t' s s'
 Makes form (Err unmade.Fault) f t t' s s' = LooksAtBoth (λ triggers states. ⊤) t t' s s' ⊎ MakesPart form f t t' s s'
 
--- The header of the stream was whole, and so many entries were acknowledged; or the stream ended within its header. Of other causes
--- nothing is said.
+-- The header of the stream was whole, and its base if it has one, and so many entries were acknowledged; or the stream ended within
+-- them. Of other causes nothing is said.
 abbrev pub TellsHeader : Result ℕ Unmade → Following → Type 0
-TellsHeader (Ok count) f = (header_length_of f.standing ≡ None) × (count ≡ length f.entries)
-TellsHeader (Err (unmade.Short at)) f = header_length_of f.standing ≡ Some at
+TellsHeader (Ok count) f = (short_at f ≡ None) × (count ≡ length f.entries)
+TellsHeader (Err (unmade.Short at)) f = short_at f ≡ Some at
 TellsHeader (Err error) f = ⊤

@@ -39,7 +39,7 @@ AreFound (Ok _) triggers states = HasNone triggers states
 AreFound (Err unmade.Exists) triggers states = HasOwn triggers states
 AreFound (Err (unmade.NotAStore store)) triggers states = (HasOwn triggers states → ⊥) × IsFirstOfOther store triggers states
 AreFound (Err (unmade.Short at)) triggers states = ⊥
-AreFound (Err unmade.NoRoom) triggers states = ⊥
+AreFound (Err (unmade.NoRoom need room)) triggers states = ⊥
 AreFound (Err unmade.NoMemory) triggers states = ⊥
 AreFound (Err unmade.Fault) triggers states = ⊤
 
@@ -72,7 +72,7 @@ MakesTriggers form None f old new = LeavesFirst trigger_kind (list_of form f) ol
 MakesTriggers form (Some unmade.Exists) f old new = ⊥
 MakesTriggers form (Some (unmade.NotAStore store)) f old new = ⊥
 MakesTriggers form (Some (unmade.Short at)) f old new = Looks old new
-MakesTriggers form (Some unmade.NoRoom) f old new = LacksRoom form f × LeavesFirst trigger_kind (list_of form f) old new
+MakesTriggers form (Some (unmade.NoRoom need room)) f old new = LacksRoom form f need room × LeavesFirst trigger_kind (list_of form f) old new
 MakesTriggers form (Some unmade.NoMemory) f old new = LeavesFirst trigger_kind (list_of form f) old new
 MakesTriggers form (Some unmade.Fault) f old new = LeavesFirst trigger_kind (list_of form f) old new
 
@@ -82,6 +82,7 @@ unpromoted (promote.Short at) = unmade.Short at
 unpromoted promote.Exists = unmade.Exists
 unpromoted promote.OtherKind = unmade.NotAStore store.Triggers
 unpromoted promote.NoMemory = unmade.NoMemory
+unpromoted (promote.NoRoom need room) = unmade.NoRoom need room
 unpromoted promote.Fault = unmade.Fault
 
 -- why no store that begins with a snapshot was made
@@ -89,7 +90,7 @@ abbrev pub uncompacted : CompactError → Unmade
 uncompacted compact.Exists = unmade.Exists
 uncompacted compact.OtherKind = unmade.NotAStore store.Triggers
 uncompacted compact.NoMemory = unmade.NoMemory
-uncompacted compact.NoRoom = unmade.NoRoom
+uncompacted (compact.NoRoom need room) = unmade.NoRoom need room
 uncompacted compact.Fault = unmade.Fault
 
 -- so many entries, where the state store was made too

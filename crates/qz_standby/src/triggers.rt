@@ -5,7 +5,7 @@ ghost use Rattle.qz_follow.specs.View.{view, keeps_of};
 ghost use Rattle.qz_journal.specs.Layout.{HasStore};
 ghost use Rattle.qz_journal.specs.declared.layout.TheConstants.{TRIGGERS};
 ghost use Rattle.qz_model.specs.History.{replay};
-ghost use Rattle.qz_stream.specs.Standing.{header_length_of};
+ghost use Rattle.qz_follow.specs.Following.{short_at};
 ghost use Rattle.qz_standby.specs.Forms.{needs_payloads, left_by};
 ghost use Rattle.qz_standby.specs.Making.{TellsHeader};
 ghost use Rattle.qz_standby.specs.Parts.{MakesTriggers, unpromoted, uncompacted};
@@ -28,9 +28,9 @@ pub(crate) fn make_triggers<D: Disk>(
 ) -> Result<TriggerStore<D>, (Unmade, D)>
     requires keeps { keeps_of follower ≡ needs_payloads form }
     requires fine { (view follower).fault ≡ None }
-    ensures long { OnOk result (header_length_of (view follower).standing ≡ None) }
+    ensures long { OnOk result (short_at (view follower) ≡ None) }
     ensures header { IfErr result (λ e. TellsHeader (Err e.0) (view follower)) }
-    ensures tables { IfOk result (λ store. replay (store_view store).history ≡ left_by (view follower).version (view follower).entries) }
+    ensures tables { IfOk result (λ store. replay (store_view store).history ≡ left_by (view follower).start (view follower).entries) }
     ensures makes { D.honest → (HasStore TRIGGERS (D.state disk).content → ⊥) → MatchResult result
         (λ store. MakesTriggers form None (view follower) (D.state disk) (disk_state store))
         (λ e. MakesTriggers form (Some e.0) (view follower) (D.state disk) (D.state e.1)) }
@@ -47,9 +47,9 @@ pub(crate) fn make_triggers<D: Disk>(
 fn promote<D: Disk>(follower: Follower, disk: D) -> Result<TriggerStore<D>, (Unmade, D)>
     requires keeps { keeps_of follower ≡ true }
     requires fine { (view follower).fault ≡ None }
-    ensures long { OnOk result (header_length_of (view follower).standing ≡ None) }
+    ensures long { OnOk result (short_at (view follower) ≡ None) }
     ensures header { IfErr result (λ e. TellsHeader (Err e.0) (view follower)) }
-    ensures tables { IfOk result (λ store. replay (store_view store).history ≡ left_by (view follower).version (view follower).entries) }
+    ensures tables { IfOk result (λ store. replay (store_view store).history ≡ left_by (view follower).start (view follower).entries) }
     ensures makes { D.honest → (HasStore TRIGGERS (D.state disk).content → ⊥) → MatchResult result
         (λ store. MakesTriggers Form.Entries None (view follower) (D.state disk) (disk_state store))
         (λ e. MakesTriggers Form.Entries (Some e.0) (view follower) (D.state disk) (D.state e.1)) }
@@ -69,18 +69,18 @@ fn compact<D: Disk>(
     disk: D,
 ) -> Result<TriggerStore<D>, (Unmade, D)>
     requires fine { (view follower).fault ≡ None }
-    ensures long { OnOk result (header_length_of (view follower).standing ≡ None) }
+    ensures long { OnOk result (short_at (view follower) ≡ None) }
     ensures header { IfErr result (λ e. TellsHeader (Err e.0) (view follower)) }
-    ensures tables { IfOk result (λ store. replay (store_view store).history ≡ left_by (view follower).version (view follower).entries) }
+    ensures tables { IfOk result (λ store. replay (store_view store).history ≡ left_by (view follower).start (view follower).entries) }
     ensures makes { D.honest → (HasStore TRIGGERS (D.state disk).content → ⊥) → MatchResult result
         (λ store. MakesTriggers Form.Snapshot None (view follower) (D.state disk) (disk_state store))
         (λ e. MakesTriggers Form.Snapshot (Some e.0) (view follower) (D.state disk) (D.state e.1)) }
     ensures later { MatchResult result (λ store. D.faults disk ≤ (store_view store).faults) (λ e. D.faults disk ≤ D.faults e.1) }
     ensures fault { IfErr result (λ e. e.0 ≡ Unmade.Fault → Rose (D.faults disk) (D.faults e.1)) }
 {
-    if let Some(length) = follower.header_length() {
+    if let Some(at) = follower.short() {
         drop(follower);
-        return Err((Unmade::Short { at: length as u64 }, disk));
+        return Err((Unmade::Short { at }, disk));
     }
     let (version, tables) = follower.into_tables();
     match TriggerStore::compacted(alloc, disk, version, tables, Keep::Tables) {
@@ -101,6 +101,7 @@ fn unpromoted(fault: PromoteFault) -> Unmade
             store: Store::Triggers,
         },
         PromoteFault::NoMemory => Unmade::NoMemory,
+        PromoteFault::NoRoom { need, room } => Unmade::NoRoom { need, room },
         PromoteFault::Fault => Unmade::Fault,
     }
 }
@@ -116,7 +117,7 @@ fn uncompacted(error: CompactError) -> Unmade
             store: Store::Triggers,
         },
         CompactError::NoMemory => Unmade::NoMemory,
-        CompactError::NoRoom => Unmade::NoRoom,
+        CompactError::NoRoom { need, room } => Unmade::NoRoom { need, room },
         CompactError::Fault => Unmade::Fault,
     }
 }

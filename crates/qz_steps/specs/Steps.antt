@@ -7,7 +7,7 @@ use Rattle.qz_types.specs.declared.commands.Command.TheVariants as command
 use Rattle.qz_steps.specs.declared.questions.Question.{Question}
 use Rattle.qz_steps.specs.declared.questions.Question.TheVariants as question
 use Rattle.qz_steps.specs.declared.steps.Step.{Step}
-use Rattle.qz_steps.specs.declared.steps.Step.TheVariants.{Client, Join, CheckIn, Node, Forget, Stop, Restart, Resume, Show}
+use Rattle.qz_steps.specs.declared.steps.Step.TheVariants.{Client, Join, CheckIn, Node, Forget, Stop, Restart, Resume, Show, Checkpoint, ShowRoom}
 
 -- a join of the trigger store alone, which scripts do by a step of its own
 abbrev pub is_join : Command → Bool
@@ -32,3 +32,5 @@ is_step (Stop node) = is_node node
 is_step Restart = true
 is_step (Resume node epoch) = is_node node
 is_step (Show q) = is_question q
+is_step Checkpoint = true
+is_step ShowRoom = true

@@ -2,7 +2,9 @@
 #![tactic(auto)]
 
 mod questions;
+mod rooms;
 mod steps;
 
 pub use questions::{Question, Shown, ShownEntry};
+pub use rooms::{Fill, Marked, Room};
 pub use steps::{Step, StepReply};

@@ -1,5 +1,6 @@
 //! Steps of a script.
 use crate::questions::{Question, Shown};
+use crate::rooms::{Marked, Room};
 use qz_types::{Command, Refusal, Reply, Text};
 
 /// What one script line asks for. A client's command is none that a node gives and no Join; a node's command is one
@@ -21,6 +22,10 @@ pub enum Step {
     Resume { node: Text, epoch: u64 },
     /// What is stored is asked for. Nothing changes.
     Show(Question),
+    /// A snapshot of the trigger store's tables is to be made, from which the next opening begins. It is no entry.
+    Checkpoint,
+    /// How full both stores are is asked for. Nothing changes, and a closed store answers too.
+    ShowRoom,
     /// All nodes stop, and both disks restart as after a loss of power. What is on them is opened anew.
     Restart,
 }
@@ -33,7 +38,7 @@ pub enum StepReply {
     /// A disk failed in this step. Its store is closed, and a crash may leave the transaction that failed or not. After
     /// a failed restart both stores are closed.
     Fault,
-    /// A store that the step needs is closed since a fault.
+    /// A store that the step needs is closed since a fault; or there are no stores since a restart failed.
     Closed,
     /// The node holds no epoch: it didn't join, it left, or it stopped.
     Stopped,
@@ -41,4 +46,8 @@ pub enum StepReply {
     Restarted,
     /// What was asked for.
     Shown(Shown),
+    /// What came of a checkpoint.
+    Marked(Marked),
+    /// How full both stores are.
+    Room(Room),
 }

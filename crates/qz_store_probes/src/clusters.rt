@@ -28,6 +28,7 @@ pub fn mount<D: Disk>(
 ) -> Result<Cluster<D>, (MountFault, D, D)>
     ensures opened { IfOk result (λ c. IsOpened (view c).triggers × AreOpened (view c).states) }
     ensures nothing_held { IfOk result (λ c. (view c).held ≡ []) }
+    ensures standing { IfOk result (λ c. (view c).standing ≡ true) }
     ensures nothing_added { IfOk result (λ c. added_of (triggers_of c) ≡ []) }
     ensures keeps { IfOk result (λ c. keeps_of (triggers_of c) ≡ keeps_entries keep) }
     ensures behind { IfOk result (λ c. behind_of (triggers_of c) ≡ length (found_of (triggers_of c))) }

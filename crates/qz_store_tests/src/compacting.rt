@@ -1,7 +1,9 @@
 //! Worked examples: a store that begins with a snapshot of its tables.
 use crate::entries::{ADD_JOB, ADD_TRIGGER, Came, entry_of, submit};
-use qz_disk::{Disk, MemDisk};
+use qz_disk::{CutDisk, Disk, MemDisk};
+use qz_journal::MountError;
 use qz_plain::PlainStore;
+use qz_stores::CompactError;
 use qz_trigger_store::{Keep, TriggerStore};
 use std::alloc::Global;
 
@@ -67,4 +69,45 @@ fn is_opened_and_kept(alloc: Global) -> Option<bool> {
 #[test]
 fn a_store_opens_at_its_beginning(rt: HostRuntime) {
     assert!(rt; is_opened_and_kept(rt.alloc()) == Some(true));
+}
+
+// Whether there is no store, or the one that began with the job.
+fn has_none_or_all<D: Disk>(alloc: Global, disk: D) -> bool {
+    match TriggerStore::mount(alloc, disk, Keep::Tables) {
+        Ok(store) => {
+            let is_whole = store.tables().len_jobs() == 1 && store.history_len() == 0;
+            drop(store);
+            is_whole
+        }
+        Err((error, disk)) => {
+            drop(disk);
+            matches!(error, MountError::NotAStore)
+        }
+    }
+}
+
+// Whether a beginning that is cut off after so many calls fails, and leaves that.
+fn is_none_or_all(alloc: Global, calls: u64) -> Option<bool> {
+    let disk = CutDisk::new(MemDisk::new(alloc), calls);
+    match TriggerStore::compacted(alloc, disk, 2, with_job(alloc)?, Keep::Tables) {
+        Ok(store) => {
+            drop(store);
+            Some(false)
+        }
+        Err((error, mut disk)) => {
+            let failed = error == CompactError::Fault && disk.restart().is_ok();
+            Some(failed && has_none_or_all(alloc, disk))
+        }
+    }
+}
+
+#[test]
+fn a_beginning_that_is_cut_off_leaves_no_store_or_all(rt: HostRuntime) {
+    // Two looks, the header, a group of payloads, a slot and the kind make 14 calls.
+    for calls in 0..14 {
+        assert!(rt;
+            is_none_or_all(rt.alloc(), calls) == Some(true),
+            "after {calls} calls"
+        );
+    }
 }

@@ -75,9 +75,9 @@ fn is_kept(alloc: Global, snapshots: u32, calls: u64) -> Option<bool> {
 
 #[test]
 fn a_checkpoint_that_is_cut_off_loses_nothing(rt: HostRuntime) {
-    // An opening makes four calls. A first checkpoint makes 12. The third one has to close a slot before it
-    // sets that, and makes 14.
-    for (snapshots, many) in [(0, 12), (2, 14)] {
+    // An opening makes four calls. A first checkpoint makes 8. The third one has to close a slot before it
+    // sets that, and makes 10.
+    for (snapshots, many) in [(0, 8), (2, 10)] {
         for calls in 0..many {
             assert!(rt;
                 is_kept(rt.alloc(), snapshots, 4 + calls) == Some(true),

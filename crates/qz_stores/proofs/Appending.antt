@@ -70,10 +70,10 @@ module _ {H S E R : Type 0} (k : StoreKind H S E R) (lawful : IsLawful k) (v : �
       let h = k.history n B (found ++ added) in
       state ∙ sym (λ i. k.replay_from (lawful.base_is n B (found ++ added) i) (lawful.entries_are n B (found ++ added) i)) ∙ end_leaves k lawful O h (es ++ added) (end_more k lawful O n B found added es is)
 
-  as_held : (w number : ℕ) (b : List ℕ) (ps : List (List ℕ)) → w ≡ v → number ≡ k.number → Holds b w number ps → Holds b v k.number ps
+  pub as_held : (w number : ℕ) (b : List ℕ) (ps : List (List ℕ)) → w ≡ v → number ≡ k.number → Holds b w number ps → Holds b v k.number ps
   as_held w number b ps w_is number_is holds = subst (λ (n : ℕ). Holds b v n ps) number_is (subst (λ (x : ℕ). Holds b x number ps) w_is holds)
 
-  as_journal : (w number : ℕ) (b : List ℕ) (ps : List (List ℕ)) → w ≡ v → number ≡ k.number → Holds b v k.number ps → Holds b w number ps
+  pub as_journal : (w number : ℕ) (b : List ℕ) (ps : List (List ℕ)) → w ≡ v → number ≡ k.number → Holds b v k.number ps → Holds b w number ps
   as_journal w number b ps w_is number_is holds = subst (λ (x : ℕ). Holds b x number ps) (sym w_is) (subst (λ (n : ℕ). Holds b v n ps) (sym number_is) holds)
 
   -- A journal in this version and of this kind appends a record of an entry that is accepted.

@@ -5,6 +5,7 @@ pub mod Blocks
 pub mod Committing
 pub mod GoesOn
 pub mod Histories
+pub mod InUse
 pub mod Marking
 pub mod Moments
 pub mod NewStores
@@ -15,6 +16,7 @@ pub mod Refused
 pub mod Replays
 pub mod Restarts
 pub mod Sound
+pub mod TakingOver
 pub mod Whole
 pub mod WholeBytes
 pub mod WithoutSlots

@@ -15,8 +15,8 @@ use Rattle.qz_journal.proofs.Marks.{offset_is}
 use Rattle.qz_journal.proofs.Once.{holds_once}
 use Rattle.qz_journal.proofs.TrueTails.{InUse, greater_in_use, whole_tail, tail_only_outside}
 use Rattle.qz_stores.specs.Kinds.{StoreKind, IsLawful}
-use Rattle.qz_stores.specs.Bases.{records, RecordEntries, IsSnapshotAt, HoldAll, MayHoldAll, IsEndOf, IsDecidedFrom}
-use Rattle.qz_stores.specs.Facts.{IsEndOf-prop}
+use Rattle.qz_stores.specs.Bases.{records, RecordEntries, ComeBefore, IsSnapshotAt, HoldAll, MayHoldAll, IsEndOf, IsDecidedFrom}
+use Rattle.qz_stores.specs.Facts.{ComeBefore-prop, IsEndOf-prop}
 use Rattle.qz_stores.specs.Opening.{IsBase, IsUnread, HaveUnfit, IsRead, IsStopped, IsStop, IsRefused, StandsFrom}
 use Rattle.qz_stores.proofs.Once.{none_unfit}
 use Rattle.qz_stores.proofs.Refusals.{stopped_in, read_as}
@@ -24,16 +24,16 @@ use Rattle.qz_stores.proofs.Whole.{cut_once, records_append, one_record, recorde
 use Rattle.qz_stores.proofs.WholeBytes.{each_slot, true_offset}
 
 -- A slot that is in use is open.
-record Used (b : List ℕ) (gate : ℕ) : Type 0 where
-  offset : ℕ
-  is_slot : IsSlot gate
-  opened : slot gate b ≡ Some offset
-  start_is : start_of (slots_of b) ≡ offset
+pub record Used (b : List ℕ) (gate : ℕ) : Type 0 where
+  pub offset : ℕ
+  pub is_slot : IsSlot gate
+  pub opened : slot gate b ≡ Some offset
+  pub start_is : start_of (slots_of b) ≡ offset
 
 one_gate : {x y : ℕ} → Some x ≡ Some y → x ≡ y
 one_gate same = cc
 
-used : (b : List ℕ) (gate : ℕ) → slot_in_use (slots_of b) ≡ Some gate → Used b gate
+pub used : (b : List ℕ) (gate : ℕ) → slot_in_use (slots_of b) ≡ Some gate → Used b gate
 used b gate is = ⊎_elim (λ none. let both : None ≡ Some gate = sym none ∙ is in absurd (cc)) there (greater_in_use (slot 6 b) (slot 11 b))
   where
     there : InUse (slots_of b) → Used b gate
@@ -131,6 +131,21 @@ module _ {H S E R : Type 0} (k : StoreKind H S E R) (lawful : IsLawful k) where
         let r = rest snapshots in
         let same : held.store.0 ≡ ps = holds_once b v v k.number held.store.0 ps held.store.1 holds in
         (r.gate_is ∙ ap end_of same, r.count_is ∙ ap (λ (l : List (List ℕ)). length l) same))
+
+    -- Before what is read come as many entries as the base says.
+    pub read_counts : (n : ℕ) (T : S) → IsBase k (slot_in_use (slots_of b)) w tail T n → (ps : List (List ℕ)) → Holds b v k.number ps → ComeBefore k (slot_in_use (slots_of b)) (start_of (slots_of b)) ps n
+    read_counts n T base ps holds =
+        each_slot (IsSnapshotAt k O held.store.0 whole) b (ComeBefore-prop k (slot_in_use (slots_of b)) (start_of (slots_of b)) ps n) (held.slots held.store.0 held.store.1) (λ snapshots.
+        let r = rest snapshots in
+        let same : held.store.0 ≡ ps = holds_once b v v k.number held.store.0 ps held.store.1 holds in
+        at r.before (sym r.parts ∙ same) r.start_is (slot_in_use (slots_of b)) base)
+      where
+        at : (before : List (List ℕ)) → before ++ tail ≡ ps → start_of (slots_of b) ≡ end_of before → (o : Option ℕ) → IsBase k o w tail T n → ComeBefore k o (start_of (slots_of b)) ps n
+        at before whole_is start_is None base = base.1
+        at before whole_is start_is (Some gate) base = λ front from parts starts U earlier m snapshot.
+            let long : length (blocks before) ≡ length (blocks front) = omega (arith, start_is, starts) in
+            let cut = cut_once before tail front from (whole_is ∙ parts) long in
+            (lawful.snapshots_once from U T earlier base.before m n snapshot (subst (λ (l : List (List ℕ)). k.BeginSnapshot l T base.before n) cut.1 base.snapshot)).1
 
     -- Nothing of it is refused.
 
@@ -261,6 +276,10 @@ module _ {H S E R : Type 0} (k : StoreKind H S E R) (lawful : IsLawful k) where
     found_place v O whole held ps holds =
         let place = read_place v x count O b whole tail held found_tail found_counted ps holds in
         (f.gate_is ∙ ap (λ n. end_from n tail) from_is ∙ place.0, place.1)
+
+    pub found_counts : (v n : ℕ) (O T : S) (whole entries : List E) → HoldAll k v O b whole → IsRead k o x tail n T entries → (ps : List (List ℕ)) → Holds b v k.number ps → ComeBefore k (slot_in_use s) (start_of s) ps n
+    found_counts v n O T whole entries held read ps holds =
+        subst (λ (y : Slots). ComeBefore k (slot_in_use y) (start_of y) ps n) (sym f.slots_are) (read_counts v x count O b whole tail held found_tail found_counted n T (found_read n T entries read).base ps holds)
 
     pub found_outside : (v : ℕ) (O : S) (whole : List E) (e : MountError) → HoldAll k v O b whole → IsStop k o x start tail e → (e ≡ mount.Fault) ⊎ (e ≡ mount.NoMemory)
     found_outside v O whole e held stop = only_outside v x count O b whole tail held found_tail found_counted e (found_stop e stop)

@@ -78,7 +78,7 @@ module _ {H S E R : Type 0} (k : StoreKind H S E R) (lawful : IsLawful k) where
   }
 
   -- the same header has the same slots
-  same_slots : (b c : List ℕ) → take 16 c ≡ take 16 b → slot_in_use (slots_of c) ≡ None → slot_in_use (slots_of b) ≡ None
+  pub same_slots : (b c : List ℕ) → take 16 c ≡ take 16 b → slot_in_use (slots_of c) ≡ None → slot_in_use (slots_of b) ≡ None
   same_slots b c same none = ap slot_in_use (sym (slots_in_front (take 16 b) b refl) ∙ ap slots_of (sym same) ∙ slots_in_front (take 16 c) c refl) ∙ none
 
   -- A record more.

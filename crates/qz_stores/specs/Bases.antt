@@ -26,6 +26,12 @@ pub record IsSnapshotAt {H S E R : Type 0} (k : StoreKind H S E R) (start : S) (
   pub recorded : RecordEntries k before earlier
   pub snapshot : k.BeginSnapshot from (k.replay_from start earlier) (length before) (length earlier)
 
+-- A snapshot that begins at this offset among these payloads comes after so many entries; where no slot is in use, there are none.
+abbrev pub ComeBefore : {H S E R : Type 0} → StoreKind H S E R → Option ℕ → ℕ → List (List ℕ) → ℕ → Type 0
+ComeBefore k None start payloads many = many ≡ 0
+ComeBefore {S = S} k (Some gate) start payloads many =
+    (front from : List (List ℕ)) → payloads ≡ front ++ from → start ≡ end_of front → (T : S) (before entries : ℕ) → k.BeginSnapshot from T before entries → entries ≡ many
+
 -- The bytes are a store of this kind and version, which starts with this state. Its payloads are records of these entries and
 -- parts of snapshots. The start is a valid state. It accepts the entries one by one, and each open slot leads to a snapshot of
 -- the state that those before it leave. Where no slot is open, an opening begins with the state of a new store, and so the

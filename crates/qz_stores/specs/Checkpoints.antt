@@ -1,5 +1,5 @@
 -- What a checkpoint makes of a store, and what a crash in it leaves.
-use Rattle.std.specs.Prelude.{◌≡◌, ◌⊎◌, ℕ, ◌≤◌, Bool, true, false, List, [], ◌++◌, length, Some, None, Ok, Err}
+use Rattle.std.specs.Prelude.{◌≡◌, ◌⊎◌, ℕ, ◌<◌, ◌≤◌, Bool, true, false, List, [], ◌++◌, length, Some, None, Ok, Err}
 use Rattle.std.specs.declared.result.Result.{Result}
 use Rattle.qz_civil.specs.Causes.{Rose}
 use Rattle.qz_journal.specs.Layout.{Holds, end_of}
@@ -20,11 +20,11 @@ pub record IsMidway {H S E R : Type 0} (k : StoreKind H S E R) (version : ℕ) (
   pub slots : (gate offset : ℕ) → IsSlot gate → slot gate bytes ≡ Some offset → (slot gate old ≡ Some offset) ⊎ ((offset ≡ end_of payloads) × k.BeginSnapshot parts T (length payloads) entries)
   pub in_use : slot_in_use (slots_of bytes) ≡ None → slot_in_use (slots_of old) ≡ None
 
--- A snapshot was made. It is so many payloads more, and no entry.
+-- A snapshot was made. It is a payload more at least, and no entry.
 pub record Marks {H E : Type 0} (s t : StoreState H E) : Type 0 where
   pub was_open : s.is_open ≡ true
   pub history : t.history ≡ s.history
-  pub payloads : s.payloads ≤ t.payloads
+  pub payloads : s.payloads < t.payloads
   pub is_open : t.is_open ≡ true
   pub undecided : t.undecided ≡ s.undecided
   pub later : s.faults ≤ t.faults

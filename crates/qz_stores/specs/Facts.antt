@@ -11,7 +11,7 @@ use Rattle.qz_journal.proofs.Once.{holds_once}
 use Rattle.qz_journal.proofs.Undecided.{Holds-prop}
 use Rattle.qz_stores.specs.Kinds.{StoreKind}
 use Rattle.qz_stores.specs.Bytes.{Encode}
-use Rattle.qz_stores.specs.Bases.{records, HoldAll, MayHoldAll, IsEndOf}
+use Rattle.qz_stores.specs.Bases.{records, ComeBefore, HoldAll, MayHoldAll, IsEndOf}
 
 module _ {H S E R : Type 0} (k : StoreKind H S E R) where
   zip-length : (ps : List (List ℕ)) (es : List E) → AllZip k.IsRecordOf ps es → length ps ≡ length es
@@ -32,6 +32,10 @@ module _ {H S E R : Type 0} (k : StoreKind H S E R) where
     where
       le-prop : (a b : ℕ) → IsProp (a ≤ b)
       le-prop a b = hlevel props
+
+  pub ComeBefore-prop : (o : Option ℕ) (start : ℕ) (ps : List (List ℕ)) (n : ℕ) → IsProp (ComeBefore k o start ps n)
+  ComeBefore-prop None start ps n = hlevel props
+  ComeBefore-prop (Some gate) start ps n = hlevel props
 
 module _ {H S E R : Type 0} (k : StoreKind H S E R) (version : ℕ) (start : S) where
   -- bytes hold one list of payloads at most

@@ -1,6 +1,6 @@
 -- What a kind of store is: its entries and their records, its states, and its histories. Whatever is said of stores is
 -- said of all kinds at once, and a store of triggers or of states is one of these.
-use Rattle.std.specs.Prelude.{◌≡◌, ℕ, Bool, true, false, List, [], ◌∷◌, ◌++◌, length, Option, Some, None, IsOk, Err}
+use Rattle.std.specs.Prelude.{◌≡◌, ℕ, ◌≤◌, Bool, true, false, List, [], ◌∷◌, ◌++◌, length, Option, Some, None, IsOk, Err}
 use Rattle.std.specs.List.{AllByRecursion}
 use Rattle.std.specs.declared.result.Result.{Result}
 use Rattle.qz_types.specs.declared.replies.Refusal.{Refusal}
@@ -104,6 +104,8 @@ entry_kind k = record {
 
 -- What has to hold of a kind, so that a store can be kept of it.
 pub record IsLawful {H S E R : Type 0} (k : StoreKind H S E R) : Type 0 where
+  -- a header without a kind has the number 0
+  pub numbered : 1 ≤ k.number
   -- bytes are a record of one entry at most
   pub records_once : (bytes : List ℕ) (e f : E) → k.IsRecordOf bytes e → k.IsRecordOf bytes f → e ≡ f
   -- no part of a snapshot is one

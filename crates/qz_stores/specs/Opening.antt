@@ -141,3 +141,7 @@ IsFirst k slot version start payloads at (mount.Damaged place) = IsFirstBad k sl
 IsFirst k slot version start payloads at mount.NoMemory = ⊤
 IsFirst k slot version start payloads at mount.NotAStore = ⊥
 IsFirst k slot version start payloads at mount.Fault = ⊥
+
+-- Each history that an opening may take from these bytes lists so many entries after its base.
+abbrev pub OpensWith : {H S E R : Type 0} → StoreKind H S E R → List ℕ → ℕ → Type 0
+OpensWith {H = H} k bytes many = (version : ℕ) (h : H) → StandsFrom k version bytes h → length (k.entries h) ≡ many

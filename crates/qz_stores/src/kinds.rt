@@ -1,11 +1,12 @@
 //! Kinds of stores.
-ghost use Rattle.std.specs.Prelude.{◌≡◌, ◌≢◌, ◌⊎◌, ◌↔◌, IsTrue, ◌≤◌, ◌++◌, ℕ, List as Items, length, true, false, None, IfOk, IfErr, OnOk, IfSome, IfNone, Ok, Err, Some};
+ghost use Rattle.std.specs.Prelude.{◌≡◌, ◌≢◌, ◌⊎◌, ◌↔◌, IsTrue, ◌<◌, ◌≤◌, [], ◌++◌, ℕ, List as Items, All, length, true, false, None, IfOk, IfErr, OnOk, IfSome, IfNone, Ok, Err, Some};
 ghost use Rattle.qz_civil.specs.Causes.{Rose};
 ghost use Rattle.qz_disk.specs.Disk.{LeavesOnly};
-ghost use Rattle.qz_journal.specs.Commits.{LackRoom, HaveRoom};
+ghost use Rattle.qz_journal.specs.Commits.{LackRoom, HaveRoom, IsFullFor};
 ghost use Rattle.qz_journal.specs.Layout.{IsPayload, Holds, end_of};
 ghost use Rattle.qz_journal.specs.Slots.{with_offset, free_slot};
 ghost use Rattle.qz_journal.specs.View.{disk_of, version_of, kind_of, gate_of, count_of, closed_at, slots_of};
+ghost use Rattle.qz_stores.specs.Bases.{records};
 ghost use Rattle.qz_stores.specs.Checkpoints.{IsMidway};
 ghost use Rattle.qz_stores.specs.Kinds.{StoreKind, IsLawful, IsAccepted, IsRefusalOf, IsErrorOf};
 ghost use Rattle.qz_stores.specs.Opening.{BeginWell, IsUnfit};
@@ -13,7 +14,7 @@ ghost use Rattle.qz_stores.specs.declared.kinds.TakeError.TheVariants as take_er
 
 use qz_civil::List;
 use qz_disk::Disk;
-use qz_journal::Journal;
+use qz_journal::{Journal, JournalFull};
 use qz_types::{NoMemory, Refusal, StepRefused};
 use std::alloc::Global;
 
@@ -134,7 +135,7 @@ pub trait Kind: Drop {
         ensures unchanged { result ≢ Ok true → result ≢ Err CheckpointError.Fault → journal.new ≡ journal.old }
         ensures open { result ≡ Ok true → closed_at journal.new ≡ None }
         ensures same { (version_of journal.new ≡ version_of journal.old) × (kind_of journal.new ≡ kind_of journal.old) }
-        ensures more { result ≡ Ok true → count_of journal.old ≤ count_of journal.new }
+        ensures more { result ≡ Ok true → count_of journal.old < count_of journal.new }
         ensures later { D.faults (disk_of journal.old) ≤ D.faults (disk_of journal.new) }
         ensures fault { result ≡ Err CheckpointError.Fault → Rose (D.faults (disk_of journal.old)) (D.faults (disk_of journal.new)) }
         // At true the slot that was free leads to the end of what stood before.
@@ -149,6 +150,15 @@ pub trait Kind: Drop {
         ensures any_moment { D.honest → (payloads : Items (Items ℕ)) → Holds (D.state (disk_of journal.old)).content (version_of journal.old) kind.number payloads
             → gate_of journal.old ≡ end_of payloads → count_of journal.old ≡ length payloads
             → LeavesOnly (D.state (disk_of journal.old)) (D.state (disk_of journal.new)) (IsMidway kind (version_of journal.old) (state self.now) entries (D.state (disk_of journal.old)).content payloads) };
+
+    /// The payloads of a snapshot of this state with which a store begins: no payload and no entry come before it. Where a new
+    /// store has no room for them, how many bytes they need and how many there are. A kind without snapshots gives none.
+    fn first_snapshot(&self, alloc: Global) -> Result<Result<List<List<u8>>, JournalFull>, NoMemory>
+        ensures payloads { IfOk result (λ r. IfOk r (λ ps. (ps ≡ kind.snapshot_of (state self.now) 0 0) × All IsPayload ps)) }
+        ensures begins { kind.has_snapshots ≡ true → IfOk result (λ r. OnOk r (kind.BeginSnapshot (kind.snapshot_of (state self.now) 0 0) (state self.now) 0 0)) }
+        ensures parts { IfOk result (λ r. OnOk r (records kind (kind.snapshot_of (state self.now) 0 0) ≡ [])) }
+        ensures room { IfOk result (λ r. OnOk r (HaveRoom (kind.snapshot_of (state self.now) 0 0) (end_of []) 0)) }
+        ensures full { IfOk result (λ r. IfErr r (λ full. IsFullFor (kind.snapshot_of (state self.now) 0 0) (end_of []) 0 full.need full.room)) };
 
     ghost lawful: { IsLawful kind };
 

@@ -6,9 +6,9 @@ ghost use Rattle.qz_journal.specs.Layout.{Holds, end_of};
 ghost use Rattle.qz_journal.specs.Slots.{slots_of as slots_in, slot_in_use};
 ghost use Rattle.qz_journal.specs.Tails.{start_of};
 ghost use Rattle.qz_journal.specs.Through.{OnlyReads, OnlyReadsUnless};
-ghost use Rattle.qz_journal.specs.View.{disk_of as journal_disk, version_of as journal_version, kind_of, gate_of, count_of, closed_at};
+ghost use Rattle.qz_journal.specs.View.{disk_of as journal_disk, version_of as journal_version, kind_of, gate_of, count_of, closed_at, slots_of as journal_slots};
 ghost use Rattle.qz_stores.specs.Kinds.{HasRecord};
-ghost use Rattle.qz_stores.specs.Bases.{HoldAll, IsEndOf, WholeList, list_of, IsWhole, Stands};
+ghost use Rattle.qz_stores.specs.Bases.{HoldAll, ComeBefore, IsEndOf, WholeList, list_of, IsWhole, Stands};
 ghost use Rattle.qz_stores.specs.Bytes.{BeginsNew};
 ghost use Rattle.qz_stores.specs.Opening.{IsOpened, IsRefused, StandsFrom};
 ghost use Rattle.qz_stores.specs.View.{view, version_of, opened_of, found_of, added_of, behind_of, slots_of, disk_state, GoesOnFrom};
@@ -93,6 +93,8 @@ pub(crate) fn begin<D: Disk, K: Kind>(
     requires ended { D.honest → (start : K.State) → (whole : List K.Entry) → HoldAll K.kind reread.version start (D.state (journal_disk journal)).content whole → IsEndOf K.kind start (K.kind.history reread.base_count (K.state reread.base.value) reread.entries.items) whole }
     requires gated { D.honest → (start : K.State) → (whole : List K.Entry) → HoldAll K.kind reread.version start (D.state (journal_disk journal)).content whole → (payloads : List (List ℕ)) → Holds (D.state (journal_disk journal)).content reread.version K.kind.number payloads
         → (gate_of journal ≡ end_of payloads) × (count_of journal ≡ length payloads) }
+    requires marked { D.honest → (start : K.State) → (whole : List K.Entry) → HoldAll K.kind reread.version start (D.state (journal_disk journal)).content whole → (payloads : List (List ℕ)) → Holds (D.state (journal_disk journal)).content reread.version K.kind.number payloads
+        → ComeBefore K.kind (slot_in_use (journal_slots journal)) (start_of (journal_slots journal)) payloads reread.base_count }
     ensures journal { result.journal ≡ journal }
     ensures version { result.version ≡ reread.version }
     ensures base { (result.base_count ≡ reread.base_count) × ((K.state result.base.value) ≡ (K.state reread.base.value)) }

@@ -1,8 +1,10 @@
 //! What a store shows of itself.
 ghost use Rattle.std.specs.Prelude.{◌≡◌, ◌≤◌, ◌+◌, true, ◌++◌, length, not};
 ghost use Rattle.qz_journal.specs.Layout.{is_version};
+ghost use Rattle.qz_stores.specs.Bases.{WholeList};
 ghost use Rattle.qz_stores.specs.Kinds.{replay};
-ghost use Rattle.qz_stores.specs.View.{view, version_of, base_count_of, behind_of, found_of, added_of, kept_of, disk_of};
+ghost use Rattle.qz_stores.specs.Opening.{OpensWith};
+ghost use Rattle.qz_stores.specs.View.{view, version_of, base_count_of, behind_of, found_of, added_of, kept_of, disk_of, disk_state, GoesOnFrom};
 
 use crate::{Kind, Store};
 use qz_disk::Disk;
@@ -34,6 +36,8 @@ impl<D: Disk, K: Kind> Store<D, K> {
     pub fn behind(&self) -> u64
         ensures value { result ≡ behind_of self.now }
         ensures few { result ≤ base_count_of self.now + length (found_of self.now ++ added_of self.now) }
+        // So many entries does the next opening list, where the disk held a whole list when the store was opened.
+        ensures next { D.honest → (view self.now).is_open ≡ true → (w : WholeList K.State K.Entry) → GoesOnFrom self.now w → OpensWith K.kind (disk_state self.now).content result }
     {
         self.count - self.snapshot
     }

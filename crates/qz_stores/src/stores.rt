@@ -3,11 +3,13 @@ ghost use Rattle.std.specs.Prelude.{◌≡◌, ◌≤◌, ◌+◌, ◌++◌, Lis
 ghost use Rattle.std.proofs.Props.{props};
 ghost use Rattle.std.specs.List.{AllByRecursion};
 ghost use Rattle.qz_journal.specs.Layout.{is_version, Holds, end_of};
-ghost use Rattle.qz_journal.specs.View.{disk_of, version_of, kind_of, gate_of, count_of, closed_at};
+ghost use Rattle.qz_journal.specs.Slots.{slot_in_use};
+ghost use Rattle.qz_journal.specs.Tails.{start_of};
+ghost use Rattle.qz_journal.specs.View.{disk_of, version_of, kind_of, gate_of, count_of, closed_at, slots_of};
 ghost use Rattle.qz_stores.specs.Kinds.{HasRecord};
-ghost use Rattle.qz_stores.specs.Bases.{HoldAll, MayHoldAll, IsEndOf};
+ghost use Rattle.qz_stores.specs.Bases.{HoldAll, ComeBefore, MayHoldAll, IsEndOf};
 ghost use Rattle.qz_stores.specs.Bytes.{MayFollow};
-ghost use Rattle.qz_stores.specs.Facts.{HoldAll-prop, MayHoldAll-prop, IsEndOf-prop};
+ghost use Rattle.qz_stores.specs.Facts.{ComeBefore-prop, HoldAll-prop, MayHoldAll-prop, IsEndOf-prop};
 
 use crate::Kind;
 use qz_disk::Disk;
@@ -56,9 +58,11 @@ pub struct Store<D: Disk, K: Kind> {
     ghost recorded: { ∥ AllByRecursion (HasRecord K.kind) (found.items ++ added.items) ∥₁ },
     ghost passed: { ∥ MayFollow K.kind (K.state state) undecided ∥₁ },
     // On an honest disk, of each whole list that it held when the store was opened, whatever state it starts with: what was found is
-    // an end of it, the disk holds it and what was added, the gate comes after all payloads, and a crash leaves that list.
+    // an end of it, the disk holds it and what was added, the gate comes after all payloads, and the snapshot in use after as many
+    // entries as are counted; and a crash leaves that list.
     ghost ended: { D.honest → (start : K.State) → (whole : Entries K.Entry) → HoldAll K.kind version start (D.state (disk_of opened.value)).content whole → IsEndOf K.kind start (K.kind.history base_count (K.state base.value) found.items) whole } by { Prim.hlevel (props, IsEndOf-prop) },
     ghost stands: { D.honest → is_open ≡ true → (start : K.State) → (whole : Entries K.Entry) → HoldAll K.kind version start (D.state (disk_of opened.value)).content whole → HoldAll K.kind version start (D.state (disk_of journal)).content (whole ++ added.items) } by { Prim.hlevel (props, HoldAll-prop) },
     ghost gated: { D.honest → is_open ≡ true → (start : K.State) → (whole : Entries K.Entry) → HoldAll K.kind version start (D.state (disk_of opened.value)).content whole → (payloads : Entries (Entries ℕ)) → Holds (D.state (disk_of journal)).content version K.kind.number payloads → (gate_of journal ≡ end_of payloads) × (count_of journal ≡ length payloads) },
+    ghost marked: { D.honest → is_open ≡ true → (start : K.State) → (whole : Entries K.Entry) → HoldAll K.kind version start (D.state (disk_of opened.value)).content whole → (payloads : Entries (Entries ℕ)) → Holds (D.state (disk_of journal)).content version K.kind.number payloads → ComeBefore K.kind (slot_in_use (slots_of journal)) (start_of (slots_of journal)) payloads snapshot } by { Prim.hlevel (props, ComeBefore-prop) },
     ghost images: { D.honest → (start : K.State) → (whole : Entries K.Entry) → HoldAll K.kind version start (D.state (disk_of opened.value)).content whole → (b : Entries ℕ) → (D.state (disk_of journal)).IsImage b → MayHoldAll K.kind version start (whole ++ added.items) undecided b } by { Prim.hlevel (props, MayHoldAll-prop) },
 }

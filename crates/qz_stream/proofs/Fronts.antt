@@ -2,8 +2,12 @@
 use Rattle.std.proofs.Common.{◌≡◌, ⊎_elim, ℕ, ◌<◌, ◌≤◌, List, ◌++◌, length, get_or, sym, ◌∙◌, subst, arith, length-append}
 use Rattle.std.specs.Prelude.{Option, Some, None}
 use Rattle.std.proofs.lemmas.Bool.{cases_lt}
-use Rattle.std.proofs.lemmas.List.{get_or_append_left}
+use Rattle.std.proofs.lemmas.List.{get_or_append_left, take-append-le}
+use Rattle.qz_journal.proofs.SlotBytes.{slot_before}
+use Rattle.qz_journal.specs.Slots.{slots_of}
+use Rattle.qz_journal.specs.declared.slots.Slots.{Slots}
 use Rattle.qz_stream.specs.Front.{IsFrontByte, IsFrontBelow, IsBadFront, IsVersionOf}
+use Rattle.qz_stream.specs.Standing.{HasSlots}
 
 -- a byte that is there stays
 pub get_or-append : (xs ys : List ℕ) (i : ℕ) → i < length xs → get_or (xs ++ ys) i 0 ≡ get_or xs i 0
@@ -34,3 +38,16 @@ version-bad bytes more at None bad is = λ long below.
     ⊎_elim (λ short. bad.bad (subst (IsFrontByte at) (get_or-append bytes more at bad.there) (below at (omega (arith, bad.there, short)) (omega (arith, bad.there, length-append bytes more)))))
     (λ has. is has (below-less bytes more 5 has below)) (cases_lt (length bytes) 5)
 version-bad bytes more at (Some v) bad is = version-more bytes more (Some v) is.0 is
+
+-- the slots stay, once the header is whole
+pub slots_more : (bytes more : List ℕ) → 16 ≤ length bytes → slots_of (bytes ++ more) ≡ slots_of bytes
+slots_more bytes more long =
+    let same = take-append-le 16 bytes more long in
+    λ i. record { a = slot_before 6 16 bytes (bytes ++ more) (omega arith) same i; b = slot_before 11 16 bytes (bytes ++ more) (omega arith) same i }
+
+pub slots-more : (bytes more : List ℕ) (s : Slots) → 16 ≤ length bytes → HasSlots bytes s → HasSlots (bytes ++ more) s
+slots-more bytes more s long has front later = has (below-less bytes more 6 (omega (arith, long)) front) long ∙ sym (slots_more bytes more long)
+
+-- bytes with a bad front have none
+pub slots-bad : (bytes : List ℕ) (at : ℕ) (s : Slots) → IsBadFront bytes at → HasSlots bytes s
+slots-bad bytes at s bad front long = absurd (bad.bad (front at bad.early bad.there))

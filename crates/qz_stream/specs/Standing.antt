@@ -1,6 +1,8 @@
 -- Where a stream stands after the bytes that were fed.
 use Rattle.std.specs.Prelude.{◌≡◌, ⊤, ℕ, ◌<◌, ◌≤◌, Option, Some, None, Result, Ok, Err, List, [], ◌∷◌, ◌++◌, length, take, drop}
 use Rattle.qz_journal.specs.Layout.{open_gate, body_of, end_of}
+use Rattle.qz_journal.specs.Slots.{slots_of}
+use Rattle.qz_journal.specs.declared.slots.Slots.{Slots}
 use Rattle.qz_stream.specs.declared.place.BadStream.{BadStream}
 use Rattle.qz_stream.specs.declared.place.Next.{Next}
 use Rattle.qz_stream.specs.declared.place.Next.TheVariants as next
@@ -9,17 +11,22 @@ use Rattle.qz_stream.specs.declared.place.Place.TheVariants as place
 use Rattle.qz_stream.specs.Blocks.{Splits, AreWithin, IsUnfinished, IsBlock, IsShut, IsBadBlock, IsEnd, IsBadPlace}
 use Rattle.qz_stream.specs.Front.{MayBegin, IsVersionOf}
 
--- What a stream keeps. `tail` are the bytes that are there of the header, or of the block from the gate at the offset `gate`
--- on. In `Bad` the offset is that of the bad place.
+-- What a stream keeps. `slots` are those of the header, and both closed until it is whole. `tail` are the bytes that are there of
+-- the header, or of the block from the gate at the offset `gate` on. In `Bad` the offset is that of the bad place.
 pub record Standing : Type 0 where
   pub version : Option ℕ
+  pub slots : Slots
   pub place : Place
   pub gate : ℕ
   pub tail : List ℕ
 
+-- both slots closed
+abbrev pub no_slots : Slots
+no_slots = record { a = None; b = None }
+
 -- before any byte
 abbrev pub fresh : Standing
-fresh = record { version = None; place = place.Header; gate = 0; tail = [] }
+fresh = record { version = None; slots = no_slots; place = place.Header; gate = 0; tail = [] }
 
 -- the payload of a whole block
 abbrev pub payload_of : List ℕ → List ℕ
@@ -68,9 +75,14 @@ StandsAt place.Whole fed payloads gate tail = IsAfterBlock fed payloads gate tai
 StandsAt place.Ended fed payloads gate tail = IsEnd fed payloads gate
 StandsAt place.Bad fed payloads gate tail = IsBadPlace fed payloads gate
 
+-- the slots of a header that is whole, and has no bad byte
+abbrev pub HasSlots : List ℕ → Slots → Type 0
+HasSlots fed slots = MayBegin fed → 16 ≤ length fed → slots ≡ slots_of fed
+
 -- After these bytes were fed, in whatever pieces, these payloads were handed out, and the stream stands so.
 pub record IsAfter (fed : List ℕ) (payloads : List (List ℕ)) (s : Standing) : Type 0 where
   pub version : IsVersionOf fed s.version
+  pub slots : HasSlots fed s.slots
   pub stands : StandsAt s.place fed payloads s.gate s.tail
 
 -- These bytes more were fed. A payload is handed out where it is whole now.

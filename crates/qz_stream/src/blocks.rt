@@ -9,7 +9,7 @@ use qz_journal::MAX_PAYLOAD;
 /// The most bytes that a store has, header included.
 pub(crate) const MAX_BYTES: u64 = 1 << 29;
 
-const OPEN_GATE: u8 = 0xa5;
+pub(crate) const OPEN_GATE: u8 = 0xa5;
 
 // How many bytes say a payload's length.
 const SIZE_LENGTH: usize = 4;

@@ -2,8 +2,9 @@
 ghost use Rattle.std.specs.Prelude.{◌≡◌, ◌≢◌, ◌↔◌, ◌+◌, ◌<◌, ◌≤◌, ◌++◌, [], length, take, OnOk, IfOk, IsTrue, vec_len, vec_capacity};
 
 use crate::blocks::{MAX_BLOCK, find_block, wanted};
-use crate::front::{HEADER_LENGTH, first_bad, version_of};
+use crate::front::{HEADER_LENGTH, first_bad, slots_in, version_of};
 use crate::place::{BadStream, Next, Place};
+use qz_journal::Slots;
 use std::alloc::{AllocError, Global};
 use std::marker::Model;
 
@@ -11,6 +12,7 @@ use std::marker::Model;
 #[derive(Drop)]
 pub struct Stream {
     version: Option<u8>,
+    slots: Slots,
     place: Place,
     gate: u64,
     tail: Vec<u8>,
@@ -23,7 +25,7 @@ impl Model for Stream {
 
     ghost Value = { Standing };
 
-    ghost view = { λ a. record { version = a.version; place = a.place; gate = a.gate; tail = a.tail.items } };
+    ghost view = { λ a. record { version = a.version; slots = a.slots; place = a.place; gate = a.gate; tail = a.tail.items } };
 
     ghost invariant = { λ a. IsSoundAt a.place a.gate a.tail.items × (MAX_BLOCK ≤ vec_capacity a.tail) };
 }
@@ -49,6 +51,7 @@ impl Stream {
     {
         Ok(Stream {
             version: None,
+            slots: Slots { a: None, b: None },
             place: Place::Header,
             gate: 0,
             tail: Vec::with_capacity(alloc, MAX_BLOCK)?,
@@ -67,6 +70,20 @@ impl Stream {
         ensures { result ≡ self.now.version }
     {
         self.version
+    }
+
+    /// The slots of the header, once it is whole; before, and where one of its first six bytes is bad, both are closed.
+    pub fn slots(&self) -> Slots
+        ensures { result ≡ self.now.slots }
+    {
+        self.slots
+    }
+
+    /// The bytes that are there of the header, or of the block at the gate: the gate itself, and what follows it.
+    pub fn tail(&self) -> &[u8]
+        ensures { result.now ≡ self.now.tail }
+    {
+        &self.tail
     }
 
     /// How many bytes of the header are there, where it isn't whole and has no bad byte.
@@ -173,6 +190,7 @@ impl Stream {
             self.gate = at as u64;
             self.place = Place::Bad;
         } else if self.tail.len() == HEADER_LENGTH {
+            self.slots = slots_in(&self.tail);
             self.gate = HEADER_LENGTH as u64;
             self.tail.clear();
             self.place = Place::Block;

@@ -468,8 +468,8 @@ module _ {D : Type 0} {g : Ghosts D} (triggers states : D) (e : Ended D g) (none
   ends_by (Ok wish.Load) jobs jobs' old new did (bytes, left, document, good) (list, rows, held) = load_words old new did bytes left document good list rows held
   ends_by (Ok wish.List) jobs jobs' old new did input (list, rows, held) = list_words _ _ did.ran list rows held
   ends_by (Ok wish.Migrate) jobs jobs' old new did input (list, rows, held) = migrate_words _ _ _ _ did.ran list rows held
-  ends_by (Ok wish.Follow) jobs jobs' old new did (bytes, left, right) (honest, begins) = follow_done form.Entries triggers states e none.read none.write none.disk honest begins _ _ bytes did.ran left right
-  ends_by (Ok wish.Compact) jobs jobs' old new did (bytes, left, right) (honest, begins) = follow_done form.Snapshot triggers states e none.read none.write none.disk honest begins _ _ bytes did.ran left right
+  ends_by (Ok wish.Follow) jobs jobs' old new did (bytes, left, right, room) (honest, begins) = follow_done form.Entries triggers states e none.read none.write none.disk honest begins _ _ bytes did.ran left right room
+  ends_by (Ok wish.Compact) jobs jobs' old new did (bytes, left, right) (honest, begins) = follow_done form.Snapshot triggers states e none.read none.write none.disk honest begins _ _ bytes did.ran left right tt
   ends_by (Ok (wish.Times after count)) jobs jobs' old new did (bytes, left, good, few) stores =
       times_done e.status (record { after = after; count = count }) (no_clock old) (no_clock new) did.told.end did.told.run.lines did.told.run.text did.told.run.known did.told.status_is did.told.run.ends none bytes left good few
   ends_by (Ok (wish.Run nodes from until budget)) jobs jobs' old new did input (list, rows, held) = run_words _ jobs jobs' _ _ did.ran list rows held

@@ -13,10 +13,12 @@ use Rattle.qz_checkin.specs.Kinds.{state_kind}
 use Rattle.qz_stream.specs.Standing.{length_at, header_length_of}
 use Rattle.qz_stream.specs.declared.place.Place.{Place}
 use Rattle.qz_stream.specs.declared.place.Place.TheVariants as place
-use Rattle.qz_follow.specs.Following.{Following}
+use Rattle.qz_follow.specs.Following.{Following, IsEnded, length_or, short_at}
+use Rattle.qz_follow.specs.Taking.{missing_slot}
 use Rattle.qz_follow.specs.Payloads.{IsSeen}
 use Rattle.qz_follow.specs.declared.faults.FollowFault.{FollowFault}
 use Rattle.qz_follow.specs.declared.faults.FollowFault.TheVariants as fault
+use Rattle.qz_follow.proofs.Gathering.{trigger_gathered}
 use Rattle.qz_follow.proofs.Told.{all_taken, first_fault, header_told}
 use Rattle.qz_standby.specs.Fronts.{HasNone, IsFirstOfOther, Looks}
 use Rattle.qz_standby.specs.Making.{LeavesFirst, HoldsNow, LacksRoom, MakesPart, LooksAtBoth, Makes, TellsHeader, list_of, rows_of}
@@ -30,7 +32,7 @@ use Rattle.qz_standby.specs.declared.forms.Form.TheVariants as form
 use Rattle.qz_standby.proofs.Leaving.{looks_not, looks_first}
 use Rattle.qz_words.specs.declared.wishes.WordFault.{WordFault}
 use Rattle.qz_top.specs.Completing.{IsDone, IsDoneOrFull}
-use Rattle.qz_top.specs.Following.{fault_status, unread_status, unmade_status, MadeBoth, SaysFollowed, StoodBy, FollowedPart, FollowedWhole, RanFollow, HeadlineOfStandby, IsRightStream}
+use Rattle.qz_top.specs.Following.{fault_status, unread_status, unmade_status, MadeBoth, SaysFollowed, StoodBy, FollowedPart, FollowedWhole, RanFollow, HeadlineOfStandby, IsRightStream, HasRoomAgain}
 use Rattle.qz_top.specs.HeadlineByWords.{OnlyLooked, MakesStandby}
 use Rattle.qz_top.specs.Making.{KeepsStores}
 use Rattle.qz_top.specs.declared.ended.Ended.{Ended}
@@ -49,7 +51,7 @@ not_made : (x : Unmade) (s : Status) → s ≡ unmade_status x → MadeBoth s �
 not_made unmade.Exists s is made = ⊎_elim (λ ok. cc) (λ bad. cc) made
 not_made (unmade.NotAStore st) s is made = ⊎_elim (λ ok. cc) (λ bad. cc) made
 not_made (unmade.Short at) s is made = ⊎_elim (λ ok. cc) (λ bad. cc) made
-not_made unmade.NoRoom s is made = ⊎_elim (λ ok. cc) (λ bad. cc) made
+not_made (unmade.NoRoom need room) s is made = ⊎_elim (λ ok. cc) (λ bad. cc) made
 not_made unmade.NoMemory s is made = ⊎_elim (λ ok. cc) (λ bad. cc) made
 not_made unmade.Fault s is made = ⊎_elim (λ ok. cc) (λ bad. cc) made
 
@@ -65,7 +67,7 @@ unmade_words : (x : Unmade) (s : Status) (words : WordFault) → s ≡ unmade_st
 unmade_words unmade.Exists s words is bad = cc
 unmade_words (unmade.NotAStore st) s words is bad = cc
 unmade_words (unmade.Short at) s words is bad = cc
-unmade_words unmade.NoRoom s words is bad = cc
+unmade_words (unmade.NoRoom need room) s words is bad = cc
 unmade_words unmade.NoMemory s words is bad = cc
 unmade_words unmade.Fault s words is bad = cc
 
@@ -96,8 +98,9 @@ module _ {D : Type 0} {g : Ghosts D} (form : Form) (triggers states : D) (e : En
         read = fed.taken;
         version = f.version;
         has_version = (fed.followed.told, fed.followed.version, fed.followed.version_is);
+        start = f.start;
         entries = f.entries;
-        taken = all_taken trigger_kind trigger_lawful (fed.before ++ fed.piece) f fed.followed stream.fine;
+        taken = all_taken trigger_kind trigger_lawful trigger_gathered (fed.before ++ fed.piece) f fed.followed stream.fine;
         keeps = keeps;
         list = list;
         check_ins = check_ins;
@@ -132,7 +135,7 @@ module _ {D : Type 0} {g : Ghosts D} (form : Form) (triggers states : D) (e : En
   made_headline (Err unmade.Exists) old new makes said = looked_headline (λ honest. ((makes honest).triggers, (makes honest).states)) (not_made unmade.Exists e.status said.0)
   made_headline (Err (unmade.NotAStore st)) old new makes said = looked_headline (λ honest. ((makes honest).triggers, (makes honest).states)) (not_made (unmade.NotAStore st) e.status said.0)
   made_headline (Err (unmade.Short at)) old new makes said = looked_headline (λ honest. ((makes honest).triggers, (makes honest).states)) (not_made (unmade.Short at) e.status said.0)
-  made_headline (Err unmade.NoRoom) old new makes said = some_headline (λ honest. inr (makes honest).1) (not_made unmade.NoRoom e.status said.0)
+  made_headline (Err (unmade.NoRoom need room)) old new makes said = some_headline (λ honest. inr (makes honest).1) (not_made (unmade.NoRoom need room) e.status said.0)
   made_headline (Err unmade.NoMemory) old new makes said = some_headline makes (not_made unmade.NoMemory e.status said.0)
   made_headline (Err unmade.Fault) old new makes said = some_headline makes (not_made unmade.Fault e.status said.0)
 
@@ -173,7 +176,7 @@ met_none x bytes left now is right met seen =
     let f = met.0 in
     let fed = met.1 in
     let whole = fed_some bytes (fed.before ++ fed.piece) left now is fed.taken in
-    right.sound (fed.before ++ fed.piece) whole.0 f.version f.entries x whole.1 (fed.followed.told, fed.followed.version, fed.followed.version_is) (first_fault trigger_kind trigger_lawful (fed.before ++ fed.piece) f x fed.followed met.2) seen
+    right.sound (fed.before ++ fed.piece) whole.0 f.version f.start f.entries x whole.1 (fed.followed.told, fed.followed.version, fed.followed.version_is) (first_fault trigger_kind trigger_lawful trigger_gathered (fed.before ++ fed.piece) f x fed.followed met.2) seen
 
 ended_header : (p : Place) (tail : List ℕ) (at : ℕ) → p ≡ place.Ended → length_at p tail ≡ Some at → ⊥
 ended_header place.Header tail at is told = cc
@@ -182,17 +185,28 @@ ended_header place.Whole tail at is told = cc
 ended_header place.Ended tail at is told = cc
 ended_header place.Bad tail at is told = cc
 
-not_short : (bytes : List ℕ) (left now : Option (List ℕ)) (f : Following) (at : ℕ) → left ≡ Some bytes → IsRightStream bytes → HasRead left now f → header_length_of f.standing ≡ Some at → ⊥
+-- all bytes were read, or the stream has ended
+rest_none : (bytes : List ℕ) (left now : Option (List ℕ)) (f : Following) → left ≡ Some bytes → (read : HasRead left now f) → (rest : List ℕ) × (bytes ≡ (read.fed.before ++ read.fed.piece) ++ rest) × (IsEnded f ⊎ (rest ≡ []))
+rest_none bytes left now f is read =
+    let fed = read.fed in
+    let whole = fed_some bytes (fed.before ++ fed.piece) left now is fed.taken in
+    (whole.0, whole.1, ⊎_elim (λ ended. inl ended) (λ end. inr (subst IsAtEnd whole.2 end)) read.end)
+
+short_by : (o slot : Option ℕ) (at : ℕ) → slot ≡ None → length_or o slot ≡ Some at → o ≡ Some at
+short_by None slot at none is = let no : ◌≡◌ {A = Option ℕ} None (Some at) = sym none ∙ is in absurd (cc)
+short_by (Some n) slot at none is = is
+
+not_short : (bytes : List ℕ) (left now : Option (List ℕ)) (f : Following) (at : ℕ) → left ≡ Some bytes → IsRightStream bytes → HasRead left now f → short_at f ≡ Some at → ⊥
 not_short bytes left now f at is right read told =
     let fed = read.fed in
-    let short = header_told trigger_kind trigger_lawful (fed.before ++ fed.piece) f at fed.followed told in
-    let whole = fed_some bytes (fed.before ++ fed.piece) left now is fed.taken in
-    ⊎_elim (λ ended. ended_header f.standing.place f.standing.tail at ended.1 told)
-    (λ end.
-    let none : whole.0 ≡ [] = subst IsAtEnd whole.2 end in
-    let all : bytes ≡ fed.before ++ fed.piece = whole.1 ∙ ap (λ (l : List ℕ). (fed.before ++ fed.piece) ++ l) none ∙ append-nil (fed.before ++ fed.piece) in
+    let rest = rest_none bytes left now f is read in
+    let header : header_length_of f.standing ≡ Some at = short_by (header_length_of f.standing) (missing_slot trigger_kind f.stage f.standing.slots f.standing.tail) at (right.whole (fed.before ++ fed.piece) rest.0 f rest.1 fed.followed rest.2) told in
+    let short = header_told trigger_kind trigger_lawful trigger_gathered (fed.before ++ fed.piece) f at fed.followed header in
+    ⊎_elim (λ ended. ended_header f.standing.place f.standing.tail at ended.1 header)
+    (λ none.
+    let all : bytes ≡ fed.before ++ fed.piece = rest.1 ∙ ap (λ (l : List ℕ). (fed.before ++ fed.piece) ++ l) none ∙ append-nil (fed.before ++ fed.piece) in
     omega (arith, short.1, right.long, ap length all))
-    read.end
+    rest.2
 
 other_none : (st : Store) (t s : List ℕ) → HasNone t s → IsFirstOfOther st t s → ⊥
 other_none store.Triggers t s none found = none.0 (inr found)
@@ -211,9 +225,18 @@ ran_out : (form : Form) → IsDoneIn form status.NoMemory
 ran_out form.Entries = tt
 ran_out form.Snapshot = tt
 
-lacked_room : (form : Form) (f : Following) (need room : ℕ) → LacksRoom form f → IsDoneIn form (status.JournalFull need room)
-lacked_room form.Entries f need room lacks = absurd lacks
-lacked_room form.Snapshot f need room lacks = tt
+-- what is asked of the room, by the form
+abbrev FitsIn : Form → List ℕ → Type 0
+FitsIn form.Entries bytes = HasRoomAgain bytes
+FitsIn form.Snapshot bytes = ⊤
+
+lacked_room : (form : Form) (bytes : List ℕ) (left now : Option (List ℕ)) (f : Following) (need room : ℕ) → left ≡ Some bytes → FitsIn form bytes → HasRead left now f → LacksRoom form f need room → IsDoneIn form (status.JournalFull need room)
+lacked_room form.Entries bytes left now f need room is fits read lacks =
+    let fed = read.fed in
+    let rest = rest_none bytes left now f is read in
+    absurd (fits (fed.before ++ fed.piece) rest.0 f.version f.start f.entries rest.1 (fed.followed.told, fed.followed.version, fed.followed.version_is)
+    (all_taken trigger_kind trigger_lawful trigger_gathered (fed.before ++ fed.piece) f fed.followed read.fine) lacks.0 need room lacks.1)
+lacked_room form.Snapshot bytes left now f need room is fits read lacks = tt
 
 module _ {D : Type 0} {g : Ghosts D} (form : Form) (triggers states : D) (e : Ended D g) (read : e.status ≡ status.ReadFault → ⊥) (write : e.status ≡ status.WriteFault → ⊥) (disk : e.status ≡ status.DiskFault → ⊥) (honest : g.honest)
     (none : HasNone (g.state triggers).content (g.state states).content) where
@@ -226,17 +249,33 @@ module _ {D : Type 0} {g : Ghosts D} (form : Form) (triggers states : D) (e : En
   part_done (unread.Stream (fault.JournalFull need room)) bytes left now is right status_is why = absurd (met_none (fault.JournalFull need room) bytes left now is right why tt)
   part_done (unread.Stream fault.NoMemory) bytes left now is right status_is why = done_as status.NoMemory status_is (ran_out form)
 
-  made_done : (r : Result ℕ Unmade) (f : Following) (bytes : List ℕ) (left now : Option (List ℕ)) (old new : Outside) → left ≡ Some bytes → IsRightStream bytes → HasRead left now f → TellsHeader r f
+  made_done : (r : Result ℕ Unmade) (f : Following) (bytes : List ℕ) (left now : Option (List ℕ)) (old new : Outside) → left ≡ Some bytes → IsRightStream bytes → FitsIn form bytes → HasRead left now f → TellsHeader r f
       → Makes form r f (g.state triggers) (g.state e.triggers) (g.state states) (g.state e.states) → SaysFollowed form e.status r old new → IsDoneIn form e.status
-  made_done (Ok count) f bytes left now old new is right has header makes said = ⊎_elim (λ ok. done_as status.Ok ok (ended_well form)) (λ bad. absurd (write bad)) said.0
-  made_done (Err unmade.Exists) f bytes left now old new is right has header makes said = absurd (⊎_elim (λ own. none.0 (inl own)) (λ own. none.1 (inl own)) makes.found)
-  made_done (Err (unmade.NotAStore st)) f bytes left now old new is right has header makes said = absurd (other_none st _ _ none makes.found.1)
-  made_done (Err (unmade.Short at)) f bytes left now old new is right has header makes said = absurd (not_short bytes left now f at is right has header)
-  made_done (Err unmade.NoRoom) f bytes left now old new is right has header makes said = done_as _ said.0 (lacked_room form f _ _ makes.0)
-  made_done (Err unmade.NoMemory) f bytes left now old new is right has header makes said = done_as status.NoMemory said.0 (ran_out form)
-  made_done (Err unmade.Fault) f bytes left now old new is right has header makes said = absurd (disk said.0)
+  made_done (Ok count) f bytes left now old new is right fits has header makes said = ⊎_elim (λ ok. done_as status.Ok ok (ended_well form)) (λ bad. absurd (write bad)) said.0
+  made_done (Err unmade.Exists) f bytes left now old new is right fits has header makes said = absurd (⊎_elim (λ own. none.0 (inl own)) (λ own. none.1 (inl own)) makes.found)
+  made_done (Err (unmade.NotAStore st)) f bytes left now old new is right fits has header makes said = absurd (other_none st _ _ none makes.found.1)
+  made_done (Err (unmade.Short at)) f bytes left now old new is right fits has header makes said = absurd (not_short bytes left now f at is right has header)
+  made_done (Err (unmade.NoRoom need room)) f bytes left now old new is right fits has header makes said = done_as _ said.0 (lacked_room form bytes left now f need room is fits has makes.0)
+  made_done (Err unmade.NoMemory) f bytes left now old new is right fits has header makes said = done_as status.NoMemory said.0 (ran_out form)
+  made_done (Err unmade.Fault) f bytes left now old new is right fits has header makes said = absurd (disk said.0)
 
-  pub follow_done : (old new : Outside) (bytes : List ℕ) → RanFollow form triggers states e old new → old.left ≡ Some bytes → IsRightStream bytes → IsDoneIn form e.status
-  follow_done old new bytes ran is right =
-      ⊎_elim (λ whole. made_done whole.stood_by.made whole.follower bytes old.left new.left _ _ is right whole.stream whole.stood_by.header (whole.stood_by.makes honest) whole.stood_by.says)
+  pub follow_done : (old new : Outside) (bytes : List ℕ) → RanFollow form triggers states e old new → old.left ≡ Some bytes → IsRightStream bytes → FitsIn form bytes → IsDoneIn form e.status
+  follow_done old new bytes ran is right fits =
+      ⊎_elim (λ whole. made_done whole.stood_by.made whole.follower bytes old.left new.left _ _ is right fits whole.stream whole.stood_by.header (whole.stood_by.makes honest) whole.stood_by.says)
       (λ part. part_done part.error bytes old.left new.left is right part.status_is part.why) ran.ran
+
+-- No status of stores that weren't made tells that the input failed.
+unmade_not_read : (e : Unmade) → unmade_status e ≡ status.ReadFault → ⊥
+unmade_not_read unmade.Exists is = absurd cc
+unmade_not_read (unmade.NotAStore store) is = absurd cc
+unmade_not_read (unmade.Short at) is = absurd cc
+unmade_not_read (unmade.NoRoom need room) is = absurd cc
+unmade_not_read unmade.NoMemory is = absurd cc
+unmade_not_read unmade.Fault is = absurd cc
+
+pub said_not_read : (form : Form) (s : Status) (r : Result ℕ Unmade) (old new : Outside) → SaysFollowed form s r old new → s ≡ status.ReadFault → ⊥
+said_not_read form s (Ok count) old new says is = by says.0 where
+  by : MadeBoth s → ⊥
+  by (inl same) = let bad : status.Ok ≡ status.ReadFault = sym same ∙ is in absurd cc
+  by (inr same) = let bad : status.WriteFault ≡ status.ReadFault = sym same ∙ is in absurd cc
+said_not_read form s (Err e) old new says is = unmade_not_read e (sym says.0 ∙ is)

@@ -119,9 +119,9 @@ module _ (honest : Type 0) (c : Command) (s t : TriggerState) (valid : IsOfClien
 
   pub answered_ok : (answer : Result Reply SubmitError) → Submits trigger_entry (entry_of actor.Client c FIRST_MOMENT) answer s t
       → OnOk (after_answer answer) ((u : StatesState) → (r : StepReply) × IsStep honest (first_step c) r (beside u s) (beside u t))
-  answered_ok (Ok r) way = λ u. (reply.Ok r, record { valid = valid; case = record { submits = submits_at u; states = same_states u; triggers = way; held = refl } })
+  answered_ok (Ok r) way = λ u. (reply.Ok r, record { valid = valid; case = record { submits = submits_at u; states = same_states u; triggers = way; held = refl }; standing = refl })
   answered_ok (Err (submit.Refused x)) way =
-      λ u. (reply.Refused x, record { valid = valid; case = inr (record { submits = submits_at u; which = inr (record { states = same_states u; entry = entry_of actor.Client c FIRST_MOMENT; asked = refl; triggers = way; held_is = refl }) }) })
+      λ u. (reply.Refused x, record { valid = valid; case = inr (record { submits = submits_at u; which = inr (record { states = same_states u; entry = entry_of actor.Client c FIRST_MOMENT; asked = refl; triggers = way; held_is = refl }) }); standing = refl })
   answered_ok (Err (submit.JournalFull need room)) way = tt
   answered_ok (Err submit.NoMemory) way = tt
   answered_ok (Err (submit.Closed at)) way = tt
@@ -154,7 +154,7 @@ module _ (honest : Type 0) (c : Command) (s t : TriggerState) (valid : IsOfClien
   answered_err (Err (submit.Closed at)) way = closed_isnt_open s.is_open opened way.0.was_closed
   answered_err (Err submit.Fault) way =
       λ u. inr (record {
-        fault = record { valid = valid; case = inl (record { submits = submits_at u; which = inr (record { states = same_states u; entry = entry_of actor.Client c FIRST_MOMENT; asked = refl; triggers = way; held_is = refl }) }) };
+        fault = record { valid = valid; case = inl (record { submits = submits_at u; which = inr (record { states = same_states u; entry = entry_of actor.Client c FIRST_MOMENT; asked = refl; triggers = way; held_is = refl }) }); standing = refl };
         status_is = refl;
       })
 

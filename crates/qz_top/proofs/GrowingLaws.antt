@@ -5,6 +5,7 @@ use Rattle.std.proofs.Math.Logic.{∥∥₁_map}
 use Rattle.qz_disk.specs.declared.disk.Disk.{Ghosts}
 use Rattle.qz_types.specs.Entries.{EntryData, StateEntryData}
 use Rattle.qz_types.specs.declared.replies.Reply.{Reply}
+use Rattle.qz_steps.specs.declared.rooms.Marked.TheVariants.{Made, NoRoom}
 use Rattle.qz_steps.specs.declared.steps.StepReply.{StepReply}
 use Rattle.qz_steps.specs.declared.steps.StepReply.TheVariants as reply
 use Rattle.qz_stores.specs.Kinds.{StoreKind, IsLawful, with_entry}
@@ -97,10 +98,14 @@ step_moves told t (reply.Refused x) S S' (inl case) = (inl case.stays.stores.tri
 step_moves told t (reply.Refused x) S S' (inr case) =
     (inl (entry_keeps _ _ (λ e s u is. is.same.history) _ t S S' case.which), rows_at told _ _ (λ e s u is. is.same.history) _ t S S' case.which)
 step_moves told t reply.Fault S S' (inl case) = (inl (entry_keeps _ _ (λ e s u is. is.history) _ t S S' case.which), rows_at told _ _ (λ e s u is. is.history) _ t S S' case.which)
-step_moves told t reply.Fault S S' (inr case) = (inl case.shut.triggers.history, inl case.shut.states.history)
+step_moves told t reply.Fault S S' (inr (inr case)) = (inl case.breaks.history, inl (ap (λ (s : StatesState). s.history) case.states))
+step_moves told t reply.Fault S S' (inr (inl case)) = (inl case.shut.triggers.history, inl case.shut.states.history)
 step_moves told t reply.Closed S S' case = (inl case.stays.stores.triggers.history, inl case.stays.stores.states.history)
 step_moves told t reply.Stopped S S' case = (inl case.stays.stores.triggers.history, inl case.stays.stores.states.history)
 step_moves told t (reply.Shown s) S S' case = (inl case.stays.stores.triggers.history, inl case.stays.stores.states.history)
+step_moves told t (reply.Marked Made) S S' case = (inl case.marked.0.history, inl (ap (λ (s : StatesState). s.history) case.states))
+step_moves told t (reply.Marked NoRoom) S S' case = (inl case.marked.0.same.history, inl (ap (λ (s : StatesState). s.history) case.states))
+step_moves told t (reply.Room room) S S' case = (inl (ap (λ (T : ClusterState). T.triggers.history) case.same), inl (ap (λ (T : ClusterState). T.states.history) case.same))
 step_moves told t reply.Restarted S S' case = (inr (inr case.triggers.decided), inr (inr case.states.decided))
 
 -- Runs.

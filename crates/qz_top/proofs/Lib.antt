@@ -16,6 +16,7 @@ pub mod LossLaws
 pub mod MakingLaws
 pub mod MigratingLaws
 pub mod MomentLaws
+pub mod NextLaws
 pub mod NodeRestLaws
 pub mod NodeRunLaws
 pub mod OneAtATime

@@ -5,6 +5,7 @@ use Rattle.std.specs.Prelude.{⊤, Option, Ok}
 use Rattle.std.specs.List.{AllByRecursion}
 use Rattle.qz_io.specs.Outside.{Outside}
 use Rattle.qz_steps.specs.Steps.{is_step}
+use Rattle.qz_steps.specs.declared.rooms.Marked.TheVariants.{Made, NoRoom}
 use Rattle.qz_steps.specs.declared.steps.StepReply.{StepReply}
 use Rattle.qz_steps.specs.declared.steps.StepReply.TheVariants as reply
 use Rattle.qz_types.specs.Rows.{MemberData}
@@ -98,10 +99,14 @@ case_lawful honest t (reply.Ok x) S S' valid case lawful = done_lawful _ x S.tri
 case_lawful honest t (reply.Refused x) S S' valid (inl case) lawful = same_lawful _ _ case.stays.stores.triggers.history lawful
 case_lawful honest t (reply.Refused x) S S' valid (inr case) lawful = same_lawful _ _ (entry_keeps _ _ (λ e s u is. is.same.history) _ t S S' case.which) lawful
 case_lawful honest t reply.Fault S S' valid (inl case) lawful = same_lawful _ _ (entry_keeps _ _ (λ e s u is. is.history) _ t S S' case.which) lawful
-case_lawful honest t reply.Fault S S' valid (inr case) lawful = same_lawful _ _ case.shut.triggers.history lawful
+case_lawful honest t reply.Fault S S' valid (inr (inr case)) lawful = same_lawful _ _ case.breaks.history lawful
+case_lawful honest t reply.Fault S S' valid (inr (inl case)) lawful = same_lawful _ _ case.shut.triggers.history lawful
 case_lawful honest t reply.Closed S S' valid case lawful = same_lawful _ _ case.stays.stores.triggers.history lawful
 case_lawful honest t reply.Stopped S S' valid case lawful = same_lawful _ _ case.stays.stores.triggers.history lawful
 case_lawful honest t (reply.Shown s) S S' valid case lawful = same_lawful _ _ case.stays.stores.triggers.history lawful
+case_lawful honest t (reply.Marked Made) S S' valid case lawful = same_lawful _ _ case.marked.0.history lawful
+case_lawful honest t (reply.Marked NoRoom) S S' valid case lawful = same_lawful _ _ case.marked.0.same.history lawful
+case_lawful honest t (reply.Room room) S S' valid case lawful = subst HasLawful (sym case.same) lawful
 case_lawful honest t reply.Restarted S S' valid case lawful = opened_lawful S'.triggers case.are_triggers
 
 run_lawful : (honest : Type 0) (S : ClusterState) (ts : List TimedStep) (rs : List StepReply) (states : List ClusterState) → StepsDone honest S ts rs states
@@ -199,7 +204,8 @@ module _ (m n : ℕ) (s : Status) (after : RunState) (old new : Outside) (lines 
 -- A step in which a disk failed leaves the history of triggers.
 pub fault_keeps : (honest : Type 0) (t : TimedStep) (S S' : ClusterState) → StepCase honest t reply.Fault S S' → S'.triggers.history ≡ S.triggers.history
 fault_keeps honest t S S' (inl case) = entry_keeps _ _ (λ e s u is. is.history) _ t S S' case.which
-fault_keeps honest t S S' (inr case) = case.shut.triggers.history
+fault_keeps honest t S S' (inr (inl case)) = case.shut.triggers.history
+fault_keeps honest t S S' (inr (inr case)) = case.breaks.history
 
 pub fault_step_keeps : (honest : Type 0) (t : TimedStep) (r : StepReply) (S S' : ClusterState) → is_fault r ≡ true → IsStep honest t r S S' → S'.triggers.history ≡ S.triggers.history
 fault_step_keeps honest t r S S' is step = fault_keeps honest t S S' (subst (λ (x : StepReply). StepCase honest t x S S') (fault_is r is) step.case)

@@ -211,6 +211,11 @@ module _ {D : Type 0} {g : Ghosts D} where
           let kept = each_kept lawful held.honest w v begins.first.value shows.shown new.cluster first_on (from_first held.honest) (last_end held.honest) in
           subst (λ (l : Shown D g). EachIsKept w v l (cluster_view new.cluster) (triggers_disk new.cluster) (states_disk new.cluster)) (sym whole_trail) (kept.0.0, kept.0.1, kept.1)
 
+      -- the trigger store goes on from them at the end
+      pub goes_on_at_end : GoesOnFrom (triggers_of new.cluster) w
+      goes_on_at_end =
+          (on_at_end lawful held.honest w v begins.first.value shows.shown new.cluster first_on (from_first held.honest) (last_end held.honest)).0
+
       pub images_at_end : (b : List ℕ) → ((triggers_disk new.cluster).IsImage b → HasTriggers w b (cluster_view new.cluster)) × ((states_disk new.cluster).IsImage b → HasStates v b (cluster_view new.cluster))
       images_at_end b =
           images_now lawful held.honest w v new.cluster (on_at_end lawful held.honest w v begins.first.value shows.shown new.cluster first_on (from_first held.honest) (last_end held.honest)) b

@@ -223,7 +223,8 @@ module _ {D : Type 0} {g : Ghosts D} where
   kept_on_the_way triggers states b t c u triggers' states' same states_same reads on rows_on kept states_kept =
       ∥∥₁_elim kept squash₁ (λ k. ∥∥₁_map states_kept (λ l. kept_so triggers states b t c u triggers' states' same states_same reads on rows_on k l))
 
-  goes_on_still : (b t : TriggerStore D g) (w : Whole) → GoesOnFrom b w → g.honest → ∥ KeepsTriggers b t ∥₁ → GoesOnFrom t w
+  -- and it goes on from the whole lists of its beginning
+  pub goes_on_still : (b t : TriggerStore D g) (w : Whole) → GoesOnFrom b w → g.honest → ∥ KeepsTriggers b t ∥₁ → GoesOnFrom t w
   goes_on_still b t w on honest kept = ∥∥₁_elim kept (goes_on_once trigger_lawful t.store w) (λ k. (k honest w on).0)
 
   rows_go_on_still : (c u : StateStore D g) (v : WholeRows) → RowsGoOnFrom c v → g.honest → ∥ KeepsStates c u ∥₁ → RowsGoOnFrom u v

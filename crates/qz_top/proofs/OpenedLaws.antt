@@ -7,7 +7,7 @@ use Rattle.qz_io.specs.Outside.{Outside}
 use Rattle.qz_steps.specs.declared.steps.StepReply.{StepReply}
 use Rattle.qz_trigger_store.specs.Opening.{IsOpened}
 use Rattle.qz_checkin.specs.Opening.{IsOpened as AreOpened}
-use Rattle.qz_cluster.specs.Script.{TimedStep, new_script, step_replies}
+use Rattle.qz_cluster.specs.Script.{TimedStep, new_script, plain_replies, step_replies}
 use Rattle.qz_cluster.specs.Steps.{ClusterState, is_closed}
 use Rattle.qz_cluster.specs.declared.errors.StepEnd.{StepEnd}
 use Rattle.qz_cluster.proofs.Closings.{IsReady, ready_open}
@@ -46,7 +46,8 @@ all_honest [] = tt
 all_honest (t ∷ ts) = (λ is. tt, all_honest ts)
 
 pub plain_of : (m n : ℕ) (s : Status) (after : RunState) (old new : Outside) (lines : List (List ℕ)) (readings : List ℤ) (replies : List StepReply)
-    → IsRun ⊤ s (begun true (new_cluster m n)) after old new lines readings replies → replies ≡ step_replies (new_script 2) (steps_of lines readings)
+    → IsRun ⊤ s (begun true (new_cluster m n)) after old new lines readings replies
+    → plain_replies (steps_of lines readings) replies ≡ step_replies (new_script 2) (steps_of lines readings)
 plain_of m n s after old new lines readings replies run =
     run_plain ⊤ (new_cluster m n) (steps_of lines readings) replies run.steps.states run.steps.done (new_ready m n) (all_honest (steps_of lines readings)) (run.steps.no_fault refl)
 
@@ -136,11 +137,12 @@ module _ (honest : Type 0) (s : Status) (S : ClusterState) (after : RunState) (o
       let closed = subst (λ (x : Status). TellsClosed x after.cluster) is run.closed in
       rose_from_first m n S after.cluster earlier states_earlier (ran_rose honest S _ replies run.last after run.steps ready_at_first may closed)
 
-  pub plain_opened : AllByRecursion (IsOnTold honest) (steps_of lines readings) → AllByRecursion IsNoFault replies → replies ≡ step_replies (script_of S) (steps_of lines readings)
+  pub plain_opened : AllByRecursion (IsOnTold honest) (steps_of lines readings) → AllByRecursion IsNoFault replies
+      → plain_replies (steps_of lines readings) replies ≡ step_replies (script_of S) (steps_of lines readings)
   plain_opened on_honest no_fault = run_plain honest S _ replies run.steps.states run.steps.done ready_at_first on_honest no_fault
 
   pub plain_first : (first rest : List StepReply) → replies ≡ first ++ rest → AllByRecursion (IsOnTold honest) (take (length first) (steps_of lines readings)) → AllByRecursion IsNoFault first
-      → first ≡ take (length first) (step_replies (script_of S) (steps_of lines readings))
+      → plain_replies (steps_of lines readings) first ≡ take (length first) (step_replies (script_of S) (steps_of lines readings))
   plain_first first rest is on_honest no_fault =
       run_plain_first honest S _ first rest run.steps.states (subst (λ rs. StepsDone honest S (steps_of lines readings) rs run.steps.states) is run.steps.done) ready_at_first on_honest no_fault
 

@@ -5,7 +5,7 @@ use Rattle.std.specs.List.{AllByRecursion}
 use Rattle.qz_civil.specs.Causes.{Rose}
 use Rattle.qz_steps.specs.declared.steps.StepReply.{StepReply}
 use Rattle.qz_steps.specs.declared.steps.StepReply.TheVariants as reply
-use Rattle.qz_cluster.specs.Script.{TimedStep, effect_in, after_step, step_replies}
+use Rattle.qz_cluster.specs.Script.{TimedStep, plain_reply, plain_replies, effect_in, after_step, step_replies}
 use Rattle.qz_cluster.specs.Steps.{ClusterState, is_closed, StepCase, IsStep}
 use Rattle.qz_cluster.proofs.Closings.{IsReady, ready_open, step_ready, fault_rose}
 use Rattle.qz_cluster.proofs.Counts.{NoneFalls, step_counts}
@@ -28,6 +28,8 @@ fault_is reply.Closed is = absurd cc
 fault_is reply.Stopped is = absurd cc
 fault_is reply.Restarted is = absurd cc
 fault_is (reply.Shown s) is = absurd cc
+fault_is (reply.Marked m) is = absurd cc
+fault_is (reply.Room room) is = absurd cc
 
 -- The counts of faults.
 
@@ -90,19 +92,19 @@ run_ready honest S (t ∷ ts) (r ∷ rs) [] p ready no_fault = absurd p
 -- A plain scheduler's replies.
 
 plain_here : (honest : Type 0) (S S' : ClusterState) (t : TimedStep) (r : StepReply) → IsStep honest t r S S' → IsReady S → IsNoFault r → IsOnTold honest t
-    → (r ≡ (effect_in (script_of S) t).reply) × IsSameScript (script_of S') (after_step (script_of S) t)
+    → (plain_reply t.step r ≡ (effect_in (script_of S) t).reply) × IsSameScript (script_of S') (after_step (script_of S) t)
 plain_here honest S S' t r step ready no_fault on_honest =
     let p = step_plain honest t.step t.at r S S' step.case ready (no_fault_is r no_fault) on_honest in
     (p.reply, record { tables = p.tables; rows = p.rows; held = p.held })
 
--- Without a fault the replies are those of a plain scheduler.
+-- Without a fault the replies are those of a plain scheduler, but for what the disks say of themselves.
 pub run_plain : (honest : Type 0) (S : ClusterState) (ts : List TimedStep) (rs : List StepReply) (states : List ClusterState) → StepsDone honest S ts rs states
-    → IsReady S → AllByRecursion (IsOnTold honest) ts → AllByRecursion IsNoFault rs → rs ≡ step_replies (script_of S) ts
+    → IsReady S → AllByRecursion (IsOnTold honest) ts → AllByRecursion IsNoFault rs → plain_replies ts rs ≡ step_replies (script_of S) ts
 run_plain honest S [] [] [] p ready on_honest no_fault = refl
 run_plain honest S (t ∷ ts) (r ∷ rs) (S' ∷ states) p ready on_honest no_fault =
     let one = plain_here honest S S' t r p.0 ready no_fault.0 on_honest.0 in
     let more = run_plain honest S' ts rs states p.1 (step_ready honest t r S S' p.0.case ready (no_fault_is r no_fault.0)) on_honest.1 no_fault.1 in
-    ap (λ x. x ∷ rs) one.0 ∙ ap (λ xs. (effect_in (script_of S) t).reply ∷ xs) (more ∙ same_replies (script_of S') (after_step (script_of S) t) ts one.1)
+    ap (λ x. x ∷ plain_replies ts rs) one.0 ∙ ap (λ xs. (effect_in (script_of S) t).reply ∷ xs) (more ∙ same_replies (script_of S') (after_step (script_of S) t) ts one.1)
 run_plain honest S [] (r ∷ rs) states p ready on_honest no_fault = absurd p
 run_plain honest S [] [] (x ∷ states) p ready on_honest no_fault = absurd p
 run_plain honest S (t ∷ ts) [] states p ready on_honest no_fault = absurd p
@@ -110,12 +112,13 @@ run_plain honest S (t ∷ ts) (r ∷ rs) [] p ready on_honest no_fault = absurd 
 
 -- Before the first fault they are.
 pub run_plain_first : (honest : Type 0) (S : ClusterState) (ts : List TimedStep) (first rest : List StepReply) (states : List ClusterState) → StepsDone honest S ts (first ++ rest) states
-    → IsReady S → AllByRecursion (IsOnTold honest) (take (length first) ts) → AllByRecursion IsNoFault first → first ≡ take (length first) (step_replies (script_of S) ts)
-run_plain_first honest S ts [] rest states p ready on_honest no_fault = refl
+    → IsReady S → AllByRecursion (IsOnTold honest) (take (length first) ts) → AllByRecursion IsNoFault first → plain_replies ts first ≡ take (length first) (step_replies (script_of S) ts)
+run_plain_first honest S [] [] rest states p ready on_honest no_fault = refl
+run_plain_first honest S (t ∷ ts) [] rest states p ready on_honest no_fault = refl
 run_plain_first honest S (t ∷ ts) (r ∷ first) rest (S' ∷ states) p ready on_honest no_fault =
     let one = plain_here honest S S' t r p.0 ready no_fault.0 on_honest.0 in
     let more = run_plain_first honest S' ts first rest states p.1 (step_ready honest t r S S' p.0.case ready (no_fault_is r no_fault.0)) on_honest.1 no_fault.1 in
-    ap (λ x. x ∷ first) one.0 ∙ ap (λ xs. (effect_in (script_of S) t).reply ∷ xs) (more ∙ ap (take (length first)) (same_replies (script_of S') (after_step (script_of S) t) ts one.1))
+    ap (λ x. x ∷ plain_replies ts first) one.0 ∙ ap (λ xs. (effect_in (script_of S) t).reply ∷ xs) (more ∙ ap (take (length first)) (same_replies (script_of S') (after_step (script_of S) t) ts one.1))
 run_plain_first honest S [] (r ∷ first) rest states p ready on_honest no_fault = absurd p
 run_plain_first honest S (t ∷ ts) (r ∷ first) rest [] p ready on_honest no_fault = absurd p
 

@@ -48,8 +48,8 @@ RanSteps-one t r R S step trail own no_fault =
 -- Clusters on new stores.
 
 pub new_state : (S : ClusterState) → S.triggers.history ≡ history_of_version 2 → S.states.history ≡ new_state_history → IsOpened S.triggers → AreOpened S.states → S.held ≡ []
-    → (S.triggers.gate ≡ 16) × (S.triggers.payloads ≡ 0) → (S.states.gate ≡ 16) × (S.states.payloads ≡ 0) → S ≡ new_cluster S.triggers.faults S.states.faults
-new_state S history states_history opened states_opened held (gate, payloads) (states_gate, states_payloads) =
+    → (S.triggers.gate ≡ 16) × (S.triggers.payloads ≡ 0) → (S.states.gate ≡ 16) × (S.states.payloads ≡ 0) → S.behind ≡ 0 → S.standing ≡ true → S ≡ new_cluster S.triggers.faults S.states.faults
+new_state S history states_history opened states_opened held (gate, payloads) (states_gate, states_payloads) behind standing =
     λ i. record {
       triggers = record { history = history i; gate = gate i; payloads = payloads i; is_open = opened.is_open i; undecided = opened.settled i; faults = S.triggers.faults };
       states = record {
@@ -61,6 +61,8 @@ new_state S history states_history opened states_opened held (gate, payloads) (s
         faults = S.states.faults;
       };
       held = held i;
+      behind = behind i;
+      standing = standing i;
     }
 
 pub NothingDone-none : (R : RunState) → NothingDone R R

@@ -20,7 +20,7 @@ use Rattle.qz_checkin.specs.Bytes.{Whole as WholeRows}
 use Rattle.qz_checkin.specs.Opening.{IsOpened as AreOpened, IsSound as AreSound}
 use Rattle.qz_cluster.specs.Mounting.{DisksAfter, RefusedBy, StandsBefore}
 use Rattle.qz_cluster.specs.Steps.{ClusterState, is_restart}
-use Rattle.qz_cluster.specs.Script.{ScriptState, TimedStep, new_script, step_replies}
+use Rattle.qz_cluster.specs.Script.{ScriptState, TimedStep, new_script, plain_replies, step_replies}
 use Rattle.qz_open.specs.Opened.{AreAlwaysAlone}
 use Rattle.qz_open.specs.Runs.{AlwaysSparesOthers}
 use Rattle.qz_top.specs.Found.{IsFoundOn, IsTold, HoldWhole}
@@ -28,6 +28,7 @@ use Rattle.qz_top.specs.Lines.{steps_of}
 use Rattle.qz_top.specs.Lists.{WritesText, lines_of}
 use Rattle.qz_top.specs.Loads.{AloneInLoad, Loads}
 use Rattle.qz_top.specs.Moments.{HasTriggers, HasStates, BeginsWithReads, EachIsKept}
+use Rattle.qz_top.specs.Resting.{OpensShortIfRoom}
 use Rattle.qz_top.specs.Runs.{IsRun}
 use Rattle.qz_top.specs.Seen.{states_in}
 use Rattle.qz_top.specs.Trails.{IsNoFault, RunState, new_cluster}
@@ -53,8 +54,8 @@ RecoversLosses S = ∥ AreExact S.triggers.history.base S.triggers.history.entri
 abbrev pub RunsOneAtATime : ClusterState → Type 0
 RunsOneAtATime S = (first rest : List EntryData) → S.triggers.history.entries ≡ first ++ rest → (key : Key) → count_by (is_exclusive_of key) (replay_from S.triggers.history.base first).fired ≤ 1
 
--- A script on new stores in memory was run. Its replies are those of a plain scheduler that is new, empty and of version 2.
--- Disks in memory are honest.
+-- A script on new stores in memory was run. Its replies are those of a plain scheduler that is new, empty and of version 2, but for
+-- what the disks say of themselves. Disks in memory are honest.
 pub record RanInMemory (s : Status) (trail : List ClusterState)
     (old new : Outside) : Type 0 where
   pub triggers_faults : ℕ
@@ -64,7 +65,7 @@ pub record RanInMemory (s : Status) (trail : List ClusterState)
   pub readings : List ℤ
   pub replies : List StepReply
   pub run : IsRun ⊤ s (begun true (new_cluster triggers_faults states_faults)) end old new lines readings replies
-  pub plain : replies ≡ step_replies (new_script 2) (steps_of lines readings)
+  pub plain : plain_replies (steps_of lines readings) replies ≡ step_replies (new_script 2) (steps_of lines readings)
   pub trail_is : trail ≡ end.trail
   -- in each of these states, and in the one at the end, lost executions are recovered once
   pub recovered : AllByRecursion RecoversLosses trail
@@ -121,13 +122,13 @@ pub record RanOnDisk {D : Type 0} {g : Ghosts D} (triggers states : D) (e : Ende
   pub alone : AreAlwaysAlone [] (steps_of lines readings) replies
   -- and a node that is recovered has none, unless it still holds an epoch
   pub spared : AlwaysSparesOthers opened [] (steps_of lines readings) replies run.steps.states
-  -- without a fault the replies are those of a plain scheduler that goes on from the opened histories, and so are those
-  -- before the first fault; restarts are so on honest disks that hold whole lists
+  -- without a fault the replies are those of a plain scheduler that goes on from the opened histories, but for what the disks say of
+  -- themselves, and so are those before the first fault; restarts are so on honest disks that hold whole lists
   pub plain : AllByRecursion (IsOnTold (IsTold g triggers)) (steps_of lines readings) → AllByRecursion IsNoFault replies
-      → replies ≡ step_replies (script_of opened) (steps_of lines readings)
+      → plain_replies (steps_of lines readings) replies ≡ step_replies (script_of opened) (steps_of lines readings)
   pub plain_first : (first rest : List StepReply) → replies ≡ first ++ rest
       → AllByRecursion (IsOnTold (IsTold g triggers)) (take (length first) (steps_of lines readings)) → AllByRecursion IsNoFault first
-      → first ≡ take (length first) (step_replies (script_of opened) (steps_of lines readings))
+      → plain_replies (steps_of lines readings) first ≡ take (length first) (step_replies (script_of opened) (steps_of lines readings))
   pub faults : (g.faults e.triggers ≡ end.cluster.triggers.faults) × (g.faults e.states ≡ end.cluster.states.faults)
   -- at the end a crash leaves the bytes of the last history of each store, or of it with the undecided entry
   pub images : (w : Whole) (v : WholeRows) → HoldWhole g triggers states w v → (b : List ℕ) → ((g.state e.triggers).IsImage b → HasTriggers w b end.cluster) × ((g.state e.states).IsImage b → HasStates v b end.cluster)
@@ -135,6 +136,8 @@ pub record RanOnDisk {D : Type 0} {g : Ghosts D} (triggers states : D) (e : Ende
   -- moment on when a state was reached, each store as in that state or in a later one
   pub opening : g.honest → BeginsWithReads (g.state triggers) (g.state states) e.trail.on_disk.value.items
   pub any_moment : (w : Whole) (v : WholeRows) → HoldWhole g triggers states w v → EachIsKept w v e.trail.on_disk.value.items end.cluster (g.state e.triggers) (g.state e.states)
+  -- where the call ends with 0, the next opening is short
+  pub next : e.status ≡ status.Ok → (w : Whole) (v : WholeRows) → HoldWhole g triggers states w v → OpensShortIfRoom end.cluster.triggers (g.state e.triggers).content
 
 -- The stores that stand on the disks were opened, and a document's commands were done on them.
 pub record LoadedOnDisk {D : Type 0} {g : Ghosts D} (triggers states : D) (e : Ended D g)
@@ -161,6 +164,8 @@ pub record LoadedOnDisk {D : Type 0} {g : Ghosts D} (triggers states : D) (e : E
   pub images : (w : Whole) (v : WholeRows) → HoldWhole g triggers states w v → (b : List ℕ) → ((g.state e.triggers).IsImage b → HasTriggers w b end.cluster) × ((g.state e.states).IsImage b → HasStates v b end.cluster)
   pub opening : g.honest → BeginsWithReads (g.state triggers) (g.state states) e.trail.on_disk.value.items
   pub any_moment : (w : Whole) (v : WholeRows) → HoldWhole g triggers states w v → EachIsKept w v e.trail.on_disk.value.items end.cluster (g.state e.triggers) (g.state e.states)
+  -- and the next opening is short
+  pub next : e.status ≡ status.Ok → (w : Whole) (v : WholeRows) → HoldWhole g triggers states w v → OpensShortIfRoom end.cluster.triggers (g.state e.triggers).content
 
 -- The stores that stand on the disks were opened, and what they hold was written.
 pub record ListedOnDisk {D : Type 0} {g : Ghosts D} (triggers states : D) (e : Ended D g)

@@ -15,7 +15,7 @@ use Rattle.qz_words.specs.declared.wishes.Wish.{Wish}
 use Rattle.qz_words.specs.declared.wishes.Wish.TheVariants as wish
 use Rattle.qz_top.specs.Causes.{FaultCounts}
 use Rattle.qz_standby.specs.Fronts.{HasNone}
-use Rattle.qz_top.specs.Following.{IsRightStream}
+use Rattle.qz_top.specs.Following.{IsRightStream, HasRoomAgain}
 use Rattle.qz_top.specs.Found.{HoldWhole}
 use Rattle.qz_top.specs.Lines.{first_bad}
 use Rattle.qz_top.specs.declared.statuses.Status.{Status}
@@ -29,14 +29,14 @@ pub record NoneRose (old new : FaultCounts) : Type 0 where
   pub states : Rose old.states new.states → ⊥
 
 -- The input's bytes are known, where the call reads it, and right: no line of a script or of `times` is bad, a document is one, and a
--- stream has no fault.
+-- stream has no fault, and room in a store where it is followed.
 abbrev pub HasRightInput : Result Wish WordFault → Option (List ℕ) → Type 0
 HasRightInput (Ok wish.Own) left = (bytes : List ℕ) × (left ≡ Some bytes) × (first_bad (lines_of bytes) ≡ None)
 HasRightInput (Ok wish.Script) left = (bytes : List ℕ) × (left ≡ Some bytes) × (first_bad (lines_of bytes) ≡ None)
 HasRightInput (Ok wish.Load) left = (bytes : List ℕ) × (left ≡ Some bytes) × (document : Document) × (document_meaning bytes ≡ Ok document)
 HasRightInput (Ok (wish.Times after count)) left =
     (bytes : List ℕ) × (left ≡ Some bytes) × AllByRecursion (λ line. IsOk (line_meaning line)) (lines_of bytes) × (length (lines_of bytes) ≤ LINE_COUNT_LIMIT)
-HasRightInput (Ok wish.Follow) left = (bytes : List ℕ) × (left ≡ Some bytes) × IsRightStream bytes
+HasRightInput (Ok wish.Follow) left = (bytes : List ℕ) × (left ≡ Some bytes) × IsRightStream bytes × HasRoomAgain bytes
 HasRightInput (Ok wish.Compact) left = (bytes : List ℕ) × (left ≡ Some bytes) × IsRightStream bytes
 HasRightInput w left = ⊤
 

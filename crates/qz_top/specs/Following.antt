@@ -1,15 +1,18 @@
 -- What `follow` and `compact` did: they read the bytes of a trigger store, and made both stores of them.
-use Rattle.std.specs.Prelude.{◌≡◌, ◌⊎◌, ℕ, ◌≤◌, List, [], ◌++◌, length, codes, Option, Result, Ok, Err}
+use Rattle.std.specs.Prelude.{◌≡◌, ◌≢◌, ◌⊎◌, ℕ, ◌≤◌, List, [], ◌++◌, length, codes, Option, None, Result, Ok, Err}
 use Rattle.std.specs.Fmt.{decimal}
 use Rattle.std.specs.Io.KnownBytes.{Consumes}
 use Rattle.qz_disk.specs.declared.disk.Disk.{Ghosts}
 use Rattle.qz_io.specs.Outside.{Outside, only_output}
 use Rattle.qz_types.specs.Entries.{EntryData}
+use Rattle.qz_types.specs.Tables.{SchedulerTables, empty}
 use Rattle.qz_trigger_store.specs.Kinds.{trigger_kind}
 use Rattle.qz_checkin.specs.Kinds.{state_kind}
 use Rattle.qz_stream.specs.Front.{IsVersionOf}
-use Rattle.qz_follow.specs.Following.{Following, HasTaken, IsFault}
+use Rattle.qz_follow.specs.Following.{Following, HasTaken, IsFault, IsFollowed, IsEnded}
 use Rattle.qz_follow.specs.Payloads.{version_or_two, IsSeen}
+use Rattle.qz_follow.specs.Promoting.{LacksAll}
+use Rattle.qz_follow.specs.Taking.{missing_slot}
 use Rattle.qz_follow.specs.declared.faults.FollowFault.{FollowFault}
 use Rattle.qz_follow.specs.declared.faults.FollowFault.TheVariants as fault
 use Rattle.qz_standby.specs.CheckIns.{rows_beside}
@@ -45,8 +48,7 @@ abbrev pub unmade_status : Unmade → Status
 unmade_status unmade.Exists = status.Exists
 unmade_status (unmade.NotAStore store) = status.NotAStore store
 unmade_status (unmade.Short at) = status.BadStream at
--- a snapshot needs more than the 2^29 - 17 bytes behind the first gate of a store
-unmade_status unmade.NoRoom = status.JournalFull 536870896 536870895
+unmade_status (unmade.NoRoom need room) = status.JournalFull need room
 unmade_status unmade.NoMemory = status.NoMemory
 unmade_status unmade.Fault = status.DiskFault
 
@@ -99,21 +101,30 @@ abbrev pub HasVersion : List ℕ → ℕ → Type 0
 HasVersion bytes version = (told : Option ℕ) × IsVersionOf bytes told × (version ≡ version_or_two told)
 
 -- What a crash leaves of the call's disks. One that began as a store does is left as it was. On another one there may be a store of this
--- form, with the first of the entries that were taken of the bytes that were read, or of the first check-ins; at the end, where the
+-- form, which starts as what the bytes have, with the first of the entries that were taken of the bytes that were read, or of the first check-ins; at the end, where the
 -- call tells so, with all.
 pub record HeadlineOfStandby {D : Type 0} {g : Ghosts D} (form : Form) (triggers states : D) (e : Ended D g) (left left_now : Option (List ℕ)) : Type 0 where
   pub bytes : List ℕ
   pub read : Consumes left left_now bytes
   pub version : ℕ
   pub has_version : HasVersion bytes version
+  pub start : SchedulerTables
   pub entries : List EntryData
-  pub taken : HasTaken bytes entries
+  pub taken : HasTaken version bytes start entries
   pub keeps : KeepsStores g triggers e.triggers states e.states
-  pub list : g.honest → LeavesFirst trigger_kind (list_in form version entries) (g.state triggers) (g.state e.triggers)
-  pub check_ins : g.honest → LeavesFirst state_kind (rows_beside version entries) (g.state states) (g.state e.states)
-  pub at_end : MadeBoth e.status → g.honest → HoldsNow trigger_kind (list_in form version entries) (g.state e.triggers) × HoldsNow state_kind (rows_beside version entries) (g.state e.states)
+  pub list : g.honest → LeavesFirst trigger_kind (list_in form version start entries) (g.state triggers) (g.state e.triggers)
+  pub check_ins : g.honest → LeavesFirst state_kind (rows_beside start entries) (g.state states) (g.state e.states)
+  pub at_end : MadeBoth e.status → g.honest → HoldsNow trigger_kind (list_in form version start entries) (g.state e.triggers) × HoldsNow state_kind (rows_beside start entries) (g.state e.states)
 
--- The header is there, and no first part of the bytes has a fault that is seen in it, in the version that it says.
+-- The header is there, no first part of the bytes has a fault that is seen in it, in the version that it says, and a base of the bytes
+-- is whole where they end.
 pub record IsRightStream (bytes : List ℕ) : Type 0 where
   pub long : 16 ≤ length bytes
-  pub sound : (fed rest : List ℕ) (version : ℕ) (entries : List EntryData) (x : FollowFault) → bytes ≡ fed ++ rest → HasVersion fed version → IsFault version fed entries x → IsSeen x → ⊥
+  pub sound : (fed rest : List ℕ) (version : ℕ) (start : SchedulerTables) (entries : List EntryData) (x : FollowFault) → bytes ≡ fed ++ rest → HasVersion fed version → IsFault version fed start entries x → IsSeen x → ⊥
+  pub whole : (fed rest : List ℕ) (f : Following) → bytes ≡ fed ++ rest → IsFollowed fed f → IsEnded f ⊎ (rest ≡ []) → missing_slot trigger_kind f.stage f.standing.slots f.standing.tail ≡ None
+
+-- A store has room for the base of the bytes and their entries, if they have a base. (For the entries alone it has.)
+abbrev pub HasRoomAgain : List ℕ → Type 0
+HasRoomAgain bytes =
+    (fed rest : List ℕ) (version : ℕ) (start : SchedulerTables) (entries : List EntryData) → bytes ≡ fed ++ rest → HasVersion fed version → HasTaken version fed start entries → start ≢ empty version
+    → (need room : ℕ) → LacksAll start entries need room → ⊥

@@ -20,7 +20,7 @@ use Rattle.qz_checkin.specs.Entries.{StatesState}
 use Rattle.qz_checkin.specs.History.{IsLegal as AreLegal}
 use Rattle.qz_checkin.specs.Opening.{IsOpened as AreOpened}
 use Rattle.qz_cluster.specs.Script.{TimedStep}
-use Rattle.qz_cluster.specs.Steps.{ClusterState, is_closed, IsStep, IsCutShort}
+use Rattle.qz_cluster.specs.Steps.{ClusterState, is_closed, IsStep, IsCutShort, without_script}
 use Rattle.qz_cluster.specs.declared.errors.StepEnd.{StepEnd}
 use Rattle.qz_report.specs.Summaries.{summary_of, summary_text}
 use Rattle.qz_node.specs.Jobs.{JobMeaning}
@@ -31,7 +31,7 @@ use Rattle.qz_top.specs.Calls.{HasSoundStores, NotOpened, RecoversLosses, RunsOn
 use Rattle.qz_top.specs.Found.{count_of, IsFoundOn, HoldWhole}
 use Rattle.qz_top.specs.Moments.{HasTriggers, HasStates}
 use Rattle.qz_top.specs.NodeRuns.{IsToldAs, Worked, WritesRun, IsKeptOnTheWay}
-use Rattle.qz_top.specs.Resting.{RestsNodes}
+use Rattle.qz_top.specs.Resting.{RestsNodes, OpensShortIfRoom}
 use Rattle.qz_top.specs.Statuses.{cut_status}
 use Rattle.qz_top.specs.Trails.{last_of}
 use Rattle.qz_top.specs.declared.ended.Ended.{Ended}
@@ -99,7 +99,7 @@ after_answer (Err submit.Fault) = Err status.DiskFault
 
 -- both stores, where no node holds an epoch
 abbrev pub beside : StatesState → TriggerState → ClusterState
-beside states triggers = record { triggers = triggers; states = states; held = [] }
+beside states triggers = without_script triggers states
 
 -- the line that sums up the whole history
 abbrev pub summary_line_of : History → List ℕ
@@ -182,6 +182,8 @@ pub record GeneratedOnDisk {D : Type 0} {g : Ghosts D} (w : Workload) (jobs jobs
   pub images : (w : Whole) (v : WholeRows) → HoldWhole g triggers states w v → (b : List ℕ) → ((g.state e.triggers).IsImage b → HasTriggers w b end) × ((g.state e.states).IsImage b → HasStates v b end)
   -- and so it does at any moment before
   pub any_moment : ∥ IsKeptOnTheWay g triggers states e.triggers e.states opened end ∥₁
+  -- where the call ends with 0 and the trigger store is open, its next opening is short
+  pub next : e.status ≡ status.Ok → end.triggers.is_open ≡ true → (w : Whole) (v : WholeRows) → HoldWhole g triggers states w v → OpensShortIfRoom end.triggers (g.state e.triggers).content
 
 -- It was done on both stores, or one of them wasn't opened and no job was called.
 abbrev pub Generates : {D : Type 0} {g : Ghosts D} → Workload → List JobMeaning → List JobMeaning → D → D → Ended D g → Outside → Outside → Type 0

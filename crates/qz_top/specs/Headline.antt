@@ -10,7 +10,7 @@ use Rattle.qz_disk.specs.declared.disk.Disk.{Ghosts}
 use Rattle.qz_steps.specs.declared.steps.StepReply.{StepReply}
 use Rattle.qz_trigger_store.specs.Bytes.{Whole}
 use Rattle.qz_checkin.specs.Bytes.{Whole as WholeRows}
-use Rattle.qz_cluster.specs.Script.{TimedStep, new_script, step_replies}
+use Rattle.qz_cluster.specs.Script.{TimedStep, new_script, plain_replies, step_replies}
 use Rattle.qz_cluster.specs.Steps.{ClusterState}
 use Rattle.qz_open.specs.Opened.{AreAlwaysAlone}
 use Rattle.qz_open.specs.Runs.{StepsDone, AlwaysSparesOthers}
@@ -27,9 +27,10 @@ pub record AlongHistories (told : Type 0) (opened : ClusterState) (steps : List 
   pub one_history : StepsDone told opened steps replies later
   -- what a step appended is in every later history, whatever faults and restarts come; restarts are so on disks of the premise
   pub nothing_lost : told → LoseNothing opened later
-  -- up to the first fault a plain scheduler, which knows no disk, replies the same; restarts are so on disks of the premise
+  -- up to the first fault a plain scheduler, which knows no disk, replies the same, but for what the disks say of themselves; restarts
+  -- are so on disks of the premise
   pub plain : (first rest : List StepReply) → replies ≡ first ++ rest → AllByRecursion (IsOnTold told) (take (length first) steps) → AllByRecursion IsNoFault first
-      → first ≡ take (length first) (step_replies (script_of opened) steps)
+      → plain_replies steps first ≡ take (length first) (step_replies (script_of opened) steps)
   pub in_order : AllByRecursion IsInOrder (opened ∷ later)
   -- No job with `no_concurrent` has two open executions, before any step or at the end. A recovery ends those of the failed
   -- node; where that holds no epoch, since it stopped, it has none.
@@ -57,12 +58,12 @@ pub record Headline {D : Type 0} {g : Ghosts D} (Asks : List TimedStep → List 
   pub outlasts : OutlastsCrashes g triggers states e.triggers e.states end
   pub each_kept : (w : Whole) (v : WholeRows) → HoldWhole g triggers states w v → EachIsKept w v e.trail.on_disk.value.items end (g.state e.triggers) (g.state e.states)
 
--- In memory, on new stores of version 2: all replies are a plain scheduler's, so none is a fault. A restart finds all there.
+-- In memory, on new stores of version 2: all replies are a plain scheduler's, but for what the disks say of themselves, and none is a fault. A restart finds all there.
 pub record HeadlineInMemory (Asks : List TimedStep → List StepReply → Type 0) (trail : List ClusterState) : Type 0 where
   pub steps : List TimedStep
   pub replies : List StepReply
   pub asks : Asks steps replies
-  pub plain : replies ≡ step_replies (new_script 2) steps
+  pub plain : plain_replies steps replies ≡ step_replies (new_script 2) steps
   pub triggers_faults : ℕ
   pub states_faults : ℕ
   pub later : List ClusterState

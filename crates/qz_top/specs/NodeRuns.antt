@@ -35,19 +35,19 @@ use Rattle.qz_run_stores.specs.Asked.{AreAsked}
 use Rattle.qz_run_stores.specs.Declining.{DeclinesEntry, HasDeclined}
 use Rattle.qz_run_stores.specs.Logs.{has_row}
 use Rattle.qz_run_stores.specs.Ways.{HasOnTheWay, HasRowsOnTheWay}
-use Rattle.qz_cluster.specs.Steps.{ClusterState}
+use Rattle.qz_cluster.specs.Steps.{ClusterState, without_script}
 use Rattle.qz_schedule_law.specs.Following.{FollowsSchedules}
 use Rattle.qz_top.specs.Calls.{FoundOld, HasSoundStores, NotOpened, RecoversLosses, RunsOneAtATime, trail_of}
 use Rattle.qz_top.specs.Found.{count_of, IsFoundOn, HoldWhole}
 use Rattle.qz_top.specs.Moments.{HasTriggers, HasStates}
-use Rattle.qz_top.specs.Resting.{RestsNodes}
+use Rattle.qz_top.specs.Resting.{RestsNodes, OpensShortIfRoom}
 use Rattle.qz_top.specs.declared.ended.Ended.{Ended}
 use Rattle.qz_top.specs.declared.statuses.Status.{Status}
 use Rattle.qz_top.specs.declared.statuses.Status.TheVariants as status
 
 -- two stores at this moment, where no node of a script holds an epoch
 abbrev pub both : {D : Type 0} {g : Ghosts D} → TriggerStore D g → StateStore D g → ClusterState
-both t s = record { triggers = triggers_view t; states = states_view s; held = [] }
+both t s = without_script (triggers_view t) (states_view s)
 
 -- The histories went on with these entries and with these of the state store.
 pub record WentOn (begun end : ClusterState) (added : List EntryData) (rows : List StateEntryData) : Type 0 where
@@ -190,6 +190,8 @@ pub record RanNodesOnDisk {D : Type 0} {g : Ghosts D} (p : Plan) (jobs jobs' : L
   pub images : (w : Whole) (v : WholeRows) → HoldWhole g triggers states w v → (b : List ℕ) → ((g.state e.triggers).IsImage b → HasTriggers w b end) × ((g.state e.states).IsImage b → HasStates v b end)
   -- and so it does at any moment before
   pub any_moment : ∥ IsKeptOnTheWay g triggers states e.triggers e.states opened end ∥₁
+  -- where the call ends with 0 and the trigger store is open, its next opening is short
+  pub next : e.status ≡ status.Ok → end.triggers.is_open ≡ true → (w : Whole) (v : WholeRows) → HoldWhole g triggers states w v → OpensShortIfRoom end.triggers (g.state e.triggers).content
 
 -- The nodes worked on both stores that were opened; or the trigger store is old, and no job was called.
 abbrev pub RanOpened : {D : Type 0} {g : Ghosts D} → Plan → List JobMeaning → List JobMeaning → D → D → Ended D g → Outside → Outside → Type 0

@@ -1,9 +1,11 @@
 -- The checkpoint at the end of a call.
-use Rattle.std.specs.Prelude.{◌≡◌, ◌⊎◌, ◌<◌, false, Result, Ok, Err}
+use Rattle.std.specs.Prelude.{◌≡◌, ◌⊎◌, ◌<◌, ℕ, List, length, true, false, Result, Ok, Err}
 use Rattle.qz_disk.specs.declared.disk.Disk.{Ghosts}
 use Rattle.qz_journal.specs.Commits.{LackRoom}
+use Rattle.qz_model.specs.History.{History, replay}
 use Rattle.qz_snapshot.specs.Checkpoints.{snapshot_written}
 use Rattle.qz_stores.specs.Checkpoints.{Marks, Breaks}
+use Rattle.qz_trigger_store.specs.Bytes.{StandsFrom}
 use Rattle.qz_trigger_store.specs.Entries.{TriggerState}
 use Rattle.qz_trigger_store.specs.View.{view, tables_of, behind_of}
 use Rattle.qz_trigger_store.specs.declared.stores.TriggerStore.{TriggerStore}
@@ -26,6 +28,18 @@ abbrev pub HasFewBehind : {D : Type 0} {g : Ghosts D} → TriggerStore D g → T
 HasFewBehind s =
     (behind_of s < 4096)
     ⊎ LackRoom (snapshot_written (tables_of s) (view s).payloads (count_of (view s).history)) (view s).gate (view s).payloads
+
+-- An open store that has.
+abbrev pub IsRestedWell : {D : Type 0} {g : Ghosts D} → TriggerStore D g → Type 0
+IsRestedWell s = ((view s).is_open ≡ true) × HasFewBehind s
+
+-- The next opening of these bytes lists fewer than 4096 entries after its base.
+abbrev pub OpensShort : List ℕ → Type 0
+OpensShort bytes = (version : ℕ) (h : History) → StandsFrom version bytes h → length h.entries < 4096
+
+-- It does; or a further snapshot of this state has no room.
+abbrev pub OpensShortIfRoom : TriggerState → List ℕ → Type 0
+OpensShortIfRoom t bytes = OpensShort bytes ⊎ LackRoom (snapshot_written (replay t.history) t.payloads (count_of t.history)) t.gate t.payloads
 
 -- A script in which nothing but the trigger store changed, and that so.
 pub record RestedRun (Changes : TriggerState → TriggerState → Type 0) (last after : RunState) : Type 0 where

@@ -27,6 +27,8 @@ is_fault reply.Closed = false
 is_fault reply.Stopped = false
 is_fault reply.Restarted = false
 is_fault (reply.Shown shown) = false
+is_fault (reply.Marked marked) = false
+is_fault (reply.Room room) = false
 
 abbrev pub IsNoFault : StepReply → Type 0
 IsNoFault r = is_fault r ≡ false
@@ -54,4 +56,6 @@ new_cluster triggers_faults states_faults = record {
   triggers = record { history = history_of_version 2; gate = 16; payloads = 0; is_open = true; undecided = None; faults = triggers_faults };
   states = record { history = new_state_history; gate = 16; payloads = 0; is_open = true; undecided = None; faults = states_faults };
   held = [];
+  behind = 0;
+  standing = true;
 }

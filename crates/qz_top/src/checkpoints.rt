@@ -6,7 +6,7 @@ ghost use Rattle.qz_cluster.specs.View.{view as cluster_view, triggers_of};
 ghost use Rattle.qz_trigger_store.specs.View.{view as store_view, added_of, behind_of, keeps_of, IsOpenedAsBefore, LeavesEither};
 ghost use Rattle.qz_top.specs.HandingOn.{HandsOnAll};
 ghost use Rattle.qz_top.specs.Moments.{Shows};
-ghost use Rattle.qz_top.specs.Resting.{Rests, RestsAs, RestsRun, RestsNodes, HasFewBehind};
+ghost use Rattle.qz_top.specs.Resting.{Rests, RestsAs, RestsRun, RestsNodes, HasFewBehind, IsRestedWell};
 ghost use Rattle.qz_top.specs.Seen.{view};
 ghost use Rattle.qz_top.specs.Statuses.{Finishes};
 
@@ -82,7 +82,7 @@ pub(crate) fn rest_run<D: Disk>(run: &mut Run<D>) -> Result<(), Unchecked>
 pub(crate) fn end_lines<K: Sink, D: Disk>(out: &mut K, run: &mut Run<D>) -> Status
     ensures rests { RestsRun result (view run.old) (view run.new) }
     ensures finishes { Finishes result (is_closed (cluster_view run.new.cluster)) (output_alone K.Sink out.old) (output_alone K.Sink out.new) (K.faults out.old) (K.faults out.new) }
-    ensures few { result ≡ Status.Ok → run.old.is_own ≡ false → HasFewBehind (triggers_of run.new.cluster) }
+    ensures few { result ≡ Status.Ok → run.old.is_own ≡ false → IsRestedWell (triggers_of run.new.cluster) }
     ensures shows { Shows ⊥ run.old run.new }
     ensures handed { HandsOnAll K.Sink out.old out.new }
 {

@@ -1,10 +1,14 @@
 //! What a call gives back.
-ghost use Rattle.std.specs.Prelude.{◌≡◌, []};
+ghost use Rattle.std.specs.Prelude.{◌≡◌, [], true};
+ghost use Rattle.qz_trigger_store.specs.Bytes.{Whole};
+ghost use Rattle.qz_trigger_store.specs.View.{view, disk_of, disk_state, GoesOnFrom};
 ghost use Rattle.qz_top.specs.Calls.{trail_of};
+ghost use Rattle.qz_top.specs.Resting.{HasFewBehind, OpensShortIfRoom};
 
 use crate::Status;
 use qz_cluster::Cluster;
 use qz_disk::{Disk, MemDisk};
+use qz_trigger_store::TriggerStore;
 use std::alloc::Global;
 use std::snapshot::Snapshot;
 
@@ -47,4 +51,13 @@ pub(crate) fn ran_no_script<D: Disk>(
             in_memory: Snapshot::of(&Vec::new(alloc)),
         },
     }
+}
+
+/// The disk of a trigger store whose call has ended. How many entries the next opening lists is asked for contracts alone.
+pub fn give_back<D: Disk>(triggers: TriggerStore<D>) -> D
+    ensures disk { result ≡ disk_of triggers }
+    ensures short { D.honest → (view triggers).is_open ≡ true → (w : Whole) → GoesOnFrom triggers w → HasFewBehind triggers → OpensShortIfRoom (view triggers) (disk_state triggers).content }
+{
+    let _ = triggers.behind();
+    triggers.into_disk()
 }

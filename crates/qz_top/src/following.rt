@@ -19,9 +19,6 @@ use qz_standby::{Form, Standby, Unmade, Unread, read_stream, stand_by};
 use qz_types::{NoMemory, Text};
 use std::alloc::Global;
 
-// What a store has behind its first gate, in bytes.
-const SNAPSHOT_ROOM: u64 = 536870895;
-
 /// Reads the bytes of a trigger store to their end, makes both stores of them, that of triggers in this form, and writes how many
 /// entries they have.
 pub(crate) fn follow<S: Source, K: Sink, D: Disk>(
@@ -109,10 +106,7 @@ fn unmade_status(unmade: Unmade) -> Status
         Unmade::Exists => Status::Exists,
         Unmade::NotAStore { store } => Status::NotAStore { store },
         Unmade::Short { at } => Status::BadStream { at },
-        Unmade::NoRoom => Status::JournalFull {
-            need: SNAPSHOT_ROOM + 1,
-            room: SNAPSHOT_ROOM,
-        },
+        Unmade::NoRoom { need, room } => Status::JournalFull { need, room },
         Unmade::NoMemory => Status::NoMemory,
         Unmade::Fault => Status::DiskFault,
     }

@@ -18,7 +18,7 @@ ghost use Rattle.qz_top.specs.Resting.{HasFewBehind};
 
 use crate::Status;
 use crate::checkpoints::rest_nodes;
-use crate::ended::{Ended, ran_no_script};
+use crate::ended::{Ended, give_back, ran_no_script};
 use crate::filling::fill;
 use crate::opening::open_run;
 use crate::run_on_disk::{Left, work_on};
@@ -99,7 +99,7 @@ fn gen_opened<K: Sink, D: Disk>(
         triggers,
         states,
     } = generate(alloc, &workload, triggers, states, out, jobs);
-    ran_no_script(alloc, status, triggers.into_disk(), states.into_disk())
+    ran_no_script(alloc, status, give_back(triggers), states.into_disk())
 }
 
 // The same, on the stores alone.

@@ -1,9 +1,10 @@
 //! Laws on calls one after another, each as the contract of a function that does nothing.
-ghost use Rattle.std.specs.Prelude.{List, ℕ, ◌∷◌, []};
+ghost use Rattle.std.specs.Prelude.{List, ℕ, ◌≡◌, ◌∷◌, []};
 ghost use Rattle.std.specs.List.{AllByRecursion};
 ghost use Rattle.qz_journal.specs.declared.layout.TheConstants.{TRIGGERS, STATES};
 ghost use Rattle.qz_trigger_store.specs.Bytes.{Whole, list_of};
 ghost use Rattle.qz_checkin.specs.Bytes.{Whole as WholeRows, list_of as rows_list_of};
+ghost use Rattle.qz_top.specs.declared.checkpoints.TheConstants.{CHECKPOINT_AFTER};
 ghost use Rattle.qz_top.specs.InTurn.{Call, HasHeadline, BeginsWith, Keeps, InTurn};
 ghost use Rattle.qz_top.specs.Making.{IsNew};
 ghost use Rattle.qz_top.specs.Standing.{HoldLonger, HoldLongerRows};
@@ -24,4 +25,9 @@ pub fn calls_keep_histories<D: Disk>()
 pub fn new_stores_hold_empty_lists<D: Disk>()
     ensures triggers { (old new : D) → IsNew TRIGGERS (D.state old) (D.state new) → (b : List ℕ) → (D.state new).IsImage b → HoldLonger (list_of 2 []) b }
     ensures states { (old new : D) → IsNew STATES (D.state old) (D.state new) → (b : List ℕ) → (D.state new).IsImage b → HoldLongerRows (rows_list_of 2 []) b }
+{}
+
+/// So many entries after the last snapshot make a checkpoint due at the end of a call. It does nothing: its contract says so.
+pub fn a_checkpoint_is_due_after()
+    ensures { CHECKPOINT_AFTER ≡ 4096 }
 {}

@@ -32,8 +32,8 @@ mod writing;
 
 pub use checkpoints::rest_nodes;
 pub use commands::command;
-pub use ended::{Ended, Trail};
-pub use laws::{calls_keep_histories, new_stores_hold_empty_lists};
+pub use ended::{Ended, Trail, give_back};
+pub use laws::{a_checkpoint_is_due_after, calls_keep_histories, new_stores_hold_empty_lists};
 pub use open_stores::open_node_stores;
 pub use qz_words::WordFault;
 pub use reports::report;

@@ -182,7 +182,9 @@ fn is_fault(reply: &StepReply) -> bool
         | StepReply::Closed
         | StepReply::Stopped
         | StepReply::Restarted
-        | StepReply::Shown(_) => false,
+        | StepReply::Shown(_)
+        | StepReply::Marked(_)
+        | StepReply::Room(_) => false,
     }
 }
 

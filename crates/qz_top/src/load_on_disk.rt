@@ -9,7 +9,7 @@ ghost use Rattle.qz_top.specs.Calls.{LoadedOnDisk};
 ghost use Rattle.qz_top.specs.HandingOn.{HandsOnAll, HandsOnWritten};
 ghost use Rattle.qz_top.specs.Loads.{Loads, DidDocument};
 ghost use Rattle.qz_top.specs.Moments.{BeginsOn, Shows};
-ghost use Rattle.qz_top.specs.Resting.{HasFewBehind};
+ghost use Rattle.qz_top.specs.Resting.{IsRestedWell};
 ghost use Rattle.qz_top.specs.Seen.{view, told_of};
 
 use crate::Status;
@@ -75,7 +75,7 @@ fn load<S: Source, K: Sink, D: Disk, C: Clock>(
     clock: &mut C,
 ) -> Status
     ensures loads { Loads (told_of run.old) result (view run.old) (view run.new) (outside S.Source K.Sink C.Clock input.old out.old clock.old) (outside S.Source K.Sink C.Clock input.new out.new clock.new) }
-    ensures few { result ≡ Status.Ok → run.old.is_own ≡ false → HasFewBehind (triggers_of run.new.cluster) }
+    ensures few { result ≡ Status.Ok → run.old.is_own ≡ false → IsRestedWell (triggers_of run.new.cluster) }
     ensures shows { Shows ⊥ run.old run.new }
     ensures read { result ≡ Status.ReadFault → Rose (S.faults input.old) (S.faults input.new) }
     ensures write { result ≡ Status.WriteFault → Rose (K.faults out.old) (K.faults out.new) }
@@ -96,7 +96,7 @@ fn do_document<K: Sink, D: Disk, C: Clock>(
 ) -> Status
     requires { are_valid document.commands ≡ true }
     ensures did { DidDocument (told_of run.old) result document (view run.old) (view run.new) (without_input K.Sink C.Clock out.old clock.old) (without_input K.Sink C.Clock out.new clock.new) }
-    ensures few { result ≡ Status.Ok → run.old.is_own ≡ false → HasFewBehind (triggers_of run.new.cluster) }
+    ensures few { result ≡ Status.Ok → run.old.is_own ≡ false → IsRestedWell (triggers_of run.new.cluster) }
     ensures shows { Shows ⊥ run.old run.new }
     ensures other { result ≢ Status.ReadFault }
     ensures write { result ≡ Status.WriteFault → Rose (K.faults out.old) (K.faults out.new) }

@@ -2,14 +2,16 @@
 ghost use Rattle.std.specs.Prelude.{◌≡◌, ◌≢◌, ◌⊎◌, IfOk, IfErr};
 ghost use Rattle.qz_civil.specs.Causes.{Rose};
 ghost use Rattle.qz_io.specs.Outside.{Outside};
-ghost use Rattle.qz_cluster.specs.View.{triggers_of, disk_of_triggers, disk_of_states};
-ghost use Rattle.qz_trigger_store.specs.View.{keeps_of, keeps_entries};
+ghost use Rattle.qz_cluster.specs.View.{view as cluster_view, triggers_of, disk_of_triggers, disk_of_states, triggers_disk};
+ghost use Rattle.qz_trigger_store.specs.Bytes.{Whole};
+ghost use Rattle.qz_trigger_store.specs.View.{keeps_of, keeps_entries, GoesOnFrom};
 ghost use Rattle.qz_top.specs.Calls.{NotOpened, refusal_of, trail_of};
 ghost use Rattle.qz_top.specs.Moments.{BeginsOn};
+ghost use Rattle.qz_top.specs.Resting.{IsRestedWell, OpensShortIfRoom};
 ghost use Rattle.qz_top.specs.Seen.{states_in};
 
 use crate::Status;
-use crate::ended::{Ended, Trail, ran_no_script};
+use crate::ended::{Ended, Trail, give_back, ran_no_script};
 use crate::runs::Run;
 use qz_cluster::{Cluster, MountError, MountFault};
 use qz_disk::Disk;
@@ -55,6 +57,8 @@ impl<D: Disk> Run<D> {
         ensures shown { result.trail.on_disk.value ≡ self.trail }
         ensures trail { trail_of result.trail ≡ states_in self.trail }
         ensures disks { (result.triggers ≡ disk_of_triggers self.cluster) × (result.states ≡ disk_of_states self.cluster) }
+        ensures short { D.honest → (w : Whole) → GoesOnFrom (triggers_of self.cluster) w → IsRestedWell (triggers_of self.cluster)
+            → OpensShortIfRoom (cluster_view self.cluster).triggers (triggers_disk self.cluster).content }
     {
         let Run {
             cluster,
@@ -63,11 +67,11 @@ impl<D: Disk> Run<D> {
             begun: _,
             is_own: _,
         } = self;
-        let (triggers, states) = cluster.into_disks();
+        let (triggers, states) = cluster.into_stores();
         Ended {
             status,
-            triggers,
-            states,
+            triggers: give_back(triggers),
+            states: states.into_disk(),
             trail: Trail {
                 on_disk: Snapshot::of(&trail),
                 in_memory: Snapshot::of(&Vec::new(alloc)),

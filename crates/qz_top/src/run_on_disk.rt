@@ -13,7 +13,7 @@ ghost use Rattle.qz_top.specs.OpenStores.{JustOpened};
 
 use crate::Status;
 use crate::checkpoints::rest_nodes;
-use crate::ended::{Ended, ran_no_script};
+use crate::ended::{Ended, give_back, ran_no_script};
 use crate::nodes::run_nodes;
 use crate::open_stores::open_node_stores;
 use crate::telling::tell_run;
@@ -84,7 +84,7 @@ fn run_opened<K: Sink, D: Disk>(
     } = work_on(alloc, &plan, triggers, states, jobs);
     let told = tell_run(alloc, &triggers, status, out);
     let status = rest_nodes(&mut triggers, told);
-    ran_no_script(alloc, status, triggers.into_disk(), states.into_disk())
+    ran_no_script(alloc, status, give_back(triggers), states.into_disk())
 }
 
 /// The nodes' work on both stores.

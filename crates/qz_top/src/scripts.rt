@@ -6,7 +6,7 @@ ghost use Rattle.qz_cluster.specs.View.{triggers_of};
 ghost use Rattle.qz_steps.specs.declared.steps.StepReply.{StepReply};
 ghost use Rattle.qz_top.specs.HandingOn.{HandsOnAll};
 ghost use Rattle.qz_top.specs.Moments.{Shows};
-ghost use Rattle.qz_top.specs.Resting.{HasFewBehind};
+ghost use Rattle.qz_top.specs.Resting.{IsRestedWell};
 ghost use Rattle.qz_top.specs.Runs.{IsOfScript, IsRun};
 ghost use Rattle.qz_top.specs.Seen.{view, told_of};
 ghost use Rattle.qz_top.specs.Statuses.{cut_status, status_at, status_of, Finishes};
@@ -30,7 +30,7 @@ pub(crate) fn run_lines<S: Source, K: Sink, D: Disk, C: Clock>(
 ) -> Status
     ensures run { (lines : List (List ℕ)) × (readings : List ℤ) × (replies : List StepReply)
         × IsRun (told_of run.old) result (view run.old) (view run.new) (outside S.Source K.Sink C.Clock input.old out.old clock.old) (outside S.Source K.Sink C.Clock input.new out.new clock.new) lines readings replies }
-    ensures few { result ≡ Status.Ok → run.old.is_own ≡ false → HasFewBehind (triggers_of run.new.cluster) }
+    ensures few { result ≡ Status.Ok → run.old.is_own ≡ false → IsRestedWell (triggers_of run.new.cluster) }
     ensures called { IsOfScript result }
     ensures shows { Shows ⊥ run.old run.new }
     ensures read { result ≡ Status.ReadFault → Rose (S.faults input.old) (S.faults input.new) }

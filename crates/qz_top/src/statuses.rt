@@ -76,8 +76,8 @@ pub enum Status {
     /// `run` and `gen`: the trigger store is one of version 1 that wasn't upgraded. Nothing was done or written; `migrate`
     /// upgrades it.
     OldStore,
-    /// `follow` and `compact`: the first bad place of the input's bytes, as an offset; or their number, where they end within the header. No store
-    /// was made.
+    /// `follow` and `compact`: the first bad place of the input's bytes, as an offset; or their number, where they end within the header; or the
+    /// gate of the slot that leads to their base, where they end before that is whole. No store was made.
     BadStream { at: u64 },
     /// `serve`: one of its nodes was recovered by another one while it worked, so that what it asked next was refused. What its
     /// executions did may have been done once more.

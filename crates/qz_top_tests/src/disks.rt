@@ -209,6 +209,56 @@ const UPGRADES: &[DiskRow] = &[
     },
 ];
 
+const ASKING: &[u8] = br#"{"do":"checkpoint"}
+{"do":"show_room"}
+{"do":"add_job","job":{"name":"report","class":"ok"}}
+"#;
+
+const RESTARTING: &[u8] = br#"{"do":"restart"}
+{"do":"show_room"}
+{"do":"restart"}
+{"do":"show_room"}
+{"do":"checkpoint"}
+"#;
+
+const ROOM: &[u8] = b"{\"do\":\"show_room\"}\n";
+
+/// A checkpoint between two lines that finds a disk that fails: the store is closed then, and tells what stood before.
+const CHECKPOINT: DiskRow = DiskRow {
+    before: Before::NewStores,
+    triggers_at: &[5],
+    states_at: &[],
+    words: &["script"],
+    input: ASKING,
+    wanted: Wanted {
+        replies: "fault\nroom triggers 16 0 behind 0 states 16 0\nclosed\n",
+        ..FAULT
+    },
+    next_words: &["script"],
+    next_input: ROOM,
+    next_wanted: Wanted {
+        replies: "room triggers 16 0 behind 0 states 16 0\n",
+        ..DONE
+    },
+};
+
+const CHECKPOINTS: &[DiskRow] = &[
+    CHECKPOINT,
+    // A restart that failed leaves no stores, and the next one finds both.
+    DiskRow {
+        input: RESTARTING,
+        wanted: Wanted {
+            replies: "fault\nclosed\nrestarted\nroom triggers 16 0 behind 0 states 16 0\ncheckpoint made\n",
+            ..DONE
+        },
+        next_wanted: Wanted {
+            replies: "room triggers 74 1 behind 0 states 16 0\n",
+            ..DONE
+        },
+        ..CHECKPOINT
+    },
+];
+
 /// The bytes of a trigger store with six entries: AddJob, AddTrigger, Join, Acquire, Fire and Complete.
 const STREAM: &[u8] = b"QZ23\x02T\x00\x00\x00\x00\x00\x00\x00\x00\x00\x00\
     \xa5\x00\x00\x00*\x02\x00\x00\x01\x8c\xc2Q\xf4\x00\x00\x00\x00\x00\x00\x00\x00\
@@ -231,6 +281,7 @@ const STREAM: &[u8] = b"QZ23\x02T\x00\x00\x00\x00\x00\x00\x00\x00\x00\x00\
 /// Stores that aren't made whole of a stream. Of the trigger store the first bytes are there.
 const FOLLOW: DiskRow = DiskRow {
     before: Before::Nothing,
+    triggers_at: &[6],
     words: &["follow"],
     input: STREAM,
     wanted: FAULT,
@@ -251,9 +302,14 @@ const STREAMS: &[DiskRow] = &[
         states_at: &[5],
         ..FOLLOW
     },
+    // There is no store before all of it is there, so that the next call makes it.
     DiskRow {
         words: &["compact"],
         next_words: &["compact"],
+        next_wanted: Wanted {
+            replies: "compacted 6\n",
+            ..DONE
+        },
         ..FOLLOW
     },
     DiskRow {
@@ -317,7 +373,7 @@ fn are_answered(alloc: Global, row: &DiskRow) -> bool {
 
 #[test]
 fn disks_fail(rt: HostRuntime) {
-    for table in [SCRIPTS, RUNS, UPGRADES, STREAMS] {
+    for table in [SCRIPTS, RUNS, UPGRADES, CHECKPOINTS, STREAMS] {
         for row in table {
             assert!(rt;
                 are_answered(rt.alloc(), row),

@@ -1,7 +1,9 @@
-//! Tests of the top call where a device fails, and of what else no worked row can show: a job that asks again and again, and the texts of
-//! errors.
+//! Tests of the top call where a device fails, and of what else no worked row can show: a checkpoint after many transactions, a job that asks
+//! again and again, and the texts of errors.
 #![tactic(auto)]
 
+#[cfg(test)]
+mod behind;
 #[cfg(test)]
 mod calls;
 #[cfg(test)]

@@ -1,6 +1,7 @@
 -- Snapshots of the tables, as those of a kind of store.
-use Rattle.std.proofs.Common.{◌≡◌, ◌≢◌, ◌⊎◌, inl, inr, ⊎_elim, ℕ, ◌+◌, List, [], ◌++◌, length, true, false, nat_lt, if◌then◌else◌, refl, sym, ap, subst, ◌∙◌}
-use Rattle.std.specs.Prelude.{Bool, Ok, Err, Option, Some, None, IfNone}
+use Rattle.std.proofs.Common.{◌≡◌, ◌≢◌, ◌⊎◌, inl, inr, ⊎_elim, ℕ, ◌+◌, List, [], ◌++◌, length, true, false, nat_lt, if◌then◌else◌, refl, sym, ap, subst, ◌∙◌, arith}
+use Rattle.std.specs.Prelude.{Bool, Ok, Err, Option, Some, None, IfNone, IfOk, OnOk}
+use Rattle.std.proofs.lemmas.List.{take_all}
 use Rattle.std.specs.declared.result.Result.{Result}
 use Rattle.qz_disk.specs.Disk.{DiskState, Only, IsLawful, LeavesOnly}
 use Rattle.qz_disk.proofs.Moments.{weaker}
@@ -17,9 +18,10 @@ use Rattle.qz_snapshot.specs.Checkpoints.{snapshot_written}
 use Rattle.qz_snapshot.specs.Checkpoints as checkpoints
 use Rattle.qz_snapshot.specs.Opening as snapshots
 use Rattle.qz_snapshot.specs.Snapshots.{IsSnapshot}
-use Rattle.qz_snapshot.proofs.Kind.{IsLeft, ends_after, leaves_left}
+use Rattle.qz_snapshot.proofs.Kind.{IsLeft, ends_after, leaves_left, records_none}
 use Rattle.qz_stores.proofs.Appending.{both_leave}
 use Rattle.qz_stores.proofs.WithoutSlots.{none_open}
+use Rattle.qz_stores.specs.Bases.{records}
 use Rattle.qz_stores.specs.Checkpoints.{IsMidway}
 use Rattle.qz_stores.specs.Opening.{BeginWell}
 use Rattle.qz_stores.specs.declared.kinds.CheckpointError.{CheckpointError}
@@ -116,3 +118,17 @@ module _ (version : ℕ) (T : SchedulerTables) (count entries : ℕ) (old : List
       (λ done. subst (λ (X : SchedulerTables). IsSnapshot (snapshot_written X count entries) X count entries) same (snapshot done))
       (subst (λ (X : SchedulerTables). LeavesOnly s t (checkpoints.IsMidway version TRIGGERS slots payloads (snapshot_written X count entries))) same
       (subst (λ n. LeavesOnly s t (checkpoints.IsMidway version n slots payloads (snapshot_written U count entries))) kind_is (leaves (subst (λ n. Holds old version n payloads) (sym kind_is) held))))
+
+-- what a store begins with
+
+pub begins_of : {A B C : Type 0} (r : Result (Result A B) C) (T : SchedulerTables) → IfOk r (λ x. OnOk x (IsSnapshot (snapshot_written T 0 0) T 0 0)) → IfOk r (λ x. OnOk x (BeginSnapshot (snapshot_written T 0 0) T 0 0))
+begins_of (Ok (Ok x)) T is = ([], is)
+begins_of (Ok (Err x)) T is = tt
+begins_of (Err x) T is = tt
+
+pub parts_of : {A B C : Type 0} (r : Result (Result A B) C) (T : SchedulerTables) → IfOk r (λ x. OnOk x (records trigger_kind (snapshot_written T 0 0) ≡ []))
+parts_of (Ok (Ok x)) T =
+    let all = snapshot_written T 0 0 in
+    subst (λ (l : List (List ℕ)). records trigger_kind l ≡ []) (take_all (length all) all (omega arith)) (records_none T 0 0 (length all))
+parts_of (Ok (Err x)) T = tt
+parts_of (Err x) T = tt

@@ -1,5 +1,5 @@
 -- The trigger store is a lawful kind of store.
-use Rattle.std.proofs.Common.{◌≡◌, ℕ, List, [], ◌∷◌, ◌++◌, true, false, refl}
+use Rattle.std.proofs.Common.{◌≡◌, ℕ, List, [], ◌∷◌, ◌++◌, true, false, refl, arith}
 use Rattle.std.specs.Prelude.{IsOk}
 use Rattle.qz_types.specs.Entries.{EntryData}
 use Rattle.qz_types.specs.Outcomes.{Outcome, accepted, refused, IsAccepted}
@@ -46,6 +46,7 @@ has_snapshots is payloads T before entries begin = absurd cc
 
 pub trigger_lawful : IsLawful trigger_kind
 trigger_lawful = record {
+  numbered = omega arith;
   records_once = entry_record_unique;
   records_apart = record_apart;
   headed = head_there;

@@ -2,6 +2,7 @@ pub mod Accepted
 pub mod Bytes
 pub mod Compacting
 pub mod Entries
+pub mod Extending
 pub mod Kinds
 pub mod Laws
 pub mod Opening

@@ -18,3 +18,7 @@ IsOpened s = store.IsOpened trigger_kind s
 -- why an opening of these bytes is refused; that the disk or memory failed isn't seen in them
 abbrev pub IsRefused : List ℕ → MountError → Type 0
 IsRefused bytes error = store.IsRefused trigger_kind bytes error
+
+-- Each history that an opening may take from these bytes lists so many entries after its base.
+abbrev pub OpensWith : List ℕ → ℕ → Type 0
+OpensWith bytes many = store.OpensWith trigger_kind bytes many

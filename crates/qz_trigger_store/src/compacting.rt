@@ -1,7 +1,7 @@
 //! A trigger store that begins with a snapshot in place of the entries that led to it.
-ghost use Rattle.std.specs.Prelude.{◌≡◌, ◌≤◌, [], length, true, IsTrue, IfOk, IfErr, OnOk, MatchResult, None, Some};
+ghost use Rattle.std.specs.Prelude.{◌≡◌, ◌≤◌, ℕ, [], length, true, IsTrue, IfOk, IfErr, OnOk, MatchResult, None, Some};
 ghost use Rattle.qz_civil.specs.Causes.{Rose};
-ghost use Rattle.qz_journal.specs.Commits.{LackRoom, HaveRoom};
+ghost use Rattle.qz_journal.specs.Commits.{HaveRoom, IsFullFor};
 ghost use Rattle.qz_journal.specs.Layout.{is_version, end_of};
 ghost use Rattle.qz_snapshot.specs.Checkpoints.{snapshot_written};
 ghost use Rattle.qz_trigger_store.specs.Compacting.{compacted_list, Compacts};
@@ -18,8 +18,9 @@ use std::alloc::Global;
 
 impl<D: Disk> TriggerStore<D> {
     /// Begins a trigger store of this version, 1 or 2, with a snapshot of these tables: on a disk that begins with no store it makes the
-    /// header, the payloads of the snapshot, and the slot that leads to them. The store has these tables and no entries, as if it had
-    /// been opened there. Nothing is read back. An `Err` hands the disk back.
+    /// header, the payloads of the snapshot, and the slot that leads to them, and writes the kind into the header last, so that a cut
+    /// leaves no store or the whole one. The store has these tables and no entries, as if it had been opened there. Nothing is read
+    /// back. An `Err` hands the disk back.
     pub fn compacted(
         alloc: Global,
         disk: D,
@@ -41,8 +42,8 @@ impl<D: Disk> TriggerStore<D> {
         ensures goes_on { D.honest → IfOk result (λ store. GoesOnFrom store (compacted_list version tables.tables)) }
         ensures place { D.honest → IfOk result (λ store. ((view store).gate ≡ end_of (snapshot_written tables.tables 0 0))
             × ((view store).payloads ≡ length (snapshot_written tables.tables 0 0))) }
-        // The snapshot has no room exactly where it is so said: where a store is begun it has.
-        ensures no_room { IfErr result (λ e. e.0 ≡ CompactError.NoRoom → LackRoom (snapshot_written tables.tables 0 0) (end_of []) 0) }
+        // The snapshot has no room exactly where it is so said, and the numbers are true: where a store is begun it has.
+        ensures no_room { (need room : ℕ) → IfErr result (λ e. e.0 ≡ CompactError.NoRoom need room → IsFullFor (snapshot_written tables.tables 0 0) (end_of []) 0 need room) }
         ensures room { OnOk result (HaveRoom (snapshot_written tables.tables 0 0) (end_of []) 0) }
         ensures later { MatchResult result (λ store. D.faults disk ≤ (view store).faults) (λ e. D.faults disk ≤ D.faults e.1) }
         ensures fault { IfErr result (λ e. e.0 ≡ CompactError.Fault → Rose (D.faults disk) (D.faults e.1)) }

@@ -6,7 +6,7 @@ use crate::triggers::Triggers;
 use qz_civil::List;
 use qz_codec::{ReadError, get_command, put_command};
 use qz_disk::Disk;
-use qz_journal::{Journal, TRIGGERS};
+use qz_journal::{Journal, JournalFull, TRIGGERS};
 use qz_plain::{PlainStore, Prepared};
 use qz_stores::{CheckpointError, Kind, TakeError};
 use qz_types::{Command, Entry, NoMemory, Refusal, Reply, StepRefused, SubmitError};
@@ -134,6 +134,14 @@ impl Kind for Triggers {
             }
             Err(SubmitError::JournalFull { need: _, room: _ }) => unreachable!(),
         }
+    }
+
+    fn first_snapshot(
+        &self,
+        alloc: Global,
+    ) -> Result<Result<List<List<u8>>, JournalFull>, NoMemory> {
+        self.tables.is_valid();
+        qz_snapshot::first_snapshot(alloc, self.tables.tables())
     }
 
     ghost lawful = { trigger_lawful };

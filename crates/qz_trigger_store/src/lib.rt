@@ -6,11 +6,13 @@ mod adopting;
 mod checkpoints;
 mod compacting;
 mod creating;
+mod extending;
 mod kinds;
 mod laws;
 mod mounting;
 mod parts;
 mod restarting;
+mod rooms;
 mod stores;
 mod submitting;
 mod triggers;
@@ -22,5 +24,6 @@ pub use laws::{
     restarting_keeps_stores_sound, submitting_keeps_stores_sound,
 };
 pub use qz_journal::{MountError, NewStoreError};
+pub use qz_stores::ExtendError;
 pub use qz_types::SubmitError;
 pub use stores::TriggerStore;

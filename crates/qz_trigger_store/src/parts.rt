@@ -4,8 +4,10 @@ ghost use Rattle.qz_journal.specs.Layout.{is_version};
 ghost use Rattle.qz_types.specs.Words.{member_of};
 ghost use Rattle.qz_model.specs.History.{replay};
 ghost use Rattle.qz_model.specs.Invariant.{TablesValid};
+ghost use Rattle.qz_trigger_store.specs.Bytes.{Whole};
 ghost use Rattle.qz_trigger_store.specs.Entries.{is_old};
-ghost use Rattle.qz_trigger_store.specs.View.{view, version_of, added_of, behind_of, moments_of, replies_of, keeps_of, tables_of, disk_of};
+ghost use Rattle.qz_trigger_store.specs.Opening.{OpensWith};
+ghost use Rattle.qz_trigger_store.specs.View.{view, version_of, added_of, behind_of, moments_of, replies_of, keeps_of, tables_of, disk_of, disk_state, GoesOnFrom};
 
 use crate::{Accepted, TriggerStore};
 use qz_disk::Disk;
@@ -47,6 +49,8 @@ impl<D: Disk> TriggerStore<D> {
     pub fn behind(&self) -> u64
         ensures value { result ≡ behind_of self.now }
         ensures few { result ≤ (view self.now).history.base_count + length (view self.now).history.entries }
+        // So many entries does the next opening list, where the disk held a whole list when the store was opened.
+        ensures next { D.honest → (view self.now).is_open ≡ true → (w : Whole) → GoesOnFrom self.now w → OpensWith (disk_state self.now).content result }
     {
         self.store.behind()
     }

@@ -1,4 +1,5 @@
 pub mod Counts
+pub mod Histories
 pub mod Numbers
 pub mod Running
 pub mod Serves

@@ -10,7 +10,8 @@ returns-clause-ended g c looks opened begins planned = record {
   rested = c.rest_nodes-status.new.triggers;
   rests = c.rest_nodes-status.ensures.rests;
   any_moment = c.rest_nodes-status.ensures.any_moment;
-  disks = λ i. Some (c.into_disk.ensures i, c.into_disk-2.ensures i);
+  disks = λ i. Some (c.give_back.ensures.disk i, c.into_disk.ensures i);
+  next = λ is still honest w on. c.give_back.ensures.short honest still w on (c.rest_nodes-status.ensures.few is still);
 }
 
 pub returns-clause-read : goal.returns-clause-read

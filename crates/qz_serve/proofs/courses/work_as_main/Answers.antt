@@ -17,7 +17,27 @@ returns-then-not-is_short-clause-proceeds g c = proceeds_starved _ c.keep_all.en
 pub invariant_of-states : goal.invariant_of-states
 invariant_of-states g c =
     let s = c.args.stores.states.store.store in
-    record { number = s.number; known = s.known; in_version = s.in_version; ready = s.ready; settled = s.settled; counted = s.counted; placed = s.placed; taken = s.taken; new_count = s.new_count; new_base = s.new_base; legal = s.legal; replayed = s.replayed; recorded = s.recorded; passed = s.passed; ended = s.ended; stands = s.stands; gated = s.gated; images = s.images }
+    record {
+      number = s.number;
+      known = s.known;
+      in_version = s.in_version;
+      ready = s.ready;
+      settled = s.settled;
+      counted = s.counted;
+      placed = s.placed;
+      taken = s.taken;
+      new_count = s.new_count;
+      new_base = s.new_base;
+      legal = s.legal;
+      replayed = s.replayed;
+      recorded = s.recorded;
+      passed = s.passed;
+      ended = s.ended;
+      stands = s.stands;
+      gated = s.gated;
+      marked = s.marked;
+      images = s.images;
+    }
 
 pub returns-clause-worked : goal.returns-clause-worked
 returns-clause-worked g c =

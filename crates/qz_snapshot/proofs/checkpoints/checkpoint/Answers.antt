@@ -16,6 +16,13 @@ returns-in_err-payloads-clause-any_moment g c h ready all holds gate_is =
     after_part _ _ j.gate j.slots s.content all _ (record { a = j.slot_a h ready; b = j.slot_b h ready }) gate_is s s
     (partly_none _ _ s.content all _ s (g.met.D.Disk.lawful h j.disk) (j.durable h ready) refl holds)
 
+pub returns-in_err-group-clause-any_moment : goal.returns-in_err-group-clause-any_moment
+returns-in_err-group-clause-any_moment g c h ready all holds gate_is =
+    let j = c.args.journal.now in
+    let s = g.D.Disk.state j.disk in
+    after_part _ _ j.gate j.slots s.content all _ (record { a = j.slot_a h ready; b = j.slot_b h ready }) gate_is s s
+    (partly_none _ _ s.content all _ s (g.met.D.Disk.lawful h j.disk) (j.durable h ready) refl holds)
+
 pub returns-in_default-2-clause-any_moment : goal.returns-in_default-2-clause-any_moment
 returns-in_default-2-clause-any_moment g c h ready all holds gate_is =
     let j = c.args.journal.now in

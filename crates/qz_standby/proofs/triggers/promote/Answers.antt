@@ -19,7 +19,7 @@ returns-in-Err-clause-makes g c honest none =
     let untouched = looks_not (g.D.Disk.state c.args.disk) (g.met.D.Disk.lawful honest c.args.disk) in
     let short : (n : ℕ) → c.in-Err.fault ≡ promote.Short n → Looks (g.D.Disk.state c.args.disk) (g.D.Disk.state c.in-Err.disk) =
     λ n is. rw (c.in-Err.ensures.untouched n ((c.in-Err.ensures.short n).0 is)) untouched in
-    rw c.unpromoted.ensures.value (not_promoted (view c.args.follower) _ _ none c.in-Err.fault short (c.in-Err.ensures.promotes honest))
+    rw c.unpromoted.ensures.value (not_promoted (view c.args.follower) _ _ none c.in-Err.fault short (λ need room is. (c.in-Err.ensures.no_room need room is, c.in-Err.ensures.lacks honest need room is)) (c.in-Err.ensures.promotes honest))
 
 pub returns-in-Err-clause-header : goal.returns-in-Err-clause-header
 returns-in-Err-clause-header g c = rw c.unpromoted.ensures.value (unpromoted_header c.in-Err.fault (view c.args.follower) (λ at. (c.in-Err.ensures.short at).0))

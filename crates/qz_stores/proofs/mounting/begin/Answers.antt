@@ -42,6 +42,11 @@ invariant_of-result-clause-gated g c honest now start whole held =
     let r = c.args.reread in
     c.requires.gated honest start whole (subst (λ x. HoldAll g.K.Kind.kind r.version start (g.D.Disk.state x.disk).content whole) c.of-opened.ensures held)
 
+pub invariant_of-result-clause-marked : goal.invariant_of-result-clause-marked
+invariant_of-result-clause-marked g c honest now start whole held payloads holds =
+    let r = c.args.reread in
+    c.requires.marked honest start whole (subst (λ x. HoldAll g.K.Kind.kind r.version start (g.D.Disk.state x.disk).content whole) c.of-opened.ensures held) payloads holds
+
 pub invariant_of-result-clause-images : goal.invariant_of-result-clause-images
 invariant_of-result-clause-images g c honest start whole held =
     let r = c.args.reread in

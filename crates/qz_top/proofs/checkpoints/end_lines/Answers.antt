@@ -25,7 +25,8 @@ returns-in-Ok-clause-finishes g c = rw (rested_open _ _ c.in-Ok.ensures.rests (s
 
 pub returns-in-Ok-clause-few : goal.returns-in-Ok-clause-few
 returns-in-Ok-clause-few g c is not_own =
-    c.in-Ok.ensures.few not_own (open_first _ _ (rested_open _ _ c.in-Ok.ensures.rests (sym c.closed.ensures ∙ c.if-closed.false)))
+    let still = open_first _ _ (rested_open _ _ c.in-Ok.ensures.rests (sym c.closed.ensures ∙ c.if-closed.false)) in
+    (still, c.in-Ok.ensures.few not_own still)
 
 -- the disk failed in it
 pub returns-in-Err-Fault-clause-rests : goal.returns-in-Err-Fault-clause-rests

@@ -1,4 +1,5 @@
 use Rattle.std.proofs.Common.{inl, inr, refl, ◌∙◌}
+use Rattle.qz_top.proofs.FollowingLaws.{said_not_read}
 use Rattle.qz_top.proofs.following.follow.Goals as goal
 
 pub returns-in-Ok-clause-done : goal.returns-in-Ok-clause-done
@@ -19,3 +20,7 @@ returns-in-Err-clause-done g c =
       });
       no_trail = end.trail;
     }
+
+-- what makes both stores reads nothing of the input
+pub returns-in-Ok-clause-read : goal.returns-in-Ok-clause-read
+returns-in-Ok-clause-read g c is = absurd (said_not_read c.args.form _ c.make_of.ensures.done.made _ _ c.make_of.ensures.done.says is)

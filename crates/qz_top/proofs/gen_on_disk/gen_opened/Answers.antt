@@ -1,6 +1,6 @@
 use Rattle.std.proofs.Common.{refl, sym, ap, ◌∙◌}
 use Rattle.qz_top.specs.NodeRuns.{both}
-use Rattle.qz_top.proofs.NodeRunLaws.{rows_legal, kept_on_the_way, left_at_end}
+use Rattle.qz_top.proofs.NodeRunLaws.{rows_legal, goes_on_still, kept_on_the_way, left_at_end}
 use Rattle.qz_top.proofs.OpenedLaws.{rose_from_first}
 use Rattle.qz_top.proofs.StandingLaws.{stores_in_order, stores_one_at_a_time}
 use Rattle.qz_trigger_store.proofs.Kept.{legal, schedules_kept}
@@ -15,8 +15,8 @@ returns-clause-done g c triggers states begins =
     let stores = c.into_stores-triggers.ensures in
     let left = c.generate-status.result in
     let end = c.ran_no_script.ensures in
-    let disk = c.into_disk.ensures in
-    let states_disk = c.into_disk-2.ensures in
+    let disk = c.give_back.ensures.disk in
+    let states_disk = c.into_disk.ensures in
     let generated = rw (stores.0, stores.1) at c.generate-status.ensures in
     record {
       opened = both cluster.triggers cluster.states;
@@ -37,6 +37,9 @@ returns-clause-done g c triggers states begins =
           let images = left_at_end triggers states cluster.triggers left.triggers cluster.states left.states begins.goes_on begins.rows_go_on generated.any_moment.0 generated.any_moment.1 w v held b in
           (λ is. images.0 (rw (end.disks.0 ∙ disk) at is), λ is. images.1 (rw (end.disks.1 ∙ states_disk) at is));
       any_moment = kept_on_the_way triggers states cluster.triggers left.triggers cluster.states left.states _ _ (end.disks.0 ∙ disk) (end.disks.1 ∙ states_disk) begins.reads begins.goes_on begins.rows_go_on generated.any_moment.0 generated.any_moment.1;
+      next = λ is still w v held.
+          let on = goes_on_still cluster.triggers left.triggers w (begins.goes_on held.honest w held.entries) held.honest generated.any_moment.0 in
+          rw (end.disks.0 ∙ disk) (c.give_back.ensures.short held.honest still w on (c.generate-status.ensures.behind (sym end.status ∙ is) still));
     }
 
 pub returns-clause-disk : goal.returns-clause-disk
@@ -46,5 +49,5 @@ returns-clause-disk g c triggers states begins status =
     let left = c.generate-status.result in
     let end = c.ran_no_script.ensures in
     let rose = rw (stores.0, stores.1) at (c.generate-status.ensures.disk (sym end.status ∙ status)) in
-    rw (end.disks.0 ∙ c.into_disk.ensures, end.disks.1 ∙ c.into_disk-2.ensures)
+    rw (end.disks.0 ∙ c.give_back.ensures.disk, end.disks.1 ∙ c.into_disk.ensures)
     (rose_from_first _ _ (both cluster.triggers cluster.states) (both left.triggers left.states) begins.no_earlier.0 begins.no_earlier.1 rose)

@@ -1,10 +1,10 @@
-use Rattle.std.proofs.Common.{ap, refl}
+use Rattle.std.proofs.Common.{ap, refl, sym, ◌∙◌}
 use Rattle.qz_cluster.specs.View.{view as cluster_view}
 use Rattle.qz_top.specs.Seen.{view, states_in}
 use Rattle.qz_top.proofs.Courses.{load_course, load_alone, sound_in, sound_in_end}
 use Rattle.qz_top.proofs.LoadLaws.{load_rose, loads_with}
 use Rattle.qz_top.proofs.LossLaws.{recovered_in, recovered_in_end}
-use Rattle.qz_top.proofs.MomentLaws.{begun_so, all_kept, images_at_end, opened_by_reads, told_begun}
+use Rattle.qz_top.proofs.MomentLaws.{begun_so, all_kept, goes_on_at_end, images_at_end, opened_by_reads, told_begun}
 use Rattle.qz_top.proofs.Under.{loads_under}
 use Rattle.qz_top.proofs.load_on_disk.load_opened.Goals as goal
 
@@ -36,6 +36,9 @@ returns-clause-done g c triggers states begins =
           (λ is. left.0 (rw end.disks.0 at is), λ is. left.1 (rw end.disks.1 at is));
       opening = λ honest. rw end.shown (opened_by_reads (λ d. g.met.D.Disk.lawful honest d) triggers states _ _ begins c.load-status.ensures.shows honest);
       any_moment = λ w v held. rw (end.shown, end.disks.0, end.disks.1) (all_kept (λ d. g.met.D.Disk.lawful held.honest d) triggers states _ _ begins c.load-status.ensures.shows w v held);
+      next = λ is w v held.
+          let on = goes_on_at_end (λ d. g.met.D.Disk.lawful held.honest d) triggers states _ _ begins c.load-status.ensures.shows w v held in
+          rw end.disks.0 (end.short held.honest w on (c.load-status.ensures.few (sym end.status ∙ is) begins.not_own));
     }
 
 pub returns-clause-disk : goal.returns-clause-disk

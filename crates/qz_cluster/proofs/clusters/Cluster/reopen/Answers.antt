@@ -7,7 +7,7 @@ use Rattle.qz_checkin.specs.Kinds.{state_kind}
 use Rattle.qz_checkin.specs.View.{view as states_view, IsTold as StatesTold}
 use Rattle.qz_cluster.specs.View.{IsTold}
 use Rattle.qz_cluster.proofs.AtRest.{states_rest}
-use Rattle.qz_cluster.proofs.Restarts.{opens_after, unread_ends, stays_shut, triggers_leave, states_leave}
+use Rattle.qz_cluster.proofs.Restarts.{opens_after, unread_ends, unread_stands, stays_shut, triggers_leave, states_leave}
 use Rattle.qz_cluster.proofs.Told.{triggers_told, states_told}
 use Rattle.qz_cluster.proofs.Under.{opens_under}
 use Rattle.qz_cluster.proofs.clusters.Cluster.reopen.Goals as goal
@@ -39,6 +39,12 @@ returns-in-Err-clause-err g c at =
     unread_ends (IsTold c.args.self.now) Triggers c.in-Err.error at c.unread-in-Err.result _ _ c.unread-in-Err.ensures
     (record { triggers = c.in-Err.ensures.shut; states = stays_shut (states_view c.args.self.now.states) c.requires.states; held = c.requires.held })
     (λ told. ∥∥₁_map told.0.1 (λ x. c.in-Err.ensures.refused told.0.0 x.0 x.1))
+
+pub returns-in-Err-reread-clause-standing : goal.returns-in-Err-reread-clause-standing
+returns-in-Err-reread-clause-standing g c was = unread_stands States c.in-Err-reread.error c.unread.result _ was c.unread.ensures c.requires.standing
+
+pub returns-in-Err-clause-standing : goal.returns-in-Err-clause-standing
+returns-in-Err-clause-standing g c was = unread_stands Triggers c.in-Err.error c.unread-in-Err.result _ was c.unread-in-Err.ensures c.requires.standing
 
 -- moments
 

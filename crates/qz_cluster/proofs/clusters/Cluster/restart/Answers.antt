@@ -8,19 +8,22 @@ use Rattle.qz_cluster.proofs.clusters.Cluster.restart.Goals as goal
 pub returns-clause-ok : goal.returns-clause-ok
 returns-clause-ok g c at =
     let s = c.args.self.now in
-    let mid : Cluster g.row.D.Denot g.D.Disk = record { alloc = s.alloc; triggers = c.crash-triggers_crashed.new.self; states = c.crash-states_crashed.new.self; held = s.held } in
+    let mid : Cluster g.row.D.Denot g.D.Disk = record { alloc = s.alloc; triggers = c.crash-triggers_crashed.new.self; states = c.crash-states_crashed.new.self; held = s.held; standing = s.standing } in
     let leaves : g.D.Disk.honest → EachLeavesEither s mid = λ honest. record { triggers = c.crash-triggers_crashed.ensures.any_moment honest; states = c.crash-states_crashed.ensures.any_moment honest } in
     restarted (IsTold s) (IsTold mid) (λ told. ∣ still_told s mid leaves told ∣₁) at c.reopen.result _ _ _ c.crash-triggers_crashed.ensures.shut c.crash-states_crashed.ensures.shut (c.reopen.ensures.ok at)
 
 pub returns-clause-err : goal.returns-clause-err
 returns-clause-err g c at =
     let s = c.args.self.now in
-    let mid : Cluster g.row.D.Denot g.D.Disk = record { alloc = s.alloc; triggers = c.crash-triggers_crashed.new.self; states = c.crash-states_crashed.new.self; held = s.held } in
+    let mid : Cluster g.row.D.Denot g.D.Disk = record { alloc = s.alloc; triggers = c.crash-triggers_crashed.new.self; states = c.crash-states_crashed.new.self; held = s.held; standing = s.standing } in
     let leaves : g.D.Disk.honest → EachLeavesEither s mid = λ honest. record { triggers = c.crash-triggers_crashed.ensures.any_moment honest; states = c.crash-states_crashed.ensures.any_moment honest } in
     cut (IsTold s) (IsTold mid) (λ told. ∣ still_told s mid leaves told ∣₁) at c.reopen.result _ _ _ c.crash-triggers_crashed.ensures.shut c.crash-states_crashed.ensures.shut (c.reopen.ensures.err at)
 
 pub returns-clause-keeps : goal.returns-clause-keeps
 returns-clause-keeps g c = keeps _ (pos 0) c.reopen.result _ _ _ _ (c.reopen.ensures.ok (pos 0))
+
+pub returns-clause-standing : goal.returns-clause-standing
+returns-clause-standing g c = c.reopen.ensures.standing c.args.self.now.standing
 
 -- moments
 

@@ -1,11 +1,13 @@
-use Rattle.std.proofs.Common.{◌∙◌, ℕ, List, ◌++◌, length, refl, sym, ap, subst, arith}
+use Rattle.std.proofs.Common.{◌≡◌, ◌∙◌, ℕ, List, ◌++◌, length, refl, sym, ap, subst, arith}
 use Rattle.qz_disk.proofs.Moments.{content_among}
+use Rattle.qz_journal.specs.Slots.{slots_of}
 use Rattle.qz_stores.specs.Stores.{HasRoom}
 use Rattle.qz_stores.specs.Kinds.{HasRecord, IsAccepted}
 use Rattle.qz_stores.specs.View.{view}
 use Rattle.qz_stores.proofs.Appending
 use Rattle.qz_stores.proofs.Committing
 use Rattle.qz_stores.proofs.Histories
+use Rattle.qz_stores.proofs.InUse.{appended_counts}
 use Rattle.qz_stores.proofs.stores.Store.commit.Goals as goal
 
 -- where the record went to the disk
@@ -58,6 +60,20 @@ invariant_of-self-clause-gated g c honest now start whole held =
     (subst (λ (b : List ℕ). k.IsRecordOf b c.args.entry) (sym c.as_slice.ensures) c.requires.record.0) (s.stands honest c.requires.open start whole held) (s.gated honest c.requires.open start whole held)
     (subst (λ T. IsAccepted k T c.args.entry) (Appending.whole_leaves k l s.version start s.base_count (g.K.Kind.state s.base.value) (g.K.Kind.state s.state) s.found.items s.added.items whole s.replayed (s.ended honest start whole held)) c.requires.accepted)
     s.journal.after_header _ _ _ c.in-Ok.ensures.ok.1 c.in-Ok.ensures.ok.2 (c.in-Ok.ensures.stands honest)
+
+pub invariant_of-self-clause-marked : goal.invariant_of-self-clause-marked
+invariant_of-self-clause-marked g c honest now start whole held payloads holds =
+    let s = c.args.self.now in
+    let k = g.K.Kind.kind in
+    let l = g.met.K.Kind.lawful in
+    let here = s.stands honest c.requires.open start whole held in
+    let gated = s.gated honest c.requires.open start whole held in
+    let ps = here.store.0 in
+    let slots : s.journal.slots ≡ slots_of (g.D.Disk.state s.journal.disk).content = λ i. record { a = s.journal.slot_a honest (s.ready c.requires.open) i; b = s.journal.slot_b honest (s.ready c.requires.open) i } in
+    let after = Appending.as_held k l s.version s.journal.version s.journal.kind (g.D.Disk.state c.append.new.self.disk).content _ (s.in_version c.requires.open) s.number
+    (c.in-Ok.ensures.stands honest ps (Appending.as_journal k l s.version s.journal.version s.journal.kind (g.D.Disk.state s.journal.disk).content ps (s.in_version c.requires.open) s.number here.store.1) (gated ps here.store.1).0) in
+    appended_counts k l s.version s.snapshot start (g.D.Disk.state s.journal.disk).content (g.D.Disk.state c.append.new.self.disk).content (whole ++ s.added.items) s.journal.slots c.append.new.self.slots ps _ payloads here slots c.append.ensures.same_slots here.store.1 after holds
+    (s.marked honest c.requires.open start whole held ps here.store.1)
 
 pub invariant_of-self-clause-images : goal.invariant_of-self-clause-images
 invariant_of-self-clause-images g c honest start whole held =

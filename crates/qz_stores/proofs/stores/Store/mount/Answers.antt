@@ -6,7 +6,7 @@ use Rattle.qz_stores.specs.Bases.{HoldAll, IsEndOf}
 use Rattle.qz_stores.specs.Opening.{StandsFrom}
 use Rattle.qz_stores.specs.View.{view, opened_of}
 use Rattle.qz_stores.proofs.Appending.{none_more}
-use Rattle.qz_stores.proofs.Openings.{Found, found_tail, found_read, found_refused, found_version, found_end, found_place, found_outside, found_in, never_damaged}
+use Rattle.qz_stores.proofs.Openings.{Found, found_tail, found_read, found_refused, found_version, found_end, found_place, found_counts, found_outside, found_in, never_damaged}
 use Rattle.qz_stores.proofs.Refusals.{early_refused, late_refused, none_in_use, counted_in, read_as, refused_as}
 use Rattle.qz_stores.proofs.WithoutSlots.{all_there}
 use Rattle.qz_stores.proofs.stores.Store.mount.Goals as goal
@@ -51,6 +51,24 @@ begin-requires-clause-gated g c honest start whole held payloads holds =
       counted = e.ground.4;
     } in
     found_place k g.met.K.Kind.lawful c.version.result j.version c.number.result c.in-Ok.start j.gate j.count c.slot.result j.slots (g.D.Disk.state j.disk).content c.in-Ok.payloads f c.in-Ok-replay.reread.version start whole held payloads holds
+
+pub begin-requires-clause-marked : goal.begin-requires-clause-marked
+begin-requires-clause-marked g c honest start whole held payloads holds =
+    let k = g.K.Kind.kind in
+    let j = c.in-Ok.journal in
+    let e = c.in-Ok.ensures in
+    let f : Found k g.met.K.Kind.lawful c.version.result j.version c.number.result c.in-Ok.start j.gate j.count c.slot.result j.slots (g.D.Disk.state j.disk).content c.in-Ok.payloads = record {
+      version_is = c.version.ensures.value;
+      number_is = c.number.ensures;
+      slot_is = c.slot.ensures;
+      slots_are = e.slots honest;
+      start_is = e.ground.2;
+      gate_is = e.ground.3;
+      is_tail = e.stands honest;
+      counted = e.ground.4;
+    } in
+    let r = c.in-Ok-replay.reread in
+    found_counts k g.met.K.Kind.lawful c.version.result j.version c.number.result c.in-Ok.start j.gate j.count c.slot.result j.slots (g.D.Disk.state j.disk).content c.in-Ok.payloads f r.version r.base_count start (g.K.Kind.state r.base.value) whole r.entries.items held c.in-Ok-replay.ensures.read payloads holds
 
 pub returns-in-Ok-replay-clause-stands : goal.returns-in-Ok-replay-clause-stands
 returns-in-Ok-replay-clause-stands g c honest =

@@ -11,7 +11,7 @@ use Rattle.qz_stores.specs.View.{view, disk_state}
 use Rattle.qz_stores.proofs.Appending.{none_more, none_follows, images_of}
 use Rattle.qz_stores.proofs.Histories.{held_from, now_decided, goes_on_in}
 use Rattle.qz_stores.proofs.Moments.{from_told, now}
-use Rattle.qz_stores.proofs.Openings.{Found, found_version, found_end, found_place, found_decided, found_stands}
+use Rattle.qz_stores.proofs.Openings.{Found, found_version, found_end, found_place, found_counts, found_decided, found_stands}
 use Rattle.qz_stores.proofs.Refusals.{new_base, counted_in, opened_on, begins_new}
 use Rattle.qz_stores.proofs.stores.Store.open.Goals as goal
 
@@ -104,6 +104,26 @@ invariant_of-self-clause-gated g c honest now start whole held payloads holds =
       counted = read.count;
     } in
     found_place k l r.version r.version k.number (start_of j.slots) j.gate j.count (slot_in_use j.slots) j.slots b read.payloads f r.version start whole (subst (λ x. HoldAll g.K.Kind.kind c.args.reread.version start (g.D.Disk.state x.disk).content whole) c.of.ensures held) payloads holds
+
+pub invariant_of-self-clause-marked : goal.invariant_of-self-clause-marked
+invariant_of-self-clause-marked g c honest now start whole held payloads holds =
+    let k = g.K.Kind.kind in
+    let l = g.met.K.Kind.lawful in
+    let j = c.args.self.now.journal in
+    let r = c.args.reread in
+    let read = c.requires.read in
+    let b = (g.D.Disk.state j.disk).content in
+    let f : Found k l r.version r.version k.number (start_of j.slots) j.gate j.count (slot_in_use j.slots) j.slots b read.payloads = record {
+      version_is = refl;
+      number_is = refl;
+      slot_is = refl;
+      slots_are = read.slots honest;
+      start_is = refl;
+      gate_is = read.gate;
+      is_tail = read.tail honest;
+      counted = read.count;
+    } in
+    found_counts k l r.version r.version k.number (start_of j.slots) j.gate j.count (slot_in_use j.slots) j.slots b read.payloads f r.version r.base_count start (g.K.Kind.state r.base.value) whole r.entries.items (subst (λ x. HoldAll g.K.Kind.kind c.args.reread.version start (g.D.Disk.state x.disk).content whole) c.of.ensures held) read.read payloads holds
 
 pub invariant_of-self-clause-images : goal.invariant_of-self-clause-images
 invariant_of-self-clause-images g c honest start whole held =

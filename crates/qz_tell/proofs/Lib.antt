@@ -1,0 +1,5 @@
+pub mod Completing
+pub mod Flushes
+pub mod Fronts
+pub mod Openings
+pub mod Tells
