@@ -20,11 +20,12 @@ FORMS = {
     "misfires": rf"misfired( none|( {KEY} (none|{NUMBER}))+)", "recover": r"recovered executions \d+ triggers \d+", "restart": "restarted",
     "show_job": rf"job none|{JOB} data [!-~]+", "show_trigger": rf"trigger none|{TRIGGER} misfire {NUMBER} calendar [!-~]+ zone [!-~]+",
     "show_entry": rf"entry none|entry {ENTRY} job {KEY} (none|[!-~]+ data [!-~]+)", "show_next": rf"next (none|{NUMBER})",
+    "checkpoint": r"checkpoint (made|no room)", "show_room": r"room triggers \d+ \d+ behind \d+ states \d+ \d+",
 }
 REFUSED = rf"refused (1 live (none|\d+)|11 by \d+|12 at \d+|13 entry \d+|16 owner [!-~]+ \d+|19 next {NUMBER}|21 until {NUMBER}|22 count \d+|26 last {NUMBER}|2|[3-9]|10|14|15|17|18|20|23|24|25|27|28|29)"
 LISTED = [r"threshold \d+", r"zone [!-~]+ \d+", r"calendar [!-~]+ (annual|holiday|weekly|monthly|daily|cron) base [!-~]+", JOB, TRIGGER, r"paused [!-~]+",
           r"paused_jobs [!-~]+", r"member [!-~]+ \d+", rf"fired {ENTRY}", rf"state [!-~]+ last {NUMBER} interval \d+"]
-WITHOUT_RECORD = {"stop", "restart", "resume", "show_job", "show_trigger", "show_entry", "show_next"}
+WITHOUT_RECORD = {"stop", "restart", "resume", "show_job", "show_trigger", "show_entry", "show_next", "checkpoint", "show_room"}
 DEFAULTS = {"group": "DEFAULT", "job_group": "DEFAULT", "durable": False, "no_concurrent": False, "requests_recovery": False, "data": "", "replace": False,
             "priority": 5, "window": 0, "max": 1, "code": "NOOP", "interval": 15000}
 PARTS = {"add_job": "job", "add_trigger": "trigger", "add_calendar": "calendar"}

@@ -201,6 +201,6 @@ class Lines:
         return {"do": "resume", "node": node, "epoch": self.seen.members.get(node, 1) if self.chance.random() < 0.9 else 1}
 
     def show(self):
-        word = self.of("show_job", "show_trigger", "show_entry", "show_next")
-        rest = {"show_job": {"name": self.name("j", 6)}, "show_trigger": {"name": self.name("t", 12)}, "show_entry": {"entry": self.seen.last_entry}, "show_next": {}}
+        word = self.of("show_job", "show_trigger", "show_entry", "show_next", "show_room", "checkpoint")
+        rest = {"show_job": {"name": self.name("j", 6)}, "show_trigger": {"name": self.name("t", 12)}, "show_entry": {"entry": self.seen.last_entry}, "show_next": {}, "show_room": {}, "checkpoint": {}}
         return {"do": word, **rest[word]}

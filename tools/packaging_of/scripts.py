@@ -7,6 +7,9 @@ if [ "$1" = configure ]; then
     if ! getent passwd kemtrua > /dev/null; then
         adduser --system --group --quiet --home /nonexistent --no-create-home --shell /usr/sbin/nologin kemtrua
     fi
+    if ! getent passwd kemtrua-web > /dev/null; then
+        adduser --system --group --quiet --home /nonexistent --no-create-home --shell /usr/sbin/nologin kemtrua-web
+    fi
     # The hub's folder, where none is there yet. One that is there may hold a store, and isn't touched.
     if [ ! -e /var/lib/kemtrua ]; then
         install -d -o kemtrua -g kemtrua -m 0750 /var/lib/kemtrua
@@ -26,8 +29,8 @@ PRERM = """\
 set -e
 # A removal ends the hub, which closes its store, and the nodes, which finish what they run. An upgrade ends nothing.
 if [ "$1" = remove ] && [ -d /run/systemd/system ]; then
-    systemctl stop 'kemtrua-node@*.service' kemtrua-hub.service || true
-    systemctl disable kemtrua-hub.service || true
+    systemctl stop kemtrua-web.service 'kemtrua-node@*.service' kemtrua-hub.service || true
+    systemctl disable kemtrua-web.service kemtrua-hub.service || true
 fi
 if command -v py3clean > /dev/null; then
     py3clean -p kemtrua || true

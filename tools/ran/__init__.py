@@ -1,4 +1,4 @@
-"""Parts of tools/history-test."""
+"""Parts of tools/history-test and tools/hostile-test."""
 import os
 import sys
 

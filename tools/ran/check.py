@@ -34,14 +34,22 @@ def told_by(program, stores):
     return found
 
 
-class Checks:
-    def __init__(self, team):
-        self._team, self.passed, self.failed = team, 0, 0
-        self._told = {}  # all that the store told at any time
+class Tally:
+    """How many checks passed and failed, with a line for each."""
+
+    def __init__(self):
+        self.passed = self.failed = 0
 
     def that(self, holds, what, why=""):
         self.passed, self.failed = self.passed + bool(holds), self.failed + (not holds)
         print(f"{'ok' if holds else 'FAILED'}  {what}" + (f": {why}" if why and not holds else ""), flush=True)
+
+
+class Checks(Tally):
+    def __init__(self, team):
+        super().__init__()
+        self._team = team
+        self._told, self._untold = {}, range(0)  # all that the store told at any time, and the entries that it can't have told
 
     def _stores(self):
         current = os.path.join(self._team.store, "current")
@@ -59,6 +67,7 @@ class Checks:
     def agrees(self, what, within, exact=False):
         """The database says of each execution what the store says."""
         told, until, wrong = told_by(self._team.program, self._stores()), time.monotonic() + within, ["nothing was compared"]
+        self._untold = range(max(self._told, default=0) + 1, min(told, default=0))  # (what a snapshot hid between two looks)
         self._told |= told
         while wrong and time.monotonic() < until:
             try:
@@ -78,7 +87,7 @@ class Checks:
             elif one["ended"] is not None and not self._same_end(one, mine, exact):
                 yield f"{entry} ended at {mine['ended']}, {mine['state']}, and was told as {one}"
         if exact:
-            yield from (f"{entry} was never told" for entry in recorded if entry not in self._told)
+            yield from (f"{entry} was never told" for entry in recorded if entry not in self._told and entry not in self._untold)
 
     def _same_end(self, one, mine, exact):
         near = 0 if exact or one["ended"] < self._team.begun["hub"] else NEAR

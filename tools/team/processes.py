@@ -80,9 +80,9 @@ class Team:
 
     def __init__(self, program: str, folder: str, size: plan.Size):
         self.program, self.folder, self.size = program, folder, size
-        self.store = os.path.join(folder, "store")
+        self.home = os.path.join(folder, "hub")
         self.running: dict[str, subprocess.Popen] = {}
-        os.mkdir(self.store)
+        os.mkdir(self.home)
         with open(os.path.join(folder, "job"), "w") as file:
             file.write(COMMAND)
         os.chmod(os.path.join(folder, "job"), 0o755)
@@ -97,6 +97,11 @@ class Team:
         self.tls = peers.make_certificates(folder)
         self.proxy = Proxy(os.path.join(folder, "proxy.sock"), os.path.join(folder, "nodes.sock"))
 
+    @property
+    def store(self) -> str:
+        """The folder of the stores."""
+        return os.path.join(self.home, "current")
+
     def set_clock(self, who: str, ahead: int) -> None:
         """Sets by how many ms somebody's clock is ahead."""
         path = os.path.join(self.folder, f"{who}.ahead")
@@ -108,7 +113,7 @@ class Team:
         module = "hub" if who == plan.HUB else "node"
         words = ["-c", WITH_A_CLOCK.format(module=module), os.path.join(self.folder, f"{who}.ahead")]
         if who == plan.HUB:
-            return [*words, self.store, "--make", "--program", self.program, "--listen", f"unix:{self.folder}/hub.sock", "--listen-nodes",
+            return [*words, self.home, "--make", "--program", self.program, "--listen", f"unix:{self.folder}/hub.sock", "--listen-nodes",
                     f"unix:{self.folder}/nodes.sock", "--listen", f"tls:localhost:{self.port}", *self.tls, "--node", f"{plan.HOARDER}:{plan.HOARDS}"]
         return [*words, os.path.join(self.folder, f"{who}.toml"), "--name", who, "--log", "debug"]
 

@@ -6,7 +6,7 @@ _kemtrua_options() {
 
 _kemtrua() {
     local word=${COMP_WORDS[COMP_CWORD]} before=${COMP_WORDS[COMP_CWORD - 1]} command="" place
-    local commands="add add-job add-trigger add-calendar add-zone check list nodes show history log last audit pause resume reset now delete threshold recover forget clock from-quartz"
+    local commands="add add-job add-trigger add-calendar add-zone check list nodes show history log last audit pause resume reset now delete threshold recover forget team compact backup restore ship receive clock from-quartz"
     local top="--hub --folder --program --within --certificate --key --authority --help --version"
     for ((place = 1; place < COMP_CWORD; place++)); do
         case ${COMP_WORDS[place]} in
@@ -43,6 +43,7 @@ _kemtrua() {
                 COMPREPLY=($([[ $before == from-quartz ]] && compgen -W "xml tables" -- "$word") $(compgen -f -- "$word"))
             fi ;;
         pause | resume) [[ $before == "$command" ]] && _kemtrua_options "trigger group job-group" "$word" ;;
+        backup | restore | receive) COMPREPLY=($(compgen -d -- "$word")) ;;
         clock) _kemtrua_options "accept --help" "$word" ;;
         delete) [[ $before == delete ]] && _kemtrua_options "job trigger calendar zone" "$word" ;;
     esac
@@ -51,7 +52,7 @@ _kemtrua() {
 _kemtrua_hub() {
     local word=${COMP_WORDS[COMP_CWORD]}
     if [[ $word == -* ]]; then
-        _kemtrua_options "--listen --listen-nodes --nodes-group --make --program --operator --node --certificate --key --authority --revoked --settings --check --log --help --version" "$word"
+        _kemtrua_options "--listen --listen-nodes --nodes-group --make --program --operator --node --keep --certificate --key --authority --revoked --settings --check --etcd --team --name --etcd-certificate --etcd-key --etcd-authority --etcd-restored --log --help --version" "$word"
     else
         COMPREPLY=($(compgen -f -- "$word"))
     fi

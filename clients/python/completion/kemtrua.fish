@@ -1,6 +1,6 @@
 # Completion of the commands kemtrua, kemtrua-hub and kemtrua-node for fish.
 
-set -l commands add add-job add-trigger add-calendar add-zone check list nodes show history log last audit pause resume reset now delete threshold recover forget clock from-quartz
+set -l commands add add-job add-trigger add-calendar add-zone check list nodes show history log last audit pause resume reset now delete threshold recover forget team compact backup restore ship receive clock from-quartz
 
 complete -c kemtrua -f
 complete -c kemtrua -n "not __fish_seen_subcommand_from $commands" -a "$commands"
@@ -40,6 +40,7 @@ complete -c kemtrua -n "__fish_seen_subcommand_from log" -l generation -x
 complete -c kemtrua -n "__fish_seen_subcommand_from audit" -l by -x
 complete -c kemtrua -n "__fish_seen_subcommand_from pause resume" -a "trigger group job-group"
 complete -c kemtrua -n "__fish_seen_subcommand_from delete" -a "job trigger calendar zone"
+complete -c kemtrua -n "__fish_seen_subcommand_from backup restore receive" -x -a "(__fish_complete_directories)"
 complete -c kemtrua -n "__fish_seen_subcommand_from clock" -a accept
 complete -c kemtrua -n "__fish_seen_subcommand_from from-quartz" -F -a "xml tables"
 complete -c kemtrua -n "__fish_seen_subcommand_from from-quartz" -l postgres -x
@@ -50,7 +51,15 @@ complete -c kemtrua-hub -l listen -x -a "unix: tls:"
 complete -c kemtrua-hub -l listen-nodes -x -a "unix:"
 complete -c kemtrua-hub -l nodes-group -x -a "(__fish_complete_groups)"
 complete -c kemtrua-hub -l make
+complete -c kemtrua-hub -l keep -x
 complete -c kemtrua-hub -l settings -r
+complete -c kemtrua-hub -l etcd -x
+complete -c kemtrua-hub -l team -x
+complete -c kemtrua-hub -l name -x
+complete -c kemtrua-hub -l etcd-certificate -r
+complete -c kemtrua-hub -l etcd-key -r
+complete -c kemtrua-hub -l etcd-authority -r
+complete -c kemtrua-hub -l etcd-restored
 complete -c kemtrua-hub -l check
 complete -c kemtrua-hub -l operator -x
 complete -c kemtrua-hub -l node -x

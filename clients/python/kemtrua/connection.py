@@ -9,18 +9,22 @@ from collections import deque
 from collections.abc import Callable
 from concurrent import futures
 
+from . import __version__
 from .address import Address, Tls, keep_alive
 from .checking import LINE_LIMIT, Line, bytes_of, check_line
-from .errors import BadReply, BadSettings, KemtruaError, NotTrusted, Unanswered, Unreachable
+from .errors import BadReply, BadSettings, HubRefused, KemtruaError, NotTrusted, Unanswered, Unreachable
 from .names import unescape
 from .replies import read
 from .scheduler import Scheduler
+from .team import Team
+from .waking import Turn
 
 CONNECT_WITHIN = 5.0  # seconds
 ANSWER_WITHIN = 20.0  # seconds for a line, if nothing else is said
 LIST_WITHIN = 300.0  # seconds for a list
+COMPACT_WITHIN = 600.0  # seconds for a compaction
 PROTOCOL = 1  # of the hub's own lines
-OWN_ANSWERS = ("members", "held", "list", "clock", "hello", "ok", "rows", "stored", "vacuumed")
+OWN_ANSWERS = ("members", "held", "list", "clock", "hello", "ok", "rows", "stored", "vacuumed", "where", "compacted")
 LONGEST_REPLY = 16 * LINE_LIMIT  # bytes
 
 Answered = futures.Future[list[str]]
@@ -40,6 +44,7 @@ class Connection(Scheduler):
         self._context = tls.context(server=False) if tls and not address.path else None
         self._waiting: deque[tuple[Answered, list[str]]] = deque()
         self._watchers: list[Callable[[], None]] = []
+        self._given: Callable[[Turn], None] = lambda turn: None
         self._why: Unreachable | None = None
         self._heard = False
         self._writer: asyncio.StreamWriter | None = None
@@ -99,8 +104,30 @@ class Connection(Scheduler):
         return self._clock({"do": "clock", "accept": True})
 
     def hello(self) -> str:
-        """The version of the hub. Raises HubRefused where it doesn't speak this client's protocol."""
-        return self._own({"do": "hello", "protocol": PROTOCOL})[0].split()[2]
+        """The version of the hub. Raises HubRefused where it or this client is too old for the other."""
+        return self._hello()[2]
+
+    def team(self) -> Team | None:
+        try:
+            words = self._hello()
+        except HubRefused as refused:
+            if refused.word not in ("bad-line", "not-here"):
+                raise
+            return None  # (a hub of before, which says no hello, or has none of these members)
+        return Team(words[3], int(words[4])) if len(words) >= 5 else None
+
+    def speak_for(self, name: str) -> None:
+        """Has the hub keep what this connection says as said for this one, and through it. That is for operators."""
+        self._own({"do": "for", "name": name})
+
+    def where(self) -> str:
+        """The hub's folder, on its machine."""
+        return unescape(self._own({"do": "where"})[0].split()[1])
+
+    def compact(self) -> tuple[int, int, int]:
+        """Has the hub compact its stores. Gives the bytes before and after, and the ms in which nothing was answered."""
+        before, after, pause = self._own({"do": "compact"}, COMPACT_WITHIN)[0].split()[1:4]
+        return int(before), int(after), int(pause)
 
     def answer_raw(self, data: bytes) -> str:
         """The reply to bytes that may be no line."""
@@ -110,6 +137,18 @@ class Connection(Scheduler):
         self._watchers.append(call)
         self._own({"do": "watch"})
 
+    def watch_in_turn(self, call: Callable[[], None], given: Callable[[Turn], None], ahead: int) -> bool:
+        self._watchers.append(call)
+        self._given = given
+        try:
+            self._own({"do": "watch", "ahead": ahead})
+            return True
+        except HubRefused as refused:
+            if refused.word != "bad-line":
+                raise
+            self._own({"do": "watch"})  # (a hub of before)
+            return False
+
     def cut(self) -> None:
         self._in_loop(lambda: self._break(Unreachable(f"the connection to {self.address} was given up")))
 
@@ -118,6 +157,9 @@ class Connection(Scheduler):
         self._in_loop(self._loop.stop)
         if threading.current_thread() is not self._thread:
             self._thread.join()
+
+    def _hello(self) -> list[str]:
+        return self._own({"do": "hello", "protocol": PROTOCOL, "version": __version__})[0].split()
 
     # -- the questions, in the threads of those who ask
 
@@ -224,6 +266,9 @@ class Connection(Scheduler):
         if reply == "wake":
             for watcher in self._watchers:
                 watcher()
+            return
+        if reply.startswith("wake "):
+            self._given(Turn.of_words(reply.split()))
             return
         answered, more = self._waiting.popleft()
         if reply.startswith(("list ", "rows ")):

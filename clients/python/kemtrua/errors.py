@@ -46,7 +46,7 @@ STATUSES: dict[int, tuple[str, str]] = {
         "remove the cause and start again; if a sync failed, restart the machine or mount the file system anew before",
     ),
     6: ("a store file isn't there, isn't a store, or is damaged", "see the page on errors: a damaged store"),
-    7: ("the journal is full", "make a new store in a new folder"),
+    7: ("the journal is full", "see the page on stores that fill"),
     9: ("memory ran out", "give the program more memory; the last step may have been done"),
     10: ("both stores are there", "nothing to do"),
     12: ("the store is of format version 1", "upgrade it: qz_sched migrate"),
@@ -145,8 +145,8 @@ class HubRefused(KemtruaError):
 
     @property
     def passes(self) -> bool:
-        """Whether the same line may be sent again later: the hub ends, or waits for somebody to look at its clock."""
-        return self.word in ("ended", "clock")
+        """Whether the same line may be sent again later: the hub ends, stands by, or waits for etcd or for somebody to look at its clock."""
+        return self.word in ("ended", "clock", "etcd", "standby")
 
 
 class ClockWrong(KemtruaError):
@@ -155,6 +155,24 @@ class ClockWrong(KemtruaError):
 
 class NotBegun(KemtruaError):
     """An execution couldn't begin for a reason that may pass, as want of descriptors, memory or processes. Nothing of it has run."""
+
+
+class BadFolder(KemtruaError):
+    """A hub's folder, or a backup, isn't as it has to be. `status` is the exit status: 6, or 5 where the system refused a call."""
+
+    def __init__(self, text: str, status: int = 6):
+        super().__init__(text)
+        self.status = status
+
+    @classmethod
+    def of(cls, error: OSError, path: str) -> BadFolder:
+        """What the system refused."""
+        where = error.filename if isinstance(error.filename, str) else path
+        return cls(f"{where}: {error.strerror}: nothing was changed that counts; remove the cause and start again", 5)
+
+
+class NotFitting(KemtruaError):
+    """A program, hub or client is too old or too new for the other one."""
 
 
 class BadSettings(KemtruaError):

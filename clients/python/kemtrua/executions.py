@@ -20,10 +20,10 @@ NO_JOB = Code.SET_ALL_JOB_TRIGGERS_ERROR  # what counts where the node has no jo
 
 
 class Execution:
-    """One of them. It is lost once others make up for it: then its result is dropped. It is left where it stays open at the store."""
+    """One of them, in one of the node's lives. It is lost once others make up for it: then its result is dropped. It is left where it stays open at the store."""
 
-    def __init__(self, context: Context, job: Job | None):
-        self.context, self.job = context, job
+    def __init__(self, context: Context, job: Job | None, life: int):
+        self.context, self.job, self.life = context, job, life
         self.lost = self.left = False
 
 
@@ -90,7 +90,7 @@ class Executions:
         log.info("entry %d fired %s of job %s, class %s, for %d, %d ms late", row.entry, row.trigger, context.job, context.klass, row.scheduled,
                  context.fired - row.scheduled)
         context.places.extend([place] if place is not None else [])
-        execution = self._running[row.entry] = Execution(context, job)
+        execution = self._running[row.entry] = Execution(context, job, self._members.lives)
         self._workers.do(lambda: self._execute(execution))
 
     def contexts(self) -> list[Context]:
@@ -111,7 +111,7 @@ class Executions:
                 execution.lost = True
         for execution in lost:
             execution.context.stop.set()
-        log.warning("%d executions are ended here, since others make up for them", len(lost))
+        log.warning("%d executions are ended here: they aren't this node's any more", len(lost))
 
     def abandon(self) -> None:
         """Ends what runs, and completes none of it: others will recover it."""
@@ -223,7 +223,7 @@ class Executions:
         context, entry = execution.context, execution.context.entry
         while not execution.lost:
             try:
-                reply = self._members.ask(lambda it: it.complete(context.node, entry, code.value))
+                reply = self._members.ask(lambda it: it.complete(context.node, entry, code.value), execution.life)
                 log.info("entry %d completed with %s: %s", entry, code.value, type(reply).__name__)
                 return reply
             except Refused as refused:

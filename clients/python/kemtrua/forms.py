@@ -138,6 +138,8 @@ TIMELESS_LINES: dict[str, Form] = {
     "show_trigger": _KEY,
     "show_entry": Form({"entry": values.entry}),
     "show_next": Form({}),
+    "show_room": Form({}),
+    "checkpoint": Form({}),
     "resume": Form({"node": values.node, "epoch": values.entry}),
 }
 

@@ -3,17 +3,14 @@ from __future__ import annotations
 
 import os
 import struct
-import time
 from collections.abc import Iterator
 from dataclasses import dataclass
 
 HEADER = 16
 OPEN = 0xA5
-BYTES_LIMIT = 2**29
-COUNT_LIMIT = 2**23
-SLICE = 1000  # payloads that are read at once
 VERSIONS = (1, 2)
-SNAPSHOTS = (0xF0, 0xF1)  # first bytes of payloads that are no transactions
+SLOTS = (6, 11)  # the gates of the header's slots, of which the one with the greater offset counts
+SNAPSHOTS = (0xF0, 0xF1)  # first bytes of payloads that are no transactions: of a snapshot's head, and of its other parts
 
 WORDS = ("add_job delete_job add_trigger delete_trigger pause_trigger resume_trigger pause_group resume_group add_calendar delete_calendar "
          "add_zone delete_zone trigger_now threshold join leave acquire release fire complete misfires recover migrate reset_trigger pause_job_group resume_job_group").split()
@@ -89,25 +86,19 @@ def entries_of(path: str | os.PathLike[str]) -> Iterator[Entry]:
             yield entry_of(number, payload)
 
 
-class Meter:
-    """How much of its limits a journal has used. It reads each payload once, since a journal only grows at its end."""
-
-    def __init__(self, path: str | os.PathLike[str]):
-        self.path, self._gate, self._count = path, HEADER, 0
-
-    @property
-    def share(self) -> float:
-        """From 0 to 1: of its bytes, or of its transactions if that is more, as far as it was read."""
-        return max(self._gate / BYTES_LIMIT, self._count / COUNT_LIMIT)
-
-    def read(self) -> Iterator[float]:
-        """Reads on to the end, by slices, and says after each how many seconds it took. What can't be read is left out."""
-        begun = time.monotonic()
-        try:
-            for number, payload in enumerate(payloads_of(self.path, self._gate), 1):
-                self._gate, self._count = self._gate + 5 + len(payload), self._count + 1
-                if number % SLICE == 0:
-                    yield time.monotonic() - begun
-                    begun = time.monotonic()
-        except (NotRead, OSError):
-            return
+def snapshot_in(path: str | os.PathLike[str]) -> tuple[int, int] | None:
+    """The offset at which the snapshot in use of a trigger store ends, and how many bytes it has; None where there is none, or it can't be read."""
+    try:
+        with open(path, "rb") as file:
+            header = file.read(HEADER)
+            slots = [int.from_bytes(header[gate + 1 : gate + 5], "big") for gate in SLOTS if header[gate : gate + 1] == bytes([OPEN])]
+            begin = at = max(slots, default=0)
+            while at:
+                file.seek(at)
+                block = file.read(6)  # the gate, the length, and the first byte of the payload
+                if len(block) < 6 or block[0] != OPEN or block[5] != SNAPSHOTS[at != begin]:
+                    break
+                at += 5 + int.from_bytes(block[1:5], "big")
+    except OSError:
+        return None
+    return (at, at - begin) if at > begin else None

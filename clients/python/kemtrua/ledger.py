@@ -7,6 +7,7 @@ from . import rows
 from .checking import Line
 
 DEFAULT_INTERVAL = 15000  # ms
+DEFAULT_THRESHOLD = 60000  # ms
 
 
 class Ledger:
@@ -20,6 +21,7 @@ class Ledger:
         self.held: dict[str, int] = {}  # the epochs that nodes hold in this call
         self.intervals: dict[str, int] = {}  # of each node that has checked in, in ms
         self.owners: dict[int, str] = {}  # the node of each entry number
+        self.threshold = DEFAULT_THRESHOLD  # ms past its moment at which a trigger is misfired
         self._entries: dict[str, set[int]] = {}  # those of each node
         for line in listed:
             row = rows.row_of(line)
@@ -29,6 +31,8 @@ class Ledger:
                 self.intervals[row.node] = row.interval
             elif isinstance(row, rows.EntryRow):
                 self._own(row.entry, row.node)
+            elif isinstance(row, rows.OtherRow) and row.word == "threshold":
+                self.threshold = int(row.rest[0])
 
     def entries_of(self, node: str) -> list[int]:
         return sorted(self._entries.get(node, ()))
@@ -109,8 +113,12 @@ class Ledger:
         if word == "ok" or word == "refused" and words[0] == "23":
             self.intervals.pop(str(line["failed"]), None)
 
+    def _threshold(self, line: Line, word: str, words: list[str]) -> None:
+        if word == "ok":
+            self.threshold = int(line["ms"])  # type: ignore[call-overload]
+
     def _restart(self, line: Line, word: str, words: list[str]) -> None:
         self.held.clear()
 
     _LEARNERS = {"check_in": _check_in, "join": _join, "resume": _resume, "leave": _leave, "stop": _stop, "acquire": _acquire, "release": _release,
-                 "fire": _fire, "complete": _complete, "recover": _recover, "forget": _forget, "restart": _restart}
+                 "fire": _fire, "complete": _complete, "recover": _recover, "forget": _forget, "threshold": _threshold, "restart": _restart}

@@ -13,6 +13,8 @@ from .hubclock import HubClock
 from .replies import Joined
 from .scheduler import Scheduler
 from .store import Store
+from .team import Team
+from .waking import Turn
 
 log = logs.logger("kemtrua.node")
 
@@ -36,19 +38,25 @@ class Membership:
     """Asks in a node's name. Safe for threads.
 
     A connection that breaks is made again, and the node resumes its epoch. `generation` rises with each of these, and
-    whenever an answer was lost. Where the epoch is gone, Fenced is raised; `join` gives the node a new one.
+    whenever an answer was lost. Where the epoch is gone, or the hub's store is another one than that of the join, Fenced is raised; `join` gives the
+    node a new epoch, with which another of its `lives` begins.
     """
 
-    def __init__(self, name: str, interval: int, connect: Callable[[], Scheduler], wake: Callable[[], None], clock_limit: int = 5000):
+    def __init__(self, name: str, interval: int, connect: Callable[[], Scheduler], wake: Callable[[], None], clock_limit: int = 5000,
+                 given: Callable[[Turn], None] = lambda turn: None, ahead: int = 0):
         self.name, self.interval = name, interval
         self._connect, self._wake = connect, wake
+        self._given, self._ahead = given, ahead
+        self.takes_turns = False  # whether the hub says whose turn it is
         self._lock = threading.RLock()
         self._scheduler: Scheduler | None = None
         self._said: dict[str, float] = {}
         self.clock = HubClock(clock_limit)
         self.epoch = 0
-        self.generation = 0
+        self.team: Team | None = None  # whose store has that epoch
+        self.generation = self.lives = 0
         self.is_fenced = False
+        self.is_elsewhere = False  # it is fenced since its hub's store is another one, and not since others recovered it
         self.given_up = threading.Event()
 
     @property
@@ -59,7 +67,7 @@ class Membership:
     @property
     def team_generation(self) -> int:
         """The generation of the team whose store has the epoch."""
-        return 1
+        return 1 if self.team is None else self.team.generation
 
     @property
     def is_cut_off(self) -> bool:
@@ -75,10 +83,11 @@ class Membership:
     def join(self) -> Joined:
         """Joins, under a new epoch, once a hub is there and the clock is right. Raises HubRefused where the name is taken, and NotTrusted."""
         with self._lock:
-            trusts_later = self._scheduler is not None
+            trusts_later, is_unanswered = self._scheduler is not None, False
             while True:
                 try:
                     self._reach(trusts_later)
+                    team = self.scheduler.team()
                     self.clock.measure(self.scheduler)
                     self.clock.check()
                     reply = self.scheduler.join(self.name, self.interval)
@@ -87,24 +96,26 @@ class Membership:
                     self._say(str(error))
                     self._rest(CLOCK_REST)
                 except HubRefused as error:
-                    if not error.passes:
+                    if not error.passes and not (is_unanswered and error.word == "name-taken"):  # (by the join before, on its connection)
                         raise
                     self._say(str(error))
                     self._rest(1.0)
                 except (Unanswered, Unreachable) as error:
                     if isinstance(error, NotTrusted) and not trusts_later:
                         raise
+                    is_unanswered = is_unanswered or isinstance(error, Unanswered)
                     self._rest(0.1)
-            self.epoch, self.generation, self.is_fenced = reply.epoch, self.generation + 1, False
+            self.epoch, self.team, self.lives = reply.epoch, team, self.lives + 1
+            self.generation, self.is_fenced, self.is_elsewhere = self.generation + 1, False, False
             return reply
 
-    def ask(self, question: Question[Answer]) -> Answer:
-        """The answer to a step in the node's name.
+    def ask(self, question: Question[Answer], life: int | None = None) -> Answer:
+        """The answer to a step in the node's name, maybe for something that began in this one of its lives.
 
         Raises Unanswered where it was lost, once the node is back: then the step was done or not. Raises Fenced.
         """
         scheduler, generation = self.scheduler, self.generation
-        if self.is_fenced:
+        if self.is_fenced or life not in (None, self.lives):
             raise Fenced
         try:
             return question(scheduler)
@@ -156,7 +167,7 @@ class Membership:
             self._come_back(generation, resumes=isinstance(error, (NotJoined, HubRefused)))
 
     def _use(self, scheduler: Scheduler) -> None:
-        scheduler.watch(self._wake)
+        self.takes_turns = scheduler.watch_in_turn(self._wake, self._given, self._ahead)
         self._scheduler = scheduler
 
     def _come_back(self, generation: int, resumes: bool = False) -> None:
@@ -175,9 +186,11 @@ class Membership:
     def _resume(self) -> bool:
         """Whether the node holds its epoch again. Raises Fenced where it is gone."""
         try:
+            self._see_that_same_team()
             self.clock.measure(self.scheduler)
             self.scheduler.resume(self.name, self.epoch)
             log.info("back, under epoch %d", self.epoch)
+            self._check_in()
             return True
         except Refused as refused:
             if refused.fields[-1] == str(self.epoch):
@@ -190,6 +203,22 @@ class Membership:
         except (Unanswered, Unreachable, StoreFault, StoreClosed):
             self._rest(0.2)
         return False
+
+    def _see_that_same_team(self) -> None:
+        """Raises Fenced where the hub's store is another team's, or was restored from a backup: what this node knows of it isn't so any more."""
+        team = self.scheduler.team()
+        if team is not None and self.team not in (None, team):
+            log.warning("the hub's store is of %s now, and %s joined one of %s", team, self.name, self.team)
+            self.is_fenced = self.is_elsewhere = True
+            raise Fenced
+        self.team = team or self.team  # (a hub of before doesn't say it)
+
+    def _check_in(self) -> None:
+        """The store may have been made anew meanwhile, and the node's interval is in no other line."""
+        try:
+            self.scheduler.check_in(self.name, self.interval)
+        except (HubRefused, NotJoined, Refused, StoreClosed, StoreFault, Unanswered, Unreachable):
+            pass  # (it has checked in lately, or whoever asks next finds out)
 
     def _reach(self, trusts_later: bool = True) -> None:
         """Makes a new connection if there is none, however long it takes. Raises GivenUp where the node ends."""

@@ -19,12 +19,13 @@ from .reporting import Reporting
 from .rows import EntryRow
 from .scheduler import Scheduler
 from .spool import Spool
+from .waking import Bell
 
 log = logs.logger("kemtrua.node")
 
-LATE = 1000  # ms: what is later than this may be misfired, so misfires come before the next acquire
+AT_ONCE = 20  # misfired triggers that one line moves at most
 SLICE = 5.0  # seconds: the clock is read again at least this often, since it may jump
-ASK_AGAIN = 30.0  # seconds: show_next is asked again at least this often
+ASK_AGAIN = 30.0  # seconds: show_next is asked again at least this often, so that a wake which is lost delays and never loses
 REST = 0.25  # seconds until the next acquire, where nothing could be acquired though something is due
 WANT_REST = 5.0  # seconds until the next acquire, where nothing could begin for want of descriptors, memory or processes
 ENDS_WITHIN = 15.0  # seconds that what is ended has: SIGKILL comes after 10 of them
@@ -65,9 +66,9 @@ class Node:
         self._prepare = prepare
         self._finish_within = finish_within
         self._stopped = self._idle = 0.0  # the uptimes of the stop, and since when nothing runs
-        self._changed, self._woken = threading.Condition(), False
+        self._bell = Bell()
         self._stopping, self._hurried = threading.Event(), threading.Event()
-        self._members = Membership(name, check_in, connect, self.wake, clock_limit)
+        self._members = Membership(name, check_in, connect, self.wake, clock_limit, self._bell.give, work.ahead)
         self._clock = self._members.clock
         self._deadlines = Deadlines(self._fail)
         self._executions = Executions(jobs_of(jobs), self._members, work.workers, self.wake, self._fail, self._tell)
@@ -75,6 +76,9 @@ class Node:
         self._check_ins = CheckIns(self._members, check_in, self._deadlines, self.wake, self._executions.end_cut_off, self._tell_load)
         self._acquired: dict[int, tuple[int, Key]] = {}  # by entry number: when to fire it, and its trigger
         self._rests_until = 0.0  # nothing is acquired before this uptime
+        self._due: int | None = None  # what show_next said last, and the uptime of that
+        self._asked, self._looks = 0.0, True  # (and whether it is to be asked again)
+        self._in_line = False  # whether the hub knows, where it gives turns, that this node sleeps and has a free worker
         self._has_joined, self._seen = False, 0  # (the generation of the membership that was looked at last)
         self._failure: BaseException | None = None
 
@@ -111,9 +115,7 @@ class Node:
 
     def wake(self) -> None:
         """Has the scheduler loop look again."""
-        with self._changed:
-            self._woken = True
-            self._changed.notify_all()
+        self._bell.ring()
 
     # -- what is told
 
@@ -169,38 +171,54 @@ class Node:
     # -- the scheduler loop
 
     def _schedule(self) -> None:
-        due: int | None = None
-        looks, asked = True, 0.0
         while not self._stopping.is_set():
             try:
                 self._settle()
                 self._fire_due()
-                looks = self._take_wake() or looks
-                if self._may_acquire() and (looks or clock.uptime() - asked >= ASK_AGAIN or self._is_near(due)):
-                    due, looks, asked = self._next(), False, clock.uptime()
-                    if due is not None and self._is_near(due):
-                        self._take(due)
-                        continue
-                self._sleep(due)
+                self._go_on()
             except Unanswered as error:
                 log.warning("an answer was lost: %s", error)
                 self._seen = -1
             except Fenced:
                 pass  # (the next turn joins again)
 
+    def _go_on(self) -> None:
+        """Takes its turn, looks what is due, or sleeps."""
+        self._looks, turn = self._bell.was_rung() or self._looks, self._bell.take_turn()
+        if turn is not None and self._may_acquire():
+            self._take(turn.moment, turn.is_late)
+        elif self._may_acquire() and self._is_to_look():
+            self._look()
+        else:
+            self._in_line = self._in_line and turn is None  # (a turn that it can't take is another node's)
+            self._sleep()
+
+    def _is_to_look(self) -> bool:
+        if self._members.is_cut_off or clock.uptime() - self._asked >= ASK_AGAIN:
+            return True
+        return not self._in_line if self._members.takes_turns else self._looks or self._is_near(self._due)
+
+    def _look(self) -> None:
+        """Hears what is due, and takes it where it is near. Where the hub gives turns this node waits for its own: only where it did so
+        before, and something is overdue, a turn may have been lost."""
+        waited = self._in_line and not self._members.is_cut_off
+        due = self._next()
+        if due is not None and (due < self._clock.now() and waited if self._members.takes_turns else self._is_near(due)):
+            self._take(due, self._clock.now() - due > self._members.scheduler.late_after)
+
     def _settle(self) -> None:
         """Joins again where the node was recovered, and compares what is here with the store where an answer may have been lost."""
         if self._members.is_fenced:
-            log.warning("%s was taken for failed", self.name)
+            log.warning("%s %s", self.name, "begins anew there" if self._members.is_elsewhere else "was taken for failed")
             self._acquired.clear()
             self._executions.drop()
             log.info("%s joined under epoch %d", self.name, self._members.join().epoch)
-            self._seen = self._members.generation
+            self._seen, self._in_line = self._members.generation, False
         if self._seen != self._members.generation:
             self._reconcile()
 
     def _reconcile(self) -> None:
-        self._seen = self._members.generation
+        self._seen, self._in_line = self._members.generation, False
         for entry in self._members.entries():
             row = self._row_of(entry) if entry not in self._executions else None
             if row is None or entry in self._executions:
@@ -226,35 +244,32 @@ class Node:
     def _may_acquire(self) -> bool:
         return self._free() > 0 and clock.uptime() >= self._rests_until
 
-    def _take_wake(self) -> bool:
-        with self._changed:
-            woken, self._woken = self._woken, False
-        return woken
-
     def _is_near(self, due: int | None) -> bool:
         return due is not None and due <= self._clock.now() + self.work.ahead
 
     def _next(self) -> int | None:
-        return self._members.look(lambda it: it.show_next())
+        self._due, self._looks, self._in_line = self._members.look(lambda it: it.show_next()), False, True
+        self._asked = clock.uptime()
+        return self._due
 
-    def _sleep(self, due: int | None) -> None:
+    def _sleep(self) -> None:
         """Sleeps until something is to be fired or acquired, or a message comes."""
-        present = self._clock.now()
+        present, rests = self._clock.now(), self._rests_until - clock.uptime()
         lefts = [SLICE, *((time - present) / 1000 for time, _ in self._acquired.values())]
-        if due is not None and self._free() > 0:
+        if self._free() > 0 and self._members.takes_turns:
+            lefts.append(SLICE if self._in_line else rests)
+        elif self._free() > 0 and self._due is not None:
             # (not all nodes at one moment, so that the later ones find it taken)
-            begins = due - self.work.ahead + random.randrange(self.work.ahead // 4 + 1)
-            lefts.append(max(self._rests_until - clock.uptime(), (begins - present) / 1000))
-        with self._changed:
-            if not self._woken and min(lefts) > 0:
-                self._changed.wait(min(lefts))
+            begins = self._due - self.work.ahead + random.randrange(self.work.ahead // 4 + 1)
+            lefts.append(max(rests, (begins - present) / 1000))
+        self._bell.sleep(min(lefts))
 
-    def _take(self, due: int) -> None:
-        """Acquires what is due. Misfires come first where it is late, or where nothing can be acquired."""
+    def _take(self, due: int, is_late: bool) -> None:
+        """Acquires what is due. Misfires come first where it may be misfired, or where nothing can be acquired though it is due."""
         try:
-            if self._clock.now() - due > LATE:
+            if is_late:
                 self._handle_misfires()
-            if not self._acquire() and not self._handle_misfires() and self._next() == due:
+            if not self._acquire(due) and self._next() == due and not self._handle_misfires():
                 self._rest(REST)
         except Refused as refused:
             log.error("nothing is acquired for %g seconds: %s", REFUSED_REST, refused)
@@ -269,8 +284,10 @@ class Node:
         """Nothing is acquired for so long."""
         self._rests_until = clock.uptime() + seconds
 
-    def _acquire(self) -> bool:
-        limit, most = max(self._clock.now() + self.work.ahead, 0), min(self.work.batch, self._free(), 64)
+    def _acquire(self, due: int) -> bool:
+        """Acquires what is due by then, or soon. (The hub may see that sooner than this node's clock.)"""
+        limit, most = max(self._clock.now() + self.work.ahead, due, 0), min(self.work.batch, self._free(), 64)
+        self._in_line = False
         reply = self._members.ask(lambda it: it.acquire(self.name, limit, self.work.window, most))
         for one in reply.triggers:
             log.info("entry %d acquired %s for %s", one.entry, one.trigger, one.time)
@@ -279,14 +296,14 @@ class Node:
 
     def _handle_misfires(self) -> bool:
         """Whether something was misfired."""
-        found = False
+        found = self._in_line = False
         while True:
             reply = self._members.sure(lambda it: it.misfires(self.name))
             for key, time in reply.triggers:
                 log.warning("%s was misfired; its next time is %s", key, time)
-            if not reply.triggers:
-                return found
-            found = True
+            found = found or bool(reply.triggers)
+            if len(reply.triggers) < AT_ONCE:
+                return found  # (there are no more)
 
     def _fire_due(self) -> None:
         for entry, (time, trigger) in sorted(self._acquired.items(), key=lambda it: it[1][0]):
@@ -350,8 +367,7 @@ class Node:
         while self._runs() and not self._hurried.is_set():
             if self._members.is_fenced:
                 self._executions.drop()
-            with self._changed:
-                self._changed.wait(0.2)
+            self._bell.pause(0.2)
 
     def _runs(self) -> int:
         return len(self._executions) - self._executions.left_open

@@ -6,8 +6,9 @@ import os
 import subprocess
 import time
 
-from . import logs
-from .errors import CannotRun, ProgramEnded, StoreLocked
+from . import __version__, logs
+from .errors import CannotRun, NotFitting, ProgramEnded, StoreLocked
+from .versions import age_of
 
 STORE_FILES = ("qz-triggers.store", "qz-states.store")
 log = logs.logger("kemtrua.store")
@@ -95,6 +96,13 @@ def call(program: str, folder: str, word: str) -> str:
 def ended(folder: str, status: int, said: str) -> ProgramEnded:
     """What a call that ended says. Of the causes of a disk fault, another program's lock can be seen."""
     return StoreLocked(folder) if status == DISK_FAULT and is_locked(folder) else ProgramEnded(status, said)
+
+
+def check_version(program: str) -> None:
+    """Raises NotFitting where the program is too old or too new for this client."""
+    version = (call(program, os.curdir, "--version").split() or [""])[-1]
+    if (age := age_of(version)) is not None:
+        raise NotFitting(f"the program {program} is too {age} for this hub: it is version {version}, and the hub is {__version__}; install both of one version")
 
 
 def make_store(program: str, folder: str) -> bool:

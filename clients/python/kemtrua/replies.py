@@ -90,6 +90,22 @@ class Next:
 
 
 @dataclass(frozen=True)
+class Checkpointed:
+    """What came of a checkpoint; False where the journal has no room for a snapshot."""
+
+    made: bool
+
+
+@dataclass(frozen=True)
+class Room:
+    """What both stores have, in bytes and payloads, and how many transactions came after the last snapshot."""
+
+    triggers: tuple[int, int]
+    states: tuple[int, int]
+    behind: int
+
+
+@dataclass(frozen=True)
 class Nothing:
     """What was asked for isn't there."""
 
@@ -97,7 +113,7 @@ class Nothing:
 
 
 Shown = rows.JobRow | rows.TriggerRow | rows.EntryRow | Next | Nothing
-Reply = Done | Deleted | Triggered | Joined | Acquired | Fired | Completed | Again | Misfired | Recovered | Restarted | Shown
+Reply = Done | Deleted | Triggered | Joined | Acquired | Fired | Completed | Again | Misfired | Recovered | Restarted | Checkpointed | Room | Shown
 
 
 def _acquired(words: list[str]) -> Acquired:
@@ -111,6 +127,18 @@ def _misfired(words: list[str]) -> Misfired:
     if words == ["none"]:
         return Misfired(())
     return Misfired(tuple((Key.of_word(key), rows.number_or_none(time)) for key, time in zip(words[0::2], words[1::2])))
+
+
+def _checkpointed(words: list[str]) -> Checkpointed:
+    if words not in (["made"], ["no", "room"]):
+        raise ValueError
+    return Checkpointed(words == ["made"])
+
+
+def _room(words: list[str]) -> Room:
+    if [words[0], words[3], words[5]] != ["triggers", "behind", "states"]:
+        raise ValueError
+    return Room((int(words[1]), int(words[2])), (int(words[6]), int(words[7])), int(words[4]))
 
 
 def _shown(word: str, words: list[str]) -> Shown:
@@ -135,6 +163,8 @@ _READERS: dict[str, Callable[[list[str]], Reply]] = {
     "misfired": _misfired,
     "recovered": lambda words: Recovered(int(words[1]), int(words[3])),
     "restarted": lambda words: Restarted(),
+    "checkpoint": _checkpointed,
+    "room": _room,
 }
 
 

@@ -10,6 +10,8 @@ from .checking import Line
 from .errors import BadReply
 from .names import Key
 from .replies import Reply, read
+from .team import Team
+from .waking import Turn
 
 Wanted = TypeVar("Wanted")
 Other = TypeVar("Other")
@@ -30,6 +32,7 @@ class Scheduler(ABC):
     """
 
     is_broken = False  # a connection that broke stays so
+    late_after = 1000  # ms: what is later than this may be misfired. Where the threshold isn't known it is little
 
     @abstractmethod
     def answer(self, line: Line) -> str:
@@ -51,9 +54,19 @@ class Scheduler(ABC):
     def watch(self, call: Callable[[], None]) -> None:
         """Has this called, from any thread, whenever something may have become due sooner than `show_next` said."""
 
+    def watch_in_turn(self, call: Callable[[], None], given: Callable[[Turn], None], ahead: int) -> bool:
+        """Has `given` called, from any thread, when it is the turn of whoever sleeps here to acquire what will be due, so many ms ahead of
+        its moment; `call` where the connection breaks. False where there are no turns: then this is `watch`."""
+        self.watch(call)
+        return False
+
     @abstractmethod
     def close(self) -> None:
         """Asks nothing more."""
+
+    def team(self) -> Team | None:
+        """The team whose hub this is; None where there is no hub, or one of before. Raises HubRefused where the two are of versions too far apart."""
+        return None
 
     def cut(self) -> None:
         """Lets whoever waits for an answer wait no longer, where that can be done."""

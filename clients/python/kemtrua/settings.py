@@ -5,7 +5,7 @@ import os
 import shutil
 import socket
 import tomllib
-from collections.abc import Mapping
+from collections.abc import Mapping, Sequence
 from dataclasses import dataclass
 from typing import Any
 
@@ -28,10 +28,10 @@ class CommandClass:
 
 @dataclass(frozen=True)
 class NodeSettings:
-    """What a node's file says. Either `address` or `store` is there."""
+    """What a node's file says. Either `addresses`, of its hub or of several, or `store` is there."""
 
     name: str
-    address: Address | None
+    addresses: Sequence[Address]
     store: str | None
     program: str
     tls: Tls | None
@@ -84,12 +84,12 @@ def read_node(path: str, name: str | None = None) -> NodeSettings:
     tls = tls_of(f"{path}: [tls]", top.take("tls", dict))
     classes = {klass: _class_of(f'{path}: [class."{klass}"]', values) for klass, values in top.take("class", dict, {}).items()}
     top.end()
-    address, store = node.take("hub", str), node.take("store", str)
-    if address is not None and store is not None:
+    hubs, store = node.take("hub", (str, list)), node.take("store", str)
+    if hubs is not None and store is not None:
         raise BadSettings(f"{node.where}: a node has a hub or a store of its own, and not both")
     finish = node.take("finish_within", (int, float), None, 0)
     work = Work(node.take("workers", int, 10, 1), node.take("batch", int, 1, 1), node.take("window", int, 0, 0), node.take("ahead", int, 1000, 0))
-    found = NodeSettings(name or node.take("name", str, socket.gethostname()), None if store else Address.parse(address or DEFAULT), store,
+    found = NodeSettings(name or node.take("name", str, socket.gethostname()), () if store else _addresses(node.where, hubs), store,
                          node.take("program", str, "qz_sched"), tls, node.take("check_in", int, 15000, 1000), work, finish,
                          round(1000 * node.take("clock_limit", (int, float), 5.0, 0)), node.take("spool", str), classes)
     node.take("name", str)
@@ -97,6 +97,13 @@ def read_node(path: str, name: str | None = None) -> NodeSettings:
     if not 1 <= len(found.name.encode()) <= 120:
         raise BadSettings(f"{node.where}: a node's name has 1 to 120 bytes")
     return found
+
+
+def _addresses(where: str, hubs: Any) -> list[Address]:
+    """That of the hub, or those of several."""
+    if isinstance(hubs, list) and not (hubs and all(isinstance(one, str) for one in hubs)):
+        raise BadSettings(f"{where}: hub = {hubs!r}; allowed is an address, or a list of them")
+    return [Address.parse(one) for one in (hubs if isinstance(hubs, list) else [hubs or DEFAULT])]
 
 
 def tls_of(where: str, values: Any) -> Tls | None:

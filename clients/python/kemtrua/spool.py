@@ -8,7 +8,7 @@ import time
 from collections.abc import Iterator
 from dataclasses import dataclass
 
-from . import logs
+from . import durable, logs
 from .errors import BadLine, BadSettings
 from .history.outputs import text_of
 from .history.reports import OUTPUT, Report
@@ -105,11 +105,7 @@ class Spool:
         path = self._path(kept.key)
         data = json.dumps({"report": kept.report.members(), "from": kept.begin, "output": kept.output[-OUTPUT:].hex()}).encode()
         try:
-            with open(f"{path}.new", "wb") as file:
-                file.write(data)
-                file.flush()
-                os.fsync(file.fileno())
-            os.replace(f"{path}.new", path)
+            durable.write(path, data)
         except OSError as error:
             self._remove(f"{path}.new")
             if time.monotonic() - self._said >= SAY_AGAIN:

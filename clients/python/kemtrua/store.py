@@ -9,6 +9,7 @@ from collections.abc import Callable
 from . import clock, logs
 from .checking import Line, check_line
 from .errors import BadLine, KemtruaError, ProgramEnded, Unanswered
+from .folder import Folder, is_team_folder
 from .ledger import Ledger
 from .program import Gone, Program, call, make_store, opened, wait_until_free
 from .scheduler import Scheduler
@@ -33,7 +34,8 @@ class Store(Scheduler):
     """
 
     def __init__(self, folder: str | os.PathLike[str], program: str = "qz_sched", *, make: bool = False, wait_for_lock: float = 20.0):
-        self.folder, self.program = os.fspath(folder), program
+        self.program = program
+        self._holder: Folder | None = None  # of a hub's folder, where no hub works
         self._lock = threading.RLock()
         self._wait = wait_for_lock
         self._watchers: list[Callable[[], None]] = []
@@ -42,9 +44,14 @@ class Store(Scheduler):
         self._lines = self._ends = 0
         self._asked: float | None = None  # the uptime at which the question was asked that isn't answered
         self.ledger = Ledger()
-        if make:
-            make_store(program, self.folder)
-        self._open({})
+        self.folder = self._stores_in(os.fspath(folder))
+        try:
+            if make:
+                make_store(program, self.folder)
+            self._open({})
+        except KemtruaError:
+            self._let_go()
+            raise
 
     def __enter__(self) -> Store:
         return self
@@ -75,6 +82,10 @@ class Store(Scheduler):
     def watch(self, call: Callable[[], None]) -> None:
         self._watchers.append(call)
 
+    @property
+    def late_after(self) -> int:  # type: ignore[override]
+        return self.ledger.threshold
+
     def close(self) -> None:
         """Ends the program, and waits for it."""
         with self._lock:
@@ -83,6 +94,23 @@ class Store(Scheduler):
             if running is not None:
                 status, said = running.end()
                 log.info("qz_sched ended with status %d %s", status, said)
+            self._let_go()
+
+    def _stores_in(self, folder: str) -> str:
+        """The folder of the store files. A hub's folder is held while this store is open."""
+        if not is_team_folder(folder):
+            return folder
+        self._holder = Folder(folder)
+        self._holder.hold(self._wait)
+        try:
+            return self._holder.current
+        except KemtruaError:
+            self._let_go()
+            raise
+
+    def _let_go(self) -> None:
+        if self._holder is not None:
+            self._holder.let_go()
 
     def cut(self) -> None:
         """Kills a program that hasn't answered for a while. What was acknowledged is in the store."""

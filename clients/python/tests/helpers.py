@@ -99,7 +99,7 @@ class HubProcess:
         self.log = tempfile.NamedTemporaryFile("r", prefix="kemtrua-log-")
         with open(self.log.name, "w") as log:
             self.process = subprocess.Popen([*command("hub", ahead), folder, "--program", PROGRAM, "--listen", listen, *words],
-                                            env={**ENVIRONMENT, "STAND_IN": fault}, stderr=log)
+                                            env={**os.environ, "PYTHONPATH": ROOT, "STAND_IN": fault}, stderr=log)
 
     def said(self) -> str:
         """Its log so far."""
@@ -109,7 +109,7 @@ class HubProcess:
     @property
     def program(self) -> int:
         """The process that holds the store."""
-        return int(subprocess.run(["pgrep", "-P", str(self.process.pid)], capture_output=True, text=True).stdout.split()[0])
+        return int(subprocess.run(["pgrep", "-P", str(self.process.pid), "-f", " script$"], capture_output=True, text=True).stdout.split()[0])
 
     @property
     def address(self) -> Address:

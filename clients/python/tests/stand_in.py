@@ -1,18 +1,17 @@
 #!/usr/bin/env python3
-"""A small stand-in for `qz_sched`, for tests of the client without the proved program: `init`, `list`, `script` and `history`.
+"""A small stand-in for `qz_sched`, for tests of the client without the proved program: `init`, `list`, `script`, `history` and `compact`.
 
 It knows jobs, simple triggers, members, executions, check-ins and the lines that ask, each in its plain case. Of calendars it knows the names, and of groups
 those of jobs. Zones, cron texts and groups of triggers it doesn't know. It keeps the trigger store's journal in its real form as far as `kemtrua.journal` reads it, and its
-tables past the end of the state store's. The variable STAND_IN names faults to make: `fault:N` answers `fault` to the Nth transaction and `closed`
-then, `full:N` ends with status 7 there, and `die:N` ends without an answer, once the transaction is done.
+tables past the end of the state store's; with STAND_IN_STATES=journal that file grows, as the program's does. The variable STAND_IN names faults to make: `fault:N` answers `fault` to the Nth transaction and `closed`
+then, `full:N` ends with status 7 there, and `die:N` ends without an answer, once the transaction is done. `version:V` is a program of that version, `before` one that
+doesn't know `show_room`, and `compact:S` one whose `compact` ends with that status.
 """
 from __future__ import annotations
 
 import fcntl
 import json
 import os
-import pickle
-import struct
 import sys
 import time
 from dataclasses import dataclass, field
@@ -21,15 +20,10 @@ from dataclasses import dataclass, field
 sys.path.insert(0, os.path.join(os.path.dirname(os.path.abspath(__file__)), "..", "kemtrua"))
 
 from names import Key, escape  # noqa: E402
+from stand_in_files import COMMANDS, STATES, TRIGGERS, Journal, history, load, make_compacted, record, save, told  # noqa: E402
 
-TRIGGERS, STATES = "qz-triggers.store", "qz-states.store"
-STATES_HEADER = b"QZ23\x01S" + bytes(11)
-TOLD = b"\xfftold"  # what stands before it in a record
-CODES = ("NOOP", "RE_EXECUTE_JOB", "SET_TRIGGER_COMPLETE", "DELETE_TRIGGER", "SET_ALL_JOB_TRIGGERS_COMPLETE", "SET_TRIGGER_ERROR",
-         "SET_ALL_JOB_TRIGGERS_ERROR")
-COMMANDS = {"add_job": 0, "delete_job": 1, "add_trigger": 2, "delete_trigger": 3, "pause_trigger": 4, "resume_trigger": 5, "add_calendar": 8, "trigger_now": 0x0C, "threshold": 0x0D,
-            "join": 0x0E, "leave": 0x0F, "acquire": 0x10, "release": 0x11, "fire": 0x12, "complete": 0x13, "misfires": 0x14, "recover": 0x15,
-            "reset_trigger": 0x17, "pause_job_group": 0x18, "resume_job_group": 0x19}
+with open(os.path.join(sys.path[0], "__init__.py")) as package:
+    VERSION = next(line.split('"')[1] for line in package if line.startswith("__version__"))
 
 
 class Refusal(Exception):
@@ -83,6 +77,7 @@ class Tables:
     next_entry: int = 1
     next_epoch: int = 1
     last: int = 0
+    check_ins: int = 0
 
 
 def text(value):
@@ -215,6 +210,7 @@ class Script:
 
     def check_in(self, line, now):
         self.tables.states[line["node"]] = (now, line.get("interval", 15000))
+        self.tables.check_ins += 1
         return "ok"
 
     def resume(self, line, now):
@@ -398,63 +394,9 @@ def listed(tables):
     yield from (f"state {escape(node)} last {last} interval {interval}" for node, (last, interval) in sorted(tables.states.items()))
 
 
-def record(line, now, epoch):
-    """The record of a transaction, as far as `kemtrua.journal` reads it."""
-    do = line["do"]
-    short = lambda name: struct.pack(">H", len(name.encode())) + name.encode()
-    by_node = do in ("leave", "acquire", "release", "fire", "complete", "misfires", "recover")
-    actor = b"\x01" + short(line["node"]) + struct.pack(">Q", epoch) if by_node else b"\x00"
-    body = {"join": lambda: short(line["node"]), "recover": lambda: short(line["failed"])}.get(do, lambda: b"")()
-    body += struct.pack(">Q", line["entry"]) if "entry" in line else b""
-    body += bytes([CODES.index(line.get("code", "NOOP"))]) if do == "complete" else b""
-    return b"\x01" + struct.pack(">q", now) + actor + struct.pack(">I", 0) + bytes([COMMANDS[do]]) + body
-
-
-def told(line, now, epoch, reply):
-    """What `history` tells of a transaction, behind its record: which the real one reads from the record itself."""
-    defaults = {"code": "NOOP", "replace": False, "window": 0, "max": 1}
-    kept = {name: value for name, value in line.items() if name not in ("at", "do", "interval") and value != defaults.get(name, ...)}
-    named = {"epoch": epoch} if "node" in line and line["do"] != "join" else {}
-    return TOLD + json.dumps({**named, "line": {"at": now, "do": line["do"], **kept}, "reply": reply}, separators=(",", ":"), ensure_ascii=False).encode()
-
-
-def history(after):
-    """The transactions behind the last snapshot."""
-    with open(TRIGGERS, "rb") as file:
-        file.seek(16)
-        number, base, found = 0, 0, []
-        while (block := file.read(5))[:1] == b"\xa5":
-            payload = file.read(int.from_bytes(block[1:], "big"))
-            if payload[:1] == b"\xf0":
-                base, found = number, []
-            else:
-                number += 1
-                found.append((number, payload.partition(TOLD)[2]))
-    for number, text in found:
-        if number > after:
-            sys.stdout.buffer.write(b'{"number":%d,' % number + text[1:] + b"\n")
-    if after < base:
-        sys.stderr.write(f"qz: begins at {base + 1}\n")
-    return 0
-
-
-def append(file, payload):
-    """Adds a payload at the closed gate at the end of the file."""
-    file.seek(-1, os.SEEK_END)
-    file.write(b"\xa5" + struct.pack(">I", len(payload)) + payload + b"\x00")
-    file.flush()
-
-
 def faults():
     word, _, number = os.environ.get("STAND_IN", "").partition(":")
-    return word, int(number or 0)
-
-
-def save(tables):
-    with open(STATES + ".new", "wb") as file:
-        file.write(STATES_HEADER)
-        pickle.dump(tables, file)
-    os.replace(STATES + ".new", STATES)
+    return word, int(number) if number.isdigit() else 0
 
 
 def script(tables, journal):
@@ -462,8 +404,11 @@ def script(tables, journal):
     for data in sys.stdin.buffer:
         line = json.loads(data)
         do = line["do"]
+        if do == "show_room" and fault == "before":
+            sys.stderr.write("qz: line 1: not a step\n")
+            return 2
         now = max(line.get("at", time.time_ns() // 1000000), tables.last)
-        needs_epoch = "node" in line and do not in ("join", "check_in", "resume")
+        needs_epoch = "node" in line and do not in ("join", "resume")
         try:
             if closed and do != "check_in":
                 reply = "closed"
@@ -476,12 +421,14 @@ def script(tables, journal):
                     return 7
                 if do in COMMANDS and done == place and fault == "fault":
                     closed, reply = True, "fault"
+                elif do in ("show_room", "checkpoint"):
+                    reply = journal.show_room(tables) if do == "show_room" else journal.checkpoint()
                 else:
                     epoch = run.held.get(line.get("node"), 0)
                     reply = getattr(run, do)(line, now)
                     if do in COMMANDS:
                         tables.last = now
-                        append(journal, record(line, now, epoch) + told(line, now, epoch, reply))
+                        journal.append(record(line, now, epoch) + told(line, now, epoch, reply))
                     if not do.startswith("show") and do not in ("resume", "stop"):
                         save(tables)
         except Refusal as refusal:
@@ -493,10 +440,33 @@ def script(tables, journal):
     return 5 if closed else 0
 
 
+def compact():
+    """Reads a trigger store, which has no tables here: these are in the file of states beside it."""
+    if os.path.exists(TRIGGERS) or os.path.exists(STATES):
+        sys.stderr.write("qz: store exists\n")
+        return 10
+    tables = load(os.path.join(os.path.dirname(os.readlink("/proc/self/fd/0")), STATES))
+    count = len(sys.stdin.buffer.read())
+    if (asked := faults())[0] == "compact":
+        sys.stderr.write("qz: no luck\n")
+        return asked[1]
+    make_compacted()
+    tables.states, tables.check_ins = {node: (tables.last, 15000) for node in tables.members}, len(tables.members)
+    save(tables)
+    print(f"compacted {count}")
+    return 0
+
+
 def main(word, *more):
     if word == "history" and os.environ.get("STAND_IN") == "no-history":
         sys.stderr.write("qz: bad words\n")
         return 1
+    if word == "--version":
+        asked = os.environ.get("STAND_IN", "")
+        print("qz_sched", asked.partition(":")[2] if asked.startswith("version:") else VERSION)
+        return 0
+    if word == "compact":
+        return compact()
     if word == "init":
         if os.path.exists(TRIGGERS):
             sys.stderr.write("qz: store exists\n")
@@ -516,15 +486,13 @@ def main(word, *more):
     except BlockingIOError:
         sys.stderr.write("qz: disk fault\n")
         return 5
-    with open(STATES, "rb") as file:
-        file.seek(len(STATES_HEADER))
-        tables = pickle.load(file)
+    tables = load()
     if word == "list":
         print("\n".join(listed(tables)))
         return 0
     if word == "history":
         return history(int(more[0]))
-    return script(tables, journal)
+    return script(tables, Journal(journal))
 
 
 if __name__ == "__main__":

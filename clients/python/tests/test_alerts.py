@@ -8,6 +8,8 @@ import unittest
 from unittest import mock
 from zoneinfo import ZoneInfo
 
+from kemtrua import clock
+from kemtrua.checking import Line
 from kemtrua.errors import BadSettings
 from kemtrua.history import alerts, expecting
 from kemtrua.history.expecting import Expecting, deadlines
@@ -81,27 +83,31 @@ class WithRecorder(WithFolder):
         with self.store() as store:
             store.ask("add_job", job=job())
         self.recorder = Recorder(self.folder, PROGRAM, HistorySettings(), 1)
-        self.recorder.opened(self.folder)
+        self.recorder.opened(self.folder, 1)
         self.addCleanup(self.recorder.end)
-        self.entry = 0
+        self.entry = self.transactions = 0
+
+    def answered(self, line: Line, reply: str, epoch: int | None) -> None:
+        self.transactions += 1
+        self.recorder.tell((1, self.transactions, clock.now(), json.dumps(line).encode(), reply, epoch))
 
     def execution(self, fired: int, ended: int | None, ok: bool = True, output: bytes = b"") -> int:
         """An execution of DEFAULT/j, as the store and its node tell of it."""
         self.entry += 1
         for line, reply in (({"do": "acquire", "node": "A", "no_later": fired}, f"acquired {self.entry} DEFAULT/t {fired}"),
                             ({"do": "fire", "node": "A", "entry": self.entry}, f"fired {self.entry} scheduled {fired} at {fired} next {fired}")):
-            self.recorder.answered(line, reply, 1)
+            self.answered(line, reply, 1)
         report = Report(1, self.entry, 1, "DEFAULT/t", "DEFAULT/j", "ok", fired, fired, ended or 0, 0, int(ok), "NOOP", status=int(not ok))
         if ended is not None:
             with mock.patch("kemtrua.clock.now", return_value=ended):
-                self.recorder.answered({"do": "complete", "node": "A", "entry": self.entry}, f"completed {self.entry}", 1)
+                self.answered({"do": "complete", "node": "A", "entry": self.entry}, f"completed {self.entry}", 1)
             self.recorder.report("A", report)
             if output:
                 self.recorder.piece("A", (1, self.entry), 0, output, None)
         return self.entry
 
     def trigger(self) -> None:
-        self.recorder.answered({"do": "add_trigger", "trigger": {"name": "t", "job": "j"}}, "ok next 0", None)
+        self.answered({"do": "add_trigger", "trigger": {"name": "t", "job": "j"}}, "ok next 0", None)
 
     def settle(self) -> None:
         self.recorder.do(lambda it: None).result(20)

@@ -12,6 +12,7 @@ from kemtrua.errors import KemtruaError, ProgramEnded, Unanswered
 from kemtrua.hub import asking
 from kemtrua.hub.asking import Asking, Events, Turn
 from kemtrua.hub.listing import Listing
+from kemtrua.program import make_store
 from tests.helpers import IS_STAND_IN, PROGRAM, WithFolder, job
 
 Taken = list[str | KemtruaError]
@@ -30,7 +31,7 @@ class Askings(WithFolder):
         async def run() -> None:
             events = Events(lambda: None, self.failures.append, self.stalls.append, lambda: None, self.held.__contains__, lambda: None)
             one = Asking(self.folder, PROGRAM, events)
-            one.make()
+            make_store(PROGRAM, self.folder)
             await one.open()
             try:
                 await work(one)  # type: ignore[operator]
@@ -106,7 +107,7 @@ class Askings(WithFolder):
             copy(listing, folder)
 
         async def work(one: Asking) -> None:
-            rows = asyncio.create_task(Listing(self.folder, PROGRAM).rows())
+            rows = asyncio.create_task(Listing(lambda: self.folder, PROGRAM).rows())
             await self.until(copies.is_set)
             self.assertEqual(await one.own({"do": "show_next"}), "next none")
             self.assertFalse(rows.done())

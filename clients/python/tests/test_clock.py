@@ -9,6 +9,7 @@ from unittest import mock
 from kemtrua import Connection, __version__, clock, errors, rows
 from kemtrua.hub.timekeeping import Timekeeping, moment_of
 from kemtrua.names import Key
+from kemtrua.team import Team
 from tests.helpers import ENVIRONMENT, WithFolder, command, job, now, once, wait_until
 
 YEAR = 365 * 86_400_000
@@ -60,7 +61,16 @@ class Hubs(WithFolder):
         with self.hub().connect() as one:
             self.assertAlmostEqual(one.clock(), now(), delta=2000)
             self.assertEqual(one.hello(), __version__)
-            self.assertEqual(one.answer_raw(b'{"do":"hello","protocol":2}'), "hub not-here protocol 2: this hub speaks 1")
+            team = Team.read(self.folder)
+            assert team is not None
+            self.assertEqual(one.answer_raw(b'{"do":"hello","protocol":1}'), f"hello 1 {__version__} {team.id} 1")
+            self.assertEqual(one.team(), team)
+
+    def test_who_is_too_old_or_too_new_is_told_so(self) -> None:
+        with self.hub().connect() as one:
+            for words, wanted in (('"protocol":2', "hub too-new"), ('"protocol":0', "hub too-old"), ('"version":"99.0.0"', "hub too-new"), ('"version":"0.1.0"', "hello 1"),
+                                  ('"protocol":"x"', "hub bad-line")):
+                self.assertTrue(one.answer_raw(b'{"do":"hello",%b}' % words.encode()).startswith(wanted), words)
 
     def test_a_clock_that_jumps_a_year_asks_the_program_nothing(self) -> None:
         """Before, the next line was recorded a year ahead, and a store's moment never falls."""

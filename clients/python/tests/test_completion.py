@@ -57,7 +57,7 @@ class Completions(unittest.TestCase):
         return subprocess.run(["bash", "-c", script], capture_output=True, text=True, check=True).stdout.split()
 
     def test_bash_completes(self) -> None:
-        self.assertEqual(self.completed("kemtrua re"), ["resume", "reset", "recover"])
+        self.assertEqual(self.completed("kemtrua re"), ["resume", "reset", "recover", "restore", "receive"])
         self.assertEqual(self.completed("kemtrua --within 5s pause ''"), ["trigger", "group", "job-group"])
         self.assertEqual(self.completed("kemtrua clock a"), ["accept"])
         self.assertEqual(self.completed("kemtrua list --j"), ["--json"])

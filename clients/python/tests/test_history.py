@@ -1,13 +1,17 @@
 """A hub's history beside the store's own: after kills, without the database, with a program that doesn't tell, and with one that is wrong."""
 import json
 import os
+import shutil
 import sqlite3
 import unittest
 
 from kemtrua import Connection
+from kemtrua.cli import client
+from kemtrua.folder import Folder
 from kemtrua.history.filling import Copy
 from kemtrua.history.questions import Filter, Object, Questions
 from kemtrua.history.schema import FILE
+from kemtrua.team import Team
 from tests.helpers import IS_STAND_IN, PROGRAM, HubProcess, WithFolder, job, now, once, wait_until
 
 FIVE = ("entry", "trigger", "node", "scheduled", "fired")
@@ -193,6 +197,45 @@ class Agrees(WithHistory):
         self.agrees()
         self.assertTrue(os.path.exists(os.path.join(self.folder, FILE + ".spoiled")))
 
+    def test_one_that_cannot_be_written_keeps_nobody_waiting(self) -> None:
+        hub = self.hub()
+        with self.begun(hub) as one:
+            self.work(one, "A", 2)
+        hub.ended()
+        other = sqlite3.connect(os.path.join(self.folder, FILE), isolation_level=None)
+        other.execute("BEGIN IMMEDIATE")
+        hub = self.hub(make=False)
+        with hub.connect() as one:
+            one.ask("resume", node="A", epoch=1)
+            self.work(one, "A", 3)
+            self.assertEqual(len(one.rows("history")), 2)
+            other.execute("ROLLBACK")
+            other.close()
+            wait_until(lambda: len(one.rows("history")) == 5)
+        hub.ended()
+        self.agrees()
+
+    def test_whoever_may_only_read_the_folder_reads_it(self) -> None:
+        hub = self.hub()
+        with self.begun(hub) as one:
+            self.work(one, "A", 2)
+        hub.ended()
+        os.chmod(self.folder, 0o555)
+        child = os.fork()
+        if not child:
+            status = 99
+            try:
+                if os.geteuid() == 0:  # (who may do all: another user reads)
+                    os.setresgid(65534, 65534, 65534)
+                    os.setresuid(65534, 65534, 65534)
+                if not os.access(self.folder, os.W_OK):
+                    status = len(recorded(self.folder))
+            finally:
+                os._exit(status)
+        status = os.waitstatus_to_exitcode(os.waitpid(child, 0)[1])
+        os.chmod(self.folder, 0o755)
+        self.assertEqual(status, 2)
+
     def test_one_of_another_version_is_left_alone(self) -> None:
         connection = sqlite3.connect(os.path.join(self.folder, FILE))
         connection.execute("PRAGMA user_version=77")
@@ -266,6 +309,74 @@ class Facts(WithHistory):
                          {"do": "report", "node": "A", "told": [{"report": {"entry": 1}}]}, {"do": "report", "node": "A", "told": 7},
                          {"do": "output", "node": "A", "generation": 1, "entry": 1, "from": 0, "data": "%%"}, {"do": "audit", "since": "x"}, {"do": "last", "x": 1}):
                 self.assertTrue(one._ask(json.dumps(line).encode() + b"\n", 20)[0].startswith("hub bad-line"), line)
+
+
+class Stores(WithHistory):
+    """A hub has one store after the other, and a restored backup gives numbers again."""
+
+    def test_all_of_a_store_is_known_before_it_is_compacted(self) -> None:
+        hub = self.hub()
+        with self.begun(hub) as one:
+            self.work(one, "A", 3, leaves_open=True)
+            one.compact()
+            self.work(one, "A", 2)
+            one.complete("A", 3)
+            one.compact()
+            wait_until(lambda: [row["state"] for row in one.rows("history")] == ["ended"] * 5)
+            self.assertEqual([row["entry"] for row in one.rows("history")], [5, 4, 3, 2, 1])
+        hub.ended()
+        self.agrees()
+        with sqlite3.connect(os.path.join(self.folder, FILE)) as connection:
+            self.assertEqual([closed for (closed,) in connection.execute("SELECT closed FROM stores ORDER BY name")], [1, 1, 0])
+        self.assertEqual(self.events("gap"), [])
+
+    def test_a_store_that_is_not_known_is_kept(self) -> None:
+        hub = self.hub("--keep", "0")
+        with self.begun(hub) as one:
+            self.work(one, "A", 3)
+        hub.ended()
+        self.agrees()
+        with sqlite3.connect(os.path.join(self.folder, FILE)) as connection:
+            connection.execute("DELETE FROM executions WHERE entry > 1")
+            connection.execute("UPDATE stores SET last = 0, exact = 0, reply = ''")
+        before = os.listdir(os.path.join(self.folder, "stores"))
+        folder = Folder(self.folder)
+        folder.hold()
+        try:
+            at = folder.begin()
+            shutil.copytree(folder.current, at, dirs_exist_ok=True)
+            folder.finish(at, Team.read(self.folder))  # type: ignore[arg-type]
+        finally:
+            folder.let_go()
+        hub = self.hub("--keep", "0", make=False)
+        hub.connect().close()
+        wait_until(lambda: len(recorded(self.folder)) == 3)  # (the store of before was there to be read)
+        hub.ended()
+        hub = self.hub("--keep", "0", make=False)
+        hub.connect().close()
+        wait_until(lambda: not set(before) & set(os.listdir(os.path.join(self.folder, "stores"))))
+
+    def test_a_restored_backup_is_another_generation(self) -> None:
+        hub = self.hub()
+        backup = f"{self.folder}-backup"
+        self.addCleanup(shutil.rmtree, backup, ignore_errors=True)
+        with self.begun(hub) as one:
+            self.work(one, "A", 2)
+            self.work(one, "A", 1, leaves_open=True)
+            self.assertEqual(client.main(["--hub", hub.listen, "--program", PROGRAM, "backup", backup]), 0)
+            one.complete("A", 3)
+            self.work(one, "A", 2)
+        hub.ended()
+        self.assertEqual(client.main(["--folder", self.folder, "--program", PROGRAM, "restore", backup]), 0)
+        hub = self.hub(make=False)
+        with hub.connect() as one:
+            wait_until(lambda: len(one.rows("history")) == 6)
+            one.ask("join", node="A")
+            self.work(one, "A", 1)
+            wait_until(lambda: len(one.rows("history")) == 7 and one.rows("history")[0]["state"] == "ended")
+            found = {(row["generation"], row["entry"]): row["state"] for row in one.rows("history")}
+            self.assertEqual(found, {**{(1, entry): "ended" for entry in range(1, 6)}, (2, 3): "lost", (2, 4): "ended"})
+            self.assertEqual([one.rows("log", entry=4)[0]["generation"], one.rows("log", entry=4, generation=1)[0]["generation"]], [2, 1])
 
 
 @unittest.skipUnless(IS_STAND_IN, "it makes the stand-in one without the word")

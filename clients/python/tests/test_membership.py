@@ -51,13 +51,13 @@ def members_of(scheduler: Scheduler) -> Membership:
 
 class Resuming(unittest.TestCase):
     def test_a_connection_that_has_not_resumed_is_no_failure(self) -> None:
-        scheduler = Answers(JOINED, REFUSED, "ok", "ok")
+        scheduler = Answers(JOINED, REFUSED, "ok", "ok", "ok")
         members = members_of(scheduler)
         members.join()
         with self.assertRaises(Unanswered):
             members.ask(lambda it: it.check_in("N", 1000))
         members.ask(lambda it: it.check_in("N", 1000))
-        self.assertEqual(scheduler.asked, ["join", "check_in", "resume", "check_in"])
+        self.assertEqual(scheduler.asked, ["join", "check_in", "resume", "check_in", "check_in"])
 
     def test_a_hub_that_ends_is_waited_for_by_those_who_look(self) -> None:
         """Before, `hub ended` to a line that asks ended the node, and its commands with it."""

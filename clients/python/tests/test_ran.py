@@ -134,6 +134,14 @@ class Commands(WithFolder):
         self.assertIn("WHO", self.says("audit", "--by", str(rows[0]["who"]).removeprefix("user ")))
         self.assertEqual(self.says("audit", "--by", "nobody"), "nobody did anything\n")
 
+    def test_long_lines_of_an_audit(self) -> None:
+        with self.running.connect() as one:
+            one.ask("add_job", job=job("long", data="x" * 3000, durable=True))
+        wait_until(lambda: len(str(self.jsons("audit")[0]["line"])) > 3000)
+        shown = self.says("audit")
+        self.assertIn("more characters", shown)
+        self.assertLess(max(map(len, shown.splitlines())), 300)
+
     def test_without_the_hub(self) -> None:
         self.running.ended()
         words = ["--folder", self.folder, "--program", PROGRAM]

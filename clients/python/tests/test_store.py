@@ -7,7 +7,7 @@ import unittest
 from unittest import mock
 
 from kemtrua import errors, store as stores
-from kemtrua.journal import Meter, entries_of
+from kemtrua.journal import entries_of, snapshot_in
 from kemtrua.replies import Completed, Done, Fired, Joined, Next
 from tests.helpers import IS_STAND_IN, PROGRAM, WithFolder, job, now, once
 
@@ -88,32 +88,17 @@ class Stores(WithFolder):
         self.assertEqual([it.word for it in found], ["add_job", "add_trigger", "join", "acquire", "fire", "complete"])
         self.assertEqual([(it.node, it.epoch, it.entry) for it in found[3:]], [("A", 1, None), ("A", 1, 1), ("A", 1, 1)])
 
-    def test_how_full_it_is(self) -> None:
-        store = self.store()
-        meter = Meter(os.path.join(self.folder, "qz-triggers.store"))
-        store.ask("add_job", job=job(data="x" * 4000))
-        list(meter.read())
-        one = meter.share
-        store.ask("add_job", job=job("k", data="x" * 4000))
-        list(meter.read())
-        self.assertGreater(meter.share, one)
-        other = Meter(meter.path)
-        list(other.read())
-        self.assertEqual(meter.share, other.share)
-        self.assertEqual(list(Meter("/nowhere").read()), [])
-
-    def test_a_large_journal_is_looked_at_by_slices(self) -> None:
-        """Before, the first look at millions of payloads slowed the hub's answers for seconds."""
-        path = f"{self.folder}/large"
-        with open(path, "wb") as file:
-            file.write(b"QZ23\x02T" + bytes(10) + (b"\xa5" + (50).to_bytes(4, "big") + b"\xf0" + bytes(49)) * 3500 + b"\0")
-        meter, shares = Meter(path), []
-        for seconds in meter.read():
-            self.assertGreaterEqual(seconds, 0)
-            shares.append(meter.share)
-        self.assertEqual(len(shares), 3)
-        self.assertEqual(shares, sorted(set(shares)))
-        self.assertAlmostEqual(meter.share, 3500 / 2**23, delta=1e-3)
+    def test_the_snapshot_in_use(self) -> None:
+        """Where it ends, and how many bytes it has: of two slots the one with the greater offset counts, and records behind the snapshot don't."""
+        head, piece, record = b"\xf0" + bytes(52), b"\xf1" + bytes(99), b"\x01" + bytes(20)
+        block = [b"\xa5" + len(it).to_bytes(4, "big") + it for it in (record, head, piece, piece, record, head, record)]
+        first, second = 16 + len(block[0]), 16 + sum(map(len, block[:5]))
+        path = f"{self.folder}/store"
+        for slots, wanted in (((0, 0), None), ((first, 0), (first + 58 + 2 * 105, 58 + 2 * 105)), ((first, second), (second + 58, 58)), ((16, 0), None)):
+            with open(path, "wb") as file:
+                file.write(b"QZ23\x02T" + b"".join((b"\xa5" if slot else b"\0") + slot.to_bytes(4, "big") for slot in slots) + b"".join(block) + b"\0")
+            self.assertEqual(snapshot_in(path), wanted)
+        self.assertIsNone(snapshot_in("/nowhere"))
 
     def test_a_program_that_hangs_can_be_given_up(self) -> None:
         store = self.store()
@@ -164,7 +149,7 @@ class Faults(WithFolder):
             with self.assertRaises(errors.ProgramEnded) as raised:
                 store.ask("add_job", job=job("k"))
             self.assertEqual(raised.exception.status, 7)
-            self.assertIn("new folder", str(raised.exception))
+            self.assertIn("stores that fill", str(raised.exception))
 
     def test_a_program_that_dies_again_and_again_is_given_up(self) -> None:
         store = self.store("die:1")

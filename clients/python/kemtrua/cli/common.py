@@ -2,13 +2,12 @@
 from __future__ import annotations
 
 import argparse
-import logging
 import sys
 from collections.abc import Callable
 
-from .. import __version__
+from .. import __version__, logs
 from ..address import Tls
-from ..errors import BadSettings, KemtruaError, ProgramEnded
+from ..errors import BadFolder, BadSettings, KemtruaError, ProgramEnded
 
 BAD = 1  # exit status: what was asked for wasn't done
 
@@ -43,7 +42,7 @@ def tls_of(words: argparse.Namespace) -> Tls | None:
 
 
 def log_to_stderr(level: str) -> None:
-    logging.basicConfig(stream=sys.stderr, level=level.upper(), format="%(asctime)s %(levelname)s %(message)s")
+    logs.to_stderr(level.upper())
 
 
 def add_log_level(to: argparse.ArgumentParser) -> None:
@@ -59,7 +58,7 @@ def ended(name: str, work: Callable[[], int | None]) -> int:
         return error.status if error.status > 0 else BAD
     except KemtruaError as error:
         print(f"{name}: {error}", file=sys.stderr)
-        return BAD
+        return error.status if isinstance(error, BadFolder) else BAD
     except BrokenPipeError:
         return BAD  # (whoever read the output has enough of it)
     except KeyboardInterrupt:

@@ -7,14 +7,14 @@ import sys
 import threading
 import time
 from collections.abc import Callable
-from functools import partial
 
 from .. import logs
 from ..address import Tls
 from ..certificates import DAY, warn_of
-from ..connection import ANSWER_WITHIN, Connection
+from ..connection import ANSWER_WITHIN
 from ..errors import BadSettings
 from ..guard import Guard
+from ..hubs import Hubs
 from ..names import escape
 from ..node import Node
 from ..notify import notify
@@ -40,13 +40,11 @@ def connector(settings: NodeSettings) -> Callable[[], Scheduler]:
     if settings.store is not None:
         store = Store(settings.store, settings.program)
         return lambda: store
-    address = settings.address
-    if address is None:
+    if not settings.addresses:
         raise BadSettings("a node has a hub or a store of its own")
-    if not address.path and settings.tls is None:
-        raise BadSettings(f"{address} wants TLS: the settings have no table [tls]")
-    within = min(ANSWER_WITHIN, (settings.check_in + MARGIN) / 1000)
-    return partial(Connection, address, settings.tls, within)
+    if settings.tls is None and (bare := [it for it in settings.addresses if not it.path]):
+        raise BadSettings(f"{bare[0]} wants TLS: the settings have no table [tls]")
+    return Hubs(settings.addresses, settings.tls, min(ANSWER_WITHIN, (settings.check_in + MARGIN) / 1000)).connect
 
 
 def spool_of(settings: NodeSettings) -> str | None:

@@ -34,6 +34,24 @@ def nodes(found: Iterable[Object]) -> str:
     return table(["NODE", "EPOCH", "STATE", "LAST CHECK-IN", "EACH", "RUNS", "OF", "CLOCK AHEAD"], lines)
 
 
+def team(told: Object, hubs: Sequence[Object]) -> str:
+    """Who leads, and a line for each hub."""
+    leads = f"{told['leader']} leads, in term {told['term']}" if "leader" in told else "no hub leads at this moment"
+    alarms = told.get("alarms")
+    alarm = f"; ALARM {' '.join(map(str, alarms))}" if isinstance(alarms, list) and alarms else ""
+    size, used = mebibytes(told["etcd_bytes"]), mebibytes(told["etcd_used"])
+    lines = [f"team {told['team']}: {leads}",
+             f"etcd has {told['places']} blocks of the stores {told.get('stores', '-')}; "
+             f"its database has {size} MiB, of which {used} are in use{alarm}"]
+    body = [[it["hub"], "leads" if it["leads"] else "stands by", it["behind"], it["version"], local_of(it["said"]), it["address"]]
+            for it in hubs]
+    return "\n".join([*lines, table(["HUB", "PART", "BLOCKS BEHIND", "VERSION", "SAID SO", "ADDRESS"], body)])
+
+
+def mebibytes(count: object) -> str:
+    return f"{count / 2**20:.1f}" if isinstance(count, int) else "-"
+
+
 def local_of(moment: object) -> str:
     return clock.local(moment if isinstance(moment, int) else None)
 

@@ -13,6 +13,7 @@ from typing import Protocol
 
 from .. import clock, rows
 from ..errors import BadLine, BadSettings, KemtruaError
+from ..folder import stores_in
 from ..history.questions import Object
 from ..history.recorder import vacuum_in
 from ..hub.telling import answers_in
@@ -49,7 +50,7 @@ class Folder:
         return answers_in(self._folder, {"do": do, **members})
 
     def listed(self) -> list[str]:
-        return call(self._program, self._folder, "list").splitlines()
+        return call(self._program, stores_in(self._folder), "list").splitlines()
 
 
 @contextmanager
@@ -249,8 +250,8 @@ def audit(given: Words) -> int:
     if given.json:
         print(_json(found))
         return 0
-    print(screen.table(["WHEN", "WHO", "LINE", "REPLY"], [[local_of(one["at"]), one["who"] or "(only the store knows)", one["line"], one["reply"]] for one in found])
-          if found else "nobody did anything")
+    lines = [[local_of(one["at"]), one["who"] or "(only the store knows)", *(screen.short(str(one[name])) for name in ("line", "reply"))] for one in found]
+    print(screen.table(["WHEN", "WHO", "LINE", "REPLY"], lines) if found else "nobody did anything")
     return 0
 
 

@@ -8,6 +8,7 @@ import unicodedata
 from collections.abc import Iterable, Sequence
 
 COLOURS = {"done": "32", "runs": "36", "ended": "33", "failed": "31", "lost": "31", "missing": "31"}
+CELL = 120  # characters that are shown of what somebody chose, where it may be long
 HIDDEN = ("Cc", "Cf", "Cs", "Co", "Zl", "Zp")  # categories of characters that move the cursor, turn the direction of text, or can't be seen
 
 
@@ -44,6 +45,11 @@ def table(head: Sequence[str], body: Iterable[Sequence[object]], coloured: int |
             padded[coloured] = f"\x1b[{COLOURS[line[coloured]]}m{padded[coloured]}\x1b[0m"
         lines.append("  ".join(padded).rstrip())
     return "\n".join(lines)
+
+
+def short(text: str, most: int = CELL) -> str:
+    """The text, or its beginning and how much more there is."""
+    return text if len(text) <= most else f"{text[:most]} .. {len(text) - most} more characters"
 
 
 def span(ms: object) -> str:

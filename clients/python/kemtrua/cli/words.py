@@ -8,7 +8,7 @@ from typing import Protocol
 
 from ..address import DEFAULT
 from ..from_quartz import command as from_quartz
-from . import calendars, common, ran, work
+from . import calendars, common, ran, stores, work
 
 DESCRIPTION = """\
 Asks a hub (--hub, or the variable KEMTRUA_HUB), or a store of this machine that no hub holds (--folder).
@@ -16,7 +16,8 @@ Asks a hub (--hub, or the variable KEMTRUA_HUB), or a store of this machine that
 A job or trigger is named as NAME, or GROUP/NAME. A moment is now, +5m, 2026-12-01T02:00 by the local clock, or ms since 1970.
 A span is 90s, 5m, 1h30m or 2d.
 
-Exit status: 0 where all was done, 1 where something was refused or is wrong, that of qz_sched where this ended."""
+Exit status: 0 where all was done, 1 where something was refused or is wrong, that of qz_sched where this ended, 5 or 6 where a folder
+can't be used."""
 
 LISTED = ("all", "jobs", "triggers", "nodes", "running")
 SHOWN = ("job", "trigger", "entry", "next")
@@ -31,9 +32,10 @@ class Adder(Protocol):
 def parser() -> argparse.ArgumentParser:
     made = common.parser("kemtrua", DESCRIPTION)
     whom = made.add_mutually_exclusive_group()
-    whom.add_argument("--hub", metavar="ADDRESS", default=os.environ.get("KEMTRUA_HUB", DEFAULT), help=f"unix:PATH or tls:HOST:PORT ({DEFAULT})")
+    whom.add_argument("--hub", metavar="ADDRESS", default=os.environ.get("KEMTRUA_HUB", DEFAULT),
+                      help=f"unix:PATH or tls:HOST:PORT; of several hubs all, with commas ({DEFAULT})")
     whom.add_argument("--folder", metavar="DIR", help="the folder of a store that no hub holds")
-    made.add_argument("--program", metavar="FILE", default="qz_sched", help="with --folder: the program (qz_sched)")
+    made.add_argument("--program", metavar="FILE", default="qz_sched", help="for --folder, backup and restore: the program (qz_sched)")
     made.add_argument("--within", metavar="SPAN", default="20s", help="how long the hub has for an answer (20s)")
     common.add_tls(made)
     commands = made.add_subparsers(metavar="COMMAND", required=True)
@@ -164,5 +166,15 @@ def _add_tending(command: Adder) -> None:
     it.add_argument("node")
     it = command("forget", work.forget, "take away the check-in of a node that is gone for good")
     it.add_argument("node")
+    it = command("team", stores.team, "show which of several hubs leads, how far the others are, and how much etcd has")
+    _add_json(it)
+    command("compact", stores.compact, "have the hub rewrite its stores, so that they have what there is and not how it came")
+    it = command("backup", stores.backup, "copy the hub's stores to a new folder, also while it works, and open the copy")
+    it.add_argument("target", metavar="FOLDER", help="it is made")
+    it = command("restore", stores.restore, "put a backup in place in --folder as the team's next generation; the hub must have ended")
+    it.add_argument("source", metavar="FOLDER", help="a backup, or what kemtrua receive made")
+    command("ship", stores.ship, "write what the hub's store has to standard output, as it comes, for kemtrua receive on a second machine")
+    it = command("receive", stores.receive, "keep what kemtrua ship writes, so that kemtrua restore can put it in place")
+    it.add_argument("target", metavar="FOLDER", help="it is made")
     it = command("clock", work.clock_, "show the hub's clock beside this machine's, or have the hub go on by its clock as it is")
     it.add_argument("word", nargs="?", choices=["accept"])

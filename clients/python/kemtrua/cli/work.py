@@ -8,11 +8,12 @@ from collections.abc import Callable, Iterator
 from contextlib import contextmanager
 
 from .. import clock, files, rows
-from ..address import Address
 from ..checking import Line
 from ..connection import Connection
 from ..errors import BadLine, BadSettings, HubRefused, KemtruaError, Refused
+from ..folder import held_stores
 from ..hub.rights import OPERATORS_NODE
+from ..hubs import Hubs, addresses_of
 from ..names import Key
 from ..program import call, wait_until_free
 from ..replies import Reply, read
@@ -30,7 +31,12 @@ def scheduler_of(given: Words) -> Connection | Store:
 
 
 def hub_of(given: Words) -> Connection:
-    return Connection(Address.parse(given.hub), common.tls_of(given), span(given.within) / 1000)
+    return Hubs(addresses_of(given.hub), common.tls_of(given), span(given.within) / 1000).connect()
+
+
+def any_hub_of(given: Words) -> Connection:
+    """The hub that leads, or where none does another one."""
+    return Hubs(addresses_of(given.hub), common.tls_of(given), span(given.within) / 1000).connect_to_any()
 
 
 def said(reply: Reply) -> int:
@@ -157,8 +163,9 @@ def _loads(given: Words) -> list[objects.Object]:
 
 def _listed(given: Words) -> list[str]:
     if given.folder is not None:
-        wait_until_free(given.folder, 1.0)
-        return call(given.program, given.folder, "list").splitlines()
+        with held_stores(given.folder, 1.0) as stores:
+            wait_until_free(stores, 1.0)
+            return call(given.program, stores, "list").splitlines()
     with hub_of(given) as hub:
         return hub.listed()
 

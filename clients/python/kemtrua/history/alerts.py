@@ -79,7 +79,7 @@ class Bell:
             self._failures = 0
             self._done(int(str(event["id"])))
             return self._alert.every
-        return min(FIRST_REST * 2 ** (self._failures - 1), LONGEST_REST)
+        return min(FIRST_REST * 2.0 ** (self._failures - 1), LONGEST_REST)
 
     def _done(self, last: int) -> None:
         """No event up to this one waits any more."""

@@ -2,6 +2,7 @@
 from __future__ import annotations
 
 import sqlite3
+from collections.abc import Iterable
 from dataclasses import dataclass, fields
 from operator import attrgetter
 
@@ -59,7 +60,12 @@ class Execution:
 _NAMES = [field.name for field in fields(Execution)]
 _VALUES = attrgetter(*_NAMES)
 COLUMNS = ["class" if name == "klass" else name for name in _NAMES]
-PUT = f"INSERT OR REPLACE INTO executions ({', '.join(COLUMNS)}) VALUES ({', '.join('?' * len(COLUMNS))})"
+PUT = f"INSERT OR REPLACE INTO executions ({', '.join(COLUMNS)}, changed) VALUES ({', '.join('?' * len(COLUMNS))}, ?)"
+
+
+def put(connection: sqlite3.Connection, rows: Iterable[Execution], changed: int = 0) -> None:
+    """Writes rows, as changed by the group of this number."""
+    connection.executemany(PUT, [(*row.values(), changed) for row in rows])
 
 
 def load(connection: sqlite3.Connection, generation: int, entry: int) -> Execution | None:

@@ -30,9 +30,13 @@ class Expecting:
             return
         self._looked = clock.uptime()
         try:
-            self._recorder.do(lambda it: [self._judge(it, one) for one in self._expects]).result()
+            self._recorder.do(self._judge_all).result()
         except (sqlite3.Error, NoHistory) as error:
             log.warning("what is expected couldn't be looked at: %s", error)
+
+    def _judge_all(self, writer: Writer) -> None:
+        for one in self._expects:
+            self._judge(writer, one)
 
     def _judge(self, writer: Writer, expected: Expectation) -> None:
         present = clock.now()
@@ -81,5 +85,3 @@ def deadlines(expected: Expectation, after: int, until: int) -> Iterator[tuple[i
 def _moment(expected: Expectation, ordinal: int) -> int:
     assert expected.by is not None
     return round(datetime.combine(datetime.fromordinal(ordinal), expected.by, expected.zone).timestamp() * 1000)
-
-

@@ -106,15 +106,13 @@ class Filling:
     def __init__(self, writer: Writer, copy: Copy):
         self._writer, self._copy, self._story = writer, copy, writer.story
 
-    def run(self, opening: int | None, closes: bool = False) -> None:
-        """With an opening of the store, the copy was made before anything was answered in it. With `closes` nothing more comes to the store."""
+    def run(self, closes: bool = False) -> None:
+        """With `closes` nothing more comes to the store."""
         writer = self._writer
         if writer.place.store != self._copy.name:
             writer.place = Place.read(writer.connection, writer.generation, self._copy.name)
         writer.lags = False
         self._fill()
-        if opening is not None:
-            writer.begin(opening)
         writer.place.closed = closes and writer.has_word
 
     def _fill(self) -> None:

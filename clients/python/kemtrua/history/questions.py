@@ -91,8 +91,9 @@ class Questions:
         terms: list[str] = ["1"]
         values: list[object] = []
         if by is not None:
-            terms.append("who IN (?, ?)")
-            values += [f"user {by}", f"certificate {by}"]
+            through = f"certificate {by}, through "  # (through a page in the browser)
+            terms.append("(who IN (?, ?) OR who >= ? AND who < ?)")
+            values += [f"user {by}", f"certificate {by}", through, through[:-1] + "!"]
         for term, value in (("at >= ?", since), ("id < ?", before)):
             if value is not None:
                 terms.append(term)

@@ -1,10 +1,10 @@
-"""The hub's side of the history: it is told what was answered, and never waits for the database."""
+"""What the process does that keeps a hub's history: it takes what it is told, and fills in what it wasn't told."""
 from __future__ import annotations
 
-import asyncio
 import json
 import os
 import sqlite3
+import threading
 from collections.abc import Callable
 from concurrent.futures import Future
 
@@ -18,26 +18,25 @@ from .places import unfinished
 from .reports import Report
 from .schema import FILE, NoHistory, opened
 from .settings import HistorySettings
-from .transactions import Transaction, is_transaction
 from .writer import Task, Told, Writer
 
 log = logs.logger("kemtrua.history")
 
-SETTLES_WITHIN = 30.0  # seconds that the database has to take all that was answered, before whoever waits for it goes on
+FILLS_WITHIN = 30.0  # seconds that a filling has, before it is said that it takes long
 FILL_AGAIN = 5.0  # seconds between two fillings, where something was passed over
 ENDS_WITHIN = 20.0  # seconds that the last group has
-STORE_BYTES = 2**29  # of a store file at most
-LONGEST_LINE = 8192  # characters of a client's line that are kept
+LONGEST_LINE = 65536  # characters of a client's line that are kept: the page in the browser reads definitions from them
 
 
 class Recorder:
-    """One for each hub. `opened` and `answered` are told all openings of the store, and all that it answered, in order."""
+    """One for each hub, in the process that keeps its history. `opened` and `tell` are told all openings of the store, and all that it
+    answered, in order."""
 
     def __init__(self, folder: str, program: str, settings: HistorySettings, generation: int):
         self.folder, self._program = folder, program
         self._writer = Writer(folder, generation, settings.days, settings.bytes)
         self._stores = ""
-        self._opening = self._offset = 0
+        self._copying = threading.Lock()  # so that stores are filled from in the order in which they were opened
         self._filled = 0.0
         remove_copies(folder)
         self._writer.start()
@@ -48,67 +47,69 @@ class Recorder:
 
     # -- what the store does
 
-    def opened(self, stores: str) -> None:
-        """The store was opened, and nothing was answered since. It copies the files, so it takes a moment."""
-        self._stores = stores
-        self._opening, self._offset = self._opening + 1, 0
-        number = self._opening
-        try:
+    def opened(self, stores: str, opening: int) -> Future[object]:
+        """The store was opened for the so-many-th time, and nothing was answered since. It copies the files, so it takes a moment. The
+        future says which number the last transaction had then."""
+        with self._copying:
+            self._stores = stores
             copy = Copy(stores, self._program, self.folder)
-        except OSError as error:
-            log.warning("the store can't be copied, so what the history doesn't know stays missing: %s", error)
-            return
-        self._writer.put(Task(lambda it: self._fill_rest(it, stores), is_sql=True))
-        self._put_filling(copy, number)
+            self._writer.put(Task(lambda it: self._fill_rest(it, stores), is_sql=True))
+            return self._fill(copy, lambda it: (opening, it.begin(opening)))
 
-    def answered(self, line: Line, reply: str, epoch: int | None) -> None:
-        if is_transaction(line, reply):
-            self._offset += 1
-            self._writer.put(Told(self._opening, self._offset, Transaction(None, clock.now(), line, reply, epoch)))
+    def resumed(self, stores: str, opening: int, base: int | None) -> None:
+        """This process took the place of one that ended. The last transaction before this opening had the number `base`, if that is
+        known."""
+        self._stores = stores
+        if base is not None:
+            self._writer.put(Task(lambda it: it.begin(opening, base)))
+        self.passed_over()
 
-    def said(self, who: str, line: Line, reply: str) -> None:
+    def tell(self, told: Told) -> None:
+        """A transaction that was answered."""
+        self._writer.tell(told)
+
+    def passed_over(self) -> None:
+        """Something was answered that wasn't told: it is to be filled in."""
+        self._writer.lags = True
+
+    def said(self, at: int, who: str, line: Line, reply: str) -> None:
         """A client's line, and what it was answered."""
-        at, text = clock.now(), json.dumps(line, separators=(",", ":"))[:LONGEST_LINE]
+        text = json.dumps(line, separators=(",", ":"))[:LONGEST_LINE]
         self._writer.put(Task(lambda it: it.story.take_said(at, who, text, reply)))
         if line["do"] == "trigger_now" and reply.startswith("refused"):
             job = f"{line.get('group', 'DEFAULT')}/{line['name']}"
             self._writer.put(Task(lambda it: it.story.take_refused(at, job, f"{who} couldn't fire it: {reply}")))
 
-    async def settled(self, closes: bool = False) -> bool:
-        """Waits until the database has all that was answered, with the store's own moments. Whether it has; with `closes` nothing more comes to this store."""
-        try:
-            copy = await asyncio.to_thread(Copy, self._stores, self._program, self.folder)
-            done = self._put_filling(copy, None, closes)
-            await asyncio.wait_for(asyncio.wrap_future(done), SETTLES_WITHIN)
-        except (KemtruaError, OSError, TimeoutError) as error:
-            log.warning("the history doesn't have all of the store yet: %s", str(error) or f"it takes more than {SETTLES_WITHIN:g} seconds")
-            return False
-        return not self._writer.lags
+    def settle(self, closes: bool = False) -> Future[object]:
+        """Has the database take all that was answered, with the store's own moments. The future says whether it has; with `closes` nothing
+        more comes to this store."""
+        with self._copying:
+            return self._fill(Copy(self._stores, self._program, self.folder), lambda it: not it.lags, closes)
 
-    async def catch_up(self) -> None:
+    def catch_up(self) -> None:
         """Fills in what was passed over. To be called from time to time."""
-        if self._writer.lags and clock.uptime() - self._filled >= FILL_AGAIN:
-            self._filled = clock.uptime()
-            await self.settled()
+        if self._stores and self._writer.lags and clock.uptime() - self._filled >= FILL_AGAIN:
+            try:
+                self.settle().result(FILLS_WITHIN)
+            except (KemtruaError, OSError, TimeoutError, sqlite3.Error) as error:
+                log.warning("what was passed over isn't filled in yet: %s", str(error) or f"it takes more than {FILLS_WITHIN:g} seconds")
             self._filled = clock.uptime()
 
-    def needed(self) -> set[str]:
-        """The folders of stores of which the database doesn't have all yet."""
-        done = self._writer.do(lambda it: unfinished(it.connection, it.generation), is_sql=True)
-        found = done.result(SETTLES_WITHIN)
-        assert isinstance(found, list)
-        return set(found)
-
-    def stores_used(self) -> dict[str, float]:
-        """How much of its bytes each store file has used, from 0 to 1."""
-        found = {name: os.path.join(self._stores, name) for name in STORE_FILES}
-        return {name: os.path.getsize(path) / STORE_BYTES for name, path in found.items() if os.path.exists(path)}
+    def needed(self) -> Future[object]:
+        """The names of the stores of which the database doesn't have all yet."""
+        return self._writer.do(lambda it: unfinished(it.connection, it.generation), is_sql=True)
 
     def end(self) -> None:
         self._writer.end(ENDS_WITHIN)
 
-    def _put_filling(self, copy: Copy, opening: int | None, closes: bool = False) -> Future[object]:
-        done: Future[object] = self._writer.do(lambda it: Filling(it, copy).run(opening, closes))
+    def _fill(self, copy: Copy, then: Callable[[Writer], object], closes: bool = False) -> Future[object]:
+        """Takes what a copy tells, and gives what comes of `then`."""
+
+        def work(it: Writer) -> object:
+            Filling(it, copy).run(closes)
+            return then(it)
+
+        done = self._writer.do(work)
         done.add_done_callback(lambda _: copy.close())
         return done
 
@@ -120,7 +121,7 @@ class Recorder:
             if name != os.path.basename(os.path.realpath(stores)) and all(os.path.exists(os.path.join(folder, it)) for it in STORE_FILES):
                 copy = Copy(folder, self._program, self.folder)
                 try:
-                    Filling(writer, copy).run(None, closes=True)
+                    Filling(writer, copy).run(closes=True)
                     writer.commit()
                 finally:
                     copy.close()
@@ -143,10 +144,9 @@ class Recorder:
 
         return self._writer.do(work, syncs=True, is_sql=True)
 
-    def load(self, node: str, workers: int, runs: int, skew: int) -> None:
-        at = clock.now()
-        self._writer.put(Task(lambda it: it.connection.execute("INSERT OR REPLACE INTO nodes VALUES (?, ?, ?, ?, ?)", (node, at, workers, runs, skew)),
-                              is_sql=True))
+    def load(self, at: int, node: str, workers: int, runs: int, skew: int) -> None:
+        row = (node, at, workers, runs, skew)
+        self._writer.put(Task(lambda it: it.connection.execute("INSERT OR REPLACE INTO nodes VALUES (?, ?, ?, ?, ?)", row), is_sql=True))
 
     # -- for those who look after it
 
@@ -154,16 +154,15 @@ class Recorder:
         """Has something of the database's own done in the writer's thread."""
         return self._writer.do(work, is_sql=True)
 
-    def event(self, kind: str, text: str, job: str | None = None, entry: int | None = None, generation: int | None = None, at: int | None = None) -> None:
-        present = clock.now() if at is None else at
-        self._writer.put(Task(lambda it: it.story.take_event(present, kind, text, job, entry, generation)))
+    def event(self, at: int, kind: str, text: str) -> None:
+        self._writer.put(Task(lambda it: it.story.take_event(at, kind, text)))
 
-    def vacuum(self) -> tuple[int, int]:
-        """Gives the room that nothing uses back to the disk. The bytes before and after. It takes as long as it takes."""
+    def vacuum(self) -> Future[object]:
+        """Gives the room that nothing uses back to the disk. The future gives the bytes before and after."""
         path = os.path.join(self.folder, FILE)
-        before = keeping.size_of(path)
 
-        def work(it: Writer) -> None:
+        def work(it: Writer) -> tuple[int, int]:
+            before = keeping.size_of(path)
             it.connection.execute("COMMIT")
             try:
                 while keeping.delete_old(it.connection, clock.now(), it.days, it.most):
@@ -171,9 +170,15 @@ class Recorder:
                 keeping.vacuum(it.connection)
             finally:
                 it.connection.execute("BEGIN IMMEDIATE")
+            return before, keeping.size_of(path)
 
-        self._writer.do(work, is_sql=True).result()
-        return before, keeping.size_of(path)
+        return self._writer.do(work, is_sql=True)
+
+
+# What a hub may ask for.
+CALLS: dict[str, Callable[..., object]] = {
+    name: getattr(Recorder, name) for name in
+    ("opened", "resumed", "passed_over", "said", "settle", "needed", "report", "piece", "load", "event", "vacuum")}
 
 
 def vacuum_in(folder: str) -> tuple[int, int]:

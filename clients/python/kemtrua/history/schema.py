@@ -15,7 +15,8 @@ log = logs.logger("kemtrua.history")
 
 FILE = "history.db"
 SPOILED = ".spoiled"  # the ending of a database that was moved away
-FORMAT = 1
+FORMAT = 2
+READABLE = (1, 2)  # formats that are read; a hub brings the first one up to date
 
 TABLES = """
 CREATE TABLE meta (name TEXT PRIMARY KEY, value TEXT NOT NULL) WITHOUT ROWID;
@@ -31,11 +32,15 @@ CREATE TABLE executions (
     scheduled INTEGER, fired INTEGER, ended INTEGER, ended_by INTEGER,  -- the number of the transaction that ended it
     refires INTEGER NOT NULL DEFAULT 0, code TEXT, recovers INTEGER, state TEXT NOT NULL,
     ok INTEGER, status INTEGER, signal INTEGER, ms INTEGER, cpu INTEGER, peak INTEGER, why TEXT, most INTEGER, told INTEGER,
+    changed INTEGER NOT NULL DEFAULT 0,  -- the number of the group that wrote it last: for standbys
     PRIMARY KEY (generation, entry)) WITHOUT ROWID;
+CREATE INDEX by_change ON executions (changed);
 CREATE INDEX by_fired ON executions (fired);
 CREATE INDEX by_job ON executions (job, fired);
 CREATE INDEX by_node ON executions (node, fired);
 CREATE INDEX by_trouble ON executions (fired) WHERE state IN ('failed', 'lost', 'missing');
+CREATE INDEX by_trouble_of_job ON executions (job, fired) WHERE state IN ('failed', 'lost', 'missing');
+CREATE INDEX by_trouble_of_node ON executions (node, fired) WHERE state IN ('failed', 'lost', 'missing');
 CREATE INDEX by_open ON executions (state) WHERE state IN ('acquired', 'runs');
 CREATE TABLE outputs (generation INTEGER NOT NULL, entry INTEGER NOT NULL, end INTEGER NOT NULL, data BLOB NOT NULL, at INTEGER NOT NULL,
     PRIMARY KEY (generation, entry));
@@ -55,6 +60,12 @@ CREATE INDEX audit_by ON audit (who, at);
 CREATE TABLE nodes (node TEXT PRIMARY KEY, at INTEGER NOT NULL, workers INTEGER, runs INTEGER, skew INTEGER) WITHOUT ROWID;
 CREATE TABLE expected (name TEXT PRIMARY KEY, looked INTEGER NOT NULL) WITHOUT ROWID;
 """
+
+TO_TWO = """
+ALTER TABLE executions ADD COLUMN changed INTEGER NOT NULL DEFAULT 0;
+CREATE INDEX by_change ON executions (changed);
+"""
+IDENTITY = "INSERT INTO meta VALUES ('id', lower(hex(randomblob(16))));"  # so that a standby sees where the database was made anew
 
 # What the state of an execution says. `ended`: the store has its end, and no node told how it went. `missing`: its end isn't known.
 STATES = ("acquired", "runs", "done", "failed", "ended", "lost", "missing")
@@ -82,15 +93,26 @@ def _opened(path: str, make: bool) -> sqlite3.Connection:
     try:
         if make and not os.path.exists(path):
             _make(path)
-        connection = sqlite3.connect(f"file:{_escaped(path)}?mode={'rw' if make else 'ro'}", uri=True, isolation_level=None, check_same_thread=False,
-                                     timeout=30.0 if make else 5.0)
-        connection.row_factory = sqlite3.Row
-        (form,) = connection.execute("PRAGMA user_version").fetchone()
-        connection.execute("SELECT count(*) FROM sqlite_master").fetchone()
+        try:
+            return _connected(path, "mode=rw" if make else "mode=ro", 30.0 if make else 5.0)
+        except sqlite3.OperationalError:
+            # (SQLite makes files beside one that it reads. Whoever may not do that reads it as it is, where no hub works on it.)
+            if make or os.path.exists(f"{path}-wal") or not os.path.exists(path):
+                raise
+            return _connected(path, "mode=ro&immutable=1", 5.0)
     except sqlite3.Error as error:
         raise NoHistory(f"{path} can't be opened: {error}") from error
-    if form != FORMAT:
+
+
+def _connected(path: str, how: str, timeout: float) -> sqlite3.Connection:
+    connection = sqlite3.connect(f"file:{_escaped(path)}?{how}", uri=True, isolation_level=None, check_same_thread=False, timeout=timeout)
+    connection.row_factory = sqlite3.Row
+    (form,) = connection.execute("PRAGMA user_version").fetchone()
+    connection.execute("SELECT count(*) FROM sqlite_master").fetchone()
+    if form not in READABLE:
         raise NoHistory(f"{path} has the format {form}, and this version of kemtrua knows {FORMAT}: use the version that made it, or move it away")
+    if form != FORMAT and how == "mode=rw":
+        connection.executescript(f"BEGIN IMMEDIATE; {TO_TWO} {IDENTITY} PRAGMA user_version={FORMAT}; COMMIT;")
     return connection
 
 
@@ -102,7 +124,7 @@ def _make(path: str) -> None:
             os.remove(name)
     connection = sqlite3.connect(new, isolation_level=None)
     connection.execute("PRAGMA auto_vacuum=INCREMENTAL")
-    connection.executescript(f"BEGIN; {TABLES} PRAGMA user_version={FORMAT}; COMMIT;")
+    connection.executescript(f"BEGIN; {TABLES} {IDENTITY} PRAGMA user_version={FORMAT}; COMMIT;")
     connection.execute("PRAGMA journal_mode=WAL")
     connection.close()
     os.replace(new, path)

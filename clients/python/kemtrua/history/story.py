@@ -7,7 +7,7 @@ from collections.abc import Callable, Iterable
 from ..checking import Line
 from ..names import RECOVERIES, Key, unescape
 from ..rows import EntryRow, JobRow, Row, TriggerRow
-from .executions import PUT, Execution, load, load_open
+from .executions import Execution, load, load_open, put
 from .reports import Report
 from .transactions import OF_CLIENTS, Transaction
 
@@ -26,6 +26,7 @@ class Story:
         self._triggers: dict[str, str] = dict(connection.execute("SELECT key, job FROM triggers").fetchall())
         self._jobs: dict[str, str] = dict(connection.execute("SELECT key, class FROM jobs").fetchall())
         (self._highest,) = connection.execute("SELECT coalesce(max(entry), 0) FROM executions WHERE generation = ?", (generation,)).fetchone()
+        (self._group,) = connection.execute("SELECT coalesce(max(changed), 0) + 1 FROM executions").fetchone()
         self._forget_changes()
 
     def _forget_changes(self) -> None:
@@ -158,7 +159,7 @@ class Story:
             row.ended, row.ended_by, row.code = it.at, it.number, str(it.line.get("code", "NOOP"))
             self.open.pop(entry, None)
             if row.code in ERRORS:
-                what = "its trigger" if row.code == ERRORS[0] else "all triggers of the job"
+                what = "its trigger" if row.code == ERRORS[0] else "each trigger of the job"
                 self._event(it.at, "error", row, f"{what} got the state ERROR, and fires no more until somebody says `kemtrua reset`")
         self._settle(row)
 
@@ -263,7 +264,7 @@ class Story:
 
     def take_restored(self) -> None:
         """The store was restored from a backup as another generation: how what ran before ended isn't known."""
-        self._connection.execute("UPDATE executions SET state = 'missing' WHERE state = 'runs' AND generation < ?", (self.generation,))
+        self._connection.execute("UPDATE executions SET state = 'missing', changed = ? WHERE state = 'runs' AND generation < ?", (self._group, self.generation))
         self._connection.execute("DELETE FROM executions WHERE state = 'acquired' AND generation < ?", (self.generation,))
 
     def _miss(self, row: Execution) -> None:
@@ -305,9 +306,10 @@ class Story:
 
     def write_now(self) -> None:
         """Writes the executions that changed, so that a question within the same transaction finds them."""
-        self._connection.executemany(PUT, [row.values() for row in self._changed.values() if row is not None])
+        put(self._connection, (row for row in self._changed.values() if row is not None), self._group)
 
     def written(self) -> None:
+        self._group += 1
         self._forget_changes()
 
 

@@ -19,9 +19,12 @@ class NotTold(KemtruaError):
     """The program's history couldn't be read."""
 
 
-@dataclass(frozen=True, slots=True)
+@dataclass(slots=True)
 class Transaction:
-    """A step that was done: its number in the store, if that is known, and its moment, which is the hub's clock's where it isn't exact."""
+    """A step that was done: its number in the store, if that is known, and its moment, which is the hub's clock's where it isn't exact.
+
+    One is made of each answer, so it isn't frozen: that would take three times as long.
+    """
 
     number: int | None
     at: int
@@ -35,9 +38,9 @@ class Transaction:
         return str(self.line["do"])
 
 
-def is_transaction(line: Line, reply: str) -> bool:
-    """Whether a line that was answered so is one of the store's transactions."""
-    return line["do"] in STEPS and not reply.startswith(NOT_DONE)
+def learns(reply: str) -> bool:
+    """Whether anything is learnt of a transaction that was answered so, beside that it was done."""
+    return reply not in ("acquired none", "misfired none")
 
 
 def told(data: bytes) -> Transaction:

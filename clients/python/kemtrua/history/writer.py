@@ -1,6 +1,7 @@
 """The thread that writes the database: what came in since it looked last is one group, and one transaction of the database."""
 from __future__ import annotations
 
+import json
 import os
 import sqlite3
 import threading
@@ -16,7 +17,7 @@ from . import keeping
 from .places import Place
 from .schema import FILE, NoHistory, opened
 from .story import Story
-from .transactions import Transaction
+from .transactions import Transaction, learns
 
 log = logs.logger("kemtrua.history")
 
@@ -39,13 +40,9 @@ class Task:
     is_sql: bool = False  # it is of the database alone, so it is done again with a group that is written again
 
 
-@dataclass(slots=True)
-class Told:
-    """A transaction that was answered: the so-many-th since this opening of the store."""
-
-    opening: int
-    offset: int
-    transaction: Transaction
+# A transaction that was answered: since which opening of the store, the so-many-th since then, when, the line's bytes, the reply, and the epoch of the node. (It is
+# made at each answer, so it is no more than that.)
+Told = tuple[int, int, int, bytes, str, "int | None"]
 
 
 class Writer:
@@ -70,10 +67,13 @@ class Writer:
     def start(self) -> None:
         self._thread.start()
 
-    def put(self, item: Task | Told) -> None:
-        if isinstance(item, Told) and len(self._items) >= MOST:
+    def tell(self, told: Told) -> None:
+        if len(self._items) >= MOST:
             self.lags = True
-            return
+        else:
+            self.put(told)
+
+    def put(self, item: Task | Told) -> None:
         self._items.append(item)
         if len(self._items) == 1:
             with self._changed:
@@ -184,7 +184,7 @@ class Writer:
             self.connection.execute("BEGIN IMMEDIATE")
 
     def _do(self, item: Task | Told) -> object:
-        if isinstance(item, Told):
+        if isinstance(item, tuple):
             self._learn(item)
             return None
         try:
@@ -198,19 +198,24 @@ class Writer:
 
     def _learn(self, item: Told) -> None:
         """A transaction that was answered. It counts where it follows on the last one; a hole is filled in later."""
-        number = self._base + item.offset
-        if item.opening != self._opening or number <= self.place.last:
+        opening, offset, at, data, reply, epoch = item
+        number = self._base + offset
+        if opening != self._opening:
+            self.lags = True
+            return
+        if number <= self.place.last:
             return
         if number > self.place.last + 1 and self.has_word:
             self.lags = True
             return
-        it = item.transaction
-        self.story.apply(Transaction(number, it.at, it.line, it.reply, it.epoch))
+        if learns(reply):
+            self.story.apply(Transaction(number, at, json.loads(data), reply, epoch))
         self.place.last = number
 
-    def begin(self, opening: int) -> None:
-        """The store was opened, and all that it had then is known."""
-        self._opening, self._base = opening, self.place.last
+    def begin(self, opening: int, base: int | None = None) -> int:
+        """The store was opened: then its last transaction had the number `base`, or the one up to which all is known. Gives that number."""
+        self._opening, self._base = opening, self.place.last if base is None else base
+        return self._base
 
     # -- age and room
 

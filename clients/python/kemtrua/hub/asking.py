@@ -10,15 +10,17 @@ import os
 from collections import deque
 from collections.abc import Callable
 from dataclasses import dataclass
+from typing import Protocol
 
-from .. import clock, logs
+from .. import clock, hooks, logs
 from ..checking import Line, bytes_of
-from ..errors import BadLine, KemtruaError, ProgramEnded, Unanswered
-from ..history.recorder import Recorder
+from ..errors import BadLine, HubRefused, KemtruaError, NotFitting, ProgramEnded, Unanswered
+from ..history.apart import Apart
 from ..ledger import Ledger
 from ..patience import STALL
-from ..program import Gone, Program, call, ended, make_store, opened, wait_until_free
+from ..program import Gone, Program, call, ended, opened, wait_until_free
 from ..store import LINES_OF_A_CALL, QUICK_ENDS, REOPENED, WAKING
+from .figures import Figures
 
 log = logs.logger("kemtrua.hub")
 
@@ -26,6 +28,7 @@ BOUND = 64  # lines that the program has and hasn't answered
 LOCK_WITHIN = 20.0  # seconds that another program has to leave the store
 
 Taken = Callable[["str | KemtruaError"], None]
+Answered = list[tuple["Question", str, "int | None"]]  # what was answered together, each with the epoch that its node held then
 
 
 @dataclass(slots=True)
@@ -35,6 +38,7 @@ class Question:
     line: Line
     data: bytes
     take: Taken
+    since: float = 0.0  # the uptime at which the program got it
 
 
 class Turn:
@@ -59,11 +63,33 @@ class Events:
     doubt: Callable[[], KemtruaError | None]
 
 
-class Asking:
-    """Keeps one `qz_sched script` open on a folder. Where that ends for a reason that passes, the store is opened again."""
+class Holding(Protocol):
+    """Whoever holds answers of a hub of several, until all others can know what came of them."""
 
-    def __init__(self, folder: str, program: str, events: Events):
-        self.folder, self.program, self.ledger = folder, program, Ledger()
+    def hold(self, release: Callable[[], None], drop: Callable[[KemtruaError], None]) -> None:
+        """Calls `release` then, in the order of these calls; or `drop`, where that never comes."""
+
+    def doubt(self) -> KemtruaError | None:
+        """Why nothing is asked of the store."""
+
+    async def settled(self) -> None:
+        """Waits until all that the program has done by now is known so. Raises Unanswered."""
+
+    async def change(self, stores: str) -> None:
+        """Other stores take the place of these."""
+
+    def figures(self) -> dict[str, object]:
+        """What is counted of it, for metrics."""
+
+
+class Asking:
+    """Keeps one `qz_sched script` open on a folder. Where that ends for a reason that passes, the store is opened again.
+
+    With `holding`, what the program answers is held until that lets it go.
+    """
+
+    def __init__(self, folder: str, program: str, events: Events, holding: Holding | None = None):
+        self.folder, self.program, self.ledger, self.holding = folder, program, Ledger(), holding
         self._events = events
         self._turns: deque[Turn] = deque()
         self._sent: deque[Question] = deque()
@@ -78,10 +104,9 @@ class Asking:
         self._let_stay: Program | None = None  # one that ends
         self._is_to_pump = False
         self._listed: list[str] | None = None
-        self.recorder: Recorder | None = None  # who is told all that is answered
-
-    def make(self) -> None:
-        make_store(self.program, self.folder)
+        self._quiet: asyncio.Future[None] | None = None  # whoever waits until no line is in flight; none is handed on meanwhile
+        self.recorder: Apart | None = None  # who is told all that is answered
+        self.figures = Figures()
 
     async def open(self) -> None:
         """Opens the store. Raises what keeps it from that."""
@@ -131,10 +156,87 @@ class Asking:
             await asyncio.wait([self._opening])
         running = self._let_go()
         self._refuse_all(self._broken)
-        await self._settle()
+        await self.settle()
         if running is not None:
             status, said = await asyncio.to_thread(running.end)
             log.info("qz_sched ended with status %d %s", status, said)
+
+    async def change(self, make: Callable[[], str]) -> None:
+        """Lets what is in flight end, ends the program, has `make` say in which folder the stores are from now on, and opens them there.
+
+        Lines wait meanwhile, and the nodes for which a connection speaks hold their epochs afterwards. What `make` raises is raised
+        once the stores are open again where they were.
+        """
+        done: asyncio.Future[None] = self._loop.create_future()
+        await self.settle()  # (so that little is left to be settled in the pause)
+        try:
+            while not await self._is_quiet():
+                pass
+            await self.shown()
+            self._put_off_recoveries()
+            self._start(self._changed(make, done))
+        finally:
+            self._quiet = None
+            self._pump_soon()
+        await done
+
+    async def shown(self) -> None:
+        """Waits until whatever the program has done by now may be shown. Raises Unanswered."""
+        if self.holding is not None:
+            await self.holding.settled()
+
+    async def _is_quiet(self) -> bool:
+        """Waits for the answers in flight, and for an opening. Whether the program runs then and has nothing to answer."""
+        if self._opening is not None and not self._opening.done():
+            await asyncio.wait([self._opening])
+        if self._broken is not None:
+            raise self._broken
+        self._quiet = self._loop.create_future()
+        if self._sent:
+            await self._quiet
+        return self._running is not None and not self._sent and (self._opening is None or self._opening.done())
+
+    def _put_off_recoveries(self) -> None:
+        """A node that was late before a pause has time to check in after it."""
+        for turn in list(self._turns):
+            for question in [it for it in turn.lines if it.line["do"] == "recover"]:
+                turn.lines.remove(question)
+                question.take(HubRefused("wait", "the stores are about to be opened anew: ask again later"))
+            if not turn.lines:
+                self._turns.remove(turn)
+        self._events.answered()
+
+    def _tell_quiet(self) -> None:
+        if self._quiet is not None and not self._sent and not self._quiet.done():
+            self._quiet.set_result(None)
+
+    async def _changed(self, make: Callable[[], str], done: asyncio.Future[None]) -> None:
+        assert self._let_stay is not None
+        error: KemtruaError | None = None
+        await self.settle(closes=True)
+        status, said = await asyncio.to_thread(self._let_stay.end)
+        if status:
+            error = ProgramEnded(status, said)
+            log.error("qz_sched ended with status %d: %s", status, said or "it said nothing")
+        else:
+            try:
+                self.folder = await asyncio.to_thread(make)
+            except KemtruaError as failure:
+                error = failure
+        try:
+            if error is None and self.holding is not None:
+                await self.holding.change(self.folder)
+        except KemtruaError as failure:
+            self._give_up(failure)
+        if status > 0 and status not in REOPENED:
+            self._give_up(ProgramEnded(status, said))
+        elif self._broken is None:
+            await self._open_again()
+        error = self._broken or error
+        if error is not None and not done.done():
+            done.set_exception(error)
+        elif not done.done():
+            done.set_result(None)
 
     # -- to the program
 
@@ -146,13 +248,16 @@ class Asking:
 
     def _pump(self) -> None:
         self._is_to_pump = False
+        if self._quiet is not None:
+            self._tell_quiet()
+            return
         error = self._broken or (self._events.doubt() if self._turns else None)
         if error is not None:
             self._refuse_all(error, self._broken is not None)
             return
         if self._running is None or not self._turns:
             return
-        pieces = []
+        pieces, present = [], clock.uptime()
         while self._turns and len(self._sent) < BOUND:
             if self._lines >= LINES_OF_A_CALL:
                 self._end_call()
@@ -162,7 +267,8 @@ class Asking:
             if turn.lines:
                 self._turns.append(turn)
             if not self._sent:
-                self._heard = clock.uptime()
+                self._heard = present
+            question.since = present
             self._sent.append(question)
             self._lines += 1
             pieces.append(question.data)
@@ -206,23 +312,46 @@ class Asking:
         if present - since > STALL:
             self._events.stalled(present - since)
         *replies, self._out = (self._out + data).split(b"\n")
-        wakes = False
+        answered: Answered = []
         for reply in replies:
             question = self._sent.popleft()
+            self.figures.answered(present - question.since)
             text = reply.decode()
             self.ledger.learn(question.line, text)
+            answered.append((question, text, self.ledger.held.get(str(question.line.get("node")))))
+        if self.holding is None:
+            self._tell(answered)
+        else:
+            self._hold(answered)
+        if self._lines >= LINES_OF_A_CALL and not self._sent:
+            self._end_call()
+        else:
+            self._pump()
+
+    def _hold(self, answered: Answered) -> None:
+        assert self.holding is not None
+        if hooks.asked("shows_first"):
+            self._tell([it for it in answered if str(it[0].line["do"]).startswith("show")])
+            answered = [it for it in answered if not str(it[0].line["do"]).startswith("show")]
+        self.holding.hold(lambda: self._tell(answered), lambda error: self._drop(answered, error))
+
+    def _tell(self, answered: Answered) -> None:
+        """Gives the answers to those who asked, and wakes whom they concern."""
+        wakes = False
+        for question, text, epoch in answered:
             if self.recorder is not None:
-                self.recorder.answered(question.line, text, self.ledger.held.get(str(question.line.get("node"))))
+                self.recorder.answered(question.line, question.data, text, epoch)
             if question.line["do"] in WAKING and not text.startswith(("refused", "stopped", "closed")):
                 wakes = True
             question.take(text)
         if wakes:
             self._events.woken()
         self._events.answered()
-        if self._lines >= LINES_OF_A_CALL and not self._sent:
-            self._end_call()
-        else:
-            self._pump()
+
+    def _drop(self, answered: Answered, error: KemtruaError) -> None:
+        for question, _, _ in answered:
+            question.take(error)
+        self._events.answered()
 
     # -- where a call of the program ends
 
@@ -264,7 +393,7 @@ class Asking:
 
     async def _next_call(self) -> None:
         assert self._let_stay is not None
-        await self._settle()
+        await self.settle()
         status, said = await asyncio.to_thread(self._let_stay.end)
         log.info("opening the store again after %d lines (status %d %s)", self._lines, status, said)
         if status:
@@ -272,10 +401,11 @@ class Asking:
         else:
             await self._open_again()
 
-    async def _settle(self) -> None:
-        """A call may make a snapshot at its end, and the store's history begins behind that: so the recorder has to have all that was answered."""
+    async def settle(self, closes: bool = False) -> None:
+        """Waits until the recorder has all that was answered: the store's history begins behind its last snapshot, which may be made next. With `closes`
+        other stores take the place of these."""
         if self.recorder is not None:
-            await self.recorder.settled()
+            await self.recorder.settled(closes)
 
     async def _open_again(self) -> None:
         begun = clock.uptime()
@@ -307,10 +437,23 @@ class Asking:
     def _opened(self) -> tuple[Ledger, Program]:
         wait_until_free(self.folder, LOCK_WITHIN)
         listed = call(self.program, self.folder, "list").splitlines()
+        running = opened(self.program, self.folder)
+        if self._listed is None:
+            self._see_that_fits(running)
         self._listed = listed if self._listed is None else []
         if self.recorder is not None:
             self.recorder.opened(self.folder)
-        return Ledger(listed), opened(self.program, self.folder)
+        return Ledger(listed), running
+
+    def _see_that_fits(self, running: Program) -> None:
+        """Raises where the program hasn't the lines that a hub needs."""
+        try:
+            running.ask(bytes_of({"do": "show_room"}))
+        except Gone:
+            status, said = running.end()
+            if status != 2:
+                raise ended(self.folder, status, said) from None
+            raise NotFitting(f"the program {self.program} is too old for this hub: it doesn't know the line show_room; install the one of this version") from None
 
     def _take_sent(self) -> list[Question]:
         sent = list(self._sent)
@@ -325,6 +468,7 @@ class Asking:
     def _refuse_all(self, error: KemtruaError, those_sent: bool = True) -> None:
         for question in self._take_sent() if those_sent else ():
             question.take(error)
+        self._tell_quiet()
         while self._turns:
             turn = self._turns.popleft()
             while turn.lines:

@@ -3,30 +3,49 @@ from __future__ import annotations
 
 import asyncio
 from collections.abc import Awaitable, Callable
+from dataclasses import dataclass
 
-from .. import __version__, clock, forms, logs, names
+from .. import __version__, clock, forms, logs, names, values
 from ..checking import Line, check, value_of
+from ..compaction import Compacted
 from ..errors import BadLine, HubRefused, KemtruaError, ProgramEnded, Unanswered
 from ..ledger import DEFAULT_INTERVAL
 from ..patience import Patience
+from ..team import Team
+from ..values import whole
+from ..versions import age_of
 from . import telling
-from .asking import Asking
+from .asking import Asking, Turn
 from .listing import Listing
 from .rights import Rights
 from .speakers import Speakers
 from .timekeeping import Timekeeping
+from .turns import Turns, due_of
 from .visitor import Slot, Visitor
 
 log = logs.logger("kemtrua.hub")
 
 PROTOCOL = 1
 OWN_LINES: dict[str, frozenset[str]] = {  # of the hub, with the members that they may have
-    "hello": frozenset({"protocol"}), "clock": frozenset({"accept"}), "members": frozenset(), "held": frozenset({"node"}), "list": frozenset(),
-    "watch": frozenset()}
-KEPT_FROM_CONNECTIONS = {"restart": "it would take every node's epoch", "stop": "the hub sends it when a connection breaks"}
-OPERATORS_LINES = frozenset({*forms.CLIENT_LINES, "show_job", "show_trigger"})
+    "hello": frozenset({"protocol", "version"}), "clock": frozenset({"accept"}), "members": frozenset(), "held": frozenset({"node"}), "list": frozenset(),
+    "watch": frozenset({"ahead"}), "where": frozenset(), "compact": frozenset(), "for": frozenset({"name"}), "figures": frozenset(),
+    "team": frozenset()}
+KEPT_FROM_CONNECTIONS = {"restart": "it would take every node's epoch", "stop": "the hub sends it when a connection breaks",
+                         "checkpoint": "the hub sends it when a snapshot is due"}
+OPERATORS_OWN = ("list", "where", "compact", "figures", "team")
+OPERATORS_LINES = frozenset({*forms.CLIENT_LINES, "show_job", "show_trigger", "show_room"})
 OF_CLIENTS = frozenset({*forms.CLIENT_LINES, "recover", "forget"})  # which are kept with who said them, where an operator did
+_AHEAD = whole(0, 2**53)
 CHANGING = ("join", "resume", "leave")  # after them the connection speaks for another node
+
+
+@dataclass(frozen=True)
+class Home:
+    """The hub's folder, its team, and who tends its stores."""
+
+    folder: str
+    team: Team
+    compact: Callable[[str], Awaitable[Compacted]]
 
 
 class Lines:
@@ -34,14 +53,19 @@ class Lines:
 
     def __init__(self, asking: Asking, rights: Rights, failed: Callable[[KemtruaError], None]):
         self._asking, self._rights, self._failed = asking, rights, failed
-        self._listing = Listing(asking.folder, asking.program)
+        self._listing = Listing(lambda: asking.folder, asking.program)
+        self.home: Home | None = None  # once the folder is open
         self._tasks: set[asyncio.Task[None]] = set()
         self._touched: set[Visitor] = set()
         self._told: str | None = None  # the doubt that was logged last
         self.telling: telling.Telling | None = None  # where the hub keeps a history
+        self.connections: Callable[[], int] = lambda: 0  # how many there are
+        self.team: Callable[[], Awaitable[bytes]] | None = None  # who tells of the other hubs, where there are some
         self.speakers = Speakers()
         self.patience = Patience()
         self.timekeeping = Timekeeping()
+        own = Turn()
+        self.turns = Turns(lambda take: asking.ask(own, {"do": "show_next"}, take), lambda: asking.ledger.threshold)
 
     def said(self, visitor: Visitor, data: bytes) -> None:
         slot = visitor.slot()
@@ -54,6 +78,7 @@ class Lines:
         """A connection broke: its node may have died. Its epoch and its executions stay, until it resumes or is recovered."""
         node, visitor.node = visitor.node, None
         self.speakers.drop_all(visitor)
+        self.turns.gone(visitor)
         if node is not None:
             log.warning("the connection of %s broke", node)
             self._do(self._stop(node))
@@ -67,6 +92,8 @@ class Lines:
 
     def doubt(self) -> KemtruaError | None:
         """Why the program isn't asked, where the hub's clock may be wrong."""
+        if self._asking.holding is not None and (held := self._asking.holding.doubt()) is not None:
+            return held
         if self.timekeeping.look():
             return None
         doubt = f"{self.timekeeping.doubt}: nothing is asked of the store until somebody looks at it and says `kemtrua clock accept`"
@@ -108,7 +135,9 @@ class Lines:
 
         async def answer() -> None:
             try:
-                visitor.answer(slot, await work)
+                said = await work
+                await self._asking.shown()
+                visitor.answer(slot, said)
             except KemtruaError as error:
                 visitor.answer(slot, self._words(error))
             visitor.is_busy = False
@@ -157,6 +186,8 @@ class Lines:
             self._may_recover(str(line["failed"]))
         elif do == "show_next":
             visitor.asleep, visitor.next_known = True, None  # (what changes from here on wakes it)
+        if do in ("acquire", "misfires"):
+            self.turns.asks(visitor)
         if do in CHANGING:
             visitor.is_busy = True
 
@@ -165,9 +196,12 @@ class Lines:
                 visitor.is_busy = False
             elif do == "acquire":
                 visitor.acquiring -= int(line["max"])  # type: ignore[call-overload]
+                self.turns.acquired(visitor, isinstance(said, str) and said.startswith("acquired") and said != "acquired none")
+            elif do == "misfires":
+                self.turns.handled(visitor, said != "misfired none")
             answered = self._noted(visitor, line, said) if isinstance(said, str) else said
             if self.telling is not None and do in OF_CLIENTS and self._rights.is_operator(visitor.who):
-                self.telling.recorder.said(visitor.who.in_full(), line, answered if isinstance(answered, str) else self._words(answered))
+                self.telling.recorder.said(visitor.in_full(), line, answered if isinstance(answered, str) else self._words(answered))
             self._answer(visitor, slot, answered)
 
         self._asking.ask(visitor.turn, line, take)
@@ -175,14 +209,17 @@ class Lines:
     def _noted(self, visitor: Visitor, line: Line, reply: str) -> str | KemtruaError:
         """What a reply means for the connection, and what of it is answered."""
         do = line["do"]
-        if do == "show_next":
-            if visitor.next_known is None and reply != "next none":
-                visitor.next_known = int(reply.split()[1])
+        if do == "show_next" and reply.startswith("next"):
+            due = due_of(reply)
+            visitor.next_known = due if visitor.next_known is None else visitor.next_known
+            if visitor.takes_turns and visitor.node is not None:
+                self.turns.slept(visitor, due)
         elif do == "join":
             self._joined(visitor, str(line["node"]), reply)
         elif do == "leave" and reply == "ok":
             log.info("%s leaves", visitor)
             self.speakers.drop(str(line["node"]), visitor)
+            self.turns.gone(visitor)
             visitor.node = None
         elif do == "recover" and reply.startswith("recovered"):
             log.warning("%s takes %s for failed: %s", visitor, line["failed"], reply)
@@ -291,24 +328,56 @@ class Lines:
             allowed = ", ".join(OWN_LINES[do]) or "no member"
             raise HubRefused("bad-line", f"{do} has {allowed} beside do")
         if do == "watch":
-            visitor.watches = True
+            self._watch(visitor, line)
             self._answer(visitor, slot, "ok")
         elif do == "hello":
             self._answer(visitor, slot, self._hello(line))
+        elif do == "for":
+            self._answer(visitor, slot, self._speak_for(visitor, line))
         elif do == "clock":
             self._answer(visitor, slot, self._clock(visitor, line))
-        elif do == "list":
+        elif do in OPERATORS_OWN:
             self._rights.may_operate(visitor.who)
-            visitor.alone(lambda: self._later(visitor, slot, self._list()))
+            answers: dict[str, Callable[[], Awaitable[str | bytes]]] = {"list": self._list, "where": self._where, "figures": self._figures,
+                                                                         "compact": lambda: self._compact(visitor), "team": self._team}
+            visitor.alone(lambda: self._later(visitor, slot, answers[do]()))
         else:
             if do == "held" and not self._rights.is_operator(visitor.who) and line["node"] != visitor.node:
                 raise HubRefused("no-right", f"what {line['node']!r} has in its hands is for itself and for operators")
-            visitor.alone(lambda: self._answer(visitor, slot, self._known(line)))
+            visitor.alone(lambda: self._show(visitor, slot, line))
+
+    def _watch(self, visitor: Visitor, line: Line) -> None:
+        """With `ahead` the connection takes turns; without, it hears of all that may be due sooner than it knows."""
+        if problems := list(_AHEAD(line.get("ahead", 0), "ahead")):
+            raise BadLine(problems)
+        self.turns.gone(visitor)
+        visitor.takes_turns, visitor.ahead = "ahead" in line, int(line.get("ahead", 0))  # type: ignore[call-overload]
+        visitor.watches = not visitor.takes_turns
 
     def _hello(self, line: Line) -> str:
-        if line.get("protocol", PROTOCOL) != PROTOCOL:
-            raise HubRefused("not-here", f"protocol {str(line['protocol'])[:40]}: this hub speaks {PROTOCOL}")
-        return f"hello {PROTOCOL} {__version__}"
+        """Whether whoever asks can work with this hub, and which team it is."""
+        protocol, version = line.get("protocol", PROTOCOL), line.get("version", __version__)
+        if not isinstance(protocol, int) or not isinstance(version, str):
+            raise HubRefused("bad-line", "hello has a number as protocol and a text as version")
+        newer = protocol > PROTOCOL or age_of(version) == "new"
+        if newer or protocol < PROTOCOL:
+            age, remedy = ("new", "upgrade the hub first") if newer else ("old", "upgrade it")
+            raise HubRefused(f"too-{age}", f"whoever speaks protocol {protocol} in version {version[:40]} is too {age} for this hub, which speaks {PROTOCOL} in "
+                                           f"version {__version__}: {remedy}")
+        return f"hello {PROTOCOL} {__version__}" + (f" {self.home.team.id} {self.home.team.generation}" if self.home is not None else "")
+
+    def _speak_for(self, visitor: Visitor, line: Line) -> str:
+        """What this connection says from now on is kept as said for this one, and through it."""
+        self._rights.may_operate(visitor.who)
+        wrong = list(values.name(line.get("name"), "name"))
+        if wrong:
+            raise BadLine(wrong)
+        visitor.speaks_for = str(line["name"])
+        return "ok"
+
+    async def _figures(self) -> bytes:
+        more = self._asking.holding.figures() if self._asking.holding is not None else {}
+        return self._asking.figures.told(connections=self.connections(), **more)
 
     def _clock(self, visitor: Visitor, line: Line) -> str:
         if line.get("accept", False) is not False:
@@ -320,11 +389,44 @@ class Lines:
             raise doubt
         return f"clock {clock.now()}"
 
+    def _show(self, visitor: Visitor, slot: Slot, line: Line) -> None:
+        """Answers from the ledger, once all of it may be shown."""
+        if self._asking.holding is None:
+            self._answer(visitor, slot, self._known(line))
+        else:
+            self._later(visitor, slot, self._known_later(line))
+
+    async def _known_later(self, line: Line) -> str:
+        return self._known(line)
+
     def _known(self, line: Line) -> str:
         ledger = self._asking.ledger
         if line["do"] == "members":
             return " ".join(["members", *map(names.escape, ledger.peers())])
         return " ".join(["held", *map(str, ledger.entries_of(str(line["node"])))])
+
+    async def _team(self) -> bytes:
+        """Who leads, and how far the other hubs are."""
+        if self.team is None:
+            raise HubRefused("not-here", "this hub is the only one of its team")
+        return await self.team()
+
+    async def _where(self) -> str:
+        assert self.home is not None
+        return f"where {names.escape(self.home.folder)}"
+
+    async def _compact(self, visitor: Visitor) -> str:
+        """Has the stores be compacted, and says how many bytes they had and have, and how many ms nothing was answered."""
+        assert self.home is not None
+        if (doubt := self.doubt()) is not None:
+            raise doubt
+        try:
+            done = await self.home.compact(f"{visitor} asked for it")
+        except HubRefused:
+            raise
+        except KemtruaError as error:
+            raise HubRefused("failed", str(error)) from None  # (where the hub can't go on, it ends by itself)
+        return f"compacted {done.before} {done.after} {round(done.pause * 1000)}"
 
     async def _list(self) -> bytes:
         rows = (await self._listing.rows()).rstrip(b"\n")

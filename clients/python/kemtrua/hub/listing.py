@@ -5,6 +5,7 @@ import asyncio
 import os
 import shutil
 import tempfile
+from collections.abc import Callable
 
 from ..errors import HubRefused
 from ..program import STORE_FILES
@@ -13,8 +14,8 @@ from ..program import STORE_FILES
 class Listing:
     """One list at a time is made: each takes as much as an opening."""
 
-    def __init__(self, folder: str, program: str):
-        self._folder, self._program = folder, program
+    def __init__(self, stores: Callable[[], str], program: str):
+        self._stores, self._program = stores, program
         self._one = asyncio.Lock()
 
     async def rows(self) -> bytes:
@@ -29,8 +30,9 @@ class Listing:
 
     def _copy_to(self, folder: str) -> None:
         """Copies the files while the program works on them. A file only grows at its end, and a commit that is in the middle isn't in the copy."""
+        stores = self._stores()
         for name in STORE_FILES:
-            shutil.copy(os.path.join(self._folder, name), folder)
+            shutil.copy(os.path.join(stores, name), folder)
 
     async def _rows_in(self, folder: str) -> bytes:
         pipe = asyncio.subprocess.PIPE

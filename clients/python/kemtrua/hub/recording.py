@@ -1,4 +1,4 @@
-"""A hub's history as a whole: its recorder, what is expected of jobs, and who is alerted."""
+"""A hub's history as the hub has it: the process that keeps it, and events that the hub alone sees, as that nobody fires what is due."""
 from __future__ import annotations
 
 import asyncio
@@ -8,11 +8,12 @@ from collections.abc import Awaitable, Callable
 from .. import clock, logs
 from ..checking import Line
 from ..errors import KemtruaError
-from ..history.alerts import Alerts
-from ..history.expecting import Expecting
-from ..history.recorder import Recorder
+from ..history.apart import Apart
 from ..history.schema import NoHistory
 from ..history.settings import HistorySettings
+from ..replies import Room, read
+from ..scheduler import the
+from .room import CROWDED, share
 from .telling import Telling
 
 log = logs.logger("kemtrua.history")
@@ -22,7 +23,7 @@ LOOK_AT_NEXT = 30.0  # seconds between two looks at whether something that is du
 LATE = 60_000  # ms that something may be due before it is told
 TELL_AGAIN = 3600.0  # seconds until it is told again
 LOOK_AT_ROOM = 60.0  # seconds between two looks at the room that is left
-FULL, LEFT = 0.8, 0.05  # of a store's bytes that are used, and of a disk that are free, at which somebody is told
+LEFT = 0.05  # of a disk that is free, at which somebody is told
 ROOM_AGAIN = 86_400.0  # seconds until the same is told again
 
 Ask = Callable[[Line], Awaitable[str]]
@@ -32,37 +33,38 @@ class Recording:
     """Where the database can't be opened, the hub goes on without: `recorder` is None then."""
 
     def __init__(self, folder: str, program: str, settings: HistorySettings, generation: int):
-        self.recorder: Recorder | None = None
+        self.recorder: Apart | None = None
         self._looked = self._told = self._looked_at_room = -TELL_AGAIN
         self._told_room: dict[str, float] = {}
         try:
-            self.recorder = Recorder(folder, program, settings, generation)
+            self.recorder = Apart(folder, program, settings, generation)
         except (NoHistory, OSError) as error:
             log.error("no history is kept: %s", error)
-            return
-        self._expecting = Expecting(self.recorder, settings.expects)
-        self._alerts = Alerts(self.recorder, settings.alerts)
+
+    def needed(self) -> set[str] | None:
+        """The names of stores that have to stay, since the database doesn't have all of them; None where it can't say. It waits for that."""
+        try:
+            return set() if self.recorder is None else self.recorder.needed()
+        except (NoHistory, TimeoutError) as error:
+            log.warning("the database doesn't say which stores it needs: %s", str(error) or "it takes too long")
+            return None
 
     def telling(self) -> Telling | None:
         return None if self.recorder is None else Telling(self.recorder)
 
     async def run(self, ask: Ask) -> None:
-        """Looks from time to time at what was passed over, what is expected, and what is late."""
+        """Looks from time to time at what is late, and how full all is."""
         if self.recorder is None:
             return
-        self._alerts.start()
         while True:
             await asyncio.sleep(TICK)
-            await self.recorder.catch_up()
-            await asyncio.to_thread(self._expecting.look)
             await self._look_at_next(ask)
             if clock.uptime() - self._looked_at_room >= LOOK_AT_ROOM:
                 self._looked_at_room = clock.uptime()
-                self._look_at_room()
+                await self._look_at_room(ask)
 
     def end(self) -> None:
         if self.recorder is not None:
-            self._alerts.end()
             self.recorder.end()
 
     async def _look_at_next(self, ask: Ask) -> None:
@@ -80,12 +82,15 @@ class Recording:
             self._told = present
             self.recorder.event("late", f"something has been due for {late // 1000} s, and nobody fires it: no node lives, or none has a free worker")
 
-    def _look_at_room(self) -> None:
+    async def _look_at_room(self, ask: Ask) -> None:
         """A store or a disk that fills is an event, once a day."""
         assert self.recorder is not None
-        for name, used in self.recorder.stores_used().items():
-            if used >= FULL:
-                self._tell_room(name, f"{name} is full to {used * 100:.0f}%")
+        try:
+            used = share(the(Room, read(await ask({"do": "show_room"}))))
+        except KemtruaError:
+            used = 0.0
+        if used >= CROWDED:
+            self._tell_room("store", f"a store is full to {used * 100:.0f}%")
         try:
             disk = shutil.disk_usage(self.recorder.folder)
         except OSError:

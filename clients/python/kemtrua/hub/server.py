@@ -6,7 +6,7 @@ import signal
 import socket
 import ssl
 import sys
-from collections.abc import Coroutine, Sequence
+from collections.abc import Awaitable, Callable, Coroutine, Sequence
 from dataclasses import dataclass
 from typing import Any
 
@@ -14,14 +14,17 @@ from .. import clock, logs, rows
 from ..address import Address, Tls, common_name
 from ..certificates import warn_of
 from ..errors import BadSettings, KemtruaError
+from ..folder import KEEP, Folder
 from ..history.settings import HistorySettings
 from ..notify import notify
-from .asking import Asking, Events
+from ..program import check_version
+from ..team import Team
+from .asking import Asking, Events, Holding
 from .entrance import OF_ONE, Entrance
-from .lines import Lines
+from .lines import Home, Lines
 from .recording import Recording
 from .rights import Door, Grant, Identity, Rights
-from .room import look_at_room
+from .tending import Tending, Watchers
 from .timekeeping import moment_of
 from .visitor import Visitor
 
@@ -29,13 +32,14 @@ log = logs.logger("kemtrua.hub")
 
 TICK = 0.5  # seconds
 DAY = 86400.0
-SWITCH = 0.0005  # seconds that the thread of the history may keep the interpreter while an answer waits
+SWITCH = 0.0005  # seconds that another thread may keep the interpreter while an answer waits
+HELD_WITHIN = 3.0  # seconds that held answers have to go out, before a hub ends
 LATEST = 0.2  # seconds that an answer has to go out, before a hub whose store failed ends
 
 
 @dataclass(frozen=True)
 class HubSettings:
-    """Where a hub's store is, where it listens, and who may do what.
+    """Where a hub's stores are, where it listens, and who may do what. It keeps so many old stores.
 
     Whoever may open a socket of `addresses` operates; at one of `node_addresses`, which belongs to `nodes_group`, connections are nodes alone.
     """
@@ -49,27 +53,32 @@ class HubSettings:
     tls: Tls | None = None
     operators: Sequence[str] = ()
     nodes: Sequence[Grant] = ()
+    keep: int = KEEP
     history: HistorySettings = HistorySettings()
 
 
 class Hub:
     """Serves a store until SIGTERM or SIGINT. At SIGHUP it reads its certificates again."""
 
-    def __init__(self, settings: HubSettings):
+    def __init__(self, settings: HubSettings, holding: Holding | None = None, team: Callable[[], Awaitable[bytes]] | None = None):
         self.settings = settings
         if any(not address.path for address in settings.addresses) and settings.tls is None:
             raise BadSettings("a hub listens over TCP only with TLS: give it a certificate, a key and an authority")
         if any(not address.path for address in settings.node_addresses):
             raise BadSettings("over TCP a certificate says what somebody is: --listen-nodes is for Unix sockets")
         self._context: ssl.SSLContext | None = settings.tls.context(server=True) if settings.tls else None
-        events = Events(self._woken, self._fail, self._stalled, lambda: self.lines.flush(), lambda node: self.lines.speakers.has(node),
+        self._ended = asyncio.Event()
+        events = Events(self._woken, self.fail, self.stalled, lambda: self.lines.flush(), lambda node: self.lines.speakers.has(node),
                         lambda: self.lines.doubt())
-        self._asking = Asking(settings.folder, settings.program, events)
-        self.lines = Lines(self._asking, Rights(settings.operators, settings.nodes), self._fail)
+        self._folder = Folder(settings.folder, settings.keep)
+        self._asking = Asking(settings.folder, settings.program, events, holding)
+        self.lines = Lines(self._asking, Rights(settings.operators, settings.nodes), self.fail)
+        self.lines.connections = lambda: len(self._visitors)
+        self.lines.team = team
+        self.lines.turns.heard = self._wake
         self._entrance = Entrance(self._visitor, self._tls_context)
         self._visitors: dict[Visitor, None] = {}  # in the order in which they came
         self._tasks: set[asyncio.Task[None]] = set()
-        self._is_waking = False
         self.failure: KemtruaError | None = None
 
     def run(self) -> None:
@@ -80,29 +89,50 @@ class Hub:
             raise self.failure
 
     async def _run(self) -> None:
-        self._loop, self._ended = asyncio.get_running_loop(), asyncio.Event()
-        if self.settings.make:
-            self._asking.make()
-        self._history = Recording(self.settings.folder, self.settings.program, self.settings.history, 1)
-        self._asking.recorder = self._history.recorder
-        await self._asking.open()
+        check_version(self.settings.program)
+        self._folder.hold()
         try:
-            await self._serve()
+            team = self._folder.open(self.settings.program, self.settings.make)
+            for number in (signal.SIGTERM, signal.SIGINT):
+                asyncio.get_running_loop().add_signal_handler(number, self.end)
+            asyncio.get_running_loop().add_signal_handler(signal.SIGHUP, self.read_certificates)
+            await self.serve(team)
         finally:
-            await self._end()
+            self._folder.let_go()
+
+    def end(self) -> None:
+        """Has it end in good order."""
+        self._ended.set()
+
+    async def serve(self, team: Team) -> None:
+        """Works in a folder that somebody holds and has opened. What ended it is in `failure`."""
+        self._loop = asyncio.get_running_loop()
+        self._asking.folder = self._folder.current
+        self._history = Recording(self.settings.folder, self.settings.program, self.settings.history, team.generation)
+        self._asking.recorder = self._history.recorder
+        try:
+            await self._work(team)
+        finally:
             await asyncio.to_thread(self._history.end)
 
-    async def _serve(self) -> None:
+    async def _work(self, team: Team) -> None:
+        await self._asking.open()
+        try:
+            await self._serve(team)
+        finally:
+            await self._end()
+
+    async def _serve(self, team: Team) -> None:
+        log.info("%s; the stores are in %s", team, self._asking.folder)
         await self._compare_clock()
+        tending = Tending(self._asking, self._folder, team, Watchers(self.lines.patience.begin_anew, self.fail, self._history.needed))
+        self.lines.home = Home(self._folder.path, team, tending.compact)
         for door, addresses in ((Door.OPERATORS, self.settings.addresses), (Door.NODES, self.settings.node_addresses)):
             for address in addresses:
                 self._entrance.listen(address, door, self.settings.nodes_group if door is Door.NODES else None)
-        for number in (signal.SIGTERM, signal.SIGINT):
-            self._loop.add_signal_handler(number, self._ended.set)
-        self._loop.add_signal_handler(signal.SIGHUP, self._read_certificates)
         self._start(self._tick())
         self._start(self._look_at_certificates())
-        self._start(look_at_room(self.settings.folder))
+        self._start(tending.run())
         self.lines.telling = self._history.telling()
         self._start(self._history.run(self._asking.own))
         log.info("listening at %s", ", ".join(map(str, self._entrance.listening)))
@@ -118,6 +148,7 @@ class Hub:
         notify("STOPPING=1")
         log.info("ending; %d connections are closed", len(self._visitors))
         self._entrance.close()
+        await self._let_held_go()
         await self.lines.end()
         for visitor in list(self._visitors):
             visitor.close()
@@ -128,6 +159,14 @@ class Hub:
         for visitor in list(self._visitors):
             visitor.abort()
         self._entrance.remove()
+
+    async def _let_held_go(self) -> None:
+        """What the program has answered goes out before the connections are closed, where it may."""
+        if self.failure is None:
+            try:
+                await asyncio.wait_for(self._asking.shown(), HELD_WITHIN)
+            except (KemtruaError, TimeoutError):
+                log.warning("answers that are held are dropped")
 
     def _start(self, work: Coroutine[Any, Any, None]) -> None:
         task = self._loop.create_task(work)
@@ -168,32 +207,26 @@ class Hub:
 
     # -- what happens at the store
 
-    def _fail(self, error: KemtruaError) -> None:
+    def fail(self, error: KemtruaError) -> None:
+        """It can't go on."""
         if self.failure is None and not self._ended.is_set():
             log.error("%s", error)
             self.failure = error
-            self._loop.call_later(LATEST, self._ended.set)
+            asyncio.get_running_loop().call_later(LATEST, self._ended.set)
 
-    def _stalled(self, seconds: float) -> None:
-        log.warning("the store gave no answer for %.1f seconds: no node is taken for failed before it could check in", seconds)
+    def stalled(self, seconds: float, who: str = "the store") -> None:
+        """Nobody was answered for so long."""
+        log.warning("%s gave no answer for %.1f seconds: no node is taken for failed before it could check in", who, seconds)
         self.lines.patience.begin_anew()
 
     def _woken(self) -> None:
         """Something may be due sooner than those know who sleep."""
-        if not self._is_waking and any(visitor.watches and visitor.asleep for visitor in self._visitors):
-            self._is_waking = True
-            self._start(self._wake())
+        if self.lines.turns.is_wanted or any(visitor.watches and visitor.asleep for visitor in self._visitors):
+            self.lines.turns.look()
 
-    async def _wake(self) -> None:
-        try:
-            reply = await self._asking.own({"do": "show_next"})
-        except KemtruaError:
-            return  # (whoever asked gets the error)
-        finally:
-            self._is_waking = False
-        _, time = reply.split() if reply.startswith("next") else ("next", "none")
-        for visitor in list(self._visitors) if time != "none" else ():
-            visitor.wake(int(time))
+    def _wake(self, due: int) -> None:
+        for visitor in list(self._visitors):
+            visitor.wake(due)
 
     # -- what happens as time goes by
 
@@ -216,7 +249,7 @@ class Hub:
         assert self._context is not None
         return self._context
 
-    def _read_certificates(self) -> None:
+    def read_certificates(self) -> None:
         """Takes the files as they are now, and closes what came in by the former ones: whoever is still trusted comes back at once."""
         if self.settings.tls is None:
             return

@@ -8,9 +8,9 @@ from dataclasses import dataclass
 from ..checking import Line
 from ..errors import BadLine, HubRefused
 from ..history import questions
+from ..history.apart import Apart
 from ..history.outputs import FURTHEST, piece_of
 from ..history.questions import Filter, Object, Questions
-from ..history.recorder import Recorder
 from ..history.reports import Report
 from ..history.schema import NoHistory
 from ..values import Form, Problem, flag, is_whole, items, name, node, text, whole
@@ -57,17 +57,17 @@ KINDS = ("failure", "error", "late", "misfired", "expect", "lost", "room", "refu
 class Telling:
     """Answers these lines. Whoever asks was looked at before."""
 
-    recorder: Recorder
+    recorder: Apart
 
     async def answer(self, line: Line) -> str | bytes:
         do = str(line["do"])
         look_at(line)
-        if do in OF_NODES:
-            return await {"report": self._report, "output": self._output, "load": self._load}[do](line)
-        if do == "vacuum":
-            before, after = await asyncio.to_thread(self.recorder.vacuum)
-            return f"vacuumed {before} {after}"
         try:
+            if do in OF_NODES:
+                return await {"report": self._report, "output": self._output, "load": self._load}[do](line)
+            if do == "vacuum":
+                before, after = await asyncio.to_thread(self.recorder.vacuum)
+                return f"vacuumed {before} {after}"
             found = await asyncio.to_thread(answers_in, self.recorder.folder, line)
         except NoHistory as error:
             raise HubRefused("failed", str(error)) from None

@@ -58,13 +58,19 @@ class Visitor(asyncio.Protocol):
         self.ends: float | None = None  # when its certificate does, in seconds since 1970
         self.certificate: dict[str, object] = {}
         self.node: str | None = None
+        self.speaks_for: str | None = None  # for whom an operator's connection says what it says, as the page in the browser does
         self.watches = self.asleep = False
+        self.takes_turns, self.ahead = False, 0
         self.next_known: int | None = None
         self.acquiring = 0  # entries that lines ask for which aren't answered
         self._when_alone: Callable[[], None] | None = None
 
     def __str__(self) -> str:
         return f"{self.node} ({self.who})" if self.node else str(self.who)
+
+    def in_full(self) -> str:
+        """Who it is, as it is kept beside what it said."""
+        return self.who.in_full() if self.speaks_for is None else f"certificate {self.speaks_for}, through {self.who.in_full()}"
 
     @property
     def outstanding(self) -> int:
@@ -161,6 +167,11 @@ class Visitor(asyncio.Protocol):
             self.asleep = False
             self._ready.append(b"wake\n")
             self.flush()
+
+    def give_turn(self, moment: int, is_late: bool) -> None:
+        """Says that it is the connection's turn to acquire what is due then."""
+        self._ready.append(b"wake %d%s\n" % (moment, b" late" if is_late else b""))
+        self.flush()
 
     def flush(self) -> None:
         """Sends what is ready, and reads on."""
