@@ -101,7 +101,7 @@ class Settings(WithFolder):
                           '[tls]\ncertificate = "c"\nkey = "k"\nauthority = "a"\nrevoked = "r"\n'
                           '[class.backup]\ncommand = ["true", "x"]\ntimeout = 1.5\ncodes = { 0 = "NOOP", 3 = "DELETE_TRIGGER" }\notherwise = "SET_TRIGGER_ERROR"\n'
                           'retries = 2\nretry_after = 60\nthen = "NOOP"\nend_when_cut_off = true\noutput = 10\nenvironment = { A = "b" }\n')
-        self.assertEqual((found.name, str(found.address), found.check_in, found.finish_within), ("A", "tls:hub:7411", 7000, 60))
+        self.assertEqual((found.name, [str(it) for it in found.addresses], found.check_in, found.finish_within), ("A", ["tls:hub:7411"], 7000, 60))
         self.assertEqual(found.tls, Tls("c", "k", "a", "r"))
         backup = found.classes["backup"]
         self.assertEqual((backup.command.codes[3], backup.command.otherwise, backup.retry.times, backup.ends_when_cut_off), (Code.DELETE_TRIGGER, Code.SET_TRIGGER_ERROR, 2, True))
