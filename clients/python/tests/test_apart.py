@@ -114,7 +114,7 @@ class Alone(WithHistory):
         do({"do": "add_job", "job": job(durable=True)}, apart.MOST)
         do({"do": "join", "node": "A"}, apart.MOST)
         do({"do": "trigger_now", "name": "j"}, apart.MOST)
-        entry = int(do({"do": "acquire", "node": "A", "no_later": 2**53}, 0).split()[1])
+        entry = int(do({"do": "acquire", "node": "A", "no_later": 2**53}, apart.MOST).split()[1])
         self.assertTrue(do({"do": "fire", "node": "A", "entry": entry}, 0).startswith("fired"))
         wait_until(lambda: [one["state"] for one in recorded(self.folder).values()] == ["runs"])
 
