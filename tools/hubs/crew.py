@@ -1,13 +1,15 @@
 """The etcds, the hubs and the nodes, each a process."""
 import json
 import os
+import shutil
 import signal
 import subprocess
 import sys
 import time
 
-from hubs import CLIENT, plan
+from hubs import CLIENT, filling, plan
 from hubs.links import Links
+from kemtrua import __version__
 from kemtrua.address import Address
 from kemtrua.errors import KemtruaError
 from kemtrua.hubs import Hubs
@@ -48,14 +50,21 @@ environment = {{ TEAM = "{folder}" }}
 BEGINS_WITHIN = 180.0  # seconds
 
 
+def next_version() -> str:
+    """A later version, which works with the same program."""
+    first, second, third = __version__.split(".")
+    return f"{first}.{second}.{int(third) + 1}"
+
+
 class Crew:
     """All processes of a run. With `planted`, hubs do wrong on purpose."""
 
     def __init__(self, program: str, folder: str, planted: str | None):
         self.program, self.folder = program, folder
-        self.etcds = Etcds(folder, plan.ETCDS).wait()
+        self.etcds = Etcds(folder, plan.ETCDS, ("--quota-backend-bytes", str(filling.QUOTA))).wait()
         self.links = Links(plan.HUBS, self.etcds.ports)
         self.running: dict[str, subprocess.Popen] = {}
+        self.is_newer, self.version, self._newer = False, __version__, os.path.join(folder, "newer")
         self.environment = {**os.environ, "PYTHONPATH": CLIENT}
         if planted is not None:
             with open(os.path.join(folder, "planted.json"), "w") as file:
@@ -80,9 +89,22 @@ class Crew:
 
     # -- processes
 
+    def _tree(self) -> str:
+        """The client of the version that hubs have at this moment."""
+        self.version = next_version() if self.is_newer else __version__
+        if self.is_newer and not os.path.exists(self._newer):
+            shutil.copytree(os.path.join(CLIENT, "kemtrua"), os.path.join(self._newer, "kemtrua"))
+            path = os.path.join(self._newer, "kemtrua", "__init__.py")
+            with open(path) as file:
+                text = file.read()
+            with open(path, "w") as file:
+                file.write(text.replace(f'"{__version__}"', f'"{next_version()}"'))
+        return self._newer if self.is_newer else CLIENT
+
     def start(self, who: str) -> None:
         environment = dict(self.environment)
         if who in plan.HUBS:
+            environment["PYTHONPATH"] = self._tree()
             os.makedirs(self.home(who), exist_ok=True)
             words = ["-m", "kemtrua.cli.hub", self.home(who), "--make", "--program", self.program, "--listen", f"unix:{self.socket(who)}",
                      "--keep", "1000", "--etcd", self.links.endpoints_of(who), "--team", "hubs-test", "--name", who]

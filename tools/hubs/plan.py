@@ -31,7 +31,8 @@ FULL = Size(seconds=600.0, triggers=16, interval=4.0, round=14.0)
 TROUBLES = (
     ("kill", LEADER, 3.0), ("cut", LEADER, 8.0), ("stop", LEADER, 8.0), ("kill-etcd", "one", 5.0), ("swallow-answers", LEADER, 8.0),
     ("kill-node", "one", 12.0), ("stop-etcd", "two", 7.0), ("cut", "another", 6.0), ("compact", LEADER, 0.0), ("kill", "another", 3.0),
-    ("swallow-requests", LEADER, 8.0), ("stop-etcd", "one", 6.0), ("stop", "another", 9.0), ("kill", LEADER, 0.5))
+    ("swallow-requests", LEADER, 8.0), ("stop-etcd", "one", 6.0), ("stop", "another", 9.0), ("kill", LEADER, 0.5),
+    ("quota", "all", 4.0), ("compact-past", "another", 3.0), ("upgrade", "all", 2.0))
 OF_SHORT = ("kill", "cut", "stop", "kill-etcd", "swallow-answers", "compact", "kill-node")
 
 

@@ -4,10 +4,13 @@ import signal
 import time
 from dataclasses import dataclass
 
-from hubs import plan
+from hubs import filling, plan
 from hubs.clients import now
 from hubs.crew import Crew
 from kemtrua.errors import KemtruaError
+
+
+ENDS_WITHIN = 60.0  # seconds that a hub has to end in good order
 
 
 @dataclass(frozen=True)
@@ -23,6 +26,7 @@ class Troubles:
         self._crew, self._planned, self._chance = crew, planned, chance
         self.done: list[Done] = []
         self.lost_nodes: set[str] = set()
+        self.statuses: dict[str, int | None] = {}  # of hubs that were ended for an upgrade
 
     def make(self) -> None:
         start = time.monotonic()
@@ -44,6 +48,10 @@ class Troubles:
             time.sleep(trouble.lasts)
             crew.start(node)
             return node
+        if what == "quota":
+            return self._meet_quota(trouble)
+        if what == "upgrade":
+            return self._upgrade(trouble)
         leader = crew.leader()
         who = leader if trouble.who == plan.LEADER else self._chance.choice([hub for hub in plan.HUBS if hub != leader])
         if what == "kill":
@@ -56,6 +64,11 @@ class Troubles:
             crew.signal(who, signal.SIGCONT)
         elif what == "compact":
             self._compact()
+        elif what == "compact-past":
+            crew.signal(who, signal.SIGSTOP)
+            self._compact()
+            time.sleep(trouble.lasts)
+            crew.signal(who, signal.SIGCONT)
         else:
             crew.links.set(who, what)
             time.sleep(trouble.lasts)
@@ -77,6 +90,24 @@ class Troubles:
             else:
                 crew.etcds.signal(number, signal.SIGCONT)
         return " and ".join(f"etcd {number}" for number in chosen)
+
+    def _meet_quota(self, trouble: plan.Trouble) -> str:
+        """For a while etcd takes nothing."""
+        filling.fill(self._crew.etcds)
+        time.sleep(trouble.lasts)
+        filling.make_room(self._crew.etcds)
+        return "all etcds"
+
+    def _upgrade(self, trouble: plan.Trouble) -> str:
+        """One hub after the other ends in good order, and is begun again in another version. Those of both work side by side meanwhile."""
+        crew = self._crew
+        crew.is_newer = not crew.is_newer
+        for hub in plan.HUBS:
+            self.statuses[f"{hub}, which was to be upgraded,"] = crew.end(hub, ENDS_WITHIN)
+            crew.start(hub)
+            crew.leader()
+            time.sleep(trouble.lasts)
+        return f"all hubs to {crew.version}"
 
     def _compact(self) -> None:
         try:

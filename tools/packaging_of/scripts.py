@@ -4,12 +4,12 @@ POSTINST = """\
 #!/bin/sh
 set -e
 if [ "$1" = configure ]; then
-    if ! getent passwd kemtrua > /dev/null; then
-        adduser --system --group --quiet --home /nonexistent --no-create-home --shell /usr/sbin/nologin kemtrua
-    fi
-    if ! getent passwd kemtrua-web > /dev/null; then
-        adduser --system --group --quiet --home /nonexistent --no-create-home --shell /usr/sbin/nologin kemtrua-web
-    fi
+    # Those as whom the units run: the hub, nodes, and the page in the browser.
+    for user in kemtrua kemtrua-node kemtrua-web; do
+        if ! getent passwd $user > /dev/null; then
+            adduser --system --group --quiet --home /nonexistent --no-create-home --shell /usr/sbin/nologin $user
+        fi
+    done
     # The hub's folder, where none is there yet. One that is there may hold a store, and isn't touched.
     if [ ! -e /var/lib/kemtrua ]; then
         install -d -o kemtrua -g kemtrua -m 0750 /var/lib/kemtrua
@@ -44,7 +44,7 @@ set -e
 if [ -d /run/systemd/system ]; then
     systemctl daemon-reload || true
 fi
-# Also at purge the store (/var/lib/kemtrua), the settings of nodes (/etc/kemtrua) and the user stay: they are the team's.
+# Also at purge the store (/var/lib/kemtrua), the settings of nodes (/etc/kemtrua) and the users stay: they are the team's.
 if [ "$1" = purge ] && [ -d /var/lib/kemtrua ]; then
     echo "kemtrua: /var/lib/kemtrua and /etc/kemtrua stay as they are; remove them by hand if nothing in them is wanted" >&2
 fi
@@ -55,7 +55,7 @@ FIRST_NODE = """\
 
 [node]
 name = "first"
-hub = "unix:/run/kemtrua/hub.sock"
+hub = "unix:/run/kemtrua/nodes.sock"
 
 # A job of this class writes its data into the log: journalctl -u kemtrua-node@first
 [class.say]

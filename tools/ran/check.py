@@ -11,10 +11,12 @@ NEAR = 5000  # ms by which an end may differ that the hub saw since its start, a
 
 
 def told_by(program, stores):
-    """The executions of the store's history: a reading of its own, which shares the program's lines with the hub's and nothing else."""
+    """The executions of the store's history, from its beginning on: a reading of its own, which shares the program's lines with the hub's and nothing else."""
     copy = Copy(stores, program)
     found, acquired = {}, {}
     try:
+        while copy.set_back():
+            pass
         for it in copy.history(0):
             words = it.reply.split()
             if words[0] == "acquired" and words[1] != "none":
@@ -49,7 +51,7 @@ class Checks(Tally):
     def __init__(self, team):
         super().__init__()
         self._team = team
-        self._told, self._untold = {}, range(0)  # all that the store told at any time, and the entries that it can't have told
+        self._told, self._untold = {}, set()  # all that the store told at any time, and the entries that it can't have told
 
     def _stores(self):
         current = os.path.join(self._team.store, "current")
@@ -67,7 +69,7 @@ class Checks(Tally):
     def agrees(self, what, within, exact=False):
         """The database says of each execution what the store says."""
         told, until, wrong = told_by(self._team.program, self._stores()), time.monotonic() + within, ["nothing was compared"]
-        self._untold = range(max(self._told, default=0) + 1, min(told, default=0))  # (what a snapshot hid between two looks)
+        self._untold |= set(range(max(self._told, default=0) + 1, min(told, default=0)))  # (what a compaction took between two looks)
         self._told |= told
         while wrong and time.monotonic() < until:
             try:

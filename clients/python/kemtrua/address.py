@@ -37,7 +37,7 @@ class Address:
                 raise BadSettings(f"{text}: the path of a socket has at most {LONGEST_PATH} bytes")
             return cls(path=rest)
         host, _, port = rest.rpartition(":")
-        if kind == "tls" and host and port.isdigit() and 0 <= int(port) <= 65535:
+        if kind == "tls" and host and port.isdecimal() and 0 <= int(port) <= 65535:
             return cls(host=host.strip("[]"), port=int(port))
         raise BadSettings(f"{text!r} is no address: write unix:/PATH, or tls:HOST:PORT")
 

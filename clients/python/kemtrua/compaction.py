@@ -94,7 +94,7 @@ def without_check_ins(listed: Iterable[str]) -> list[str]:
 
 def run(program: str, word: str, inside: str, stream: object) -> bytes:
     """What a call of the program writes that reads this. Raises ProgramEnded where its status isn't 0."""
-    given = {"input": stream} if isinstance(stream, bytes) else {"stdin": stream}
+    given: dict[str, object] = {"input": stream} if isinstance(stream, bytes) else {"stdin": stream}
     try:
         ran = subprocess.run([program, word], cwd=inside, stdout=subprocess.PIPE, stderr=subprocess.PIPE, start_new_session=True, **given)  # type: ignore[call-overload]
     except OSError as error:

@@ -270,10 +270,11 @@ class Connection(Scheduler):
         if reply.startswith("wake "):
             self._given(Turn.of_words(reply.split()))
             return
-        answered, more = self._waiting.popleft()
+        answered, more = self._waiting[0]
         if reply.startswith(("list ", "rows ")):
             for _ in range(int(reply.split()[1])):
                 more.append((await reader.readuntil(b"\n"))[:-1].decode())
+        self._waiting.popleft()  # (not before all of it is there: where the connection breaks in its midst, whoever asked hears of that)
         if not answered.done():
             answered.set_result([reply, *more])
 

@@ -68,8 +68,10 @@ class Link:
         status, headers = await self._head()
         self.is_spent = headers.get("connection", "").lower() == "close"
         if headers.get("transfer-encoding", "").lower() == "chunked":
-            parts = [part async for part in self._chunks()]
-            return status, b"".join(parts)
+            body = bytearray()
+            async for part in self._chunks():
+                body += _bounded(len(body), part)
+            return status, bytes(body)
         length = int(headers.get("content-length", "0"))
         if not 0 <= length <= LONGEST:
             raise ValueError(f"a body of {length} bytes")
@@ -84,7 +86,7 @@ class Link:
         rest, chunks = b"", self._chunks()
         while True:
             try:
-                rest += await asyncio.wait_for(anext(chunks), silence)
+                rest += _bounded(len(rest), await asyncio.wait_for(anext(chunks), silence))
             except StopAsyncIteration:
                 return
             *lines, rest = rest.split(b"\n")
@@ -115,7 +117,16 @@ class Link:
 
     async def _chunks(self) -> AsyncGenerator[bytes, None]:
         while size := int((await self._line()).partition(";")[0], 16):
+            if size > LONGEST:
+                raise ValueError(f"a chunk of {size} bytes")
             yield await self._reader.readexactly(size)
             await self._line()
         while await self._line():
             pass
+
+
+def _bounded(have: int, part: bytes) -> bytes:
+    """A further part of a body. Raises ValueError where that has too many bytes with it."""
+    if have + len(part) > LONGEST:
+        raise ValueError(f"a body of more than {LONGEST} bytes")
+    return part

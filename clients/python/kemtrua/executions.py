@@ -76,7 +76,7 @@ class Executions:
     @property
     def left_open(self) -> int:
         """How many stay open at the store, since they were ended or couldn't begin: others recover them."""
-        return sum(execution.left for execution in self._running.values())
+        return sum(execution.left for execution in list(self._running.values()))
 
     def begin(self, row: EntryRow, place: Place | None = None) -> None:
         """Runs the job of an execution that has begun at the store, in a place that was prepared for it."""

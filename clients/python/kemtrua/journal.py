@@ -102,3 +102,31 @@ def snapshot_in(path: str | os.PathLike[str]) -> tuple[int, int] | None:
     except OSError:
         return None
     return (at, at - begin) if at > begin else None
+
+
+def set_back(path: str | os.PathLike[str]) -> bool:
+    """Has a trigger store begin at the snapshot before the one in use, or else at its first payload. False where it begins there already.
+
+    It leaves the same tables, whichever of its snapshots an opening begins at. It is for a copy that nobody has open.
+    """
+    with open(path, "r+b") as file:
+        header = bytearray(file.read(HEADER))
+        begins = {gate: int.from_bytes(header[gate + 1 : gate + 5], "big") for gate in SLOTS if header[gate] == OPEN}
+        if not begins or (latest := max(begins.values())) == HEADER:
+            return False
+        for gate, begin in begins.items():
+            if begin == latest:
+                header[gate] = 0
+        if begins_with_snapshot(path) and min(begins.values()) == latest:
+            header[SLOTS[0] : SLOTS[0] + 5] = bytes([OPEN]) + HEADER.to_bytes(4, "big")
+        file.seek(0)
+        file.write(header)
+    return True
+
+
+def begins_with_snapshot(path: str | os.PathLike[str]) -> bool:
+    """Whether a trigger store's first payload is a snapshot's, as in one that was compacted."""
+    with open(path, "rb") as file:
+        file.seek(HEADER)
+        block = file.read(6)
+    return len(block) == 6 and block[0] == OPEN and block[5] == SNAPSHOTS[0]

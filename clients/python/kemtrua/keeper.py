@@ -62,6 +62,14 @@ def send(processes: list[int], number: int) -> None:
             pass  # (it has just ended, or is another user's)
 
 
+def heard(control: socket.socket) -> bytes:
+    """What the node says next; nothing where it is gone. (A socket whose other side ended with something unread says so by an error.)"""
+    try:
+        return control.recv(1 << 20)
+    except ConnectionResetError:
+        return b""
+
+
 class StartFailed(Exception):
     """The command couldn't be begun: what failed, and the number of the error."""
 
@@ -193,7 +201,7 @@ class Keeper:
 
     def _hear(self) -> bool:
         """Does what the node says. False where it is gone."""
-        said = self._control.recv(4096)
+        said = heard(self._control)
         if not said:
             self._kill_at = time.monotonic()
         elif self._kill_at is None:
@@ -257,7 +265,7 @@ def main(words: list[str]) -> None:
     keeper.say("ready")
     order = b""
     while not order.endswith(b"\n"):
-        more = control.recv(1 << 20)
+        more = heard(control)
         if not more:
             keeper._group.remove()
             return  # (it isn't needed, or the node is gone)

@@ -167,7 +167,11 @@ class Membership:
             self._come_back(generation, resumes=isinstance(error, (NotJoined, HubRefused)))
 
     def _use(self, scheduler: Scheduler) -> None:
-        self.takes_turns = scheduler.watch_in_turn(self._wake, self._given, self._ahead)
+        try:
+            self.takes_turns = scheduler.watch_in_turn(self._wake, self._given, self._ahead)
+        except BaseException:
+            scheduler.close()  # (a hub that hangs takes connections and says nothing on them: each has a thread and descriptors)
+            raise
         self._scheduler = scheduler
 
     def _come_back(self, generation: int, resumes: bool = False) -> None:

@@ -13,7 +13,7 @@ _ESCAPE = re.compile(rb"%([0-9A-F]{2})")
 
 def escape(name: str) -> str:
     """The name with `%` and two hexadecimal digits for each byte that isn't printed as itself."""
-    plain = (chr(byte) if 0x21 <= byte <= 0x7E and byte not in b"/%" else f"%{byte:02X}" for byte in name.encode())
+    plain = (chr(byte) if 0x21 <= byte <= 0x7E and byte not in b"/%" else f"%{byte:02X}" for byte in name.encode(errors="surrogateescape"))
     return "".join(plain) or EMPTY
 
 

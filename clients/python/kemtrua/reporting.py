@@ -5,9 +5,11 @@ It has a connection of its own, so that no fire and no completion waits for it.
 from __future__ import annotations
 
 import threading
+from collections import deque
 from collections.abc import Callable, Iterable, Mapping
 
 from . import clock, logs
+from .address import Address
 from .connection import Connection
 from .errors import BadLine, BadReply, HubRefused, KemtruaError, Unanswered, Unreachable
 from .history.outputs import text_of
@@ -24,6 +26,8 @@ OF_A_LINE = 40_000  # bytes of reports that go in one line
 AT_ONCE = 64  # reports of one line
 REST, LONGEST_REST, REFUSED_REST = 1.0, 30.0, 60.0  # seconds until the hub is tried again
 LONGEST_WHY = 1000  # characters
+TOLD_AGAIN = 120.0  # seconds for which a report that a hub has is told to another one, too, that leads then: it may not know it yet
+MOST_AGAIN = 500  # of them at most, each with so much of its output as goes with a report
 
 
 class Reporting:
@@ -39,6 +43,8 @@ class Reporting:
         self._ends_at = float("inf")
         self._thread = threading.Thread(target=self._run, name="reports", daemon=True)
         self._told = 0.0
+        self._lately: deque[tuple[float, Kept]] = deque()  # what was told, and the uptime of that
+        self._at: Address | None = None  # the hub that was told last
 
     def start(self) -> None:
         self._thread.start()
@@ -106,7 +112,25 @@ class Reporting:
             made = self._connect()
             assert isinstance(made, Connection)
             self._connection = made
+            if self._at not in (None, made.address):
+                self._begin_anew()
+            self._at = made.address
         return self._connection
+
+    def _begin_anew(self) -> None:
+        """Another hub leads: what the one before was told lately is told once more, and all output of what runs."""
+        self._sent.clear()
+        with self._lock:
+            for at, kept in self._lately:
+                if clock.uptime() - at <= TOLD_AGAIN and self._spool.get(kept.key) is None:
+                    self._spool.add(kept)
+        self._lately.clear()
+
+    def _keep_for_another(self, kept: Kept) -> None:
+        rest = max(0, len(kept.output) - IN_A_REPORT)
+        self._lately.append((clock.uptime(), Kept(kept.report, kept.begin + rest, kept.output[rest:])))
+        while len(self._lately) > MOST_AGAIN or clock.uptime() - self._lately[0][0] > TOLD_AGAIN:
+            self._lately.popleft()
 
     def _tell(self) -> None:
         """Tells all that there is."""
@@ -153,6 +177,7 @@ class Reporting:
             for kept in told:
                 self._spool.drop(kept)
                 self._sent.pop(kept.key, None)
+                self._keep_for_another(kept)
 
     def _each(self, told: list[Kept]) -> bool:
         """Tells these one by one, since one of them is refused."""

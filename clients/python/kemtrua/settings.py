@@ -1,6 +1,7 @@
 """The settings file of a node, in TOML."""
 from __future__ import annotations
 
+import math
 import os
 import shutil
 import socket
@@ -14,9 +15,14 @@ from .commands import Command
 from .errors import BadSettings
 from .jobs import Code, Retry
 from .node import Work
+from .values import node as node_name
 
 
 FORMAT = 1  # of settings files
+WORDS = {int: "a whole number", float: "a number", str: "a text", bool: "true or false", list: "a list", dict: "a table"}
+DAY = 86_400_000  # ms
+MOST_WORKERS = 10_000  # each is a thread, begun with the node
+MOST_AHEAD = 2**52  # ms: with the present moment it is still one that a line may have
 
 
 @dataclass(frozen=True)
@@ -51,15 +57,17 @@ class Table:
             raise BadSettings(f"{where} is no table")
         self.where, self._left = where, dict(values)
 
-    def take(self, name: str, kind: type | tuple[type, ...], default: Any = None, low: float | None = None) -> Any:
+    def take(self, name: str, kind: type | tuple[type, ...], default: Any = None, low: float | None = None, high: float | None = None) -> Any:
         if name not in self._left:
             return default
         value = self._left.pop(name)
         kinds = kind if isinstance(kind, tuple) else (kind,)
         if not isinstance(value, kinds) or isinstance(value, bool) and bool not in kinds:
-            raise BadSettings(f"{self.where}: {name} = {value!r}; allowed is {' or '.join(it.__name__ for it in kinds)}")
-        if low is not None and value < low:
-            raise BadSettings(f"{self.where}: {name} = {value!r}; allowed is {low} or more")
+            raise BadSettings(f"{self.where}: {name} = {value!r}; allowed is {' or '.join(WORDS[it] for it in kinds)}")
+        if isinstance(value, float) and not math.isfinite(value):
+            raise BadSettings(f"{self.where}: {name} = {value!r}; allowed is a number that is finite")
+        if low is not None and value < low or high is not None and value > high:
+            raise BadSettings(f"{self.where}: {name} = {value!r}; allowed is {low} {'or more' if high is None else f'to {high}'}")
         return value
 
     def end(self) -> None:
@@ -88,14 +96,18 @@ def read_node(path: str, name: str | None = None) -> NodeSettings:
     if hubs is not None and store is not None:
         raise BadSettings(f"{node.where}: a node has a hub or a store of its own, and not both")
     finish = node.take("finish_within", (int, float), None, 0)
-    work = Work(node.take("workers", int, 10, 1), node.take("batch", int, 1, 1), node.take("window", int, 0, 0), node.take("ahead", int, 1000, 0))
+    work = Work(node.take("workers", int, 10, 1, MOST_WORKERS), node.take("batch", int, 1, 1), node.take("window", int, 0, 0, MOST_AHEAD),
+                node.take("ahead", int, 1000, 0, MOST_AHEAD))
     found = NodeSettings(name or node.take("name", str, socket.gethostname()), () if store else _addresses(node.where, hubs), store,
-                         node.take("program", str, "qz_sched"), tls, node.take("check_in", int, 15000, 1000), work, finish,
+                         node.take("program", str, "qz_sched"), tls, node.take("check_in", int, 15000, 1000, DAY), work, finish,
                          round(1000 * node.take("clock_limit", (int, float), 5.0, 0)), node.take("spool", str), classes)
     node.take("name", str)
     node.end()
-    if not 1 <= len(found.name.encode()) <= 120:
-        raise BadSettings(f"{node.where}: a node's name has 1 to 120 bytes")
+    if list(node_name(found.name, "")):
+        raise BadSettings(f"{node.where}: a node's name has 1 to 120 bytes of UTF-8")
+    if not classes:
+        raise BadSettings(f"{path}: it has no class, as [class.backup]: a node takes whatever is due, and one without classes "
+                          "would put all triggers into the state ERROR")
     return found
 
 
@@ -127,7 +139,7 @@ def _code(where: str, value: Any) -> Code:
 def _class_of(where: str, values: Any) -> CommandClass:
     table = Table(where, values)
     words = table.take("command", list)
-    if not words or not all(isinstance(word, str) for word in words):
+    if not words or not all(isinstance(word, str) and "\0" not in word for word in words):
         raise BadSettings(f'{where}: command is missing or no list of texts, as command = ["/usr/bin/true"]')
     directory = table.take("directory", str, "/")
     if not os.path.isdir(directory):
@@ -135,7 +147,7 @@ def _class_of(where: str, values: Any) -> CommandClass:
     if shutil.which(words[0], path=os.environ.get("PATH")) is None:
         raise BadSettings(f"{where}: the command {words[0]!r} isn't there, or can't be run")
     statuses = table.take("codes", dict, {"0": "NOOP", "75": "RE_EXECUTE_JOB"})
-    if not all(status.isdigit() and int(status) <= 255 for status in statuses):
+    if not all(status.isdecimal() and int(status) <= 255 for status in statuses):
         raise BadSettings(f"{where}: codes maps exit statuses, 0 to 255, to completion codes")
     command = Command(
         words,
@@ -152,8 +164,10 @@ def _class_of(where: str, values: Any) -> CommandClass:
     return found
 
 
-def _texts(where: str, values: Mapping[str, Any]) -> dict[str, str]:
-    for name, value in values.items():
+def _texts(where: str, variables: Mapping[str, Any]) -> dict[str, str]:
+    for name, value in variables.items():
         if not isinstance(value, str):
             raise BadSettings(f"{where}: environment: {name} = {value!r} is no text")
-    return dict(values)
+        if not name or "=" in name or "\0" in name + value:
+            raise BadSettings(f"{where}: environment: {name!r} = {value!r}: no command can be given that variable")
+    return dict(variables)

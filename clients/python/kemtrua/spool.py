@@ -97,7 +97,13 @@ class Spool:
         return os.path.join(self._folder, f"{key[0]}-{key[1]}.json")
 
     def _on_disk(self) -> Iterator[Key]:
-        for name in os.listdir(self._folder) if self._folder is not None else ():
+        """None where the folder can't be listed for the moment, as for want of descriptors: what is there waits."""
+        try:
+            names = os.listdir(self._folder) if self._folder is not None else []
+        except OSError as error:
+            self._say(f"reports in {self._folder} can't be listed, and wait", error)
+            return
+        for name in names:
             if (found := FILE.fullmatch(name)) is not None:
                 yield int(found[1]), int(found[2])
 
@@ -108,13 +114,16 @@ class Spool:
             durable.write(path, data)
         except OSError as error:
             self._remove(f"{path}.new")
-            if time.monotonic() - self._said >= SAY_AGAIN:
-                self._said = time.monotonic()
-                log.error("reports can't be kept in %s, and stay in memory: %s", self._folder, error.strerror)
+            self._say(f"reports can't be kept in {self._folder}, and stay in memory", error)
             return False
         self._bytes += len(data)
         self._memory.pop(kept.key, None)
         return True
+
+    def _say(self, text: str, error: OSError) -> None:
+        if time.monotonic() - self._said >= SAY_AGAIN:
+            self._said = time.monotonic()
+            log.error("%s: %s", text, error.strerror)
 
     def _remove(self, path: str) -> None:
         try:

@@ -40,8 +40,14 @@ def text(low: int, high: int, what: str) -> Check:
     def check(value: object, place: str) -> Iterator[Problem]:
         if not isinstance(value, str):
             yield Problem(place, f"{shown(value)} is no text; allowed is {what} of {low} to {high} bytes")
-        elif not low <= len(value.encode()) <= high:
-            yield Problem(place, f"it has {len(value.encode())} bytes of UTF-8; allowed is {what} of {low} to {high}")
+            return
+        try:
+            count = len(value.encode())
+        except UnicodeEncodeError:  # (as of a word of the command line that is written otherwise)
+            yield Problem(place, f"{shown(value)} isn't UTF-8; allowed is {what} of {low} to {high} bytes of that")
+            return
+        if not low <= count <= high:
+            yield Problem(place, f"it has {count} bytes of UTF-8; allowed is {what} of {low} to {high}")
 
     return check
 

@@ -58,8 +58,10 @@ def settings_of(given: object) -> WebSettings:
     tls = _tls(words, "", "--certificate, --key and --authority", words["revoked"])
     if words["operator"] and not any(one.over_tls for one in listen):
         raise BadSettings("--operator names certificates, so it goes with --listen tls:HOST:PORT")
-    hub_tls = _tls(words, "hub_", "--hub-certificate, --hub-key and --hub-authority")
-    return WebSettings(words["folder"], Address.parse(words["hub"]), listen, Origins.of(origins), hub_tls, tls,
+    hub, hub_tls = Address.parse(words["hub"]), _tls(words, "hub_", "--hub-certificate, --hub-key and --hub-authority")
+    if not hub.path and hub_tls is None:
+        raise BadSettings(f"--hub {hub} wants --hub-certificate, --hub-key and --hub-authority")
+    return WebSettings(words["folder"], hub, listen, Origins.of(origins), hub_tls, tls,
                        frozenset(words["operator"]), zone_of(words["zone"]), words["zone"], words["program"], words["team"])
 
 

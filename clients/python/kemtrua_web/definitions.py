@@ -5,9 +5,11 @@ The lines go to `qz_sched times`, which answers when a trigger fires. So each fi
 from __future__ import annotations
 
 import json
+import sqlite3
 import subprocess
 import threading
 from collections.abc import Iterable, Sequence
+from typing import TypeVar
 
 from kemtrua import logs
 from kemtrua.history.schema import NoHistory
@@ -20,11 +22,20 @@ log = logs.logger("kemtrua.web")
 AT_ONCE = 5000  # rows of the history that are read at once
 TIMES_WITHIN = 10.0  # seconds
 MOST_TIMES = 1000  # that the program tells of a trigger
+MOST, MOST_OTHERS = 100_000, 4096  # triggers and jobs, and calendars and zones, that are known: the oldest go first
 Definition = dict[str, object]
+Known = TypeVar("Known")
 
 
 def _key(part: Definition) -> str:
     return str(Key(str(part.get("group", "DEFAULT")), str(part["name"])))
+
+
+def _put(known: dict[str, Known], key: str, value: Known, most: int) -> None:
+    """Puts one, and takes the oldest away where there are too many. One that is put again keeps its place: others may name it."""
+    known[key] = value
+    if len(known) > most:
+        del known[next(iter(known))]
 
 
 class Definitions:
@@ -33,7 +44,7 @@ class Definitions:
     def __init__(self, folder: str, program: str):
         self._folder, self._program = folder, program
         self._lock = threading.Lock()
-        self._last = 0
+        self._last, self._problem = 0, ""
         self._triggers: dict[str, Definition] = {}
         self._jobs: dict[str, Definition] = {}
         self._calendars: dict[str, str] = {}  # the lines, in the order in which they came
@@ -45,28 +56,34 @@ class Definitions:
         with self._lock:
             try:
                 with History(self._folder) as history:
+                    if history.last_audit() < self._last:
+                        self._last = 0  # (the database was made anew, or all were too old: numbers begin anew)
                     while rows := history.audit_after(self._last, AT_ONCE):
                         for row in rows:
                             self._last = row["id"]
                             if not row["reply"].startswith(("refused", "hub", "stopped", "fault", "closed")):
                                 self._take(row["line"])
-            except NoHistory as error:
-                log.warning("%s", error)
+                self._problem = ""
+            except (NoHistory, sqlite3.Error) as error:
+                if str(error) != self._problem:  # (once, and not at each page)
+                    self._problem = str(error)
+                    log.warning("no definitions are learnt meanwhile: %s", error)
 
     def _take(self, text: str) -> None:
         try:
             line = json.loads(text)
             do = line["do"]
             if do == "add_trigger":
-                self._triggers[_key(line["trigger"])] = line["trigger"]
+                _put(self._triggers, _key(line["trigger"]), line["trigger"], MOST)
             elif do == "delete_trigger":
                 self._triggers.pop(_key(line), None)
             elif do == "add_job":
-                self._jobs[_key(line["job"])] = line["job"]
+                _put(self._jobs, _key(line["job"]), line["job"], MOST)
             elif do == "add_calendar":
-                self._calendars[line["calendar"]["name"]] = json.dumps({"do": do, "calendar": line["calendar"], "replace": True})
+                _put(self._calendars, line["calendar"]["name"], json.dumps({"do": do, "calendar": line["calendar"], "replace": True}), MOST_OTHERS)
             elif do == "add_zone":
-                self._zones[line["name"]] = json.dumps({name: line[name] for name in ("do", "name", "stretches", "rule") if name in line})
+                zone = json.dumps({name: line[name] for name in ("do", "name", "stretches", "rule") if name in line})
+                _put(self._zones, line["name"], zone, MOST_OTHERS)
         except (ValueError, KeyError, TypeError, AttributeError):
             return  # (a line that was cut, or that isn't one of these)
 

@@ -1,6 +1,7 @@
 """Metrics in Prometheus' text form. Labels are classes, nodes, states and codes, so many at most; never jobs."""
 from __future__ import annotations
 
+import sqlite3
 import threading
 import time
 from collections import deque
@@ -111,6 +112,8 @@ class Counting:
             self.took.labels(klass).observe(run.took / 1000)
 
     def _count_events(self, history: History) -> None:
+        if history._number("SELECT max(id) FROM events") < self._event:
+            self._event = 0  # (the database was made anew, or all were too old: numbers begin anew)
         rows = history.connection.execute("SELECT id, kind FROM events WHERE id > ? ORDER BY id LIMIT 100000", (self._event,)).fetchall()
         for row in rows:
             self._event = row["id"]
@@ -128,6 +131,7 @@ class Collector:
         self._registry = CollectorRegistry()
         self._lock = threading.Lock()
         self._ended = threading.Event()
+        self._problem = ""  # what kept the last look from counting
         self.counting = Counting(self._registry)
         self._registry.register(self)  # type: ignore[arg-type]
 
@@ -145,11 +149,15 @@ class Collector:
 
     def look(self) -> None:
         with self._lock:
+            problem = ""
             try:
                 with History(self._site.settings.folder) as history:
                     self.counting.look(history, clock.now())
-            except (NoHistory, OSError) as error:
-                log.warning("%s", error)
+            except (NoHistory, OSError, sqlite3.Error) as error:
+                problem = str(error)
+            if problem and problem != self._problem:  # (once, and not at each look)
+                log.warning("nothing is counted meanwhile: %s", problem)
+            self._problem = problem
 
     def written(self) -> tuple[bytes, str]:
         self.look()

@@ -218,6 +218,10 @@ class History:
     def audit_after(self, last: int, limit: int) -> list[sqlite3.Row]:
         return self.connection.execute("SELECT id, line, reply FROM audit WHERE id > ? ORDER BY id LIMIT ?", (last, limit)).fetchall()
 
+    def last_audit(self) -> int:
+        """The number of the last line that the audit has; 0 where it has none."""
+        return self._number("SELECT max(id) FROM audit")
+
     def loads(self) -> dict[str, sqlite3.Row]:
         return {row["node"]: row for row in self.connection.execute("SELECT * FROM nodes ORDER BY node LIMIT 1000")}
 

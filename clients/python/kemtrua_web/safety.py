@@ -40,7 +40,10 @@ class Origins:
     def of(cls, texts: Iterable[str]) -> Origins:
         found = set()
         for text in texts:
-            parts = urlsplit(text)
+            try:
+                parts = urlsplit(text)
+            except ValueError:  # (as of http://[)
+                parts = urlsplit("")
             if parts.scheme not in ("http", "https") or not parts.netloc or parts.path not in ("", "/") or parts.query or parts.fragment:
                 raise BadSettings(f"--origin {text}: write it as https://jobs.example.org, or http://127.0.0.1:7412")
             found.add(f"{parts.scheme}://{parts.netloc.lower()}")

@@ -33,7 +33,7 @@ class Listening:
             return cls(path=path)
         over_tls = text.startswith("tls:")
         host, colon, port = text.removeprefix("tls:").rpartition(":")
-        if not colon or not host or not port.isdigit() or int(port) > 65535:
+        if not colon or not host or not port.isdecimal() or int(port) > 65535:
             raise BadSettings(f"--listen {text}: write 127.0.0.1:7412, unix:/run/kemtrua-web/page.sock, or tls:HOST:PORT")
         if not over_tls and host.strip("[]") not in LOOPBACK:
             raise BadSettings(f"--listen {text}: without TLS these pages are for this machine alone, as 127.0.0.1:7412; "

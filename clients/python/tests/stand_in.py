@@ -5,7 +5,7 @@ It knows jobs, simple triggers, members, executions, check-ins and the lines tha
 those of jobs. Zones, cron texts and groups of triggers it doesn't know. It keeps the trigger store's journal in its real form as far as `kemtrua.journal` reads it, and its
 tables past the end of the state store's; with STAND_IN_STATES=journal that file grows, as the program's does. The variable STAND_IN names faults to make: `fault:N` answers `fault` to the Nth transaction and `closed`
 then, `full:N` ends with status 7 there, and `die:N` ends without an answer, once the transaction is done. `version:V` is a program of that version, `before` one that
-doesn't know `show_room`, and `compact:S` one whose `compact` ends with that status.
+doesn't know `show_room`, and `compact:S` and `history:S` one whose word of that name ends with that status.
 """
 from __future__ import annotations
 
@@ -490,6 +490,9 @@ def main(word, *more):
     if word == "list":
         print("\n".join(listed(tables)))
         return 0
+    if word == "history" and faults()[0] == "history":
+        sys.stderr.write("qz: no luck\n")
+        return faults()[1]
     if word == "history":
         return history(int(more[0]))
     return script(tables, Journal(journal))

@@ -16,6 +16,7 @@ COMMANDS = {"add_job": 0, "delete_job": 1, "add_trigger": 2, "delete_trigger": 3
             "reset_trigger": 0x17, "pause_job_group": 0x18, "resume_job_group": 0x19}
 TOLD = b"\xfftold"  # what stands before it in a record
 HEAD = b"\xf0" + bytes(52)  # a snapshot, which has nothing here
+SLOTS = (6, 11)  # the gates of the two slots
 
 
 class Journal:
@@ -42,11 +43,20 @@ class Journal:
     def checkpoint(self):
         at = self.file.seek(0, os.SEEK_END) - 1
         self.append(HEAD)
-        self.file.seek(6)
+        self.file.seek(0)
+        free = min(SLOTS, key=lambda gate: slots_of(self.file).get(gate, 0))
+        self.file.seek(free)
         self.file.write(b"\xa5" + struct.pack(">I", at))
         self.file.flush()
         self.behind = 0
         return "checkpoint made"
+
+
+def slots_of(file):
+    """The open slots of a trigger store, each with where it leads."""
+    file.seek(0)
+    header = file.read(16)
+    return {gate: int.from_bytes(header[gate + 1 : gate + 5], "big") for gate in SLOTS if header[gate] == 0xA5}
 
 
 def record(line, now, epoch):
@@ -70,15 +80,16 @@ def told(line, now, epoch, reply):
 
 
 def history(after):
-    """The transactions behind the last snapshot."""
+    """The transactions behind the snapshot in use."""
     with open(TRIGGERS, "rb") as file:
+        begin = max(slots_of(file).values(), default=0)
         file.seek(16)
         number, base, found = 0, 0, []
         while (block := file.read(5))[:1] == b"\xa5":
-            payload = file.read(int.from_bytes(block[1:], "big"))
-            if payload[:1] == b"\xf0":
+            if file.tell() - 5 == begin:
                 base, found = number, []
-            else:
+            payload = file.read(int.from_bytes(block[1:], "big"))
+            if payload[:1] != b"\xf0":
                 number += 1
                 found.append((number, payload.partition(TOLD)[2]))
     for number, text in found:

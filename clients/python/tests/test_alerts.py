@@ -53,7 +53,7 @@ class Settings(unittest.TestCase):
                            ("[on.lost]\ncommand = []", "command is missing"), ("[on.lost]\ncommand = ['x']\nevery = 0", "every = 0"), ("[expect.j]", "write by"),
                            ("[expect.j]\nby = '6:00'\nzone = 'UTC'", "by = '6:00'"), ("[expect.j]\nby = '06:00'", "wants a zone"),
                            ("[expect.j]\nby = '06:00'\nzone = 'Europe/Nowhere'", "no such zone"), ("[expect.j]\nby = '06:00'\nzone = 'UTC'\ndays = ['Monday']", "days has"),
-                           ("[history]\ndays = -1", "days = -1"), ("[expect.j]\nwithin = -1", "within = -1"), ("on = 1", "allowed is dict"), ("= 1", "Invalid")):
+                           ("[history]\ndays = -1", "days = -1"), ("[expect.j]\nwithin = -1", "within = -1"), ("on = 1", "allowed is a table"), ("[history]\ngigabytes = inf", "finite"), ("= 1", "Invalid")):
             with self.assertRaisesRegex(BadSettings, said, msg=text):
                 settings(text)
 
@@ -213,7 +213,7 @@ class Told(WithRecorder):
         self.trigger()
         self.execution(now() - 5000, now(), ok=False)
         with mock.patch.object(alerts, "FIRST_REST", 0.1):
-            self.alert("import time; time.sleep(0 if len(open(f.name).readlines()) > 1 else 99)", timeout=1.0)
+            self.alert("import time; time.sleep(0 if len(open(f.name).readlines()) > 1 else 99)", timeout=5.0)
             wait_until(lambda: len(self.told()) == 2)
 
     def test_news_of_yesterday_is_told_to_nobody(self) -> None:

@@ -107,11 +107,14 @@ class Settings(WithFolder):
         self.assertEqual((backup.command.codes[3], backup.command.otherwise, backup.retry.times, backup.ends_when_cut_off), (Code.DELETE_TRIGGER, Code.SET_TRIGGER_ERROR, 2, True))
 
     def test_bad_ones_say_where(self) -> None:
-        for text, word in (("[node", "no TOML"), ("[nod]", "nod"), ("[node]\nworker = 3", "worker"), ("[node]\nworkers = 0", "1 or more"), ("[node]\nworkers = true", "int"),
+        for text, word in (("[node", "no TOML"), ("[nod]", "nod"), ("[node]\nworker = 3", "worker"), ("[node]\nworkers = 0", "1 to 10000"), ("[node]\nworkers = true", "a whole number"),
                            ('[node]\nhub = "x"', "no address"), ('[node]\nhub = "unix:/x"\nstore = "/x"', "not both"), ("[tls]\nkey = 'k'", "belong together"),
                            ("[class.a]", "command is missing"), ('[class.a]\ncommand = ["/nowhere/x"]', "isn't there"), ('[class.a]\ncommand = ["true"]\nretrys = 1', "retrys"),
                            ('[class.a]\ncommand = ["true"]\ncodes = { x = "NOOP" }', "exit statuses"), ('[class.a]\ncommand = ["true"]\notherwise = "no"', "SET_TRIGGER_ERROR"),
-                           ('[class.a]\ncommand = ["true"]\ndirectory = "/nowhere"', "directory")):
+                           ('[class.a]\ncommand = ["true"]\ndirectory = "/nowhere"', "directory"), ("", "no class"), ("[node]\n", "no class"),
+                           ("[node]\nworkers = 10001", "1 to 10000"), ("[node]\ncheck_in = 86400001", "1000 to 86400000"), ("[node]\nclock_limit = nan", "finite"),
+                           ('[class.a]\ncommand = ["true"]\ntimeout = inf', "finite"), ('[class.a]\ncommand = ["true"]\ncodes = { "²" = "NOOP" }', "exit statuses"),
+                           ('[class.a]\ncommand = ["true"]\nenvironment = { "A=B" = "x" }', "A=B"), ('[class.a]\ncommand = ["true", "\\u0000"]', "no list of texts")):
             with self.assertRaises(BadSettings) as raised:
                 self.read(text)
             self.assertIn(word, str(raised.exception))
@@ -127,8 +130,8 @@ class Settings(WithFolder):
         self.assertIn(f"backing up {data}", "\n".join(logs.output))
 
     def test_the_format_of_the_file(self) -> None:
-        self.assertEqual(self.read('format = 1\n[node]\nname = "A"\n').name, "A")
-        for text, word in (('format = 2\n[node]\n', "format = 2; this client knows 1"), ('format = "1"\n', "int"), ('formats = 1\n', "formats: there is no such setting"),
+        self.assertEqual(self.read('format = 1\n[node]\nname = "A"\n[class.a]\ncommand = ["true"]\n').name, "A")
+        for text, word in (('format = 2\n[node]\n', "format = 2; this client knows 1"), ('format = "1"\n', "a whole number"), ('formats = 1\n', "formats: there is no such setting"),
                            ('format = 1\n[node]\nclock_limits = 5\n', "clock_limits: there is no such setting")):
             with self.assertRaises(BadSettings) as raised:
                 self.read(text)

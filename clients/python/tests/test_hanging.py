@@ -16,8 +16,8 @@ from tests.helpers import ENVIRONMENT, IS_STAND_IN, WithFolder, command, job, no
 
 
 class Connections(WithFolder):
-    def answers(self, reply: bytes) -> Address:
-        """A socket that answers each line with this."""
+    def answers(self, reply: bytes, ends: bool = False) -> Address:
+        """A socket that answers each line with this, or the first one and ends then."""
         path = f"{self.folder}/s.sock"
         server = socket.socket(socket.AF_UNIX)
         self.addCleanup(server.close)
@@ -29,6 +29,8 @@ class Connections(WithFolder):
             with peer, peer.makefile("rb") as lines:
                 for _ in lines:
                     peer.sendall(reply)
+                    if ends:
+                        return
 
         threading.Thread(target=serve, daemon=True).start()
         return Address.parse(f"unix:{path}")
@@ -52,6 +54,14 @@ class Connections(WithFolder):
         with self.assertRaises(errors.Unanswered) as raised:
             connection.show_next()
         self.assertIn("bytes", str(raised.exception))
+
+    def test_a_list_in_whose_midst_the_hub_ends(self) -> None:
+        """Before, its asker waited for the whole 300 seconds of a list."""
+        connection = Connection(self.answers(b"list 3\njob DEFAULT/j ok\n", ends=True))
+        self.addCleanup(connection.close)
+        with mock.patch("kemtrua.connection.LIST_WITHIN", 20.0), self.assertRaises(errors.Unanswered) as raised:
+            connection.listed()
+        self.assertIn("the hub closed it", str(raised.exception))
 
     def test_nonsense(self) -> None:
         for reply in (b"next\n", b"hello there\n", b"next soon\n", b"ok\n"):

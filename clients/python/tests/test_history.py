@@ -7,12 +7,14 @@ import unittest
 
 from kemtrua import Connection
 from kemtrua.cli import client
+from kemtrua.compaction import compact
 from kemtrua.folder import Folder
 from kemtrua.history.filling import Copy
 from kemtrua.history.questions import Filter, Object, Questions
 from kemtrua.history.schema import FILE
 from kemtrua.team import Team
 from tests.helpers import IS_STAND_IN, PROGRAM, HubProcess, WithFolder, job, now, once, wait_until
+from tests.stand_in_files import Journal
 
 FIVE = ("entry", "trigger", "node", "scheduled", "fired")
 
@@ -54,10 +56,9 @@ def recorded(folder: str) -> dict[int, Object]:
 
 
 def snapshot(folder: str) -> None:
-    """Puts a snapshot at the end of the stand-in's journal, so that it tells nothing of before."""
+    """Has the stand-in make a snapshot, as the program does where a hub is killed: its history begins behind it then."""
     with open(os.path.join(stores_of(folder), "qz-triggers.store"), "r+b") as file:
-        file.seek(-1, os.SEEK_END)
-        file.write(b"\xa5" + (53).to_bytes(4, "big") + b"\xf0" + bytes(52) + b"\x00")
+        Journal(file).checkpoint()
 
 
 class WithHistory(WithFolder):
@@ -90,6 +91,11 @@ class WithHistory(WithFolder):
             found = recorded(self.folder)
             self.assertEqual(wanted, {entry: {name: one[name] for name in (*FIVE, "ended")} for entry, one in found.items()})
             raise
+
+    def remove_database(self) -> None:
+        for name in (FILE, f"{FILE}-wal", f"{FILE}-shm"):
+            if os.path.exists(os.path.join(self.folder, name)):
+                os.remove(os.path.join(self.folder, name))
 
     def events(self, *kinds: str) -> list[Object]:
         with Questions(self.folder) as asked:
@@ -138,15 +144,54 @@ class Agrees(WithHistory):
             self.agrees()
 
     @unittest.skipUnless(IS_STAND_IN, "it puts a snapshot into the stand-in's journal")
-    def test_what_stands_before_a_snapshot_is_missing(self) -> None:
+    def test_moments_are_the_stores_own_behind_a_snapshot_too(self) -> None:
+        hub = self.hub()
+        one = self.begun(hub)
+        for number in (5, 10, 15):
+            self.work(one, "A", 5, leaves_open=True)
+            wait_until(lambda number=number: len(recorded(self.folder)) == number)  # type: ignore[misc]
+            hub.kill()
+            one.close()
+            wanted = {entry: it["ended"] for entry, it in told(self.folder).items() if it["ended"] is not None}
+            with sqlite3.connect(os.path.join(self.folder, FILE)) as connection:
+                connection.execute("UPDATE executions SET ended = ended + 3 WHERE entry > ?", (number - 5,))  # (as its hub's clock had them)
+            snapshot(self.folder)
+            hub = self.hub(make=False)
+            one = hub.connect()
+            one.ask("resume", node="A", epoch=1)
+            one.complete("A", number)
+            wait_until(lambda number=number: recorded(self.folder)[number]["state"] == "ended")  # type: ignore[misc]
+            found = recorded(self.folder)
+            self.assertEqual({entry: found[entry]["ended"] for entry in wanted}, wanted)
+        one.close()
+        self.assertEqual(self.events("gap"), [])
+
+    @unittest.skipUnless(IS_STAND_IN, "it puts snapshots into the stand-in's journal")
+    def test_without_its_database_all_is_told_that_the_store_has(self) -> None:
+        hub = self.hub()
+        with self.begun(hub) as one:
+            self.work(one, "A", 4)
+            snapshot(self.folder)
+            self.work(one, "A", 2, leaves_open=True)
+        hub.ended()
+        wanted = told(self.folder) | {entry: recorded(self.folder)[entry] for entry in range(1, 5)}
+        self.remove_database()
+        snapshot(self.folder)
+        hub = self.hub(make=False)
+        with hub.connect() as one:
+            wait_until(lambda: len(one.rows("history")) == 6)
+        hub.ended()
+        found = recorded(self.folder)
+        self.assertEqual([found[entry]["ended"] for entry in sorted(wanted)], [wanted[entry]["ended"] for entry in sorted(wanted)])
+        self.assertEqual((found[6]["state"], self.events("gap")), ("runs", []))
+
+    def test_without_its_database_what_former_stores_had_is_missing(self) -> None:
         hub = self.hub()
         with self.begun(hub) as one:
             self.work(one, "A", 4, leaves_open=True)
+            one.compact()
         hub.ended()
-        for name in (FILE, f"{FILE}-wal", f"{FILE}-shm"):
-            if os.path.exists(os.path.join(self.folder, name)):
-                os.remove(os.path.join(self.folder, name))
-        snapshot(self.folder)
+        self.remove_database()
         hub = self.hub(make=False)
         with hub.connect() as one:
             one.ask("resume", node="A", epoch=1)
@@ -154,11 +199,10 @@ class Agrees(WithHistory):
             wait_until(lambda: len(one.rows("history")) == 3)
             found = {row["entry"]: row for row in one.rows("history")}
             self.assertEqual([(entry, row["state"], row["job"]) for entry, row in found.items()], [(6, "ended", "DEFAULT/j"), (5, "ended", "DEFAULT/j"), (4, "runs", "DEFAULT/j")])
-            self.assertRegex(str(self.events("gap")[0]["text"]), r"after its transaction 0 and before 1\d isn't in its history any more")
+            self.assertRegex(str(self.events("gap")[0]["text"]), r"before the store \S+ was made isn't in that store's history: it is missing")
             one.complete("A", 4)
             wait_until(lambda: one.rows("history", until=found[5]["fired"])[0]["state"] == "ended")
 
-    @unittest.skipUnless(IS_STAND_IN, "it puts a snapshot into the stand-in's journal")
     def test_an_end_that_nobody_saw_is_missing(self) -> None:
         hub = self.hub()
         with self.begun(hub) as one:
@@ -167,11 +211,17 @@ class Agrees(WithHistory):
         with self.store() as store:
             store.ask("resume", node="A", epoch=1)
             store.ask("complete", node="A", entry=2)
-        snapshot(self.folder)
+        folder = Folder(self.folder)
+        folder.hold()
+        compact(folder, PROGRAM, Team.read(self.folder), 0.0)  # type: ignore[arg-type]
+        folder.let_go()
+        for stores in folder.all_stores()[:-1]:
+            shutil.rmtree(stores)
         hub = self.hub(make=False)
         hub.connect().close()
         wait_until(lambda: recorded(self.folder)[2]["state"] == "missing")
         self.assertIsNone(recorded(self.folder)[2]["ended"])
+        self.assertIn("isn't there any more", str(self.events("gap")[0]["text"]))
 
     def test_a_wrong_count_is_mended(self) -> None:
         hub = self.hub()

@@ -6,6 +6,7 @@ import logging
 import os
 import resource
 import signal
+import socket
 import threading
 import time
 import unittest
@@ -95,6 +96,23 @@ class Keeping(unittest.TestCase):
         wait_until(lambda: len(marked(self.mark)) >= 3)
         place.control.close()  # (as where the node is killed)
         wait_until(lambda: not marked(self.mark))
+
+    def test_workers_die_with_a_node_that_had_not_heard_of_the_end(self) -> None:
+        """Before, a keeper that had just said `ended` failed when its node died, and what the command had left went on."""
+        place = running.Place()
+        place.wait()
+        place.control.sendall(running.Order(["sh", "-c", STUBBORN["ignores SIGTERM"].replace("wait", "exit")], "/", {**os.environ, "MARK": self.mark}, None, 0).line())
+        self.addCleanup(place.close)
+        wait_until(lambda: b"ended 0" in place.control.recv(4096, socket.MSG_PEEK))
+        place.control.close()
+        wait_until(lambda: not marked(self.mark), 10)
+
+    def test_a_place_of_which_nobody_heard_that_it_is_ready(self) -> None:
+        """Before, its keeper failed, and left the folder of its control group."""
+        place = running.Place()
+        wait_until(lambda: b"ready" in place.control.recv(4096, socket.MSG_PEEK))
+        place.close()
+        self.assertEqual(place.process.returncode, 0)
 
     def test_a_keeper_that_is_killed(self) -> None:
         guard = Guard()

@@ -8,13 +8,15 @@ import time
 import unittest
 from unittest import mock
 
-from kemtrua import Code, Command, Connection, Context, Node, spool
-from kemtrua.errors import BadLine, HubRefused
+from kemtrua import Address, Code, Command, Connection, Context, Node, clock, spool
+from kemtrua import reporting as reports_module
+from kemtrua.errors import BadLine, HubRefused, Unreachable
 from kemtrua.guard import Guard
 from kemtrua.history.outputs import text_of
 from kemtrua.history.reports import OUTPUT, Report
 from kemtrua.jobs import Job, Retry
 from kemtrua.record import Tail
+from kemtrua.reporting import Reporting
 from kemtrua.spool import Kept, Spool
 from tests.helpers import HubProcess, WithFolder, job, now, once, wait_until
 
@@ -31,6 +33,38 @@ def report(entry: int = 1, **more: object) -> Report:
     given: dict[str, object] = {"generation": 1, "entry": entry, "epoch": 1, "trigger": "DEFAULT/t", "job": "DEFAULT/j", "klass": "ok", "scheduled": 1, "fired": 2,
                                 "ended": 3, "refires": 0, "ok": 1, "code": "NOOP"}
     return Report.of({**given, **more})
+
+
+class Hearing(Connection):
+    """A hub that only keeps what it is told."""
+
+    def __init__(self, path: str):
+        self.address, self._why, self.heard = Address.parse(f"unix:{path}"), None, list[int]()
+
+    def stored(self, do: str, **members: object) -> int:
+        told = members["told"] if do == "report" else []
+        assert isinstance(told, list)
+        self.heard += [one["report"]["entry"] for one in told]
+        return len(told)
+
+    def close(self) -> None:
+        self._why = Unreachable("it is gone")
+
+
+class Again(unittest.TestCase):
+    def test_another_hub_is_told_what_the_one_before_was_told_lately(self) -> None:
+        first, second, third = Hearing("/a"), Hearing("/b"), Hearing("/b")
+        hubs = [first, second, third]
+        reporting = Reporting("A", lambda: hubs.pop(0), Spool(None), lambda: (), lambda: 1)
+        for entry, hub in ((1, first), (2, second), (3, third)):
+            reporting._spool.add(Kept(report(entry), 0, b"out"))
+            if entry == 3:  # (too long ago for whoever would lead next)
+                reporting._lately.appendleft((clock.uptime() - 2 * reports_module.TOLD_AGAIN, Kept(report(9), 0, b"")))
+            reporting._tell()
+            reporting._tell()
+            hub.close()
+        self.assertEqual((first.heard, sorted(second.heard), third.heard), ([1], [1, 2], [3]))  # (the same hub again knows it all)
+        self.assertNotIn(9, [kept.report.entry for _, kept in reporting._lately])
 
 
 class Outputs(unittest.TestCase):

@@ -1,5 +1,6 @@
 """A hub's history on a second machine: all of it, what is new, and what comes of it where that machine takes over."""
 import io
+import json
 import logging
 import os
 import sqlite3
@@ -39,7 +40,7 @@ def content(folder: str) -> dict[str, list[tuple[object, ...]]]:
         connection.close()
 
 
-class Parts(WithRecorder):
+class WithStandby(WithRecorder):
     def setUp(self) -> None:
         super().setUp()
         self.to = os.path.join(self.folder, "standby")
@@ -47,6 +48,8 @@ class Parts(WithRecorder):
         self.shipped, self.kept = Shipped(self.folder), Kept(self.to)
         self.addCleanup(self.kept.close)
 
+
+class Parts(WithStandby):
     def ship(self) -> int:
         """Ships all that is new, and says how many executions these were."""
         self.settle()
@@ -116,6 +119,70 @@ class Parts(WithRecorder):
             with self.assertRaises(BadPart, msg=bad):
                 self.kept.take(bad)
         self.assertEqual({table: rows for table, rows in content(self.to).items() if rows}, {})
+
+
+class OfHubs(WithStandby):
+    """A hub that stands by asks the one that leads, and goes on with each database where it was."""
+
+    def take(self) -> int:
+        """Takes all that is new, and says how many executions these were."""
+        self.settle()
+        count = 0
+        while objects := shipping.told_in(self.folder, self.kept.positions(), self.kept.since()):
+            found, position = shipping.heard(json.loads(json.dumps(objects)))
+            count += len(shipping.checked(found)["executions"])
+            self.kept.take_rows(found, position)
+        return count
+
+    def note(self, name: str, value: object) -> None:
+        self.recorder.do(lambda it: it.connection.execute("UPDATE meta SET value = ? WHERE name = ?", (value, name))).result(20)
+
+    def test_it_goes_on_where_it_was(self) -> None:
+        self.trigger()
+        for _ in range(12):
+            self.execution(now(), now() + 5, output=b"x" * 100)
+        with mock.patch.object(shipping, "FOR_A_HUB", shipping.Sizes(5, 250, 300)), mock.patch.object(shipping, "PIECE", 64):
+            self.assertEqual(self.take(), 12)
+        self.assertEqual(content(self.to), content(self.folder))
+        self.execution(now(), None)
+        self.assertEqual((self.take(), self.take()), (1, 0))
+        self.note("id", "another")  # (as the database of another hub, which has the same)
+        self.execution(now(), now() + 5)
+        self.assertEqual((self.take(), self.take()), (14, 0))  # (all are of the last days)
+        self.kept._connection.execute("UPDATE meta SET value = ? WHERE name = 'whole'", (str(now() + shipping.REPORTED_WITHIN + 60_000),))
+        self.note("id", "a third one")
+        self.assertEqual(self.take(), 2)  # (the one that executes, and what came later)
+        self.assertEqual(content(self.to), content(self.folder))
+
+    def test_what_is_known_up_to_where_comes_last(self) -> None:
+        self.trigger()
+        for _ in range(6):
+            self.execution(now(), now() + 5)
+        self.settle()
+        with mock.patch.object(shipping, "FOR_A_HUB", shipping.Sizes(5, 2**19, 2**19)):
+            for is_whole in (False, True):
+                found, position = shipping.heard(shipping.told_in(self.folder, self.kept.positions(), 0))
+                self.assertEqual(("stores" in shipping.checked(found), position.owes), (is_whole, not is_whole))
+                self.kept.take_rows(found, position)
+
+    def test_a_report_that_only_one_of_them_has_stays(self) -> None:
+        self.trigger()
+        entry = self.execution(now(), now() + 5, ok=False)
+        self.take()
+        self.recorder.do(lambda it: it.connection.execute("UPDATE executions SET state = 'ended', ok = NULL, status = NULL, told = NULL, changed = 99")).result(20)
+        self.assertEqual(self.take(), 1)
+        with Questions(self.to) as asked:
+            found = asked.execution(entry, 1)
+        assert found is not None
+        self.assertEqual((found["state"], found["status"]), ("failed", 1))
+
+    def test_what_is_no_position(self) -> None:
+        for bad in (7, {"id": 1, "more": 2}, {"execution": [1]}, {"rows": 5}, {"waits": 1}):
+            with self.assertRaises(BadPart, msg=bad):
+                shipping.told_in(self.folder, [bad], 0)
+        for objects in ([], [{}], [{"position": {}}, {"data": "!"}], [{"position": {}}, {"data": "AAAA"}]):
+            with self.assertRaises(BadPart, msg=objects):
+                shipping.heard(objects)
 
 
 class Formats(WithRecorder):

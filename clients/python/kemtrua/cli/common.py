@@ -2,6 +2,8 @@
 from __future__ import annotations
 
 import argparse
+import contextlib
+import os
 import sys
 from collections.abc import Callable
 
@@ -52,7 +54,9 @@ def add_log_level(to: argparse.ArgumentParser) -> None:
 def ended(name: str, work: Callable[[], int | None]) -> int:
     """Runs a command. The exit status is that of qz_sched where this ended, and 1 for what else went wrong."""
     try:
-        return work() or 0
+        status = work() or 0
+        sys.stdout.flush()
+        return status
     except ProgramEnded as error:
         print(f"{name}: {error}", file=sys.stderr)
         return error.status if error.status > 0 else BAD
@@ -60,6 +64,11 @@ def ended(name: str, work: Callable[[], int | None]) -> int:
         print(f"{name}: {error}", file=sys.stderr)
         return error.status if isinstance(error, BadFolder) else BAD
     except BrokenPipeError:
-        return BAD  # (whoever read the output has enough of it)
+        with contextlib.suppress(OSError, ValueError):  # (whoever read the output has enough of it; what is left goes nowhere)
+            os.dup2(os.open(os.devnull, os.O_WRONLY), sys.stdout.fileno())
+        return BAD
+    except OSError as error:
+        print(f"{name}: {f'{error.filename}: ' if isinstance(error.filename, str) else ''}{error.strerror or error}", file=sys.stderr)
+        return BAD
     except KeyboardInterrupt:
         return 130

@@ -49,6 +49,8 @@ def main(words: list[str] | None = None) -> int:
     def work() -> None:
         history = HistorySettings() if given.settings is None else read_hub(given.settings)
         if given.check:
+            if given.settings is None:
+                raise BadSettings("--check looks at --settings FILE")
             print(f"{given.settings}: {len(history.expects)} expectations, alerts for {', '.join(history.alerts) or 'nothing'}")
             return
         tls = common.tls_of(given)

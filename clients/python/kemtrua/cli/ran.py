@@ -70,7 +70,7 @@ def history(given: Words) -> int:
         return _vacuum(given)
     asked = {name: value for name, value in (("job", _key(given.job)), ("node", given.node), ("since", _past(given.since)), ("until", _past(given.until)),
                                              ("failed", given.failed)) if value is not None}
-    limit = given.limit or (None if given.json or given.all else screen.height())
+    limit = _limit(given.limit) or (None if given.json or given.all else screen.height())
     with source_of(given) as source:
         found = _pages(source, asked, limit)
         beside = [] if given.node is not None else _beside(source, asked, limit)
@@ -152,7 +152,7 @@ def how(one: Object) -> str:
 
 
 def log(given: Words) -> int:
-    if not given.entry.isdigit():
+    if not given.entry.isdecimal():
         raise BadSettings(f"{given.entry!r} is no entry number")
     asked: Object = {"entry": int(given.entry), **({} if given.generation is None else {"generation": given.generation})}
     with source_of(given) as source:
@@ -244,7 +244,7 @@ def _list(value: object) -> list[object]:
 
 def audit(given: Words) -> int:
     asked = {name: value for name, value in (("since", _past(given.since)), ("by", given.by)) if value is not None}
-    limit = given.limit or (PAGE if given.json else screen.height() or PAGE)
+    limit = _limit(given.limit) or (PAGE if given.json else screen.height() or PAGE)
     with source_of(given) as source:
         found = source.rows("audit", **asked, limit=min(limit, PAGE))
     if given.json:
@@ -260,6 +260,12 @@ def audit(given: Words) -> int:
 
 def _key(text: str | None) -> str | None:
     return None if text is None else str(Key.of_user(text))
+
+
+def _limit(given: int | None) -> int | None:
+    if given is not None and given < 1:
+        raise BadSettings(f"--limit {given}: allowed is 1 or more")
+    return given
 
 
 def _past(text: str | None) -> int | None:

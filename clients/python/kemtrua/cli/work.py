@@ -188,7 +188,7 @@ def show(given: Words) -> int:
 
 def _row(scheduler: Scheduler, what: str, name: str) -> rows.JobRow | rows.TriggerRow | rows.EntryRow | None:
     if what == "entry":
-        if not name.isdigit():
+        if not name.isdecimal():
             raise BadSettings(f"{name!r} is no entry number")
         return scheduler.show_entry(int(name))
     return scheduler.show_job(Key.of_user(name)) if what == "job" else scheduler.show_trigger(Key.of_user(name))

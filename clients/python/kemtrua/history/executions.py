@@ -48,6 +48,12 @@ class Execution:
             return "acquired" if self.fired is None else "missing" if self.state == "missing" else "runs"
         return "ended" if self.ok is None else "done" if self.ok else "failed"
 
+    def take_report_of(self, other: Execution) -> None:
+        """Takes what a node told, where another database has it."""
+        self.ok, self.status, self.signal, self.ms, self.cpu, self.peak = other.ok, other.status, other.signal, other.ms, other.cpu, other.peak
+        self.why, self.most, self.told = other.why, other.most, other.told
+        self.state = self.state_now()
+
     @classmethod
     def of_row(cls, row: sqlite3.Row) -> Execution:
         return cls(*(row[name] for name in COLUMNS))

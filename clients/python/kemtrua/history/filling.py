@@ -7,13 +7,14 @@ import re
 import shutil
 import subprocess
 import tempfile
-from collections.abc import Iterator
+from collections.abc import Generator
+from contextlib import closing
 from typing import IO, TYPE_CHECKING
 
-from .. import clock, logs, rows
+from .. import clock, journal, logs, rows
 from ..errors import KemtruaError
 from ..program import STORE_FILES, call, cannot_run
-from .places import Place, follows_on_another
+from .places import Place, follows_on_another, knows_former
 from .story import is_of_client
 from .transactions import NotTold, Transaction, told
 
@@ -49,6 +50,15 @@ class Copy:
     def close(self) -> None:
         shutil.rmtree(self._folder, ignore_errors=True)
 
+    @property
+    def is_compacted(self) -> bool:
+        """Whether the store began with what another one had."""
+        return journal.begins_with_snapshot(os.path.join(self._folder, STORE_FILES[0]))
+
+    def set_back(self) -> bool:
+        """Has the history begin sooner: at the snapshot before, or where the store began. False where it begins there already."""
+        return journal.set_back(os.path.join(self._folder, STORE_FILES[0]))
+
     def listed(self) -> list[rows.Row]:
         return [rows.row_of(line) for line in call(self._program, self._folder, "list").splitlines()]
 
@@ -70,8 +80,8 @@ class Reading:
             self._said.close()
             raise cannot_run(program, folder, error) from error
 
-    def __iter__(self) -> Iterator[Transaction]:
-        """Raises NoWord, and NotTold where the program ends otherwise than it should."""
+    def __iter__(self) -> Generator[Transaction, None, None]:
+        """Raises NoWord, and NotTold where the program ends otherwise than it should. Where it is closed before its end, the call is ended."""
         out: IO[bytes] | None = self._process.stdout
         assert out is not None
         try:
@@ -106,60 +116,86 @@ class Filling:
     def __init__(self, writer: Writer, copy: Copy):
         self._writer, self._copy, self._story = writer, copy, writer.story
 
-    def run(self, closes: bool = False) -> None:
-        """With `closes` nothing more comes to the store."""
+    def run(self, mark: int, closes: bool = False) -> bool:
+        """Whether all is known then that came before the copy was made. The writer gave `mark` before that. With `closes` nothing more
+        comes to the store."""
         writer = self._writer
         if writer.place.store != self._copy.name:
             writer.place = Place.read(writer.connection, writer.generation, self._copy.name)
-        writer.lags = False
-        self._fill()
-        writer.place.closed = closes and writer.has_word
-
-    def _fill(self) -> None:
-        writer, place = self._writer, self._writer.place
-        known, restored = place.last, place.is_new and follows_on_another(writer.connection, writer.generation)
+        writer.place.closed = False
         try:
-            begins, last = self._read(restored)
+            self._fill(closes)
         except NoWord as error:
             writer.has_word = False
             writer.say("word", str(error))
             self._story.take_listed(self._copy.listed(), is_whole=True)
-            return
         except NotTold as error:
             writer.say("told", str(error))
-            return
+            return False
+        writer.filled(mark)
+        writer.place.closed = closes and writer.has_word
+        return True
+
+    def _fill(self, closes: bool) -> None:
+        writer, place = self._writer, self._writer.place
+        known, restored = place.last, place.is_new and follows_on_another(writer.connection, writer.generation)
+        begins, last = self._read(restored)
         has_gap = begins > known + 1 and not restored
         if has_gap:
-            text = f"what the store {place.store} did after its transaction {known} and before {begins} isn't in its history any more: it is missing"
-            self._story.take_event(clock.now(), "gap", text)
-            log.warning("%s", text)
+            self._tell_gap(f"what the store {place.store} did after its transaction {known} and before {begins} isn't in its history any more")
+        elif place.is_new and not restored and self._copy.is_compacted and not knows_former(writer.connection, writer.generation, place.store):
+            self._tell_gap(f"what the team did before the store {place.store} was made isn't in that store's history")
         if restored:
             self._story.take_restored()
         place.last = place.exact = max(place.last, last)
-        if has_gap or restored or place.is_new:
-            self._story.take_listed(self._copy.listed(), is_whole=(has_gap or restored) and last >= known)
+        if has_gap or place.is_new or not closes and self._was_shipped():
+            self._story.take_listed(self._copy.listed(), is_whole=last >= known)
         place.is_new = False
+
+    def _was_shipped(self) -> bool:
+        """Whether the database came from another hub since the last look: without jobs, triggers and what is acquired."""
+        return self._writer.connection.execute("DELETE FROM meta WHERE name = 'shipped'").rowcount > 0
+
+    def _tell_gap(self, what: str) -> None:
+        self._story.take_event(clock.now(), "gap", f"{what}: it is missing")
+        log.warning("%s: it is missing", what)
 
     def _read(self, restored: bool) -> tuple[int, int]:
         """Takes what is told. Gives the first number that can be told, and the last one."""
+        while (found := self._read_once(restored)) is None:
+            pass
+        return found
+
+    def _read_once(self, restored: bool) -> tuple[int, int] | None:
+        """The same; None where it has to be read anew. Then the call that told it has ended: two at once can't open the copy."""
         place, begins, last = self._writer.place, 1, 0
         reading = self._copy.history(max(place.exact - 1, 0))
-        for it in reading:
-            assert it.number is not None
-            if not last:
-                if it.number == place.exact and place.reply != it.reply:
-                    log.warning("the database doesn't fit the store %s: what that tells is taken anew", place.store)
-                    place.last = place.exact = 0
-                    return self._read(restored)
-                begins = it.number if it.number > max(place.exact, 1) else 1
-            last = it.number
-            if restored:
-                place.last, place.exact, place.reply = last, last, it.reply
-            else:
-                self._take(it)
+        with closing(iter(reading)) as told:
+            for it in told:
+                assert it.number is not None
+                if not last:
+                    if self._begins_late(it.number, restored):
+                        return None
+                    if it.number == place.exact and place.reply != it.reply:
+                        log.warning("the database doesn't fit the store %s: what that tells is taken anew", place.store)
+                        place.last = place.exact = 0
+                        return None
+                    begins = it.number if it.number > max(place.exact, 1) else 1
+                last = it.number
+                if restored:
+                    place.last, place.exact, place.reply = last, last, it.reply
+                else:
+                    self._take(it)
         if reading.begins is not None:
+            if not last and self._begins_late(reading.begins, restored):
+                return None
             begins, last = reading.begins, max(last, reading.begins - 1)
         return begins, last
+
+    def _begins_late(self, begins: int, restored: bool) -> bool:
+        """Whether a snapshot hid what isn't known with the store's own moments, and hides it no more. One is made where a hub is killed,
+        too, since its program ends then."""
+        return begins > self._writer.place.exact + 1 and not restored and self._copy.set_back()
 
     def _take(self, it: Transaction) -> None:
         place, story = self._writer.place, self._story

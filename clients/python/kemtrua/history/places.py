@@ -38,3 +38,9 @@ def follows_on_another(connection: sqlite3.Connection, generation: int) -> bool:
     """Whether the database knows an earlier generation and nothing of this one: then its store was restored."""
     known = {found for (found,) in connection.execute("SELECT DISTINCT generation FROM stores")}
     return bool(known) and generation > max(known)
+
+
+def knows_former(connection: sqlite3.Connection, generation: int, store: str) -> bool:
+    """Whether all is known of the store that was made before this one."""
+    found = connection.execute("SELECT closed FROM stores WHERE generation = ? AND name < ? ORDER BY name DESC LIMIT 1", (generation, store)).fetchone()
+    return found is not None and bool(found[0])

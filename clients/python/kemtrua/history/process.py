@@ -121,9 +121,9 @@ def group_of(source: BinaryIO) -> list[Told | Call]:
     return found
 
 
-def hold(folder: str) -> int:
+def hold(folder: str, within: float | None = None) -> int:
     """Keeps others from this history. Waits for the process of a hub that was killed: what that has it still writes. Raises NoHistory."""
-    path, until = os.path.join(folder, LOCK), clock.uptime() + FREE_WITHIN
+    path, until = os.path.join(folder, LOCK), clock.uptime() + (FREE_WITHIN if within is None else within)
     descriptor = os.open(path, os.O_RDWR | os.O_CREAT | os.O_CLOEXEC, 0o640)
     while True:
         try:

@@ -14,7 +14,7 @@ from ..errors import KemtruaError
 from ..program import STORE_FILES
 from . import keeping, outputs
 from .filling import Copy, Filling, remove_copies
-from .places import unfinished
+from .places import Place, unfinished
 from .reports import Report
 from .schema import FILE, NoHistory, opened
 from .settings import HistorySettings
@@ -51,10 +51,16 @@ class Recorder:
         """The store was opened for the so-many-th time, and nothing was answered since. It copies the files, so it takes a moment. The
         future says which number the last transaction had then."""
         with self._copying:
-            self._stores = stores
+            self._stores, mark = stores, self._writer.mark()
             copy = Copy(stores, self._program, self.folder)
             self._writer.put(Task(lambda it: self._fill_rest(it, stores), is_sql=True))
-            return self._fill(copy, lambda it: (opening, it.begin(opening)))
+
+            def begin(writer: Writer, is_filled: bool) -> tuple[int, int]:
+                if not is_filled:
+                    writer.miss()
+                return opening, writer.begin(opening)
+
+            return self._fill(copy, mark, begin)
 
     def resumed(self, stores: str, opening: int, base: int | None) -> None:
         """This process took the place of one that ended. The last transaction before this opening had the number `base`, if that is
@@ -70,7 +76,7 @@ class Recorder:
 
     def passed_over(self) -> None:
         """Something was answered that wasn't told: it is to be filled in."""
-        self._writer.lags = True
+        self._writer.miss()
 
     def said(self, at: int, who: str, line: Line, reply: str) -> None:
         """A client's line, and what it was answered."""
@@ -84,7 +90,8 @@ class Recorder:
         """Has the database take all that was answered, with the store's own moments. The future says whether it has; with `closes` nothing
         more comes to this store."""
         with self._copying:
-            return self._fill(Copy(self._stores, self._program, self.folder), lambda it: not it.lags, closes)
+            mark = self._writer.mark()
+            return self._fill(Copy(self._stores, self._program, self.folder), mark, lambda _, is_filled: is_filled, closes)
 
     def catch_up(self) -> None:
         """Fills in what was passed over. To be called from time to time."""
@@ -102,12 +109,11 @@ class Recorder:
     def end(self) -> None:
         self._writer.end(ENDS_WITHIN)
 
-    def _fill(self, copy: Copy, then: Callable[[Writer], object], closes: bool = False) -> Future[object]:
-        """Takes what a copy tells, and gives what comes of `then`."""
+    def _fill(self, copy: Copy, mark: int, then: Callable[[Writer, bool], object], closes: bool = False) -> Future[object]:
+        """Takes what a copy tells, and gives what comes of `then`, which is told whether all was taken."""
 
         def work(it: Writer) -> object:
-            Filling(it, copy).run(closes)
-            return then(it)
+            return then(it, Filling(it, copy).run(mark, closes))
 
         done = self._writer.do(work)
         done.add_done_callback(lambda _: copy.close())
@@ -115,16 +121,30 @@ class Recorder:
 
     def _fill_rest(self, writer: Writer, stores: str) -> None:
         """Takes what isn't known of former stores, as far as they are still there."""
-        before = os.path.dirname(os.path.realpath(stores))
+        before, current = os.path.split(os.path.realpath(stores))
         for name in unfinished(writer.connection, writer.generation):
             folder = os.path.join(before, name)
-            if name != os.path.basename(os.path.realpath(stores)) and all(os.path.exists(os.path.join(folder, it)) for it in STORE_FILES):
-                copy = Copy(folder, self._program, self.folder)
-                try:
-                    Filling(writer, copy).run(closes=True)
-                    writer.commit()
-                finally:
-                    copy.close()
+            if name == current:
+                continue
+            if not all(os.path.exists(os.path.join(folder, it)) for it in STORE_FILES):
+                self._give_up(writer, name)
+                continue
+            copy = Copy(folder, self._program, self.folder)
+            try:
+                Filling(writer, copy).run(0, closes=True)
+                writer.commit()
+            finally:
+                copy.close()
+
+    @staticmethod
+    def _give_up(writer: Writer, name: str) -> None:
+        """A former store isn't there any more, and the database hasn't all of it."""
+        writer.place = Place.read(writer.connection, writer.generation, name)
+        writer.place.closed = True
+        text = f"what the store {name} did after its transaction {writer.place.last} isn't known, since that store isn't there any more: it is missing"
+        writer.story.take_event(clock.now(), "gap", text)
+        log.warning("%s", text)
+        writer.commit()
 
     # -- what nodes tell
 

@@ -2,6 +2,7 @@
 from __future__ import annotations
 
 from dataclasses import asdict, dataclass, fields
+from typing import Any
 
 from ..errors import BadLine
 from ..values import Problem, is_whole
@@ -46,12 +47,12 @@ class Report:
             raise BadLine([Problem("report", "it is no object")])
         wrong = [Problem(f"report.{name}", "there is no such member") for name in found if name not in _TYPES]
         for name, (kind, is_needed) in _TYPES.items():
-            value = found.get(name)
+            value: Any = found.get(name)
             if value is None and not is_needed and name not in found:
                 continue
             if kind == "text" and (not isinstance(value, str) or len(value) > LONGEST_TEXT):
                 wrong.append(Problem(f"report.{name}", f"allowed is a text of {LONGEST_TEXT} characters at most"))
-            elif kind == "number" and (not is_whole(value) or not -_MOST <= value <= _MOST):
+            elif kind == "number" and (not isinstance(value, int) or not is_whole(value) or not -_MOST <= value <= _MOST):
                 wrong.append(Problem(f"report.{name}", "allowed is a whole number of 64 bits"))
         if wrong:
             raise BadLine(wrong[:20])

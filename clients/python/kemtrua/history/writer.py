@@ -50,10 +50,11 @@ class Writer:
 
     def __init__(self, folder: str, generation: int, days: float, most: int):
         self.folder, self.generation, self.days, self.most = folder, generation, days, most
-        self._items: deque[Task | Told] = deque()
+        self._items: deque[tuple[int, Task | Told]] = deque()  # each with its number
         self._changed = threading.Condition()
+        self._count = 0  # the number of the last thing that came, also of one that was passed over
+        self._missing = 0  # the last one at which something was found missing; 0 where nothing is
         self._ending = False
-        self.lags = False  # something was passed over; it is to be filled in
         self._opening, self._base = 0, 0
         self.has_word = True  # the program tells its history
         self.place = Place(generation, "")
@@ -69,15 +70,42 @@ class Writer:
 
     def tell(self, told: Told) -> None:
         if len(self._items) >= MOST:
-            self.lags = True
+            self.miss()
         else:
             self.put(told)
 
     def put(self, item: Task | Told) -> None:
-        self._items.append(item)
-        if len(self._items) == 1:
-            with self._changed:
+        with self._changed:
+            self._count += 1
+            self._items.append((self._count, item))
+            if len(self._items) == 1:
                 self._changed.notify()
+
+    # -- what is missing
+
+    @property
+    def lags(self) -> bool:
+        """Something was passed over, and isn't filled in yet."""
+        return self._missing > 0
+
+    def miss(self, number: int | None = None) -> None:
+        """Something is missing that came before the thing of this number, or just now: it is to be filled in."""
+        with self._changed:
+            if number is None:
+                self._count += 1
+                number = self._count
+            self._missing = max(self._missing, number)
+
+    def mark(self) -> int:
+        """To be asked before a store is copied: what came so far is in the copy, and what comes from now on may not be."""
+        with self._changed:
+            return self._count
+
+    def filled(self, mark: int) -> None:
+        """What was missing when this mark was given isn't any more."""
+        with self._changed:
+            if self._missing <= mark:
+                self._missing = 0
 
     def do(self, work: Callable[[Writer], object], syncs: bool = False, is_sql: bool = False) -> Future[object]:
         """Has something done in its turn. With `syncs` it is on the disk when it is told."""
@@ -115,7 +143,7 @@ class Writer:
         self.connection = self._connect()
         self.story = Story(self.connection, self.generation, clock.now)
         self.place = Place(self.generation, self.place.store)
-        self.lags = True
+        self.miss()
 
     # -- the thread
 
@@ -133,7 +161,7 @@ class Writer:
                 self._look_at_age()
             except Exception:  # (a fault of this thread is no reason to end it: what it passed over is filled in)
                 log.exception("the history met what nobody foresaw")
-                self.lags = True
+                self.miss()
 
     def _group(self) -> None:
         """Takes a group and writes it, as often as that needs."""
@@ -151,7 +179,7 @@ class Writer:
                     results = dict.fromkeys(range(len(items)), error)
                     break
                 time.sleep(REST)
-        for place, item in enumerate(items):
+        for place, (_, item) in enumerate(items):
             if isinstance(item, Task) and item.done is not None:
                 result = results[place]
                 if isinstance(result, BaseException):
@@ -159,15 +187,15 @@ class Writer:
                 else:
                     item.done.set_result(result)
 
-    def _write(self, items: list[Task | Told], results: dict[int, object]) -> None:
+    def _write(self, items: list[tuple[int, Task | Told]], results: dict[int, object]) -> None:
         """Does all of a group within one transaction of the database. What came of an item that the story has stays, where the group is written again."""
-        syncs = any(isinstance(item, Task) and item.syncs for item in items)
+        syncs = any(isinstance(item, Task) and item.syncs for _, item in items)
         self.connection.execute(f"PRAGMA synchronous={'FULL' if syncs else 'NORMAL'}")
         self.connection.execute("BEGIN IMMEDIATE")
         try:
-            for place, item in enumerate(items):
+            for place, (number, item) in enumerate(items):
                 if place not in results or isinstance(item, Task) and item.is_sql:
-                    results[place] = self._do(item)
+                    results[place] = self._do(number, item)
             self.commit(begins=False)
         except BaseException:
             if self.connection.in_transaction:
@@ -183,9 +211,9 @@ class Writer:
         if begins:
             self.connection.execute("BEGIN IMMEDIATE")
 
-    def _do(self, item: Task | Told) -> object:
+    def _do(self, number: int, item: Task | Told) -> object:
         if isinstance(item, tuple):
-            self._learn(item)
+            self._learn(number, item)
             return None
         try:
             return item.work(self)
@@ -196,17 +224,17 @@ class Writer:
                 log.exception("the history met what nobody foresaw")
             return error
 
-    def _learn(self, item: Told) -> None:
+    def _learn(self, came: int, item: Told) -> None:
         """A transaction that was answered. It counts where it follows on the last one; a hole is filled in later."""
         opening, offset, at, data, reply, epoch = item
         number = self._base + offset
         if opening != self._opening:
-            self.lags = True
+            self.miss(came)
             return
         if number <= self.place.last:
             return
         if number > self.place.last + 1 and self.has_word:
-            self.lags = True
+            self.miss(came)
             return
         if learns(reply):
             self.story.apply(Transaction(number, at, json.loads(data), reply, epoch))

@@ -402,8 +402,8 @@ class Asking:
             await self._open_again()
 
     async def settle(self, closes: bool = False) -> None:
-        """Waits until the recorder has all that was answered: the store's history begins behind its last snapshot, which may be made next. With `closes`
-        other stores take the place of these."""
+        """Waits until the recorder has all that was answered, with the store's own moments: so it has little to do behind the snapshot or the
+        opening that comes next. With `closes` other stores take the place of these."""
         if self.recorder is not None:
             await self.recorder.settled(closes)
 

@@ -61,11 +61,11 @@ class Lines:
         self.telling: telling.Telling | None = None  # where the hub keeps a history
         self.connections: Callable[[], int] = lambda: 0  # how many there are
         self.team: Callable[[], Awaitable[bytes]] | None = None  # who tells of the other hubs, where there are some
-        self.speakers = Speakers()
-        self.patience = Patience()
-        self.timekeeping = Timekeeping()
+        self.speakers: Speakers = Speakers()
+        self.patience: Patience = Patience()
+        self.timekeeping: Timekeeping = Timekeeping()
         own = Turn()
-        self.turns = Turns(lambda take: asking.ask(own, {"do": "show_next"}, take), lambda: asking.ledger.threshold)
+        self.turns: Turns = Turns(lambda take: asking.ask(own, {"do": "show_next"}, take), lambda: asking.ledger.threshold)
 
     def said(self, visitor: Visitor, data: bytes) -> None:
         slot = visitor.slot()
@@ -140,6 +140,9 @@ class Lines:
                 visitor.answer(slot, said)
             except KemtruaError as error:
                 visitor.answer(slot, self._words(error))
+            except Exception:  # (whatever is wrong with one line, its connection gets an answer and goes on)
+                log.exception("a line met what nobody foresaw")
+                visitor.answer(slot, "hub failed the line met what nobody foresaw; the hub's log has it")
             visitor.is_busy = False
             self._touched.add(visitor)
             self.flush()
@@ -167,9 +170,10 @@ class Lines:
             raise HubRefused("bad-line", "at: the hub reads the clock itself, so that no connection can set the store's moment")
         if do in OPERATORS_LINES:
             self._rights.may_operate(visitor.who)
-        elif "node" in line and do != "resume":
-            self._may_speak(visitor, str(line["node"]), begins=do == "join")
-        self._hand_on(visitor, slot, check(line))
+        step = check(line)  # (before a name is taken, which stays taken while the connection lasts)
+        if "node" in step and do != "resume":
+            self._may_speak(visitor, str(step["node"]), begins=do == "join")
+        self._hand_on(visitor, slot, step)
 
     def _hand_on(self, visitor: Visitor, slot: Slot, line: Line) -> None:
         do = line["do"]

@@ -54,7 +54,7 @@ class Grant:
         name, colon, number = text.rpartition(":")
         if not colon:
             name, number = text, ""
-        if colon and not (number.isdigit() and int(number) > 0) or not name.removesuffix(".*"):
+        if colon and not (number.isdecimal() and int(number) > 0) or not name.removesuffix(".*"):
             raise BadSettings(f"--node {text}: write NAME, NAME:WORKERS, or 'NAME.*' for all nodes below NAME")
         return cls(name.removesuffix(".*"), name.endswith(".*"), int(number) if number else None)
 

@@ -242,7 +242,10 @@ class Hub:
 
     async def _look_at_certificates(self) -> None:
         while self.settings.tls is not None:
-            warn_of(self.settings.tls)
+            try:
+                warn_of(self.settings.tls)
+            except BadSettings as error:  # (as of a file that is being replaced: the next day it is looked at again)
+                log.error("%s", error)
             await asyncio.sleep(DAY)
 
     def _tls_context(self) -> ssl.SSLContext:

@@ -2,17 +2,19 @@
 from __future__ import annotations
 
 import asyncio
+import os
+import sqlite3
 from collections.abc import Callable, Iterator
 from dataclasses import dataclass
 
 from ..checking import Line
 from ..errors import BadLine, HubRefused
-from ..history import questions
+from ..history import questions, shipping
 from ..history.apart import Apart
 from ..history.outputs import FURTHEST, piece_of
 from ..history.questions import Filter, Object, Questions
 from ..history.reports import Report
-from ..history.schema import NoHistory
+from ..history.schema import FILE, NoHistory
 from ..values import Form, Problem, flag, is_whole, items, name, node, text, whole
 
 AT_ONCE = 64  # reports of a line at most
@@ -31,9 +33,14 @@ def _told_list(value: object, place: str) -> Iterator[Problem]:
         yield Problem(place, f"allowed is a list of {AT_ONCE} reports at most")
 
 
+def _positions(value: object, place: str) -> Iterator[Problem]:
+    if not isinstance(value, list) or len(value) > shipping.KNOWN:
+        yield Problem(place, f"allowed is a list of {shipping.KNOWN} positions at most")
+
+
 def _before(value: object, place: str) -> Iterator[Problem]:
-    if not isinstance(value, list) or len(value) != 3 or not all(map(is_whole, value)):
-        yield Problem(place, "allowed are three numbers: fired, generation and entry of the execution that came last")
+    if not isinstance(value, list) or len(value) != 3 or not all(is_whole(it) and abs(it) < 2**63 for it in value):
+        yield Problem(place, "allowed are three numbers of 64 bits: fired, generation and entry of the execution that came last")
 
 
 
@@ -48,6 +55,7 @@ OF_OPERATORS: dict[str, Form] = {
     "events": Form({"since": _NUMBER}, {"kinds": items(name, 1, 20, "kinds"), "job": _KEY, "limit": _LIMIT}),
     "audit": Form({}, {"since": _NUMBER, "by": name, "limit": _LIMIT, "before": _NUMBER}),
     "loads": Form({}),
+    "ship": Form({}, {"positions": _positions, "since": _NUMBER}),
     "vacuum": Form({})}
 LINES = {**OF_NODES, **OF_OPERATORS}
 KINDS = ("failure", "error", "late", "misfired", "expect", "lost", "room", "refused", "gap")
@@ -69,6 +77,8 @@ class Telling:
                 before, after = await asyncio.to_thread(self.recorder.vacuum)
                 return f"vacuumed {before} {after}"
             found = await asyncio.to_thread(answers_in, self.recorder.folder, line)
+        except shipping.BadPart as error:
+            raise HubRefused("bad-line", str(error)) from None
         except NoHistory as error:
             raise HubRefused("failed", str(error)) from None
         return b"\n".join([b"rows %d" % len(found), *map(questions.line_of, found)])
@@ -85,7 +95,7 @@ class Telling:
             futures.append(self.recorder.report(node_, report))
             if data:
                 self.recorder.piece(node_, (report.generation, report.entry), begin, data, report.most)
-        kept = await asyncio.gather(*map(asyncio.wrap_future, futures))
+        kept = await asyncio.gather(*[asyncio.wrap_future(it) for it in futures])
         return f"stored {sum(map(bool, kept))}"
 
     async def _output(self, line: Line) -> str:
@@ -108,8 +118,15 @@ def look_at(line: Line) -> None:
 def answers_in(folder: str, line: Line) -> list[Object]:
     """What the database of a hub's folder answers to an operator's line. Raises NoHistory."""
     look_at(line)
-    with Questions(folder) as asked:
-        return _ANSWERS[str(line["do"])](asked, line)
+    try:
+        if line["do"] == "ship":
+            positions = line.get("positions", [])
+            assert isinstance(positions, list)
+            return shipping.told_in(folder, positions, _int(line.get("since", 0)))
+        with Questions(folder) as asked:
+            return _ANSWERS[str(line["do"])](asked, line)
+    except sqlite3.Error as error:
+        raise NoHistory(f"{os.path.join(folder, FILE)} can't be read: {error}") from None
 
 
 def _told(found: object) -> tuple[Report, int, bytes]:

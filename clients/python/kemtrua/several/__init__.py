@@ -6,7 +6,9 @@
     reign     who leads, under which term, and for how long by its lease
     putting   the leader's replies are held until etcd has what came of them
     merging   many small keys become few
-    standing  the others: they copy, answer who leads, and lead where nobody does
+    copying   the others copy, until nobody leads
+    door      where they listen, and answer who leads
+    founding  how a team begins in etcd, and goes on in one that was restored
     member    a hub from its start to its end, in either part
     telling   who leads, and how far each hub is
 """

@@ -32,7 +32,8 @@ class Seen:
 
 
 class Copying:
-    """Follows the team into a folder. With `accepts`, an etcd that was restored is taken as it is."""
+    """Follows the team into a folder. Raises NotFitting where hubs of a version lead that is too far from this one's. With `accepts`, an
+    etcd that was restored is taken as it is."""
 
     def __init__(self, etcd: Etcd, keys: Keys, folder: Folder, accepts: bool = False):
         self._etcd, self._keys, self._folder, self._accepts = etcd, keys, folder, accepts
@@ -174,6 +175,8 @@ class Copying:
             self.seen.skew = row.at - clock.now()
 
     def _set_leader(self, leader: LeaderRow | None) -> None:
+        if leader is not None:
+            leader.look()
         before, self.seen.leader = self.seen.leader, leader
         if leader is not None and (before is None or before.nonce != leader.nonce):
             log.info("%s leads, at %s; this hub stands by", leader.hub, leader.address)

@@ -15,15 +15,18 @@ import re
 import struct
 import zlib
 from collections.abc import Iterator
-from dataclasses import asdict, dataclass, fields
+from dataclasses import MISSING, asdict, dataclass, fields
 from typing import TypeVar
 
+from .. import __version__
 from ..errors import BadSettings, KemtruaError, NotFitting
 from ..etcd import end_of
+from ..versions import are_far
 
 FORMAT = 1
 LARGEST = 1 << 19  # bytes of a block: etcd takes 1.5 MiB in a request
 MENDED = "use the version that made it"
+UPGRADE = "upgrade all hubs to a version between them first, one after the other"
 TRIGGERS, STATES = 0, 1
 _HEAD, _WRITE = struct.Struct(">BII"), struct.Struct(">BQI")
 _NAME = re.compile(r"[A-Za-z0-9._-]{1,64}")
@@ -95,17 +98,27 @@ class Rows:
     def of(cls: type[Row], data: bytes) -> Row:
         try:
             found = json.loads(data)
-            return cls(**{it.name: found[it.name] for it in fields(cls)})
+            return cls(**{it.name: found[it.name] for it in fields(cls) if it.name in found or it.default is MISSING})
         except (ValueError, KeyError, TypeError):
             raise BadShared(f"{data[:120]!r} in etcd is nothing that a hub of this version has put there") from None
 
 
 @dataclass(frozen=True)
 class LeaderRow(Rows):
+    """Who leads. `oldest` is the oldest version of the hubs that were there when the term began: nothing is written that it doesn't read."""
+
     hub: str
     address: str
     nonce: str
     version: str
+    oldest: str = ""
+
+    def look(self) -> None:
+        """Raises where this version can't stand by beside it."""
+        for version in (self.version, self.oldest or self.version):
+            if are_far(version, __version__):
+                raise NotFitting(f"the hub {self.hub} leads in version {self.version}, beside hubs of {self.oldest or self.version}, and this one has "
+                                 f"{__version__}: they are too far apart; {UPGRADE}")
 
 
 @dataclass(frozen=True)

@@ -28,6 +28,7 @@ from .layout import HubRow, Keys
 from .merging import merge_at_times
 from .putting import Putting
 from .reign import REST, Deposed, Reign, campaign
+from .taking import Taking
 
 log = logs.logger("kemtrua.hub")
 
@@ -122,15 +123,17 @@ class Member:
         self._door.open([(Door.OPERATORS, settings.addresses, None), (Door.NODES, settings.node_addresses, settings.nodes_group)])
         log.info("%s stands by in %s; it listens at %s", self._name, self._folder.path, ", ".join(map(str, settings.addresses)))
         notify("READY=1\nSTATUS=stands by")
-        waiting = asyncio.create_task(self._until_leads())
-        ending = asyncio.create_task(self._ended.wait())
+        taking = Taking(self._folder.path, settings.tls, self._leader)
+        waiting, ending = asyncio.create_task(self._until_leads()), asyncio.create_task(self._ended.wait())
+        tasks = [waiting, ending, asyncio.create_task(taking.run())]
         try:
             await asyncio.wait([waiting, ending], return_when=asyncio.FIRST_COMPLETED)
             return waiting.result() if waiting.done() else None
         finally:
-            for task in (waiting, ending):
+            for task in tasks:
                 task.cancel()
-            await asyncio.gather(waiting, ending, return_exceptions=True)
+            await asyncio.gather(*tasks, return_exceptions=True)
+            await taking.end()
             self._door.close()
             self._door = None
 

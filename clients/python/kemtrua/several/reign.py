@@ -7,8 +7,9 @@ from dataclasses import dataclass
 
 from .. import __version__, clock, hooks, logs
 from ..errors import KemtruaError
-from ..etcd import Etcd, EtcdError, NoEtcd, NoSpace, get, has_value, is_created, put
-from .layout import BadShared, Keys, LeaderRow
+from ..etcd import Etcd, EtcdError, NoEtcd, NoSpace, end_of, get, has_value, is_created, put
+from ..versions import are_far, oldest_of
+from .layout import BadShared, HubRow, Keys, LeaderRow
 
 log = logs.logger("kemtrua.hub")
 
@@ -143,7 +144,7 @@ async def campaign(etcd: Etcd, keys: Keys, hub: str, address: str) -> Reign | No
     """Leads from now on, unless another hub does. Raises EtcdError."""
     granted = clock.uptime()
     lease = await etcd.grant(LEASE)
-    row = LeaderRow(hub, address, secrets.token_hex(8), __version__)
+    row = LeaderRow(hub, address, secrets.token_hex(8), __version__, await oldest_among(etcd, keys, hub))
     try:
         await etcd.transact([is_created(keys.leader, 0)], [put(keys.leader, row.data(), lease)], [])
     except NoEtcd:
@@ -156,6 +157,12 @@ async def campaign(etcd: Etcd, keys: Keys, hub: str, address: str) -> Reign | No
             pass  # (it ends by itself)
         return None
     return Reign(etcd, keys, found.term, lease, granted)
+
+
+async def oldest_among(etcd: Etcd, keys: Keys, hub: str) -> str:
+    """The oldest version of the hubs that are there and may stand by beside this one."""
+    rows = [HubRow.of(pair.value) async for page in etcd.pages(keys.hubs, end_of(keys.hubs)) for pair in page.pairs]
+    return oldest_of([__version__, *(it.version for it in rows if it.hub != hub and not are_far(it.version, __version__))])
 
 
 async def leader_of(etcd: Etcd, keys: Keys) -> Leader | None:

@@ -31,7 +31,7 @@ async def _of_team(etcd: Etcd, keys: Keys, leader: Leader | None, row: TeamRow |
     if row is not None:
         found |= {"id": row.id, "generation": row.generation, "stores": row.stores, "cluster": row.cluster}
     if leader is not None:
-        found |= {"leader": leader.row.hub, "address": leader.row.address, "term": leader.term}
+        found |= {"leader": leader.row.hub, "address": leader.row.address, "term": leader.term, "oldest": leader.row.oldest}
     return found
 
 

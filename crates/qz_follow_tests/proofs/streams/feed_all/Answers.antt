@@ -10,5 +10,6 @@ invariant_of-follower c =
       low = taken.low;
       legal = taken.legal;
       replayed = taken.replayed;
+      based = taken.based;
       recorded = taken.recorded;
     }
