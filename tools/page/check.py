@@ -9,6 +9,8 @@ from datetime import datetime, timedelta
 from urllib.parse import urlencode
 from zoneinfo import ZoneInfo
 
+from kemtrua_web.safety import A_SECOND
+
 from . import refusals
 from .browser import NARROW, WIDE, Browser
 from .fronts import Front, make_certificates
@@ -17,6 +19,7 @@ from .team import HOSTILE, PRINTED, free_port, parts
 
 ZONE = ZoneInfo("Europe/Berlin")
 GROWS_WITHIN = 900  # seconds
+A_PAGE, AT_ONCE = 6, 40  # requests: of a page with what belongs to it, and those made without a rest
 PAGES = {"now": "/", "timeline": "/timeline", "timeline-week": "/timeline?by=node&span=week", "jobs": "/jobs", "job": "/job?group=ops&name=poll",
          "executions": "/executions", "store": "/store"}
 
@@ -28,6 +31,7 @@ class Checks:
         self.team, self.short, self.pictures = team, short, pictures
         self.passed = self.failed = 0
         self.browser = None
+        self._free = 0.0  # when the pages have answered all that was asked for, at the pace that is kept
 
     def that(self, holds, what, why=""):
         self.passed, self.failed = self.passed + bool(holds), self.failed + (not holds)
@@ -67,7 +71,14 @@ class Checks:
 
     # -- what is read
 
+    def _keep_pace(self, requests):
+        """Rests where the pages, which answer an address so many times a second, would put a request off: a fast machine asks more often than anybody by hand."""
+        present, pace = time.monotonic(), 0.75 * A_SECOND
+        self._free = max(self._free, present) + requests / pace
+        time.sleep(max(0.0, self._free - present - AT_ONCE / pace))
+
     def open(self, path, port=None):
+        self._keep_pace(A_PAGE)
         self.browser.get(f"http://127.0.0.1:{port or self.port}{path}")
 
     def text(self, selector):
@@ -82,6 +93,10 @@ class Checks:
 
     def ask(self, method, path, body=None, port=None, **headers):
         """An answer as it comes, without a browser: status, headers and body."""
+        self._keep_pace(1)
+        return self.ask_at_once(method, path, body, port, **headers)
+
+    def ask_at_once(self, method, path, body=None, port=None, **headers):
         connection = http.client.HTTPConnection("127.0.0.1", port or self.port, timeout=60)
         given = {name.replace("_", "-"): value for name, value in headers.items()}
         connection.request(method, path, body=body, headers=given)

@@ -41,6 +41,8 @@ def _without_rights(checks):
 
 def _fresh_token(checks):
     checks.open("/job/ask?do=fire&group=ops&name=poll", checks.admin.port)
+    has_one = lambda: checks.browser.run("return document.querySelector('[name=token]') !== null")
+    checks.team.wait(has_one, "a button and its token")
     return checks.browser.run("return document.querySelector('[name=token]').value")
 
 
@@ -135,7 +137,7 @@ def _many(checks):
     """More requests than anybody makes by hand: some are put off, and a little later all is as before."""
     host, statuses, begun = f"127.0.0.1:{checks.port}", [], time.monotonic()
     while 429 not in statuses and time.monotonic() < begun + 60:
-        statuses.append(checks.ask("GET", "/icon.svg", Host=host)[0])
+        statuses.append(checks.ask_at_once("GET", "/icon.svg", Host=host)[0])
     may = AT_ONCE + A_SECOND * (time.monotonic() - begun)  # (on a machine that is too busy nobody can ask too often)
     checks.that(set(statuses) <= {200, 429} and len(statuses) <= may + 1, "too many requests are put off", f"{set(statuses)} {len(statuses)} {may}")
     time.sleep(5)

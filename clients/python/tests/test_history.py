@@ -107,7 +107,7 @@ class Agrees(WithHistory):
         hub = self.hub()
         with self.begun(hub) as one:
             self.work(one, "A", 5)
-            wait_until(lambda: len(one.rows("history")) == 5)
+            wait_until(lambda: [found["state"] for found in one.rows("history")] == ["ended"] * 5)
             self.assertEqual([(found["entry"], found["state"], found["job"], found["class"]) for found in one.rows("history")][:2],
                              [(5, "ended", "DEFAULT/j", "ok"), (4, "ended", "DEFAULT/j", "ok")])
             self.work(one, "A", 1, leaves_open=True)
@@ -196,9 +196,9 @@ class Agrees(WithHistory):
         with hub.connect() as one:
             one.ask("resume", node="A", epoch=1)
             self.work(one, "A", 2)
-            wait_until(lambda: len(one.rows("history")) == 3)
+            wanted = [(6, "ended", "DEFAULT/j"), (5, "ended", "DEFAULT/j"), (4, "runs", "DEFAULT/j")]
+            wait_until(lambda: [(row["entry"], row["state"], row["job"]) for row in one.rows("history")] == wanted)
             found = {row["entry"]: row for row in one.rows("history")}
-            self.assertEqual([(entry, row["state"], row["job"]) for entry, row in found.items()], [(6, "ended", "DEFAULT/j"), (5, "ended", "DEFAULT/j"), (4, "runs", "DEFAULT/j")])
             self.assertRegex(str(self.events("gap")[0]["text"]), r"before the store \S+ was made isn't in that store's history: it is missing")
             one.complete("A", 4)
             wait_until(lambda: one.rows("history", until=found[5]["fired"])[0]["state"] == "ended")
